@@ -1,0 +1,328 @@
+-- The same of each call.
+use Rattle.std.proofs.Common.{◌≡◌, ℕ, zero, suc, ◌+◌, ◌-◌, Bool, true, false, Option, Some, None, List, [], ◌∷◌, ◌++◌, inl, inr, refl, sym, ◌∙◌, ap, subst, cond, arith, length, replicate, slice_get, set, ◌&&◌, nat_le, option_map, unwrap_or}
+use Rattle.std.specs.Prelude.{remove, ◌==◌, option_and_then}
+use Rattle.std.specs.List.{list_any}
+use Rattle.std.proofs.lemmas.Bool.{leb-true}
+use Rattle.std.proofs.lemmas.List.{length-replicate}
+use Rattle.mm_types.specs.declared.answers.Answer.{Answer}
+use Rattle.mm_types.specs.declared.answers.Answer.TheVariants as answer
+use Rattle.mm_types.specs.declared.codes.Code.{Code}
+use Rattle.mm_types.specs.declared.numbers.Key.{Key}
+use Rattle.mm_types.specs.declared.numbers.Key.TheVariants as key
+use Rattle.mm_types.specs.declared.views.Kind.{Kind}
+use Rattle.mm_types.specs.declared.views.Kind.TheVariants as kind
+use Rattle.mm_types.specs.declared.views.ViewAccess.{ViewAccess}
+use Rattle.mm_types.specs.Address.{Range, meets, granule_range_of, pages_for, page_of, is_granule_address, lowest_gap, first_user_page}
+use Rattle.mm_types.specs.Spelling.{Text}
+use Rattle.mm_world.specs.World.{WorldOf, ProcessOf, RegionOf, RowOf, AreaOf, SectionOf, Numbered, numbered, pages_of}
+use Rattle.mm_world.specs.Find.{Found, first_where, process_of, set_process, set_regions, set_region, set_area, area_at, add_region, ranges_of, placed, shared_page}
+use Rattle.mm_world.specs.Outcome.{OutcomeOf, done, refused}
+use Rattle.mm_world.specs.Rows.{row_at, reserved_row, commit, protected, change_rows}
+use Rattle.mm_world.specs.Alloc.{alloc, reserve, commit_in, commit_shared, private_region, new_row, reserve_type}
+use Rattle.mm_world.specs.Free.{free, decommit}
+use Rattle.mm_world.specs.Protect.{protect}
+use Rattle.mm_world.specs.Query.{query}
+use Rattle.mm_world.specs.Sections.{create, create_file, open_section, close, handle_or, new_section, settle, settled_sections, paging_area, is_reserve}
+use Rattle.mm_world.specs.Views.{map_view, unmap, flush, view_region, first_protection, is_copy}
+use Rattle.mm_world.specs.Processes.{new_process, exit, take_fail, grow, no_regions}
+use Rattle.mm_world.specs.Stack.{StackOf, stack, made, stack_region}
+use Rattle.mm_world.specs.Keys.{content_of, own_page}
+use Rattle.mm_world.specs.WellFormed.{Spaces}
+use Rattle.mm_world.proofs.Tables.{Holds, tables}
+use Rattle.mm_world.proofs.Finding.{found_stands}
+use Rattle.mm_world.proofs.LaidOut.{placed_is, IsPlaced}
+use Rattle.mm_world.proofs.RowsFit.{length-change_range}
+use Rattle.mm_world.proofs.Spaces.{wanted_granule}
+use Rattle.mm_world.proofs.WellFormed.{stack_length}
+use Rattle.mm_world.proofs.KeptPages.{Kept, PagesKept, kept_same, own_put, own_pushed, own_of, own_removed, own_added, own_free, own_set, rows_kept, RowKept, commit_kept, cleared_kept, protected_kept, shared_settled, shared_pushed, shared_put, committed_page, all_fresh}
+
+replicated : {A : Type 0} (n k : ℕ) (x y : A) → slice_get (replicate n x) k ≡ Some y → y ≡ x
+replicated zero k x y e = cc
+replicated (suc n) zero x y e = let same : x ≡ y = cc in sym same
+replicated (suc n) (suc k) x y e = replicated n k x y e
+
+module _ {B : Type 0} (fresh : B) where
+  pub record KeepsPages (w : WorldOf B) (o : OutcomeOf B) : Type 0 where
+    pub kept : Spaces w → PagesKept fresh w o.world
+
+  pub pages_same : (w : WorldOf B) → PagesKept fresh w w
+  pages_same w = record { own = λ pid page. kept_same fresh (own_of (process_of w pid) page); shared = λ area i. kept_same fresh (shared_page w area i) }
+
+  pub by_same : (w : WorldOf B) (a : Answer) → Holds (KeepsPages w) (done a w)
+  by_same w a = record { it = record { kept = λ h. pages_same w } }
+
+  pub by_refusal : (w : WorldOf B) (why : Code) → Holds (KeepsPages w) (refused w why)
+  by_refusal w why = record { it = record { kept = λ h. pages_same w } }
+
+  pub by_put : (w : WorldOf B) (pid : ℕ) (p : ProcessOf B) (q : Option (ProcessOf B)) (a : Answer) → process_of w pid ≡ Some p → (Spaces w → (page : ℕ) → Kept fresh (own_page p.regions page) (own_of q page)) → Holds (KeepsPages w) (done a (set_process w pid q))
+  by_put w pid p q a lives keeps =
+      record { it = record { kept = λ h. record { own = own_put fresh w pid p q lives (keeps h); shared = λ area i. kept_same fresh (shared_page w area i) } } }
+
+  -- the end of sections
+  settled : (w v : WorldOf B) → PagesKept fresh w v → v.areas ≡ w.areas → PagesKept fresh w (settle v)
+  settled w v h same =
+      record {
+        own = h.own;
+        shared = λ area i.
+            subst (λ (areas : List (AreaOf B)). Kept fresh (shared_page (record w { areas = areas }) area i) (shared_page (settle v) area i)) same
+            (shared_settled fresh (settled_sections v.processes 0 v.sections) 0 v.areas area i);
+      }
+
+  by_settled : (w : WorldOf B) (pid : ℕ) (q : Option (ProcessOf B)) (a : Answer) → Holds (KeepsPages w) (done a (set_process w pid q)) → Holds (KeepsPages w) (done a (settle (set_process w pid q)))
+  by_settled w pid q a h = record { it = record { kept = λ spaces. settled w (set_process w pid q) (h.it.kept spaces) refl } }
+
+  -- ---- a region more
+
+  own_in_rows : (r : RegionOf B) (page : ℕ) (row : Option (RowOf B)) (x : B) → row_at r page ≡ row → ((row : RowOf B) → row_at r page ≡ Some row → row.own ≡ Some x → x ≡ fresh) → option_and_then (λ (row : RowOf B). row.own) row ≡ Some x → x ≡ fresh
+  own_in_rows r page None x at new e = cc
+  own_in_rows r page (Some row) x at new e = new row at e
+
+  by_added : (w : WorldOf B) (pid : ℕ) (p : ProcessOf B) (new : RegionOf B) (range : Range) (a : Answer) → process_of w pid ≡ Some p → IsPlaced (ranges_of p.regions) range → pages_of new ≡ range → ((page : ℕ) (x : B) (row : RowOf B) → row_at new page ≡ Some row → row.own ≡ Some x → x ≡ fresh) → Holds (KeepsPages w) (done a (set_regions w pid p (add_region new p.regions)))
+  by_added w pid p new range a lives free same zero' =
+      by_put w pid p (Some (record p { regions = add_region new p.regions })) a lives (λ h page.
+      record {
+        kept = λ x e.
+            elim (own_added page _ new p.regions x e) [
+              | inl here ↦
+                  own_in_rows new page (row_at new page) x refl (λ row at own. zero' page x row at own) here.1
+                  ∙ sym (ap (λ (o : Option B). unwrap_or o fresh) (own_free page new p.regions (subst (λ range. list_any (meets range) (ranges_of p.regions) ≡ false) (sym same) free.free) here.0))
+              | inr there ↦ (kept_same fresh (own_page p.regions page)).kept x there
+            ];
+      })
+
+  -- ---- rows changed
+
+  by_changed : (w : WorldOf B) (pid : ℕ) (p : ProcessOf B) (r : Found (RegionOf B)) (test : RegionOf B → Bool) (change : RowOf B → RowOf B) (range : Range) (a : Answer) → process_of w pid ≡ Some p → first_where test p.regions ≡ Some r → RowKept fresh change → Holds (KeepsPages w) (done a (set_region w pid p r.place (change_rows change range r.thing)))
+  by_changed w pid p r test change range a lives found keeps =
+      let new = change_rows change range r.thing in
+      by_put w pid p (Some (record p { regions = set p.regions r.place new })) a lives (λ h page.
+      own_set fresh page r.place p.regions r.thing new (found_stands test p.regions r found).there refl
+      (length-change_range change (range.first - r.thing.base) range.count r.thing.rows) (rows_kept fresh change range r.thing page keeps))
+
+  by_committed : (w : WorldOf B) (pid : ℕ) (p : ProcessOf B) (r : Found (RegionOf B)) (test : RegionOf B → Bool) (prot : ℕ) (range : Range) (a : Answer) → process_of w pid ≡ Some p → first_where test p.regions ≡ Some r → Holds (KeepsPages w) (done a (set_region w pid p r.place (change_rows (commit fresh prot) range r.thing)))
+  by_committed w pid p r test prot range a lives found = by_changed w pid p r test (commit fresh prot) range a lives found (commit_kept fresh prot)
+
+  by_protected : (w : WorldOf B) (pid : ℕ) (p : ProcessOf B) (r : Found (RegionOf B)) (test : RegionOf B → Bool) (k : Kind) (prot : ℕ) (range : Range) (a : Answer) → process_of w pid ≡ Some p → first_where test p.regions ≡ Some r → Holds (KeepsPages w) (done a (set_region w pid p r.place (change_rows (protected k prot) range r.thing)))
+  by_protected w pid p r test k prot range a lives found = by_changed w pid p r test (protected k prot) range a lives found (protected_kept fresh k prot)
+
+  by_cleared : (w : WorldOf B) (pid : ℕ) (p : ProcessOf B) (r : Found (RegionOf B)) (test : RegionOf B → Bool) (range : Range) → process_of w pid ≡ Some p → first_where test p.regions ≡ Some r → Holds (KeepsPages w) (decommit w pid p r range)
+  by_cleared w pid p r test range lives found = by_changed w pid p r test (λ row. reserved_row) range answer.Ok lives found (cleared_kept fresh)
+
+  by_removed : (w : WorldOf B) (pid : ℕ) (p : ProcessOf B) (i : ℕ) (a : Answer) → process_of w pid ≡ Some p → Holds (KeepsPages w) (done a (set_regions w pid p (remove p.regions i)))
+  by_removed w pid p i a lives =
+      by_put w pid p (Some (record p { regions = remove p.regions i })) a lives (λ h page.
+      record { kept = λ x e. (kept_same fresh (own_page p.regions page)).kept x (own_removed first_user_page page i p.regions x (h pid p lives).laid_out e) })
+
+  by_handles : (w : WorldOf B) (pid : ℕ) (p : ProcessOf B) (handles : Numbered ℕ) (a : Answer) → process_of w pid ≡ Some p → Holds (KeepsPages w) (done a (set_process w pid (Some (record p { handles = handles }))))
+  by_handles w pid p handles a lives = by_put w pid p (Some (record p { handles = handles })) a lives (λ h page. kept_same fresh (own_page p.regions page))
+
+module _ {B : Type 0} (fill : ℕ → B) where
+  -- ---- alloc
+
+  new_row_fresh : (type prot : ℕ) (row : RowOf B) (x : B) → row ≡ new_row fill type prot → row.own ≡ Some x → x ≡ fill 0
+  new_row_fresh type prot row x is own = by_type (type == reserve_type) (ap (λ (row : RowOf B). row.own) (sym is) ∙ own)
+    where
+      by_type : (b : Bool) → (cond b reserved_row (commit (fill 0) prot reserved_row)).own ≡ Some x → x ≡ fill 0
+      by_type true e = cc
+      by_type false e = let same : fill 0 ≡ x = cc in sym same
+
+  by_reserve : (w : WorldOf B) (pid : ℕ) (p : ProcessOf B) (addr size type prot : ℕ) (range : Range) (a : Answer) → process_of w pid ≡ Some p → placed (ranges_of p.regions) addr (granule_range_of addr size) (pages_for size) ≡ Some range → Holds (KeepsPages (fill 0) w) (done a (set_regions w pid p (add_region (private_region fill type prot range) p.regions)))
+  by_reserve w pid p addr size type prot range a lives found =
+      let at = placed_is (ranges_of p.regions) addr (granule_range_of addr size) (pages_for size) range (omega arith) found in
+      by_added (fill 0) w pid p (private_region fill type prot range) range a lives at.placed (λ i. record { first = range.first; count = length-replicate range.count (new_row fill type prot) i })
+      (λ page x row at_row own. new_row_fresh type prot row x (replicated range.count (page - range.first) (new_row fill type prot) row at_row) own)
+
+  in_reserve : (w : WorldOf B) (pid : ℕ) (p : ProcessOf B) (addr size type prot : ℕ) → process_of w pid ≡ Some p → Holds (KeepsPages (fill 0) w) (reserve fill w pid p addr size type prot)
+  in_reserve w pid p addr size type prot lives = search (tables, by_refusal, by_reserve) depth 12
+
+  in_commit : (w : WorldOf B) (pid : ℕ) (p : ProcessOf B) (r : Found (RegionOf B)) (test : RegionOf B → Bool) (k : Kind) (range : Range) (prot : ℕ) → process_of w pid ≡ Some p → first_where test p.regions ≡ Some r → Holds (KeepsPages (fill 0) w) (commit_in fill w pid p r k range prot)
+  in_commit w pid p r test kind.Private range prot lives found = search (tables, by_refusal, by_committed) depth 12
+  in_commit w pid p r test (kind.View v) range prot lives found = search (tables, by_refusal, by_view) depth 12
+    where
+      by_view : (a : Answer) (k : Kind) (at first count : ℕ) → Holds (KeepsPages (fill 0) w) (done a (set_area (set_region w pid p r.place (change_rows (protected k prot) range r.thing)) at (commit_shared fill first count (area_at w at))))
+      by_view a k at first count =
+          let h = by_protected (fill 0) w pid p r test k prot range a lives found in
+          record {
+            it = record {
+              kept = λ spaces.
+                  record {
+                    own = (h.it.kept spaces).own;
+                    shared = λ area i. shared_put (fill 0) w.areas at area i (commit_shared fill first count (area_at w at)) (committed_page (fill 0) first count i (area_at w at).pages);
+                  };
+            };
+          }
+
+  pub in_alloc : (w : WorldOf B) (pid addr size type prot : ℕ) → Holds (KeepsPages (fill 0) w) (alloc fill w pid addr size type prot)
+  in_alloc w pid addr size type prot = search (tables, by_refusal, in_reserve, in_commit) depth 14
+
+  -- ---- create
+
+  paging_fresh : (flags size i : ℕ) (x : B) → numbered (paging_area fill flags size).pages i ≡ Some x → x ≡ fill 0
+  paging_fresh flags size i x e = all_fresh (fill 0) (pages_for size) i _ x (by_flag (is_reserve flags)) e
+    where
+      by_flag : (b : Bool) → Kept (fill 0) None (cond b None (Some (fill 0)))
+      by_flag true = record { kept = λ x e. cc }
+      by_flag false = record { kept = λ x e. let same : fill 0 ≡ x = cc in sym same }
+
+  by_section : (w : WorldOf B) (pid : ℕ) (p : ProcessOf B) (s : SectionOf) (flags size : ℕ) → process_of w pid ≡ Some p → Holds (KeepsPages (fill 0) w) (new_section (record w { areas = w.areas ++ paging_area fill flags size ∷ [] }) pid p s)
+  by_section w pid p s flags size lives =
+      let h = by_handles (fill 0) w pid p (p.handles ++ Some (length w.sections) ∷ []) answer.Ok lives in
+      record {
+        it = record {
+          kept = λ spaces.
+              record {
+                own = (h.it.kept spaces).own;
+                shared = λ area i. shared_pushed (fill 0) w.areas (paging_area fill flags size) area i (paging_fresh flags size i);
+              };
+        };
+      }
+
+  in_handle_or : (w : WorldOf B) (pid : ℕ) (p : ProcessOf B) (found : Option ℕ) (made : OutcomeOf B) → process_of w pid ≡ Some p → Holds (KeepsPages (fill 0) w) made → Holds (KeepsPages (fill 0) w) (handle_or w pid p found made)
+  in_handle_or w pid p None made lives h = h
+  in_handle_or w pid p (Some number) made lives h = by_handles (fill 0) w pid p (p.handles ++ Some number ∷ []) _ lives
+
+  pub in_create : (w : WorldOf B) (pid size flags : ℕ) (name : Option Text) → Holds (KeepsPages (fill 0) w) (create fill w pid size flags name)
+  in_create w pid size flags name = search (tables, by_refusal, in_handle_or, by_section) depth 14
+
+-- ---- the other calls
+
+module _ {B : Type 0} (fresh : B) where
+  pub in_free : (w : WorldOf B) (pid addr size type : ℕ) → Holds (KeepsPages fresh w) (free w pid addr size type)
+  in_free w pid addr size type = search (tables, by_refusal, by_removed, by_cleared) depth 14
+
+  pub in_protect : (w : WorldOf B) (pid addr size prot : ℕ) → Holds (KeepsPages fresh w) (protect w pid addr size prot)
+  in_protect w pid addr size prot = search (tables, by_refusal, by_protected) depth 16
+
+  by_file_section : (w : WorldOf B) (pid : ℕ) (p : ProcessOf B) (s : SectionOf) → process_of w pid ≡ Some p → Holds (KeepsPages fresh w) (new_section w pid p s)
+  by_file_section w pid p s lives =
+      let h = by_handles fresh w pid p (p.handles ++ Some (length w.sections) ∷ []) answer.Ok lives in
+      record { it = record { kept = λ spaces. record { own = (h.it.kept spaces).own; shared = (h.it.kept spaces).shared } } }
+
+  at_handle_or : (w : WorldOf B) (pid : ℕ) (p : ProcessOf B) (found : Option ℕ) (made : OutcomeOf B) → process_of w pid ≡ Some p → Holds (KeepsPages fresh w) made → Holds (KeepsPages fresh w) (handle_or w pid p found made)
+  at_handle_or w pid p None made lives h = h
+  at_handle_or w pid p (Some number) made lives h = by_handles fresh w pid p (p.handles ++ Some number ∷ []) _ lives
+
+  pub in_create_file : (w : WorldOf B) (pid : ℕ) (file : Text) (flags : ℕ) (name : Option Text) → Holds (KeepsPages fresh w) (create_file w pid file flags name)
+  in_create_file w pid file flags name = search (tables, by_refusal, at_handle_or, by_file_section) depth 14
+
+  pub in_open : (w : WorldOf B) (pid : ℕ) (name : Text) → Holds (KeepsPages fresh w) (open_section w pid name)
+  in_open w pid name = search (tables, by_refusal, by_handles) depth 12
+
+  pub in_close : (w : WorldOf B) (pid handle : ℕ) → Holds (KeepsPages fresh w) (close w pid handle)
+  in_close w pid handle = search (tables, by_refusal, by_settled, by_handles) depth 12
+
+  by_view : (w : WorldOf B) (pid : ℕ) (p : ProcessOf B) (s : Found SectionOf) (access : ViewAccess) (first addr count : ℕ) (range : Range) (a : Answer) → process_of w pid ≡ Some p → is_granule_address addr ≡ true → placed (ranges_of p.regions) addr (record { first = page_of addr; count = count }) count ≡ Some range → Holds (KeepsPages fresh w) (done a (set_regions w pid p (add_region (view_region s access first range) p.regions)))
+  by_view w pid p s access first addr count range a lives granule found =
+      let wanted : Range = record { first = page_of addr; count = count } in
+      let at = placed_is (ranges_of p.regions) addr wanted count range (wanted_granule addr granule) found in
+      by_added fresh w pid p (view_region s access first range) range a lives at.placed (λ i. record { first = range.first; count = length-replicate range.count (first_row access) i })
+      (λ page x row at_row own. let is = replicated range.count (page - range.first) (first_row access) row at_row in not_own row x (ap (λ (row : RowOf B). row.own) is) own)
+    where
+      first_row : ViewAccess → RowOf B
+      first_row access = record { prot = first_protection access; guard = false; marked = is_copy access; own = None }
+
+      not_own : (row : RowOf B) (x : B) → row.own ≡ None → row.own ≡ Some x → x ≡ fresh
+      not_own row x none own = let bad : None ≡ Some x = sym none ∙ own in cc
+
+  pub in_map : (w : WorldOf B) (pid handle access offset len addr : ℕ) → Holds (KeepsPages fresh w) (map_view w pid handle access offset len addr)
+  in_map w pid handle access offset len addr = search (tables, by_refusal, by_view, and-right) depth 20
+    where
+      and-right : (a b : Bool) → (a && b) ≡ true → b ≡ true
+      and-right true b e = e
+      and-right false b e = cc
+
+  pub in_unmap : (w : WorldOf B) (pid addr : ℕ) → Holds (KeepsPages fresh w) (unmap w pid addr)
+  in_unmap w pid addr = search (tables, by_refusal, by_settled, by_removed) depth 12
+
+  by_exit : (w v : WorldOf B) (pid : ℕ) (p : ProcessOf B) (a : Answer) → process_of w pid ≡ Some p → v.processes ≡ w.processes → v.areas ≡ w.areas → Holds (KeepsPages fresh w) (done a (settle (set_process v pid None)))
+  by_exit w v pid p a lives same areas =
+      record {
+        it = record {
+          kept = λ h.
+              let gone = (by_put fresh w pid p None a lives (λ h page. record { kept = λ x e. cc })).it.kept h in
+              let put : PagesKept fresh w (set_process v pid None) =
+              record {
+                own = λ j page. subst (λ (ps : Numbered (ProcessOf B)). Kept fresh (own_of (process_of w j) page) (own_of (process_of (record w { processes = set ps pid None }) j) page)) (sym same) (gone.own j page);
+                shared = λ area i. subst (λ (as' : List (AreaOf B)). Kept fresh (shared_page w area i) (shared_page (record w { areas = as' }) area i)) (sym areas) (kept_same fresh (shared_page w area i));
+              } in
+              settled fresh w (set_process v pid None) put areas;
+        };
+      }
+
+  pub in_exit : (w : WorldOf B) (pid : ℕ) → Holds (KeepsPages fresh w) (exit w pid)
+  in_exit w pid = search (tables, by_refusal, by_exit) depth 12
+
+  by_new : (w : WorldOf B) (a : Answer) → Holds (KeepsPages fresh w) (done a (record w { processes = w.processes ++ Some no_regions ∷ [] }))
+  by_new w a =
+      record {
+        it = record {
+          kept = λ h. record { own = λ j page. own_pushed fresh w.processes (Some no_regions) j page refl; shared = λ area i. kept_same fresh (shared_page w area i) };
+        };
+      }
+
+  pub in_new_process : (w : WorldOf B) → Holds (KeepsPages fresh w) (new_process w)
+  in_new_process w = search (tables, by_same, by_new) depth 12
+
+  -- ---- by keys
+
+  by_key : (w v : WorldOf B) (k : Key) → PagesKept fresh w v → Kept fresh (content_of w k) (content_of v k)
+  by_key w v (key.Private pid page) h = h.own pid.0 page.0
+  by_key w v (key.Shared area i) h = h.shared area.0 i
+
+  pub key_kept : (w : WorldOf B) (o : OutcomeOf B) (k : Key) (x : B) → Holds (KeepsPages fresh w) o → Spaces w → content_of o.world k ≡ Some x → x ≡ unwrap_or (content_of w k) fresh
+  key_kept w o k x h spaces e = (by_key w o.world k (h.it.kept spaces)).kept x e
+
+  -- ---- calls that change no page
+
+  by_rest : (w v : WorldOf B) (a : Answer) → v.processes ≡ w.processes → v.areas ≡ w.areas → Holds (KeepsPages fresh w) (done a v)
+  by_rest w v a processes areas =
+      record {
+        it = record {
+          kept = λ h.
+              record {
+                own = λ j page. subst (λ (ps : Numbered (ProcessOf B)). Kept fresh (own_of (process_of w j) page) (own_of (numbered ps j) page)) (sym processes) (kept_same fresh (own_of (process_of w j) page));
+                shared = λ area i. subst (λ (as' : List (AreaOf B)). Kept fresh (shared_page w area i) (shared_page (record w { areas = as' }) area i)) (sym areas) (kept_same fresh (shared_page w area i));
+              };
+        };
+      }
+
+  pub in_query : (w : WorldOf B) (pid addr : ℕ) → Holds (KeepsPages fresh w) (query w pid addr)
+  in_query w pid addr = search (tables, by_refusal, by_same) depth 12
+
+  pub in_flush : (w : WorldOf B) (pid addr size : ℕ) → Holds (KeepsPages fresh w) (flush w pid addr size)
+  in_flush w pid addr size = search (tables, by_refusal, by_same) depth 12
+
+  pub in_take_fail : (w : WorldOf B) → Holds (KeepsPages fresh w) (take_fail w)
+  in_take_fail w = search (tables, by_rest) depth 12
+
+  pub in_grow : (w : WorldOf B) (n : ℕ) → Holds (KeepsPages fresh w) (grow w n)
+  in_grow w n = search (tables, by_rest) depth 12
+
+module _ {B : Type 0} (fill : ℕ → B) where
+  -- ---- stacks
+
+  stack_row : (r c k : ℕ) (row : RowOf B) (x : B) → slice_get (replicate (r - (c + 1)) reserved_row ++ commit (fill 0) 0x104 reserved_row ∷ replicate c (commit (fill 0) 0x04 reserved_row)) k ≡ Some row → row.own ≡ Some x → x ≡ fill 0
+  stack_row r c k row x at own = below (r - (c + 1)) k at
+    where
+      above : (n k : ℕ) → slice_get (replicate n (commit (fill 0) 0x04 reserved_row)) k ≡ Some row → x ≡ fill 0
+      above n k e = let is = ap (λ (row : RowOf B). row.own) (replicated n k (commit (fill 0) 0x04 reserved_row) row e) in let same : Some x ≡ Some (fill 0) = sym own ∙ is in cc
+
+      below : (n k : ℕ) → slice_get (replicate n reserved_row ++ commit (fill 0) 0x104 reserved_row ∷ replicate c (commit (fill 0) 0x04 reserved_row)) k ≡ Some row → x ≡ fill 0
+      below zero zero e = let same : commit (fill 0) 0x104 reserved_row ≡ row = cc in let is : Some (fill 0) ≡ Some x = ap (λ (row : RowOf B). row.own) same ∙ own in cc
+      below zero (suc k) e = above c k e
+      below (suc n) zero e = let same : reserved_row ≡ row = cc in let is : None ≡ Some x = ap (λ (row : RowOf B). row.own) same ∙ own in cc
+      below (suc n) (suc k) e = below n k e
+
+  by_stack : (w : WorldOf B) (pid : ℕ) (p : ProcessOf B) (r c base : ℕ) (a : Answer) → process_of w pid ≡ Some p → nat_le (c + 2) r ≡ true → lowest_gap (ranges_of p.regions) r ≡ Some base → Holds (KeepsPages (fill 0) w) (done a (set_regions w pid p (add_region (stack_region fill base r c) p.regions)))
+  by_stack w pid p r c base a lives fits found =
+      let range : Range = record { first = base; count = r } in
+      let at = placed_is (ranges_of p.regions) 0 (record { first = 0; count = r }) r range refl (ap (λ g. option_map (λ first. let range : Range = record { first = first; count = r } in range) g) found) in
+      by_added (fill 0) w pid p (stack_region fill base r c) range a lives at.placed
+      (λ i. record { first = base; count = stack_length fill base r c (leb-true (c + 2) r fits) i })
+      (λ page x row at_row own. stack_row r c (page - base) row x at_row own)
+
+  in_made : (w : WorldOf B) (pid : ℕ) (p : ProcessOf B) (r c : ℕ) → process_of w pid ≡ Some p → Holds (KeepsPages (fill 0) w) (made fill w pid p r c)
+  in_made w pid p r c lives = search (tables, by_refusal, by_stack) depth 12
+
+  pub in_stack : (w : WorldOf B) (stacks : Numbered StackOf) (tid pid reserve commit : ℕ) → Holds (KeepsPages (fill 0) w) (stack fill w stacks tid pid reserve commit)
+  in_stack w stacks tid pid reserve commit = search (tables, by_refusal, by_same, in_made) depth 12

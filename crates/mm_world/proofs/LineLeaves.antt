@@ -1,0 +1,158 @@
+-- The same of a line: but for an alarm's guard and for what a thread keeps, an answer other than `ok` changes nothing.
+use Rattle.std.proofs.Common.{◌≡◌, ℕ, Bool, true, false, Option, Some, None, refl, sym, ◌∙◌, List, ◌&&◌}
+use Rattle.mm_types.specs.declared.answers.Answer.{Answer}
+use Rattle.mm_types.specs.declared.answers.Answer.TheVariants as answer
+use Rattle.mm_types.specs.declared.events.AccessSpec.{AccessSpec}
+use Rattle.mm_types.specs.declared.events.Event.{Event}
+use Rattle.mm_types.specs.declared.events.Event.TheVariants as line
+use Rattle.mm_world.specs.World.{World, ProcessOf, KeptOf, Page, Numbered, numbered, filled}
+use Rattle.mm_world.specs.Find.{process_of}
+use Rattle.mm_world.specs.Keys.{Committed, committed_at}
+use Rattle.mm_world.specs.Outcome.{OutcomeOf, done}
+use Rattle.mm_world.specs.Access.{ReadOf, WriteOf, Execute, access, address_in, attempt_in}
+use Rattle.mm_world.specs.Report.{Report}
+use Rattle.mm_world.specs.Step.{unpaged, told, step, stepped, world_told, begin, resume, kept_by, keep}
+use Rattle.mm_world.specs.Stack.{StackOf, stack, probe_at, probe_in, probe_of, grown, made}
+use Rattle.mm_world.specs.Watch.{WatchOf, watch, reset_watch}
+use Rattle.mm_world.specs.System.{System, plain_line, outcome, system_step, stacks_after, watches_after}
+use Rattle.mm_world.specs.Laws.{Leaves, LineLeaves, SystemLeaves, is_success, is_alarm, is_thread_line}
+use Rattle.mm_world.proofs.Tables.{Holds}
+use Rattle.mm_world.proofs.Determined.{follows}
+use Rattle.mm_world.proofs.Leaving.{left, by_same, by_success, by_guard, in_alloc, in_free, in_protect, in_query, in_create, in_create_file, in_open, in_close, in_map, in_unmap, in_flush, in_exit, in_new_process, in_new_file, in_take_fail, in_grow, in_store_line, in_access}
+
+line_leaves : (w : World) (e : Event) (o : OutcomeOf Page) → Holds (Leaves w) o → LineLeaves w e o
+line_leaves w e o h = record { but_kept = o.world; leaves = h.it; all_else = refl; other_lines = λ e. refl }
+
+in_begin : (w : World) (tid pid : ℕ) (what : AccessSpec) → Holds (Leaves w) (begin w tid pid what)
+in_begin w tid pid what = search (left, in_access) depth 12
+
+in_resume : (w : World) (e : Event) (tid : ℕ) (kept : Option KeptOf) → is_thread_line e ≡ true → LineLeaves w e (resume w tid kept)
+in_resume w e tid None is = line_leaves w e _ (by_same w answer.Nothing refl)
+in_resume w e tid (Some k) is =
+    record {
+      but_kept = (access w k.pid (address_in k.access) (attempt_in k.access)).world;
+      leaves = (in_access w k.pid (address_in k.access) (attempt_in k.access)).it;
+      all_else = refl;
+      other_lines = λ n. let bad : true ≡ false = sym is ∙ n in cc;
+    }
+
+in_unpaged : (w : World) (e : Event) → LineLeaves w e (unpaged w e)
+in_unpaged w (line.Machine m) = line_leaves w _ _ (by_same w answer.Nothing refl)
+in_unpaged w (line.Process min max) = line_leaves w _ _ (in_new_process w)
+in_unpaged w (line.Exit pid) = line_leaves w _ _ (in_exit w pid.0)
+in_unpaged w (line.File name pages byte) = line_leaves w _ _ (in_new_file w name pages byte)
+in_unpaged w (line.Alloc pid addr size type prot) = line_leaves w _ _ (in_alloc w pid.0 addr size type prot)
+in_unpaged w (line.Free pid addr size type) = line_leaves w _ _ (in_free w pid.0 addr size type)
+in_unpaged w (line.Protect pid addr size prot) = line_leaves w _ _ (in_protect w pid.0 addr size prot)
+in_unpaged w (line.Query pid addr) = line_leaves w _ _ (in_query w pid.0 addr)
+in_unpaged w (line.Create pid size flags name) = line_leaves w _ _ (in_create w pid.0 size flags name)
+in_unpaged w (line.CreateFile pid file flags name) = line_leaves w _ _ (in_create_file w pid.0 file flags name)
+in_unpaged w (line.Open pid name) = line_leaves w _ _ (in_open w pid.0 name)
+in_unpaged w (line.Close pid handle) = line_leaves w _ _ (in_close w pid.0 handle)
+in_unpaged w (line.Map pid handle access offset len addr) = line_leaves w _ _ (in_map w pid.0 handle access offset len addr)
+in_unpaged w (line.Unmap pid addr) = line_leaves w _ _ (in_unmap w pid.0 addr)
+in_unpaged w (line.Flush pid addr size) = line_leaves w _ _ (in_flush w pid.0 addr size)
+in_unpaged w (line.Read pid addr len) = line_leaves w _ _ (in_access w pid.0 addr (ReadOf len))
+in_unpaged w (line.Write pid addr bytes) = line_leaves w _ _ (in_access w pid.0 addr (WriteOf bytes))
+in_unpaged w (line.Exec pid addr) = line_leaves w _ _ (in_access w pid.0 addr Execute)
+in_unpaged w (line.Begin tid pid what) = line_leaves w _ _ (in_begin w tid.0 pid.0 what)
+in_unpaged w (line.Resume tid) = in_resume w _ tid.0 (kept_by w tid.0) refl
+in_unpaged w (line.Io i) = line_leaves w _ _ (by_same w answer.Ok refl)
+in_unpaged w (line.Trim pid n) = line_leaves w _ _ (in_store_line w pid.0)
+in_unpaged w (line.Age pid) = line_leaves w _ _ (in_store_line w pid.0)
+in_unpaged w (line.Writer n) = line_leaves w _ _ (by_same w answer.Ok refl)
+in_unpaged w (line.Zeroer n) = line_leaves w _ _ (by_same w answer.Ok refl)
+in_unpaged w (line.Fail device direction k n) = line_leaves w _ _ (in_take_fail w)
+in_unpaged w line.Charge = line_leaves w _ _ (by_same w _ refl)
+in_unpaged w line.Counts = line_leaves w _ _ (by_same w answer.Ok refl)
+in_unpaged w (line.Grow n) = line_leaves w _ _ (in_grow w n)
+in_unpaged w (line.Watch pid unwrites addr size count) = line_leaves w _ _ (by_same w answer.Nothing refl)
+in_unpaged w (line.ResetWatch pid addr size) = line_leaves w _ _ (by_same w answer.Nothing refl)
+in_unpaged w (line.Stack tid pid reserve commit) = line_leaves w _ _ (by_same w answer.Nothing refl)
+in_unpaged w (line.Probe tid addr) = line_leaves w _ _ (by_same w answer.Nothing refl)
+
+keeping : (w : World) (e : Event) (tid : ℕ) (kept : Option KeptOf) (a : Answer) → is_thread_line e ≡ true → is_alarm a ≡ false → LineLeaves w e (done a (keep w tid kept))
+keeping w e tid kept a is calm =
+    record { but_kept = w; leaves = (by_same w a calm).it; all_else = refl; other_lines = λ n. let bad : true ≡ false = sym is ∙ n in cc }
+
+in_told : (w : World) (e : Event) (a : Answer) → is_alarm a ≡ false → LineLeaves w e (done a (world_told w e a))
+in_told w (line.Begin tid pid what) (answer.Pending why) calm = keeping w _ tid.0 _ _ refl calm
+in_told w (line.Resume tid) (answer.Raised status) calm = keeping w _ tid.0 _ _ refl calm
+in_told w e a calm = line_leaves w e _ (by_same w a calm)
+
+in_stepped : (w : World) (e : Event) (t : Option Answer) → ((a : Answer) → t ≡ Some a → is_alarm a ≡ false) → LineLeaves w e (stepped w e t)
+in_stepped w e None h = in_unpaged w e
+in_stepped w e (Some a) h = in_told w e a (h a refl)
+
+pub in_step : (w : World) (e : Event) (before after : Report) → LineLeaves w e (step w e before after)
+in_step w e before after = in_stepped w e (told w e before after) (λ a is. (follows w e before after a is).calm)
+
+-- ---- what stands beside the world
+
+in_watch : (w : World) (watches : List WatchOf) (pid addr size count : ℕ) → Holds (Leaves w) (watch w watches pid addr size count)
+in_watch w watches pid addr size count = search left depth 12
+
+in_reset_watch : (w : World) (watches : List WatchOf) (pid addr size : ℕ) → Holds (Leaves w) (reset_watch w watches pid addr size)
+in_reset_watch w watches pid addr size = search left depth 12
+
+in_made : (w : World) (pid : ℕ) (p : ProcessOf Page) (r c : ℕ) → Holds (Leaves w) (made filled w pid p r c)
+in_made w pid p r c = search left depth 12
+
+in_stack : (w : World) (stacks : Numbered StackOf) (tid pid reserve commit : ℕ) → Holds (Leaves w) (stack filled w stacks tid pid reserve commit)
+in_stack w stacks tid pid reserve commit = search (left, in_made) depth 12
+
+in_grown : (w : World) (s : StackOf) (v : World) → Holds (Leaves w) (grown filled w s v)
+in_grown w s v = by_success w _ _ refl refl
+
+on_of : (b c : Bool) → (b && c) ≡ true → b ≡ true
+on_of true c e = refl
+on_of false c e = cc
+
+in_probe_at : (w : World) (p : ProcessOf Page) (s : StackOf) (page : ℕ) (c : Option (Committed Page)) → process_of w s.pid ≡ Some p → committed_at w p.regions page ≡ c → Holds (Leaves w) (probe_at filled w p s page c)
+in_probe_at w p s page None lives committed = by_same w _ refl
+in_probe_at w p s page (Some c) lives committed = search (left, by_guard, on_of, in_grown) depth 14
+
+in_probe_in : (w : World) (s : StackOf) (page : ℕ) (p : Option (ProcessOf Page)) → process_of w s.pid ≡ p → Holds (Leaves w) (probe_in filled w s page p)
+in_probe_in w s page None lives = by_same w answer.Nothing refl
+in_probe_in w s page (Some p) lives = in_probe_at w p s page (committed_at w p.regions page) lives refl
+
+in_probe_of : (w : World) (page : ℕ) (s : Option StackOf) → Holds (Leaves w) (probe_of filled w page s)
+in_probe_of w page None = by_same w answer.Nothing refl
+in_probe_of w page (Some s) = in_probe_in w s page (process_of w s.pid) refl
+
+-- a line that what stands beside the world decides, or else one of the world alone
+in_beside : (s : System) (e : Event) (before after : Report) → LineLeaves s.world e (outcome s e before after)
+in_beside s (line.Watch pid unwrites addr size count) before after = line_leaves s.world _ _ (in_watch s.world s.watches pid.0 addr size count)
+in_beside s (line.ResetWatch pid addr size) before after = line_leaves s.world _ _ (in_reset_watch s.world s.watches pid.0 addr size)
+in_beside s (line.Stack tid pid reserve commit) before after = line_leaves s.world _ _ (in_stack s.world s.stacks tid.0 pid.0 reserve commit)
+in_beside s (line.Probe tid addr) before after = line_leaves s.world _ _ (in_probe_of s.world _ (numbered s.stacks tid.0))
+in_beside s (line.Alloc pid addr size type prot) before after =
+    let h = in_step s.world (plain_line (line.Alloc pid addr size type prot)) before after in
+    record { but_kept = h.but_kept; leaves = h.leaves; all_else = h.all_else; other_lines = λ e. h.other_lines refl }
+in_beside s e before after = in_step s.world e before after
+
+same_stacks : (stacks : Numbered StackOf) (e : Event) (a : Answer) → is_success a ≡ false → stacks_after stacks e a ≡ stacks
+same_stacks stacks (line.Stack tid pid reserve commit) (answer.Stack base size guard) n = cc
+same_stacks stacks (line.Probe tid addr) (answer.At guard) n = cc
+same_stacks stacks (line.Free pid addr size type) answer.Ok n = cc
+same_stacks stacks (line.Exit pid) answer.Ok n = cc
+same_stacks stacks _ _ n = refl
+
+same_watches : (w : World) (watches : List WatchOf) (e : Event) (a : Answer) → is_success a ≡ false → watches_after w watches e a ≡ watches
+same_watches w watches (line.Alloc pid addr size type prot) (answer.At base) n = cc
+same_watches w watches (line.Free pid addr size type) answer.Ok n = cc
+same_watches w watches (line.Exit pid) answer.Ok n = cc
+same_watches w watches (line.Write pid addr bytes) answer.Ok n = cc
+same_watches w watches (line.Begin tid pid what) answer.Ok n = cc
+same_watches w watches (line.Resume tid) answer.Ok n = cc
+same_watches w watches (line.Watch pid true addr size count) (answer.Watched pages) n = cc
+same_watches w watches (line.ResetWatch pid addr size) answer.Ok n = cc
+same_watches w watches _ _ n = refl
+
+pub in_system : (s : System) (e : Event) (before after : Report) → SystemLeaves s e (system_step s e before after)
+in_system s e before after =
+    record {
+      world = in_beside s e before after;
+      stacks = same_stacks s.stacks e (outcome s e before after).answer;
+      watches = same_watches s.world s.watches e (outcome s e before after).answer;
+    }

@@ -1,0 +1,395 @@
+-- Calls do not look at what a page holds: to change what each page holds by a function and then to call is to call and then to change.
+use Rattle.std.proofs.Common.{◌≡◌, ℕ, zero, suc, ◌+◌, ◌-◌, Bool, true, false, Option, Some, None, List, [], ◌∷◌, ◌++◌, refl, sym, ◌∙◌, ap, cond, is_some, is_none, sum_by, count_by, replicate, set, get_or, map, take, drop, leb, nat_lt, ◌&&◌, option_map, unwrap_or, slice_get}
+use Rattle.std.specs.Prelude.{insert, remove, ◌==◌}
+use Rattle.std.proofs.Math.Path.{fun_ext}
+use Rattle.std.proofs.Math.ListN.{get_or-map}
+use Rattle.std.proofs.lemmas.List.{map-set, length-map}
+use Rattle.std.proofs.lemmas.List.Sums.{sum_by-cons}
+use Rattle.mm_types.specs.declared.codes.Code.{Code}
+use Rattle.mm_types.specs.declared.codes.Code.TheVariants as code
+use Rattle.mm_types.specs.declared.answers.Answer.{Answer}
+use Rattle.mm_types.specs.declared.answers.Answer.TheVariants as answer
+use Rattle.mm_types.specs.declared.protections.Prot.{Prot}
+use Rattle.mm_types.specs.declared.views.Kind.{Kind}
+use Rattle.mm_types.specs.declared.views.Kind.TheVariants as kind
+use Rattle.mm_types.specs.Address.{Range, lies_within, address_of, range_of, granule_range_of, pages_for}
+use Rattle.mm_types.specs.Protection.{base_of}
+use Rattle.mm_world.specs.World.{RowOf, RegionOf, ProcessOf, AreaOf, WorldOf, pages_of}
+use Rattle.mm_world.specs.Contents.{map_row, map_region, map_process, map_area, map_world, map_outcome}
+use Rattle.mm_world.specs.Find.{Found, first_where, one_later, change_range, ranges_of, region_around, add_region, process_of, set_process, set_regions, set_region, area_at, set_area, no_area, shared_page, placed, is_private}
+use Rattle.mm_world.specs.Charge.{charge, limit, is_charged, region_charge, process_charge, area_charge}
+use Rattle.mm_world.specs.Outcome.{OutcomeOf, done, need, find_or, with_process, within_limit}
+use Rattle.mm_world.specs.Rows.{is_one_of, protections_of, row_at, accepts, is_committed, is_committed_at, reserved_row, commit, protected, change_rows, every_page}
+use Rattle.mm_world.specs.Alloc.{alloc, reserve, commit_in, commit_shared, private_region, new_row, are_alloc_parameters, is_reserving, reserve_type}
+use Rattle.mm_world.specs.Free.{free, decommit, private_at, private_around, are_free_parameters, release_type}
+use Rattle.mm_world.specs.Protect.{protect, protection_at, protection_of, are_protect_parameters}
+
+module _ {A B : Type 0} (f : A → B) where
+  pub record Agrees (o : OutcomeOf A) (p : OutcomeOf B) : Type 0 where
+    pub same : p ≡ map_outcome f o
+
+  abbrev pub map_found : Found (RegionOf A) → Found (RegionOf B)
+  map_found r = record { place = r.place; thing = map_region f r.thing }
+
+-- ---- lists
+
+pub first-map : {X Y : Type 0} (test : Y → Bool) (g : X → Y) (xs : List X) → first_where test (map g xs) ≡ option_map (λ (r : Found X). let s : Found Y = record { place = r.place; thing = g r.thing } in s) (first_where (λ x. test (g x)) xs)
+first-map test g [] = refl
+first-map {X} {Y} test g (x ∷ xs) = by_test (test (g x)) (first-map test g xs)
+  where
+    there : Found X → Found Y
+    there r = record { place = r.place; thing = g r.thing }
+
+    later : (o : Option (Found X)) → option_map one_later (option_map there o) ≡ option_map there (option_map one_later o)
+    later None = refl
+    later (Some r) = refl
+
+    by_test : (b : Bool) → first_where test (map g xs) ≡ option_map there (first_where (λ x. test (g x)) xs) → cond b (Some (record { place = 0; thing = g x })) (option_map one_later (first_where test (map g xs))) ≡ option_map there (cond b (Some (record { place = 0; thing = x })) (option_map one_later (first_where (λ x. test (g x)) xs)))
+    by_test true ih = refl
+    by_test false ih = ap (option_map one_later) ih ∙ later (first_where (λ x. test (g x)) xs)
+
+pub map-append : {X Y : Type 0} (g : X → Y) (xs ys : List X) → map g (xs ++ ys) ≡ map g xs ++ map g ys
+map-append g [] ys = refl
+map-append g (x ∷ xs) ys = ap (λ zs. g x ∷ zs) (map-append g xs ys)
+
+map-take : {X Y : Type 0} (g : X → Y) (n : ℕ) (xs : List X) → map g (take n xs) ≡ take n (map g xs)
+map-take g zero xs = refl
+map-take g (suc n) [] = refl
+map-take g (suc n) (x ∷ xs) = ap (λ zs. g x ∷ zs) (map-take g n xs)
+
+map-drop : {X Y : Type 0} (g : X → Y) (n : ℕ) (xs : List X) → map g (drop n xs) ≡ drop n (map g xs)
+map-drop g zero xs = refl
+map-drop g (suc n) [] = refl
+map-drop g (suc n) (x ∷ xs) = map-drop g n xs
+
+pub map-insert : {X Y : Type 0} (g : X → Y) (xs : List X) (i : ℕ) (x : X) → map g (insert xs i x) ≡ insert (map g xs) i (g x)
+map-insert g xs i x =
+    map-append g (take i xs) (x ∷ drop i xs)
+    ∙ ap (λ zs. zs ++ g x ∷ map g (drop i xs)) (map-take g i xs)
+    ∙ ap (λ zs. take i (map g xs) ++ g x ∷ zs) (map-drop g i xs)
+
+pub map-remove : {X Y : Type 0} (g : X → Y) (xs : List X) (i : ℕ) → map g (remove xs i) ≡ remove (map g xs) i
+map-remove g xs i =
+    map-append g (take i xs) (drop (suc i) xs)
+    ∙ ap (λ zs. zs ++ map g (drop (suc i) xs)) (map-take g i xs)
+    ∙ ap (λ zs. take i (map g xs) ++ zs) (map-drop g (suc i) xs)
+
+map-map : {X Y : Type 0} (g : X → Y) (c : X → X) (d : Y → Y) (xs : List X) → ((x : X) → g (c x) ≡ d (g x)) → map g (map c xs) ≡ map d (map g xs)
+map-map g c d [] e = refl
+map-map g c d (x ∷ xs) e = λ i. e x i ∷ map-map g c d xs e i
+
+pub map-change_range : {X Y : Type 0} (g : X → Y) (c : X → X) (d : Y → Y) (first count : ℕ) (xs : List X) → ((x : X) → g (c x) ≡ d (g x)) → map g (change_range c first count xs) ≡ change_range d first count (map g xs)
+map-change_range g c d first count xs e =
+    let later = drop first xs in
+    map-append g (take first xs ++ map c (take count later)) (drop count later)
+    ∙ ap (λ zs. zs ++ map g (drop count later)) (map-append g (take first xs) (map c (take count later)))
+    ∙ ap (λ zs. (zs ++ map g (map c (take count later))) ++ map g (drop count later)) (map-take g first xs)
+    ∙ ap (λ zs. (take first (map g xs) ++ zs) ++ map g (drop count later)) (map-map g c d (take count later) e ∙ ap (λ zs. map d zs) (map-take g count later ∙ ap (take count) (map-drop g first xs)))
+    ∙ ap (λ zs. (take first (map g xs) ++ map d (take count (drop first (map g xs)))) ++ zs) (map-drop g count later ∙ ap (drop count) (map-drop g first xs))
+
+pub map-replicate : {X Y : Type 0} (g : X → Y) (n : ℕ) (x : X) → map g (replicate n x) ≡ replicate n (g x)
+map-replicate g zero x = refl
+map-replicate g (suc n) x = ap (λ ys. g x ∷ ys) (map-replicate g n x)
+
+pub get-map : {X Y : Type 0} (g : X → Y) (xs : List X) (i : ℕ) → slice_get (map g xs) i ≡ option_map g (slice_get xs i)
+get-map g [] i = refl
+get-map g (x ∷ xs) zero = refl
+get-map g (x ∷ xs) (suc i) = get-map g xs i
+
+pub sum_by-map : {X Y : Type 0} (h : Y → ℕ) (g : X → Y) (xs : List X) → sum_by h (map g xs) ≡ sum_by (λ x. h (g x)) xs
+sum_by-map h g [] = refl
+sum_by-map h g (x ∷ xs) = sum_by-cons h (g x) (map g xs) ∙ ap (λ (n : ℕ). h (g x) + n) (sum_by-map h g xs) ∙ sym (sum_by-cons (λ x. h (g x)) x xs)
+
+pub some-map : {X Y : Type 0} (g : X → Y) (o : Option X) → is_some (option_map g o) ≡ is_some o
+some-map g None = refl
+some-map g (Some x) = refl
+
+pub every_page-same : (s t : ℕ → Bool) (range : Range) → ((page : ℕ) → s page ≡ t page) → every_page s range ≡ every_page t range
+every_page-same s t range e = ap (λ u. every_page u range) (fun_ext e)
+
+module _ {A B : Type 0} (f : A → B) where
+  -- ---- regions
+
+  pub pages_of-map : (r : RegionOf A) → pages_of (map_region f r) ≡ pages_of r
+  pages_of-map r = ap (λ (n : ℕ). let range : Range = record { first = r.base; count = n } in range) (length-map r.rows (map_row f))
+
+  pub ranges_of-map : (rs : List (RegionOf A)) → ranges_of (map (map_region f) rs) ≡ ranges_of rs
+  ranges_of-map [] = refl
+  ranges_of-map (r ∷ rs) = λ i. pages_of-map r i ∷ ranges_of-map rs i
+
+  around : (rs : List (RegionOf A)) (range : Range) → region_around (map (map_region f) rs) range ≡ option_map (map_found f) (region_around rs range)
+  around rs range =
+      first-map (λ r. lies_within range (pages_of r)) (map_region f) rs
+      ∙ ap (λ t. option_map (map_found f) (first_where t rs)) (fun_ext (λ r. ap (lies_within range) (pages_of-map r)))
+
+  at_private : (rs : List (RegionOf A)) (addr : ℕ) → private_at (map (map_region f) rs) addr ≡ option_map (map_found f) (private_at rs addr)
+  at_private rs addr = first-map (λ r. is_private r.kind && (address_of r.base == addr)) (map_region f) rs
+
+  around_private : (rs : List (RegionOf A)) (range : Range) → private_around (map (map_region f) rs) range ≡ option_map (map_found f) (private_around rs range)
+  around_private rs range =
+      first-map (λ r. is_private r.kind && lies_within range (pages_of r)) (map_region f) rs
+      ∙ ap (λ t. option_map (map_found f) (first_where t rs)) (fun_ext (λ r. ap (λ range'. is_private r.kind && lies_within range range') (pages_of-map r)))
+
+  pub same_place : (rs : List (RegionOf A)) (addr : ℕ) (wanted : Range) (count : ℕ) → placed (ranges_of (map (map_region f) rs)) addr wanted count ≡ placed (ranges_of rs) addr wanted count
+  same_place rs addr wanted count = ap (λ ranges. placed ranges addr wanted count) (ranges_of-map rs)
+
+  pub map-add_region : (r : RegionOf A) (rs : List (RegionOf A)) → map (map_region f) (add_region r rs) ≡ add_region (map_region f r) (map (map_region f) rs)
+  map-add_region r rs =
+      map-insert (map_region f) rs (count_by (λ x. nat_lt x.base r.base) rs) r
+      ∙ ap (λ n. insert (map (map_region f) rs) n (map_region f r)) (sym (sum_by-map (λ x. cond (nat_lt x.base r.base) 1 0) (map_region f) rs))
+
+  -- ---- worlds
+
+  pub at_process : (w : WorldOf A) (pid : ℕ) → process_of (map_world f w) pid ≡ option_map (map_process f) (process_of w pid)
+  at_process w pid = get_or-map (option_map (map_process f)) w.processes pid None
+
+  pub to_process : (w : WorldOf A) (pid : ℕ) (p : Option (ProcessOf A)) → map_world f (set_process w pid p) ≡ set_process (map_world f w) pid (option_map (map_process f) p)
+  to_process w pid p = ap (λ ps. record (map_world f w) { processes = ps }) (map-set (option_map (map_process f)) w.processes pid p)
+
+  pub to_regions : (w : WorldOf A) (pid : ℕ) (p : ProcessOf A) (rs : List (RegionOf A)) → map_world f (set_regions w pid p rs) ≡ set_regions (map_world f w) pid (map_process f p) (map (map_region f) rs)
+  to_regions w pid p rs = to_process w pid (Some (record p { regions = rs }))
+
+  pub to_region : (w : WorldOf A) (pid : ℕ) (p : ProcessOf A) (place : ℕ) (r : RegionOf A) → map_world f (set_region w pid p place r) ≡ set_region (map_world f w) pid (map_process f p) place (map_region f r)
+  to_region w pid p place r = to_regions w pid p (set p.regions place r) ∙ ap (λ rs. set_regions (map_world f w) pid (map_process f p) rs) (map-set (map_region f) p.regions place r)
+
+  pub map-area_at : (w : WorldOf A) (area : ℕ) → area_at (map_world f w) area ≡ map_area f (area_at w area)
+  map-area_at w area = ap (λ o. unwrap_or o no_area) (get-map (map_area f) w.areas area) ∙ by_option (slice_get w.areas area)
+    where
+      by_option : (o : Option (AreaOf A)) → unwrap_or (option_map (map_area f) o) no_area ≡ map_area f (unwrap_or o no_area)
+      by_option None = refl
+      by_option (Some a) = refl
+
+  pub map-shared_page : (w : WorldOf A) (area i : ℕ) → shared_page (map_world f w) area i ≡ option_map f (shared_page w area i)
+  map-shared_page w area i = ap (λ (a : AreaOf B). get_or a.pages i None) (map-area_at w area) ∙ get_or-map (option_map f) (area_at w area).pages i None
+
+  -- ---- the charge
+
+  same_row : (k : Kind) (row : RowOf A) → is_charged k (map_row f row) ≡ is_charged k row
+  same_row kind.Private row = some-map f row.own
+  same_row (kind.View v) row = refl
+
+  same_region : (r : RegionOf A) → region_charge (map_region f r) ≡ region_charge r
+  same_region r = sum_by-map (λ row. cond (is_charged r.kind row) 1 0) (map_row f) r.rows ∙ ap (λ t. count_by t r.rows) (fun_ext (same_row r.kind))
+
+  same_process : (p : Option (ProcessOf A)) → process_charge (option_map (map_process f) p) ≡ process_charge p
+  same_process None = refl
+  same_process (Some p) = sum_by-map region_charge (map_region f) p.regions ∙ ap (λ t. sum_by t p.regions) (fun_ext same_region)
+
+  same_area : (a : AreaOf A) → area_charge (map_area f a) ≡ area_charge a
+  same_area a =
+      sum_by-map (λ page. cond (is_some page && is_none a.file_block) 1 0) (option_map f) a.pages
+      ∙ ap (λ t. count_by t a.pages) (fun_ext (λ page. ap (λ b. b && is_none a.file_block) (some-map f page)))
+
+  pub same_charge : (w : WorldOf A) → charge (map_world f w) ≡ charge w
+  same_charge w = λ i.
+      (sum_by-map process_charge (option_map (map_process f)) w.processes ∙ ap (λ t. sum_by t w.processes) (fun_ext same_process)) i
+      + (sum_by-map area_charge (map_area f) w.areas ∙ ap (λ t. sum_by t w.areas) (fun_ext same_area)) i
+
+  -- ---- rows
+
+  pub map-row_at : (r : RegionOf A) (page : ℕ) → row_at (map_region f r) page ≡ option_map (map_row f) (row_at r page)
+  map-row_at r page = get-map (map_row f) r.rows (page - r.base)
+
+  same_protections : (k : Kind) (row : RowOf A) → protections_of k (map_row f row) ≡ protections_of k row
+  same_protections kind.Private row = refl
+  same_protections (kind.View v) row = refl
+
+  same_accepts : (r : RegionOf A) (prot page : ℕ) → accepts (map_region f r) prot page ≡ accepts r prot page
+  same_accepts r prot page =
+      ap (λ o. unwrap_or (option_map (λ (row : RowOf B). is_one_of (protections_of r.kind row) (base_of prot)) o) false) (map-row_at r page) ∙ by_row (row_at r page)
+    where
+      by_row : (o : Option (RowOf A)) → unwrap_or (option_map (λ (row : RowOf B). is_one_of (protections_of r.kind row) (base_of prot)) (option_map (map_row f) o)) false ≡ unwrap_or (option_map (λ (row : RowOf A). is_one_of (protections_of r.kind row) (base_of prot)) o) false
+      by_row None = refl
+      by_row (Some row) = ap (λ ps. is_one_of ps (base_of prot)) (same_protections r.kind row)
+
+  pub same_committed : (w : WorldOf A) (k : Kind) (i : ℕ) (row : RowOf A) → is_committed (map_world f w) k i (map_row f row) ≡ is_committed w k i row
+  same_committed w kind.Private i row = some-map f row.own
+  same_committed w (kind.View v) i row = ap is_some (map-shared_page w v.area.0 (v.first + i)) ∙ some-map f (shared_page w v.area.0 (v.first + i))
+
+  same_committed_at : (w : WorldOf A) (r : RegionOf A) (page : ℕ) → is_committed_at (map_world f w) (map_region f r) page ≡ is_committed_at w r page
+  same_committed_at w r page =
+      ap (λ o. unwrap_or (option_map (is_committed (map_world f w) r.kind (page - r.base)) o) false) (map-row_at r page) ∙ by_row (row_at r page)
+    where
+      by_row : (o : Option (RowOf A)) → unwrap_or (option_map (is_committed (map_world f w) r.kind (page - r.base)) (option_map (map_row f) o)) false ≡ unwrap_or (option_map (is_committed w r.kind (page - r.base)) o) false
+      by_row None = refl
+      by_row (Some row) = same_committed w r.kind (page - r.base) row
+
+  map-protected : (k : Kind) (prot : ℕ) (row : RowOf A) → map_row f (protected k prot row) ≡ protected k prot (map_row f row)
+  map-protected kind.Private prot row = refl
+  map-protected (kind.View v) prot row = by_own row.own
+    where
+      by_own : (o : Option A) → map_row f (protected (kind.View v) prot (record row { own = o })) ≡ protected (kind.View v) prot (map_row f (record row { own = o }))
+      by_own None = refl
+      by_own (Some x) = refl
+
+  pub map-change_rows : (c : RowOf A → RowOf A) (d : RowOf B → RowOf B) (range : Range) (r : RegionOf A) → ((row : RowOf A) → map_row f (c row) ≡ d (map_row f row)) → map_region f (change_rows c range r) ≡ change_rows d range (map_region f r)
+  map-change_rows c d range r e = ap (λ rows. record (map_region f r) { rows = rows }) (map-change_range (map_row f) c d (range.first - r.base) range.count r.rows e)
+
+  -- ---- tables
+
+  pub at_need : (w : WorldOf A) (why : Code) (b c : Bool) (o : OutcomeOf A) (p : OutcomeOf B) → c ≡ b → Agrees f o p → Agrees f (need w why b o) (need (map_world f w) why c p)
+  at_need w why true true o p e h = h
+  at_need w why false false o p e h = record { same = refl }
+  at_need w why true false o p e h = cc
+  at_need w why false true o p e h = cc
+
+  pub at_find : {X Y : Type 0} (w : WorldOf A) (why : Code) (g : X → Y) (x : Option X) (y : Option Y) (k : X → OutcomeOf A) (l : Y → OutcomeOf B) → y ≡ option_map g x → ((a : X) → x ≡ Some a → Agrees f (k a) (l (g a))) → Agrees f (find_or w why x k) (find_or (map_world f w) why y l)
+  at_find w why g None None k l e h = record { same = refl }
+  at_find w why g (Some a) (Some b) k l e h =
+      let same : b ≡ g a = cc in
+      record { same = ap (λ y. l y) same ∙ (h a refl).same }
+  at_find w why g None (Some b) k l e h = cc
+  at_find w why g (Some a) None k l e h = cc
+
+  pub at_found : {X : Type 0} (w : WorldOf A) (why : Code) (x y : Option X) (k : X → OutcomeOf A) (l : X → OutcomeOf B) → y ≡ x → ((a : X) → x ≡ Some a → Agrees f (k a) (l a)) → Agrees f (find_or w why x k) (find_or (map_world f w) why y l)
+  at_found w why None None k l e h = record { same = refl }
+  at_found w why (Some a) (Some b) k l e h =
+      let same : b ≡ a = cc in
+      record { same = ap (λ y. l y) same ∙ (h a refl).same }
+  at_found w why None (Some b) k l e h = cc
+  at_found w why (Some a) None k l e h = cc
+
+  pub at_lives : (w : WorldOf A) (pid : ℕ) (k : ProcessOf A → OutcomeOf A) (l : ProcessOf B → OutcomeOf B) → ((p : ProcessOf A) → process_of w pid ≡ Some p → Agrees f (k p) (l (map_process f p))) → Agrees f (with_process w pid k) (with_process (map_world f w) pid l)
+  at_lives w pid k l h = at_find w code.InvalidHandle (map_process f) (process_of w pid) (process_of (map_world f w) pid) k l (at_process w pid) h
+
+  pub at_if : (b : Bool) (o o' : OutcomeOf A) (p p' : OutcomeOf B) → Agrees f o p → Agrees f o' p' → Agrees f (cond b o o') (cond b p p')
+  at_if true o o' p p' h k = h
+  at_if false o o' p p' h k = k
+
+  pub at_done : (a : Answer) (w : WorldOf A) (v : WorldOf B) → v ≡ map_world f w → Agrees f (done a w) (done a v)
+  at_done a w v e = record { same = ap (λ x. done a x) e }
+
+  pub at_answer : (a b : Answer) (w : WorldOf A) (v : WorldOf B) → b ≡ a → v ≡ map_world f w → Agrees f (done a w) (done b v)
+  at_answer a b w v e h = record { same = λ i. done (e i) (h i) }
+
+  pub at_limit : (w : WorldOf A) (o : OutcomeOf A) (p : OutcomeOf B) → Agrees f o p → Agrees f (within_limit w o) (within_limit (map_world f w) p)
+  at_limit w o p h = at_need w code.CommitmentLimit (leb (charge o.world) (limit o.world)) (leb (charge p.world) (limit p.world)) o p same_test h
+    where
+      same_test : leb (charge p.world) (limit p.world) ≡ leb (charge o.world) (limit o.world)
+      same_test = ap (λ (q : OutcomeOf B). leb (charge q.world) (limit q.world)) h.same ∙ ap (λ c. leb c (limit o.world)) (same_charge o.world)
+
+  -- a region with changed rows, in its place
+  at_change : (w : WorldOf A) (pid : ℕ) (p : ProcessOf A) (r : Found (RegionOf A)) (c : RowOf A → RowOf A) (d : RowOf B → RowOf B) (range : Range) → ((row : RowOf A) → map_row f (c row) ≡ d (map_row f row)) → set_region (map_world f w) pid (map_process f p) r.place (change_rows d range (map_region f r.thing)) ≡ map_world f (set_region w pid p r.place (change_rows c range r.thing))
+  at_change w pid p r c d range e =
+      ap (λ x. set_region (map_world f w) pid (map_process f p) r.place x) (sym (map-change_rows c d range r.thing e)) ∙ sym (to_region w pid p r.place (change_rows c range r.thing))
+
+  module _ (fill : ℕ → A) where
+    abbrev pub there : ℕ → B
+    there n = f (fill n)
+
+    -- ---- alloc
+
+    map-new_row : (type prot : ℕ) → map_row f (new_row fill type prot) ≡ new_row there type prot
+    map-new_row type prot = by_type (type == reserve_type)
+      where
+        by_type : (b : Bool) → map_row f (cond b reserved_row (commit (fill 0) prot reserved_row)) ≡ cond b reserved_row (commit (there 0) prot reserved_row)
+        by_type true = refl
+        by_type false = refl
+
+    map-private_region : (type prot : ℕ) (range : Range) → map_region f (private_region fill type prot range) ≡ private_region there type prot range
+    map-private_region type prot range =
+        ap (λ rows. let r : RegionOf B = record { base = range.first; alloc_prot = prot; kind = kind.Private; rows = rows } in r)
+        (map-replicate (map_row f) range.count (new_row fill type prot) ∙ ap (λ row. replicate range.count row) (map-new_row type prot))
+
+    pub map-commit : (prot : ℕ) (row : RowOf A) → map_row f (commit (fill 0) prot row) ≡ commit (there 0) prot (map_row f row)
+    map-commit prot row = by_own row.own
+      where
+        by_own : (o : Option A) → map_row f (commit (fill 0) prot (record row { own = o })) ≡ commit (there 0) prot (map_row f (record row { own = o }))
+        by_own None = refl
+        by_own (Some x) = refl
+
+    in_reserve : (w : WorldOf A) (pid : ℕ) (p : ProcessOf A) (addr size type prot : ℕ) → Agrees f (reserve fill w pid p addr size type prot) (reserve there (map_world f w) pid (map_process f p) addr size type prot)
+    in_reserve w pid p addr size type prot =
+        let wanted = granule_range_of addr size in
+        at_found w code.InvalidAddress (placed (ranges_of p.regions) addr wanted (pages_for size)) (placed (ranges_of (map (map_region f) p.regions)) addr wanted (pages_for size)) _ _
+        (same_place p.regions addr wanted (pages_for size))
+        (λ range found. at_limit w
+        (done (answer.At (address_of range.first)) (set_regions w pid p (add_region (private_region fill type prot range) p.regions)))
+        (done (answer.At (address_of range.first)) (set_regions (map_world f w) pid (map_process f p) (add_region (private_region there type prot range) (map (map_region f) p.regions))))
+        (at_done _ _ _ (
+        ap (λ r. set_regions (map_world f w) pid (map_process f p) (add_region r (map (map_region f) p.regions))) (sym (map-private_region type prot range))
+        ∙ ap (λ rs. set_regions (map_world f w) pid (map_process f p) rs) (sym (map-add_region (private_region fill type prot range) p.regions))
+        ∙ sym (to_regions w pid p (add_region (private_region fill type prot range) p.regions)))))
+
+    map-commit_shared : (first count : ℕ) (a : AreaOf A) → map_area f (commit_shared fill first count a) ≡ commit_shared there first count (map_area f a)
+    map-commit_shared first count a =
+        ap (λ pages. record (map_area f a) { pages = pages })
+        (map-change_range (option_map f) (λ page. Some (unwrap_or page (fill 0))) (λ page. Some (unwrap_or page (there 0))) first count a.pages by_page)
+      where
+        by_page : (o : Option A) → option_map f (Some (unwrap_or o (fill 0))) ≡ Some (unwrap_or (option_map f o) (there 0))
+        by_page None = refl
+        by_page (Some x) = refl
+
+    in_commit : (w : WorldOf A) (pid : ℕ) (p : ProcessOf A) (r : Found (RegionOf A)) (k : Kind) (range : Range) (prot : ℕ) → Agrees f (commit_in fill w pid p r k range prot) (commit_in there (map_world f w) pid (map_process f p) (map_found f r) k range prot)
+    in_commit w pid p r kind.Private range prot =
+        at_limit w
+        (done (answer.At (address_of range.first)) (set_region w pid p r.place (change_rows (commit (fill 0) prot) range r.thing)))
+        (done (answer.At (address_of range.first)) (set_region (map_world f w) pid (map_process f p) r.place (change_rows (commit (there 0) prot) range (map_region f r.thing))))
+        (at_done _ _ _ (at_change w pid p r (commit (fill 0) prot) (commit (there 0) prot) range (map-commit prot)))
+    in_commit w pid p r (kind.View v) range prot =
+        let area = area_at w v.area.0 in
+        let first = v.first + (range.first - r.thing.base) in
+        let v1 = set_region w pid p r.place (change_rows (protected r.thing.kind prot) range r.thing) in
+        let v2 = set_region (map_world f w) pid (map_process f p) r.place (change_rows (protected r.thing.kind prot) range (map_region f r.thing)) in
+        at_need w code.InvalidAddress (is_none area.file_block) (is_none (area_at (map_world f w) v.area.0).file_block) _ _ (ap (λ (a : AreaOf B). is_none a.file_block) (map-area_at w v.area.0))
+        (at_need w code.InvalidParameter (every_page (accepts r.thing prot) range) (every_page (accepts (map_region f r.thing) prot) range) _ _ (every_page-same (accepts (map_region f r.thing) prot) (accepts r.thing prot) range (same_accepts r.thing prot))
+        (at_limit w
+        (done (answer.At (address_of range.first)) (set_area v1 v.area.0 (commit_shared fill first range.count area)))
+        (done (answer.At (address_of range.first)) (set_area v2 v.area.0 (commit_shared there first range.count (area_at (map_world f w) v.area.0))))
+        (at_done _ _ _ (
+        (λ i. set_area (at_change w pid p r (protected r.thing.kind prot) (protected r.thing.kind prot) range (map-protected r.thing.kind prot) i) v.area.0
+        ((ap (commit_shared there first range.count) (map-area_at w v.area.0) ∙ sym (map-commit_shared first range.count area)) i))
+        ∙ sym (to_area v1 v.area.0 (commit_shared fill first range.count area))))))
+      where
+        to_area : (w : WorldOf A) (area : ℕ) (a : AreaOf A) → map_world f (set_area w area a) ≡ set_area (map_world f w) area (map_area f a)
+        to_area w area a = ap (λ areas. record (map_world f w) { areas = areas }) (map-set (map_area f) w.areas area a)
+
+    pub in_alloc : (w : WorldOf A) (pid addr size type prot : ℕ) → Agrees f (alloc fill w pid addr size type prot) (alloc there (map_world f w) pid addr size type prot)
+    in_alloc w pid addr size type prot =
+        at_lives w pid _ _ (λ p lives.
+        at_need w code.InvalidParameter (are_alloc_parameters size type prot) (are_alloc_parameters size type prot) _ _ refl (
+        at_if (is_reserving addr type) _ _ _ _
+        (in_reserve w pid p addr size type prot)
+        (at_find w code.InvalidAddress (map_found f) (region_around p.regions (range_of addr size)) (region_around (map (map_region f) p.regions) (range_of addr size)) _ _
+        (around p.regions (range_of addr size))
+        (λ r found. in_commit w pid p r r.thing.kind (range_of addr size) prot))))
+
+  -- ---- free
+
+  at_decommit : (w : WorldOf A) (pid : ℕ) (p : ProcessOf A) (r : Found (RegionOf A)) (range : Range) → Agrees f (decommit w pid p r range) (decommit (map_world f w) pid (map_process f p) (map_found f r) range)
+  at_decommit w pid p r range = at_done answer.Ok _ _ (at_change w pid p r (λ row. reserved_row) (λ row. reserved_row) range (λ row. refl))
+
+  pub in_free : (w : WorldOf A) (pid addr size type : ℕ) → Agrees f (free w pid addr size type) (free (map_world f w) pid addr size type)
+  in_free w pid addr size type =
+      at_lives w pid _ _ (λ p lives.
+      at_need w code.InvalidParameter (are_free_parameters size type) (are_free_parameters size type) _ _ refl (
+      at_if (type == release_type) _ _ _ _
+      (at_find w code.InvalidAddress (map_found f) (private_at p.regions addr) (private_at (map (map_region f) p.regions) addr) _ _ (at_private p.regions addr)
+      (λ r found. at_done answer.Ok _ _ (ap (λ rs. set_regions (map_world f w) pid (map_process f p) rs) (sym (map-remove (map_region f) p.regions r.place)) ∙ sym (to_regions w pid p (remove p.regions r.place)))))
+      (at_if (size == 0) _ _ _ _
+      (at_find w code.InvalidAddress (map_found f) (private_at p.regions addr) (private_at (map (map_region f) p.regions) addr) _ _ (at_private p.regions addr)
+      (λ r found. record { same = ap (λ range. decommit (map_world f w) pid (map_process f p) (map_found f r) range) (pages_of-map r.thing) ∙ (at_decommit w pid p r (pages_of r.thing)).same }))
+      (at_find w code.InvalidAddress (map_found f) (private_around p.regions (range_of addr size)) (private_around (map (map_region f) p.regions) (range_of addr size)) _ _ (around_private p.regions (range_of addr size))
+      (λ r found. at_decommit w pid p r (range_of addr size))))))
+
+  -- ---- protect
+
+  same_protection : (r : RegionOf A) (page : ℕ) → protection_at (map_region f r) page ≡ protection_at r page
+  same_protection r page = ap (λ (o : Option (RowOf B)). let prot : Prot = record { 0 = unwrap_or (option_map protection_of o) 0 } in prot) (map-row_at r page) ∙ by_row (row_at r page)
+    where
+      by_row : (o : Option (RowOf A)) → (let prot : Prot = record { 0 = unwrap_or (option_map protection_of (option_map (map_row f) o)) 0 } in prot) ≡ (let prot : Prot = record { 0 = unwrap_or (option_map protection_of o) 0 } in prot)
+      by_row None = refl
+      by_row (Some row) = refl
+
+  pub in_protect : (w : WorldOf A) (pid addr size prot : ℕ) → Agrees f (protect w pid addr size prot) (protect (map_world f w) pid addr size prot)
+  in_protect w pid addr size prot =
+      let range = range_of addr size in
+      at_lives w pid _ _ (λ p lives.
+      at_need w code.InvalidParameter (are_protect_parameters size prot) (are_protect_parameters size prot) _ _ refl (
+      at_find w code.InvalidAddress (map_found f) (region_around p.regions range) (region_around (map (map_region f) p.regions) range) _ _ (around p.regions range) (λ r found.
+      at_need w code.InvalidAddress (every_page (is_committed_at w r.thing) range) (every_page (is_committed_at (map_world f w) (map_region f r.thing)) range) _ _ (every_page-same _ _ range (same_committed_at w r.thing)) (
+      at_need w code.InvalidParameter (every_page (accepts r.thing prot) range) (every_page (accepts (map_region f r.thing) prot) range) _ _ (every_page-same _ _ range (same_accepts r.thing prot)) (
+      at_limit w
+      (done (answer.OldProt (protection_at r.thing range.first)) (set_region w pid p r.place (change_rows (protected r.thing.kind prot) range r.thing)))
+      (done (answer.OldProt (protection_at (map_region f r.thing) range.first)) (set_region (map_world f w) pid (map_process f p) r.place (change_rows (protected r.thing.kind prot) range (map_region f r.thing))))
+      (at_answer _ _ _ _ (ap answer.OldProt (same_protection r.thing range.first)) (at_change w pid p r (protected r.thing.kind prot) (protected r.thing.kind prot) range (map-protected r.thing.kind prot))))))))

@@ -1,0 +1,34 @@
+-- A property of a call's outcome, from one of each of its cases: one lemma for each word that tables of cases are made of.
+use Rattle.std.proofs.Common.{◌≡◌, ◌≤◌, Bool, true, false, Option, Some, None, refl, cond, leb}
+use Rattle.std.proofs.lemmas.Bool.{leb-true}
+use Rattle.mm_types.specs.declared.codes.Code.{Code}
+use Rattle.mm_types.specs.declared.codes.Code.TheVariants as code
+use Rattle.mm_world.specs.World.{WorldOf}
+use Rattle.mm_world.specs.Charge.{charge, limit}
+use Rattle.mm_world.specs.Outcome.{OutcomeOf, refused, need, find_or, within_limit}
+
+-- a property of an outcome, under a name that a search can see
+pub record Holds {B : Type 0} (P : OutcomeOf B → Type 0) (o : OutcomeOf B) : Type 0 where
+  pub it : P o
+
+module _ {B : Type 0} {P : OutcomeOf B → Type 0} where
+  pub at_need : (w : WorldOf B) (why : Code) (b : Bool) (o : OutcomeOf B) → Holds P (refused w why) → (b ≡ true → Holds P o) → Holds P (need w why b o)
+  at_need w why true o refuse go = go refl
+  at_need w why false o refuse go = refuse
+
+  pub at_find : {A : Type 0} (w : WorldOf B) (why : Code) (x : Option A) (f : A → OutcomeOf B) → Holds P (refused w why) → ((a : A) → x ≡ Some a → Holds P (f a)) → Holds P (find_or w why x f)
+  at_find w why None f refuse go = refuse
+  at_find w why (Some a) f refuse go = go a refl
+
+  pub at_if : (b : Bool) (o p : OutcomeOf B) → (b ≡ true → Holds P o) → (b ≡ false → Holds P p) → Holds P (cond b o p)
+  at_if true o p h k = h refl
+  at_if false o p h k = k refl
+
+  at_test : (w : WorldOf B) (o : OutcomeOf B) (b : Bool) → leb (charge o.world) (limit o.world) ≡ b → Holds P (refused w code.CommitmentLimit) → (charge o.world ≤ limit o.world → Holds P o) → Holds P (need w code.CommitmentLimit b o)
+  at_test w o true e refuse go = go (leb-true _ _ e)
+  at_test w o false e refuse go = refuse
+
+  pub at_limit : (w : WorldOf B) (o : OutcomeOf B) → Holds P (refused w code.CommitmentLimit) → (charge o.world ≤ limit o.world → Holds P o) → Holds P (within_limit w o)
+  at_limit w o refuse go = at_test w o _ refl refuse go
+
+pub ruleset tables = (at_need, at_find, at_if, at_limit)

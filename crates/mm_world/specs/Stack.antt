@@ -1,0 +1,111 @@
+-- Stacks of threads that grow through their guard page: `stack` and `probe` (this profile's own).
+-- They are decided without bytes, so they never page.
+use Rattle.std.specs.Prelude.{ℕ, ◌+◌, ◌-◌, ◌*◌, ◌/◌, Bool, not, ◌&&◌, ◌||◌, nat_le, ◌==◌, if◌then◌else◌, is_some, is_none, ◌∷◌, ◌++◌, replicate, Option, Some, None}
+use Rattle.mm_types.specs.declared.answers.Answer.TheVariants as answer
+use Rattle.mm_types.specs.declared.codes.Code.TheVariants as code
+use Rattle.mm_types.specs.declared.codes.Raise.TheVariants as raise
+use Rattle.mm_types.specs.declared.protections.Access.TheVariants as access_kind
+use Rattle.mm_types.specs.declared.views.Kind.TheVariants as kind
+use Rattle.mm_types.specs.Address.{address_of, page_of, pages_for, granule_pages, lowest_gap}
+use Rattle.mm_types.specs.Protection.{permits}
+use Rattle.mm_world.specs.World.{Numbered, numbered, RegionOf, ProcessOf, WorldOf}
+use Rattle.mm_world.specs.Find.{process_of, add_region, ranges_of, set_regions}
+use Rattle.mm_world.specs.Charge.{charge, limit}
+use Rattle.mm_world.specs.Keys.{Committed, committed_at, guard_off}
+use Rattle.mm_world.specs.Outcome.{OutcomeOf, done, need, find_or, with_process, within_limit}
+use Rattle.mm_world.specs.Rows.{reserved_row, commit}
+use Rattle.mm_world.specs.Alloc.{alloc, commit_type}
+
+-- the stack of a thread; `base < guard_page`
+pub record StackOf : Type 0 where
+  pub pid : ℕ
+  pub base : ℕ  -- its lowest page
+  pub guard_page : ℕ
+
+-- whole granules
+abbrev pub reserve_pages : ℕ → ℕ
+reserve_pages reserve = ((pages_for reserve + 15) / granule_pages) * granule_pages
+
+-- at least one
+abbrev pub commit_pages : ℕ → ℕ
+commit_pages commit = if commit == 0 then 1 else pages_for commit
+
+module _ {B : Type 0} where
+  -- no page is left to grow into, or no commitment
+  abbrev pub is_overflow : WorldOf B → ProcessOf B → StackOf → Bool
+  is_overflow w p s =
+      let next = s.guard_page - 1 in
+      (next == s.base) || (is_none (committed_at w p.regions next) && (charge w == limit w))
+
+module _ {B : Type 0} (fill : ℕ → B) where
+  -- r pages: the top c are committed, the page below them is the guard page, the rest is reserved
+  abbrev pub stack_region : ℕ → ℕ → ℕ → RegionOf B
+  stack_region base r c =
+      record {
+        base = base;
+        alloc_prot = 0x04;
+        kind = kind.Private;
+        rows = replicate (r - (c + 1)) reserved_row
+            ++ commit (fill 0) 0x104 reserved_row ∷ replicate c (commit (fill 0) 0x04 reserved_row);
+      }
+
+  abbrev pub made : WorldOf B → ℕ → ProcessOf B → ℕ → ℕ → OutcomeOf B
+  made w pid p r c =
+      need w code.InvalidParameter (nat_le (c + 2) r) (
+      find_or w code.InvalidAddress (lowest_gap (ranges_of p.regions) r) (λ base.
+      within_limit w (done (answer.Stack (address_of base) (address_of r) (address_of (base + r - (c + 1))))
+      (set_regions w pid p (add_region (stack_region base r c) p.regions)))))
+
+  -- `stack`; the stack that the thread gets is that of the answer
+  abbrev pub stack : WorldOf B → Numbered StackOf → ℕ → ℕ → ℕ → ℕ → OutcomeOf B
+  stack w stacks tid pid reserve commit =
+      with_process w pid (λ p.
+      if is_some (numbered stacks tid) then done answer.Busy w
+      else
+      need w code.InvalidParameter (not (reserve == 0)) (
+      made w pid p (reserve_pages reserve) (commit_pages commit)))
+
+  -- the page below becomes the guard page, committed as `alloc` does it
+  abbrev pub grown : WorldOf B → StackOf → WorldOf B → OutcomeOf B
+  grown w s without_guard =
+      let next = s.guard_page - 1 in
+      done (answer.At (address_of next)) (alloc fill without_guard s.pid (address_of next) 1 commit_type 0x104).world
+
+  -- by the first case that holds
+  abbrev pub probe_at : WorldOf B → ProcessOf B → StackOf → ℕ → Option (Committed B) → OutcomeOf B
+  probe_at w p s page None = done (answer.Raised raise.AccessViolation) w
+  probe_at w p s page (Some c) =
+      let without_guard = guard_off w s.pid p c page in
+      if c.row.guard && not (page == s.guard_page) then done (answer.Raised raise.GuardPage) without_guard
+      else if c.row.guard && is_overflow w p s then done (answer.Raised raise.StackOverflow) without_guard
+      else if c.row.guard then grown w s without_guard
+      else if not (permits c.row.prot access_kind.Read) then done (answer.Raised raise.AccessViolation) w
+      else done (answer.At (address_of s.guard_page)) w
+
+  abbrev pub probe_in : WorldOf B → StackOf → ℕ → Option (ProcessOf B) → OutcomeOf B
+  probe_in w s page None = done answer.Nothing w
+  probe_in w s page (Some p) = probe_at w p s page (committed_at w p.regions page)
+
+  abbrev pub probe_of : WorldOf B → ℕ → Option StackOf → OutcomeOf B
+  probe_of w page None = done answer.Nothing w
+  probe_of w page (Some s) = probe_in w s page (process_of w s.pid)
+
+  -- `probe`: the touch that a compiled function makes before it uses a page of its stack
+  abbrev pub probe : WorldOf B → Numbered StackOf → ℕ → ℕ → OutcomeOf B
+  probe w stacks tid addr = probe_of w (page_of addr) (numbered stacks tid)
+
+-- ---- the stacks after a line, from its answer
+
+abbrev pub without : (StackOf → Bool) → Option StackOf → Option StackOf
+without ends None = None
+without ends (Some s) = if ends s then None else Some s
+
+-- a stack ends where its region is released or its process ends
+abbrev pub is_stack_at : ℕ → ℕ → StackOf → Bool
+is_stack_at pid addr s = (s.pid == pid) && (address_of s.base == addr)
+
+abbrev pub is_stack_in : ℕ → StackOf → Bool
+is_stack_in pid s = s.pid == pid
+
+abbrev pub moved : ℕ → StackOf → StackOf
+moved guard s = record s { guard_page = page_of guard }

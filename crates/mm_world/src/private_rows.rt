@@ -1,0 +1,46 @@
+#![tactic(auto, unfolding(crate::specs::World::filled, mm_types::specs::Address::least_from, mm_types::specs::Spelling::decimal_onto))]
+
+ghost use Rattle.std.specs.Prelude.{[], ◌∷◌, codes};
+ghost use Rattle.mm_world.specs.RunText.{Done, Script};
+ghost use Rattle.mm_world.specs.Worked.{Gives, machine, text_of};
+ghost use Rattle.mm_world.specs.WorkedPrivate.{smallest_machine_row, decommit_and_commit_row, rounding_row, half_in_half_out_row, commit_again_row, guard_row, query_runs_row, execute_and_edges_row};
+
+/// The smallest machine: commitment is refused exactly past the limit.
+pub fn smallest_machine()
+    ensures { Gives (machine 6 0 1 0) (codes "ok 2") smallest_machine_row Done [] }
+{}
+
+/// A decommitted page loses its bytes.
+pub fn decommit_and_commit()
+    ensures { Gives (machine 8 4 1 0) (codes "ok 8") decommit_and_commit_row Done [] }
+{}
+
+/// A reservation begins on a granule and ends with the page of its last byte.
+pub fn rounding()
+    ensures { Gives (machine 8 8 1 0) (codes "ok 12") rounding_row Done [] }
+{}
+
+/// A commit that leaves its region is refused whole.
+pub fn half_in_half_out()
+    ensures { Gives (machine 8 8 1 0) (codes "ok 12") half_in_half_out_row Done [] }
+{}
+
+/// A page that is committed again keeps its bytes and gets the new protection.
+pub fn commit_again()
+    ensures { Gives (machine 8 8 1 0) (codes "ok 12") commit_again_row Done [] }
+{}
+
+/// A guard raises once, before the protection is looked at.
+pub fn guard()
+    ensures { Gives (machine 8 8 1 0) (codes "ok 12") guard_row Done [] }
+{}
+
+/// Query tells runs of like pages, and free runs to the end of the user pages.
+pub fn query_runs()
+    ensures { Gives (machine 8 8 1 0) (codes "ok 12") query_runs_row Done [] }
+{}
+
+/// Execution, the edges of the address space, and a run that ends at a faulty line.
+pub fn execute_and_edges()
+    ensures { Gives (machine 8 8 1 0) (codes "ok 12") execute_and_edges_row (Script 8 16) (text_of (codes "bad line 8 column 16" ∷ [])) }
+{}
