@@ -1,0 +1,12 @@
+pub mod Apart
+pub mod Changes
+pub mod Counted
+pub mod Edits
+pub mod Few
+pub mod Finds
+pub mod Forks
+pub mod FreeAt
+pub mod Heights
+pub mod LowestGap
+pub mod Rows
+pub mod Widest

@@ -1,0 +1,5 @@
+pub mod Ranges
+pub mod Visits
+pub mod Room
+pub mod Shape
+pub mod Nodes

@@ -1,0 +1,276 @@
+-- A script comes to one thing.
+use Rattle.std.proofs.Common.{◌≡◌, ◌≢◌, ◌⊎◌, ℕ, ◌+◌, ◌<◌, ◌≤◌, suc, List, [], ◌∷◌, ◌++◌, length, Option, Some, None, refl, sym, ap, ◌∙◌, subst, inl, inr, arith, append_assoc, length-append}
+use Rattle.std.specs.Prelude.{Result, Ok, Err, true, false}
+use Rattle.mm_types.specs.Outside.{Appended}
+use Rattle.mm_types.specs.Spelling.{Text}
+use Rattle.mm_types.specs.AnswerText.{spelled}
+use Rattle.mm_lines.specs.Lines.{NoFeed, IsLine, ended, joined}
+use Rattle.mm_types.specs.declared.events.Event.{Event}
+use Rattle.mm_run.specs.declared.endings.Ending.{Ending}
+use Rattle.mm_run.specs.declared.endings.Ending.TheVariants as ending
+use Rattle.mm_run.specs.Built.{is_built}
+use Rattle.mm_run.specs.Reading.{reading}
+use Rattle.mm_run.specs.Texts.{status_of, last_text}
+use Rattle.mm_run.specs.Story.{Each, Settles, IsBad, IsOpen, IsUnbuilt, Ran, outside}
+use Rattle.mm_run.specs.Script.{IsVerdict, IsScript, IsFault, IsComplete}
+
+-- Bytes without a line feed are no longer than the line in front.
+front_short : (l front r more : Text) → NoFeed front → l ++ 10 ∷ r ≡ front ++ more → length front ≤ length l
+front_short [] [] r more u e = omega arith
+front_short [] (x ∷ front) r more u e = let ten : x ≡ 10 = cc in absurd (u.0 ten)
+front_short (y ∷ l) [] r more u e = omega arith
+front_short (y ∷ l) (x ∷ front) r more u e =
+    let tail : l ++ 10 ∷ r ≡ front ++ more = cc in
+    let le = front_short l front r more u.1 tail in omega arith
+
+one_line : (l k r s : Text) → NoFeed l → NoFeed k → l ++ 10 ∷ r ≡ k ++ 10 ∷ s → (l ≡ k) × (r ≡ s)
+one_line [] [] r s u v e = (refl, cc)
+one_line [] (x ∷ k) r s u v e = let ten : x ≡ 10 = cc in absurd (v.0 ten)
+one_line (x ∷ l) [] r s u v e = let ten : x ≡ 10 = cc in absurd (u.0 ten)
+one_line (x ∷ l) (y ∷ k) r s u v e =
+    let tail : l ++ 10 ∷ r ≡ k ++ 10 ∷ s = cc in
+    let head : x ≡ y = cc in
+    let both = one_line l k r s u.1 v.1 tail in
+    (ap (λ z. z ∷ l) head ∙ ap (λ zs. y ∷ zs) both.0, both.1)
+
+-- the same of a line with its feed, and what follows
+feed_then : (l r : Text) → ended l ++ r ≡ l ++ 10 ∷ r
+feed_then l r = append_assoc l (10 ∷ []) r
+
+-- the first line of two texts that are the same, one of them a whole line and more
+same_line : (l k front r more : Text) → NoFeed l → NoFeed k → front ≡ ended k → ended l ++ r ≡ front ++ more → l ≡ k
+same_line l k front r more u v w q =
+    let both = one_line l k r more u v (sym (feed_then l r) ∙ q ∙ ap (λ xs. xs ++ more) w ∙ feed_then k more) in both.0
+
+column_of : Result Event ℕ → ℕ
+column_of (Ok e) = 0
+column_of (Err column) = column
+
+-- A line in the grammar, of a form that is built, settles nothing.
+goes_on : (n : ℕ) (l r front more : Text) (e : Ending) (event : Event) → n < 1000000 → IsLine l → reading n l ≡ Ok event → is_built event ≡ true → IsVerdict e → Settles n front more (Some []) e → ended l ++ r ≡ front ++ more → ⊥
+goes_on n l r front more ending.Done event few line p b v s q =
+    let len = ap length q in
+    omega (arith, len, length-append (ended l) r, length-append l (10 ∷ []), length-append front more, ap length s.1, ap length s.2)
+goes_on n l r front more (ending.Script number column) event few line p b v s q = elim s.2 [
+  | inl bad ↦ (let same = same_line l bad.line front r more line.no_feed bad.is_line.no_feed bad.whole q in
+      let clash : Ok event ≡ Err column = sym p ∙ ap (reading n) same ∙ bad.place in cc)
+  | inr open_ ↦ (let le = front_short l front r more open_.is_line.no_feed (sym (feed_then l r) ∙ q) in
+      let len = ap length q in
+      omega (arith, len, length-append (ended l) r, length-append l (10 ∷ []), length-append front more, ap length open_.last))
+]
+goes_on n l r front more (ending.TooLong number) event few line p b v s q = elim s.1 [
+  | inl long ↦ (let le = front_short l front r more long.1 (sym (feed_then l r) ∙ q) in let short = line.short in let many = long.0 in omega arith)
+  | inr full ↦ (let all = full.0 in omega arith)
+]
+goes_on n l r front more ending.Unbuilt event few line p b v s q =
+    let u = s.1 in
+    let same = same_line l u.line front r more line.no_feed u.is_line.no_feed u.whole q in
+    let events : Ok event ≡ Ok u.event = sym p ∙ ap (reading n) same ∙ u.says in
+    let event_is : event ≡ u.event = cc in
+    let clash : true ≡ false = sym b ∙ ap is_built event_is ∙ u.unbuilt in cc
+goes_on n l r front more ending.NoMemory event few line p b v s q = v
+goes_on n l r front more ending.Usage event few line p b v s q = v
+goes_on n l r front more ending.ReadFault event few line p b v s q = v
+goes_on n l r front more ending.OutFault event few line p b v s q = v
+
+bad_and_long : (n : ℕ) (front more front' more' : Text) (column : ℕ) → front ++ more ≡ front' ++ more' → n < 1000000 → IsBad n front column ⊎ IsOpen n front more (Some []) column
+    → ((length front' ≡ 257) × NoFeed front') ⊎ ((n ≡ 1000000) × (length front' ≡ 1)) → ⊥
+bad_and_long n front more front' more' column q few (inl bad) (inl long) =
+    let le = front_short bad.line front' more more' long.1 (sym (feed_then bad.line more) ∙ ap (λ xs. xs ++ more) (sym bad.whole) ∙ q) in
+    let short = bad.is_line.short in let many = long.0 in omega arith
+bad_and_long n front more front' more' column q few (inr o) (inl long) =
+    let short = o.is_line.short in let many = long.0 in
+    omega (arith, ap length q, length-append front more, length-append front' more', ap length o.last)
+bad_and_long n front more front' more' column q few b (inr full) = let all = full.0 in omega arith
+
+unbuilt_and_long : (n : ℕ) (front more front' more' : Text) → front ++ more ≡ front' ++ more' → n < 1000000 → IsUnbuilt n front
+    → ((length front' ≡ 257) × NoFeed front') ⊎ ((n ≡ 1000000) × (length front' ≡ 1)) → ⊥
+unbuilt_and_long n front more front' more' q few u (inl long) =
+    let le = front_short u.line front' more more' long.1 (sym (feed_then u.line more) ∙ ap (λ xs. xs ++ more) (sym u.whole) ∙ q) in
+    let short = u.is_line.short in let many = long.0 in omega arith
+unbuilt_and_long n front more front' more' q few u (inr full) = let all = full.0 in omega arith
+
+-- a whole line, and bytes without one up to the end
+whole_and_open : (n : ℕ) (line front more front' more' : Text) (column : ℕ) → front ++ more ≡ front' ++ more' → front ≡ ended line → IsOpen n front' more' (Some []) column → ⊥
+whole_and_open n line front more front' more' column q w o =
+    let le = front_short line front' more more' o.is_line.no_feed (sym (feed_then line more) ∙ ap (λ xs. xs ++ more) (sym w) ∙ q) in
+    omega (arith, ap length q, length-append front more, length-append front' more', ap length o.last, ap length w, length-append line (10 ∷ []))
+
+-- two whole lines at the same place
+two_whole : (line line' front more front' more' : Text) → front ++ more ≡ front' ++ more' → IsLine line → IsLine line' → front ≡ ended line → front' ≡ ended line' → line ≡ line'
+two_whole line line' front more front' more' q u v w w' =
+    same_line line line' front' more more' u.no_feed v.no_feed w' (ap (λ xs. xs ++ more) (sym w) ∙ q)
+
+one_column : (n : ℕ) (front more front' more' : Text) (column column' : ℕ) → front ++ more ≡ front' ++ more' → IsBad n front column ⊎ IsOpen n front more (Some []) column
+    → IsBad n front' column' ⊎ IsOpen n front' more' (Some []) column' → column ≡ column'
+one_column n front more front' more' column column' q (inl b) (inl d) =
+    let same = two_whole b.line d.line front more front' more' q b.is_line d.is_line b.whole d.whole in
+    let both : Err column ≡ Err column' = sym b.place ∙ ap (reading n) same ∙ d.place in cc
+one_column n front more front' more' column column' q (inl b) (inr o) = absurd (whole_and_open n b.line front more front' more' column' q b.whole o)
+one_column n front more front' more' column column' q (inr o) (inl b) = absurd (whole_and_open n b.line front' more' front more column (sym q) b.whole o)
+one_column n front more front' more' column column' q (inr o) (inr i) =
+    let a = o.place in let b = i.place in
+    omega (arith, ap length q, length-append front more, length-append front' more', ap length o.last, ap length i.last)
+
+bad_and_unbuilt : (n : ℕ) (front more front' more' : Text) (column : ℕ) → front ++ more ≡ front' ++ more' → IsBad n front column ⊎ IsOpen n front more (Some []) column → IsUnbuilt n front' → ⊥
+bad_and_unbuilt n front more front' more' column q (inl b) u =
+    let same = two_whole b.line u.line front more front' more' q b.is_line u.is_line b.whole u.whole in
+    let clash : Err column ≡ Ok u.event = sym b.place ∙ ap (reading n) same ∙ u.says in cc
+bad_and_unbuilt n front more front' more' column q (inr o) u = whole_and_open n u.line front' more' front more column (sym q) u.whole o
+
+done_and_bad : (n : ℕ) (front more front' more' : Text) (column : ℕ) → front ≡ [] → more ≡ [] → front ++ more ≡ front' ++ more' → 0 < n → IsBad n front' column ⊎ IsOpen n front' more' (Some []) column → ⊥
+done_and_bad n front more front' more' column f m q some (inl bad) =
+    omega (arith, ap length f, ap length m, ap length q, length-append front more, length-append front' more', ap length bad.whole, length-append bad.line (10 ∷ []))
+done_and_bad n front more front' more' column f m q some (inr o) = elim o.some [
+  | inl s ↦ omega (arith, ap length f, ap length m, ap length q, length-append front more, length-append front' more')
+  | inr z ↦ omega arith
+]
+
+done_and_unbuilt : (n : ℕ) (front more front' more' : Text) → front ≡ [] → more ≡ [] → front ++ more ≡ front' ++ more' → IsUnbuilt n front' → ⊥
+done_and_unbuilt n front more front' more' f m q u =
+    omega (arith, ap length f, ap length m, ap length q, length-append front more, length-append front' more', ap length u.whole, length-append u.line (10 ∷ []))
+
+done_and_long : (n : ℕ) (front more front' more' : Text) → front ≡ [] → more ≡ [] → front ++ more ≡ front' ++ more' → ((length front' ≡ 257) × NoFeed front') ⊎ ((n ≡ 1000000) × (length front' ≡ 1)) → ⊥
+done_and_long n front more front' more' f m q (inl long) = let many = long.0 in omega (arith, ap length f, ap length m, ap length q, length-append front more, length-append front' more')
+done_and_long n front more front' more' f m q (inr full) = let one = full.1 in omega (arith, ap length f, ap length m, ap length q, length-append front more, length-append front' more')
+
+one_ending : (n : ℕ) (front more front' more' : Text) (e f : Ending) → front ++ more ≡ front' ++ more' → IsVerdict e → IsVerdict f → Settles n front more (Some []) e → Settles n front' more' (Some []) f → e ≡ f
+one_ending n x y x' y' ending.Done ending.Done q v w s t = refl
+one_ending n x y x' y' ending.Done (ending.Script l c) q v w s t = absurd (done_and_bad n x y x' y' c s.1 s.2 q s.0 t.2)
+one_ending n x y x' y' ending.Done (ending.TooLong l) q v w s t = absurd (done_and_long n x y x' y' s.1 s.2 q t.1)
+one_ending n x y x' y' ending.Done ending.Unbuilt q v w s t = absurd (done_and_unbuilt n x y x' y' s.1 s.2 q t.1)
+one_ending n x y x' y' (ending.Script l c) ending.Done q v w s t = absurd (done_and_bad n x' y' x y c t.1 t.2 (sym q) t.0 s.2)
+one_ending n x y x' y' (ending.Script l c) (ending.Script k d) q v w s t =
+    ap (λ m. ending.Script m c) (s.0 ∙ sym t.0) ∙ ap (λ m. ending.Script k m) (one_column n x y x' y' c d q s.2 t.2)
+one_ending n x y x' y' (ending.Script l c) (ending.TooLong k) q v w s t = absurd (bad_and_long n x y x' y' c q s.1 s.2 t.1)
+one_ending n x y x' y' (ending.Script l c) ending.Unbuilt q v w s t = absurd (bad_and_unbuilt n x y x' y' c q s.2 t.1)
+one_ending n x y x' y' (ending.TooLong l) ending.Done q v w s t = absurd (done_and_long n x' y' x y t.1 t.2 (sym q) s.1)
+one_ending n x y x' y' (ending.TooLong l) (ending.Script k d) q v w s t = absurd (bad_and_long n x' y' x y d (sym q) t.1 t.2 s.1)
+one_ending n x y x' y' (ending.TooLong l) (ending.TooLong k) q v w s t = ap (λ m. ending.TooLong m) (s.0 ∙ sym t.0)
+one_ending n x y x' y' (ending.TooLong l) ending.Unbuilt q v w s t = absurd (unbuilt_and_long n x' y' x y (sym q) t.0 t.1 s.1)
+one_ending n x y x' y' ending.Unbuilt ending.Done q v w s t = absurd (done_and_unbuilt n x' y' x y t.1 t.2 (sym q) s.1)
+one_ending n x y x' y' ending.Unbuilt (ending.Script k d) q v w s t = absurd (bad_and_unbuilt n x' y' x y d (sym q) t.2 s.1)
+one_ending n x y x' y' ending.Unbuilt (ending.TooLong k) q v w s t = absurd (unbuilt_and_long n x y x' y' q s.0 s.1 t.1)
+one_ending n x y x' y' ending.Unbuilt ending.Unbuilt q v w s t = refl
+one_ending n x y x' y' ending.NoMemory f q v w s t = absurd v
+one_ending n x y x' y' ending.Usage f q v w s t = absurd v
+one_ending n x y x' y' ending.ReadFault f q v w s t = absurd v
+one_ending n x y x' y' ending.OutFault f q v w s t = absurd v
+one_ending n x y x' y' e ending.NoMemory q v w s t = absurd w
+one_ending n x y x' y' e ending.Usage q v w s t = absurd w
+one_ending n x y x' y' e ending.ReadFault q v w s t = absurd w
+one_ending n x y x' y' e ending.OutFault q v w s t = absurd w
+
+-- From n decided lines on there is one reading.
+one_from : (n : ℕ) (ls ks : List Text) (es gs : List Event) (x y x' y' : Text) (e f : Ending)
+    → joined ls ++ (x ++ y) ≡ joined ks ++ (x' ++ y') → Each n ls es → Each n ks gs → n + length ls ≤ 1000000 → n + length ks ≤ 1000000
+    → Settles (n + length ls) x y (Some []) e → Settles (n + length ks) x' y' (Some []) f → IsVerdict e → IsVerdict f → (ls ≡ ks) × (e ≡ f)
+one_from n [] [] es gs x y x' y' e f q u v a b s r p w =
+    (refl, one_ending (n + 0) x y x' y' e f q p w s r)
+one_from n [] (k ∷ ks) es (g ∷ gs) x y x' y' e f q u v a b s r p w =
+    let here : n + 0 ≡ n = omega arith in
+    absurd (goes_on n k (joined ks ++ (x' ++ y')) x y e g (omega arith) v.0 v.1 v.2 p (subst (λ (m : ℕ). Settles m x y (Some []) e) here s) (sym (q ∙ append_assoc (ended k) (joined ks) (x' ++ y'))))
+one_from n [] (k ∷ ks) es [] x y x' y' e f q u v a b s r p w = absurd v
+one_from n (l ∷ ls) [] (g ∷ es) gs x y x' y' e f q u v a b s r p w =
+    let here : n + 0 ≡ n = omega arith in
+    absurd (goes_on n l (joined ls ++ (x ++ y)) x' y' f g (omega arith) u.0 u.1 u.2 w (subst (λ (m : ℕ). Settles m x' y' (Some []) f) here r) (sym (append_assoc (ended l) (joined ls) (x ++ y)) ∙ q))
+one_from n (l ∷ ls) [] [] gs x y x' y' e f q u v a b s r p w = absurd u
+one_from n (l ∷ ls) (k ∷ ks) [] gs x y x' y' e f q u v a b s r p w = absurd u
+one_from n (l ∷ ls) (k ∷ ks) (h ∷ es) [] x y x' y' e f q u v a b s r p w = absurd v
+one_from n (l ∷ ls) (k ∷ ks) (h ∷ es) (g ∷ gs) x y x' y' e f q u v a b s r p w =
+    let split = one_line l k (joined ls ++ (x ++ y)) (joined ks ++ (x' ++ y')) u.0.no_feed v.0.no_feed
+    (sym (feed_then l (joined ls ++ (x ++ y))) ∙ sym (append_assoc (ended l) (joined ls) (x ++ y)) ∙ q ∙ append_assoc (ended k) (joined ks) (x' ++ y') ∙ feed_then k (joined ks ++ (x' ++ y'))) in
+    let i : n + suc (length ls) ≡ suc n + length ls = omega arith in
+    let j : n + suc (length ks) ≡ suc n + length ks = omega arith in
+    let rest = one_from (suc n) ls ks es gs x y x' y' e f split.1 u.4 v.4 (omega arith) (omega arith)
+    (subst (λ (m : ℕ). Settles m x y (Some []) e) i s) (subst (λ (m : ℕ). Settles m x' y' (Some []) f) j r) p w in
+    (ap (λ z. z ∷ ls) split.0 ∙ ap (λ zs. k ∷ zs) rest.0, rest.1)
+
+pub one_script : (text : Text) (ls ks : List Text) (e f : Ending) → IsScript text 0 ls e → IsScript text 0 ks f → (ls ≡ ks) × (e ≡ f)
+one_script text ls ks e f a b = one_from 0 ls ks a.events b.events a.front a.more b.front b.more e f (sym a.whole ∙ b.whole) a.each b.each a.limit b.limit a.settled b.settled a.verdict b.verdict
+
+-- What was left makes no difference.
+settles_all : (n : ℕ) (x y rest : Text) (e : Ending) → IsVerdict e → Settles n x y (Some rest) e → Settles n x (y ++ rest) (Some []) e
+settles_all n x y rest ending.Done v s = (s.0, s.1, ap (λ ys. ys ++ rest) s.2 ∙ s.3, refl)
+settles_all n x y rest (ending.Script l c) v s = (
+  s.0,
+  s.1,
+  elim s.2 [
+    | inl bad ↦ inl bad
+    | inr o ↦ inr (record { is_line = o.is_line; last = ap (λ ys. ys ++ rest) o.last ∙ o.at_end; at_end = refl; some = o.some; place = o.place })
+  ],
+)
+settles_all n x y rest (ending.TooLong l) v s = s
+settles_all n x y rest ending.Unbuilt v s = s
+settles_all n x y rest ending.NoMemory v s = absurd v
+settles_all n x y rest ending.Usage v s = absurd v
+settles_all n x y rest ending.ReadFault v s = absurd v
+settles_all n x y rest ending.OutFault v s = absurd v
+
+-- a run that is a verdict is over the script
+module _ (text : Text) (t t' : Option Text) (form : Type 0) (status : ℕ) where
+  script_of : (left' : Option Text) (ran : Ran (outside (Some text) t) (outside left' t') form status) → IsVerdict ran.e → IsScript text 0 ran.decided.lines ran.e
+  script_of None ran v = absurd ran.decided.read
+  script_of (Some rest) ran v =
+      let d = ran.decided in
+      record {
+        events = d.events;
+        front = d.front;
+        more = d.more ++ rest;
+        whole = d.read ∙ ap (λ xs. xs ++ rest) d.whole ∙ append_assoc (joined d.lines) (d.front ++ d.more) rest ∙ ap (λ xs. joined d.lines ++ xs) (append_assoc d.front d.more rest);
+        each = d.each;
+        limit = d.limit;
+        settled = settles_all (0 + length d.lines) d.front d.more rest ran.e v d.settled;
+        verdict = v;
+      }
+
+  verdict_or : (e : Ending) → e ≢ ending.Usage → IsVerdict e ⊎ IsFault (status_of e)
+  verdict_or ending.Done u = inl tt
+  verdict_or (ending.Script l c) u = inl tt
+  verdict_or (ending.TooLong l) u = inl tt
+  verdict_or ending.Unbuilt u = inl tt
+  verdict_or ending.NoMemory u = inr (inl refl)
+  verdict_or ending.Usage u = absurd (u refl)
+  verdict_or ending.ReadFault u = inr (inr (inl refl))
+  verdict_or ending.OutFault u = inr (inr (inr refl))
+
+  pub exact : (left' : Option Text) → Ran (outside (Some text) t) (outside left' t') form status → form → (lines : List Text) (e : Ending) → IsScript text 0 lines e → IsComplete t t' lines e status ⊎ IsFault status
+  exact left' ran words lines e script = elim ran.ends [
+    | inr torn ↦ inr (inr (inr torn.0))
+    | inl whole ↦ elim (verdict_or ran.e (ran.is_form words)) [
+      | inr fault ↦ inr (subst IsFault (sym whole.0) fault)
+      | inl verdict ↦ (
+          let one = one_script text ran.decided.lines lines ran.e e (script_of left' ran verdict) script in
+          inl (record {
+            events = ran.decided.events;
+            answers = ran.answers;
+            last = ran.decided.last;
+            status_is = whole.0 ∙ ap status_of one.1;
+            each = subst (λ (ls : List Text). Each 0 ls ran.decided.events) one.0 ran.decided.each;
+            answered = ran.decided.answered;
+            wrote = subst (λ (ws : Text). Appended t t' ws) (whole.2 ∙ ap (λ (f : Ending). spelled ran.answers ++ last_text f) one.1) ran.wrote;
+          }))
+    ]
+  ]
+
+  pub usage : (left left' : Option Text) → Ran (outside left t) (outside left' t') form status → (form → ⊥) → (status ≡ 2) ⊎ IsFault status
+  usage left left' ran no_words = elim ran.ends [
+    | inr torn ↦ inr (inr (inr torn.0))
+    | inl whole ↦ inl (whole.0 ∙ ap status_of (ran.no_form no_words))
+  ]
+
+  usage_only : (e : Ending) → status_of e ≡ 2 → e ≡ ending.Usage
+  usage_only ending.Usage q = refl
+  usage_only ending.Done q = absurd (omega arith)
+  usage_only (ending.Script l c) q = absurd (omega arith)
+  usage_only (ending.TooLong l) q = absurd (omega arith)
+  usage_only ending.Unbuilt q = absurd (omega arith)
+  usage_only ending.NoMemory q = absurd (omega arith)
+  usage_only ending.ReadFault q = absurd (omega arith)
+  usage_only ending.OutFault q = absurd (omega arith)
+
+  pub not_usage : (left left' : Option Text) → Ran (outside left t) (outside left' t') form status → form → status ≢ 2
+  not_usage left left' ran words two = elim ran.ends [
+    | inr torn ↦ (let five = torn.0 in omega arith)
+    | inl whole ↦ ran.is_form words (usage_only ran.e (sym whole.0 ∙ two))
+  ]

@@ -1,0 +1,5 @@
+use Rattle.mm_run.proofs.Ends.{came_usage}
+use Rattle.mm_run.proofs.top.come_to.Goals as goal
+
+pub returns-else-is_run-clause-came : goal.returns-else-is_run-clause-came
+returns-else-is_run-clause-came g c = came_usage _ _

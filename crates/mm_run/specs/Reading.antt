@@ -1,0 +1,36 @@
+-- The event of a line, by where the line stands.
+use Rattle.std.specs.Prelude.{ℕ, zero, suc, ◌-◌, Bool, true, false, if◌then◌else◌, [], ◌∷◌, Result, Ok, Err, codes, bytes_eq, ◌==◌, ◌&&◌, ◌||◌, take, length, nat_eq, slice_index}
+use Rattle.std.specs.List.{ends_with}
+use Rattle.mm_types.specs.Spelling.{Text}
+use Rattle.mm_types.specs.declared.events.Event.{Event}
+use Rattle.mm_types.specs.declared.events.Event.TheVariants as line
+use Rattle.mm_script.specs.declared.faults.LineFault.{LineFault}
+use Rattle.mm_script.specs.Reading.{parse}
+
+-- One carriage return at the end of a line is no part of it.
+abbrev pub without_return : Text → Text
+without_return text = if ends_with nat_eq text (0x0D ∷ []) then take (length text - 1) text else text
+
+-- the first word is `machine`
+abbrev pub is_machine_word : Text → Bool
+is_machine_word text = bytes_eq (take 7 text) (codes "machine") && ((length text == 7) || (slice_index text 7 == 0x20))
+
+abbrev pub is_machine : Event → Bool
+is_machine (line.Machine m) = true
+is_machine _ = false
+
+-- The first line of a script is a `machine` line.
+abbrev pub read_first : Bool → Result Event LineFault → Result Event ℕ
+read_first says_machine (Ok event) = if is_machine event then Ok event else Err 1
+read_first says_machine (Err fault) = Err (if says_machine then fault.column else 1)
+
+-- No later line is one.
+abbrev pub read_later : Bool → Result Event LineFault → Result Event ℕ
+read_later says_machine (Ok event) = if is_machine event then Err 1 else Ok event
+read_later says_machine (Err fault) = Err (if says_machine then 1 else fault.column)
+
+-- What a line says behind n others: its event, or the column of its fault. Where a first line's first word is
+-- not `machine`, or a later line's is, that is column 1.
+abbrev pub reading : ℕ → Text → Result Event ℕ
+reading zero text = read_first (is_machine_word (without_return text)) (parse text)
+reading (suc n) text = read_later (is_machine_word (without_return text)) (parse text)

@@ -1,0 +1,116 @@
+ghost use Rattle.std.specs.Prelude.{◌≡◌, ◌≤◌, length, IfOk, IfErr};
+ghost use Rattle.mm_types.specs.declared.events.Event.{Event};
+ghost use Rattle.mm_script.specs.Grammar.{IsLine};
+ghost use Rattle.mm_run.specs.Story.{IsMisplaced};
+ghost use Rattle.mm_script.specs.Printed.{IsWellFormed};
+ghost use Rattle.mm_run.specs.Reading.{reading, without_return, is_machine, is_machine_word};
+ghost use Rattle.mm_run.specs.Built.{is_built};
+
+use mm_script::parse_line;
+use mm_types::Event;
+
+/// A line without the one carriage return that may stand at its end.
+fn without_return(line: &[u8]) -> &[u8]
+    ensures { result.now ≡ without_return line.now }
+{
+    match line {
+        [front @ .., b'\r'] => front,
+        _ => line,
+    }
+}
+
+/// Whether the first word of a line is `machine`.
+fn is_machine_word(line: &[u8]) -> bool
+    ensures { result ≡ is_machine_word line.now }
+{
+    match line {
+        b"machine" => true,
+        [b'm', b'a', b'c', b'h', b'i', b'n', b'e', b' ', ..] => true,
+        _ => false,
+    }
+}
+
+/// Whether a line is a `machine` line.
+fn is_machine(event: &Event) -> bool
+    ensures { result ≡ is_machine event.now }
+{
+    matches!(event, Event::Machine(_))
+}
+
+/// The event of the first line, or the column of its fault.
+fn read_first(line: &[u8]) -> Result<Event, u32>
+    requires { length line.now ≤ 256 }
+    ensures reads { result ≡ reading 0 line.now }
+    ensures well_formed { IfOk result (λ e. IsWellFormed e) }
+    ensures grammar { IfOk result (λ e. IsLine line.now e) }
+    ensures refused { IfErr result (λ _. (e : Event) → IsLine line.now e → IsMisplaced 0 e) }
+{
+    match parse_line(line) {
+        Ok(event) => {
+            if is_machine(&event) {
+                Ok(event)
+            } else {
+                Err(1)
+            }
+        }
+        Err(fault) => {
+            if is_machine_word(without_return(line)) {
+                Err(fault.column)
+            } else {
+                Err(1)
+            }
+        }
+    }
+}
+
+/// The event of a later line, or the column of its fault.
+fn read_later(line: &[u8]) -> Result<Event, u32>
+    requires { length line.now ≤ 256 }
+    ensures reads { result ≡ reading 1 line.now }
+    ensures well_formed { IfOk result (λ e. IsWellFormed e) }
+    ensures grammar { IfOk result (λ e. IsLine line.now e) }
+    ensures refused { IfErr result (λ _. (e : Event) → IsLine line.now e → IsMisplaced 1 e) }
+{
+    match parse_line(line) {
+        Ok(event) => {
+            if is_machine(&event) {
+                Err(1)
+            } else {
+                Ok(event)
+            }
+        }
+        Err(fault) => {
+            if is_machine_word(without_return(line)) {
+                Err(1)
+            } else {
+                Err(fault.column)
+            }
+        }
+    }
+}
+
+/// The event of a line behind n others, or the column of its fault.
+pub(crate) fn read_event(line: &[u8], n: u32) -> Result<Event, u32>
+    requires { length line.now ≤ 256 }
+    ensures reads { result ≡ reading n line.now }
+    ensures well_formed { IfOk result (λ e. IsWellFormed e) }
+    ensures grammar { IfOk result (λ e. IsLine line.now e) }
+    ensures refused { IfErr result (λ _. (e : Event) → IsLine line.now e → IsMisplaced n e) }
+{
+    if n == 0 {
+        read_first(line)
+    } else {
+        read_later(line)
+    }
+}
+
+/// Whether the form of a line is built.
+pub(crate) fn is_built(event: &Event) -> bool
+    ensures { result ≡ is_built event.now }
+{
+    match event {
+        Event::Machine(_) | Event::Process(..) | Event::Read(..) | Event::Write(..) => true,
+        Event::Alloc(_, addr, _, kind, prot) => *addr == 0 && *kind == 0x3000 && *prot == 0x04,
+        _ => false,
+    }
+}

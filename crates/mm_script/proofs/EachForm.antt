@@ -1,0 +1,172 @@
+-- Each form of a line: its values are those of one event, and each event is of one form.
+use Rattle.std.proofs.Common.{◌≡◌, ℕ, ◌⊎◌, List, ◌∷◌, Some, refl, inl, inr}
+use Rattle.mm_types.specs.declared.numbers.Pid.{Pid}
+use Rattle.mm_types.specs.declared.numbers.Tid.{Tid}
+use Rattle.mm_types.specs.declared.events.AccessSpec.TheVariants as spec
+use Rattle.mm_types.specs.declared.events.Event.{Event}
+use Rattle.mm_types.specs.declared.events.Event.TheVariants as line
+use Rattle.mm_text.specs.Field.{is_letter}
+use Rattle.mm_script.specs.declared.keywords.Keyword.{Keyword}
+use Rattle.mm_script.specs.declared.keywords.Keyword.TheVariants as keyword
+use Rattle.mm_script.specs.Field.{Exactly}
+use Rattle.mm_script.specs.Grammar.{fields_of}
+use Rattle.mm_script.specs.Keywords.{text_of, keyword_of}
+use Rattle.mm_script.specs.Shape.{shape_of}
+use Rattle.mm_script.specs.Reading.{make_of}
+use Rattle.mm_script.proofs.Joined.{IsPlain}
+use Rattle.mm_script.proofs.Plain.{plain_all}
+use Rattle.mm_script.proofs.Shapes.{Values, made_of, fields_for}
+
+begin_made : (tid : Tid) (pid : Pid) (vs : (ℕ × (ℕ × Unit {0})) ⊎ (ℕ × (List ℕ × Unit {0}))) → fields_of (made_of (shape_of keyword.Begin) (make_of keyword.Begin) (tid, (pid, vs))) ≡ Exactly (text_of keyword.Begin) ∷ fields_for (shape_of keyword.Begin) (tid, (pid, vs))
+begin_made tid pid (inl vs) = refl
+begin_made tid pid (inr vs) = refl
+
+-- the fields of the event that is made behind a keyword
+pub fields_made : (k : Keyword) (vs : Values (shape_of k)) → fields_of (made_of (shape_of k) (make_of k) vs) ≡ Exactly (text_of k) ∷ fields_for (shape_of k) vs
+fields_made keyword.Machine vs = refl
+fields_made keyword.Process vs = refl
+fields_made keyword.Exit vs = refl
+fields_made keyword.File vs = refl
+fields_made keyword.Alloc vs = refl
+fields_made keyword.Free vs = refl
+fields_made keyword.Protect vs = refl
+fields_made keyword.Query vs = refl
+fields_made keyword.Create vs = refl
+fields_made keyword.CreateFile vs = refl
+fields_made keyword.Open vs = refl
+fields_made keyword.Close vs = refl
+fields_made keyword.Map vs = refl
+fields_made keyword.Unmap vs = refl
+fields_made keyword.Flush vs = refl
+fields_made keyword.Read vs = refl
+fields_made keyword.Write vs = refl
+fields_made keyword.Exec vs = refl
+fields_made keyword.Begin vs = begin_made vs.0 vs.1.0 vs.1.1
+fields_made keyword.Resume vs = refl
+fields_made keyword.Io vs = refl
+fields_made keyword.Trim vs = refl
+fields_made keyword.Age vs = refl
+fields_made keyword.Writer vs = refl
+fields_made keyword.Zeroer vs = refl
+fields_made keyword.Fail vs = refl
+fields_made keyword.Charge vs = refl
+fields_made keyword.Counts vs = refl
+fields_made keyword.Grow vs = refl
+fields_made keyword.Watch vs = refl
+fields_made keyword.ResetWatch vs = refl
+fields_made keyword.Stack vs = refl
+fields_made keyword.Probe vs = refl
+
+-- the keyword of an event, and the values behind it
+pub record IsOfForm (e : Event) : Type 0 where
+  pub keyword : Keyword
+  pub values : Values (shape_of keyword)
+  pub made : made_of (shape_of keyword) (make_of keyword) values ≡ e
+
+pub form_of : (e : Event) → IsOfForm e
+form_of (line.Machine m) = record { keyword = keyword.Machine; values = (m.frames, (m.slots, (m.depth, (m.blocks, tt)))); made = refl }
+form_of (line.Process min max) = record { keyword = keyword.Process; values = (min, (max, tt)); made = refl }
+form_of (line.Exit pid) = record { keyword = keyword.Exit; values = (pid, tt); made = refl }
+form_of (line.File name pages byte) = record { keyword = keyword.File; values = (name, (pages, (byte, tt))); made = refl }
+form_of (line.Alloc pid addr size kind prot) = record { keyword = keyword.Alloc; values = (pid, (addr, (size, (kind, (prot, tt))))); made = refl }
+form_of (line.Free pid addr size kind) = record { keyword = keyword.Free; values = (pid, (addr, (size, (kind, tt)))); made = refl }
+form_of (line.Protect pid addr size prot) = record { keyword = keyword.Protect; values = (pid, (addr, (size, (prot, tt)))); made = refl }
+form_of (line.Query pid addr) = record { keyword = keyword.Query; values = (pid, (addr, tt)); made = refl }
+form_of (line.Create pid size flags name) = record { keyword = keyword.Create; values = (pid, (size, (flags, (name, tt)))); made = refl }
+form_of (line.CreateFile pid file flags name) = record { keyword = keyword.CreateFile; values = (pid, (file, (flags, (name, tt)))); made = refl }
+form_of (line.Open pid name) = record { keyword = keyword.Open; values = (pid, (name, tt)); made = refl }
+form_of (line.Close pid handle) = record { keyword = keyword.Close; values = (pid, (handle, tt)); made = refl }
+form_of (line.Map pid handle access offset len addr) = record { keyword = keyword.Map; values = (pid, (handle, (access, (offset, (len, (addr, tt)))))); made = refl }
+form_of (line.Unmap pid addr) = record { keyword = keyword.Unmap; values = (pid, (addr, tt)); made = refl }
+form_of (line.Flush pid addr size) = record { keyword = keyword.Flush; values = (pid, (addr, (size, tt))); made = refl }
+form_of (line.Read pid addr len) = record { keyword = keyword.Read; values = (pid, (addr, (len, tt))); made = refl }
+form_of (line.Write pid addr bytes) = record { keyword = keyword.Write; values = (pid, (addr, (bytes, tt))); made = refl }
+form_of (line.Exec pid addr) = record { keyword = keyword.Exec; values = (pid, (addr, tt)); made = refl }
+form_of (line.Begin tid pid (spec.Read addr len)) = record { keyword = keyword.Begin; values = (tid, (pid, inl (addr, (len, tt)))); made = refl }
+form_of (line.Begin tid pid (spec.Write addr bytes)) = record { keyword = keyword.Begin; values = (tid, (pid, inr (addr, (bytes, tt)))); made = refl }
+form_of (line.Resume tid) = record { keyword = keyword.Resume; values = (tid, tt); made = refl }
+form_of (line.Io i) = record { keyword = keyword.Io; values = (i, tt); made = refl }
+form_of (line.Trim pid n) = record { keyword = keyword.Trim; values = (pid, (n, tt)); made = refl }
+form_of (line.Age pid) = record { keyword = keyword.Age; values = (pid, tt); made = refl }
+form_of (line.Writer n) = record { keyword = keyword.Writer; values = (n, tt); made = refl }
+form_of (line.Zeroer n) = record { keyword = keyword.Zeroer; values = (n, tt); made = refl }
+form_of (line.Fail device direction k n) = record { keyword = keyword.Fail; values = (device, (direction, (k, (n, tt)))); made = refl }
+form_of line.Charge = record { keyword = keyword.Charge; values = tt; made = refl }
+form_of line.Counts = record { keyword = keyword.Counts; values = tt; made = refl }
+form_of (line.Grow n) = record { keyword = keyword.Grow; values = (n, tt); made = refl }
+form_of (line.Watch pid flag addr size count) = record { keyword = keyword.Watch; values = (pid, (flag, (addr, (size, (count, tt))))); made = refl }
+form_of (line.ResetWatch pid addr size) = record { keyword = keyword.ResetWatch; values = (pid, (addr, (size, tt))); made = refl }
+form_of (line.Stack tid pid reserve commit) = record { keyword = keyword.Stack; values = (tid, (pid, (reserve, (commit, tt)))); made = refl }
+form_of (line.Probe tid addr) = record { keyword = keyword.Probe; values = (tid, (addr, tt)); made = refl }
+
+pub plain_keyword : (k : Keyword) → IsPlain (text_of k)
+plain_keyword keyword.Machine = plain_all is_letter refl refl (text_of keyword.Machine) refl
+plain_keyword keyword.Process = plain_all is_letter refl refl (text_of keyword.Process) refl
+plain_keyword keyword.Exit = plain_all is_letter refl refl (text_of keyword.Exit) refl
+plain_keyword keyword.File = plain_all is_letter refl refl (text_of keyword.File) refl
+plain_keyword keyword.Alloc = plain_all is_letter refl refl (text_of keyword.Alloc) refl
+plain_keyword keyword.Free = plain_all is_letter refl refl (text_of keyword.Free) refl
+plain_keyword keyword.Protect = plain_all is_letter refl refl (text_of keyword.Protect) refl
+plain_keyword keyword.Query = plain_all is_letter refl refl (text_of keyword.Query) refl
+plain_keyword keyword.Create = plain_all is_letter refl refl (text_of keyword.Create) refl
+plain_keyword keyword.CreateFile = plain_all is_letter refl refl (text_of keyword.CreateFile) refl
+plain_keyword keyword.Open = plain_all is_letter refl refl (text_of keyword.Open) refl
+plain_keyword keyword.Close = plain_all is_letter refl refl (text_of keyword.Close) refl
+plain_keyword keyword.Map = plain_all is_letter refl refl (text_of keyword.Map) refl
+plain_keyword keyword.Unmap = plain_all is_letter refl refl (text_of keyword.Unmap) refl
+plain_keyword keyword.Flush = plain_all is_letter refl refl (text_of keyword.Flush) refl
+plain_keyword keyword.Read = plain_all is_letter refl refl (text_of keyword.Read) refl
+plain_keyword keyword.Write = plain_all is_letter refl refl (text_of keyword.Write) refl
+plain_keyword keyword.Exec = plain_all is_letter refl refl (text_of keyword.Exec) refl
+plain_keyword keyword.Begin = plain_all is_letter refl refl (text_of keyword.Begin) refl
+plain_keyword keyword.Resume = plain_all is_letter refl refl (text_of keyword.Resume) refl
+plain_keyword keyword.Io = plain_all is_letter refl refl (text_of keyword.Io) refl
+plain_keyword keyword.Trim = plain_all is_letter refl refl (text_of keyword.Trim) refl
+plain_keyword keyword.Age = plain_all is_letter refl refl (text_of keyword.Age) refl
+plain_keyword keyword.Writer = plain_all is_letter refl refl (text_of keyword.Writer) refl
+plain_keyword keyword.Zeroer = plain_all is_letter refl refl (text_of keyword.Zeroer) refl
+plain_keyword keyword.Fail = plain_all is_letter refl refl (text_of keyword.Fail) refl
+plain_keyword keyword.Charge = plain_all is_letter refl refl (text_of keyword.Charge) refl
+plain_keyword keyword.Counts = plain_all is_letter refl refl (text_of keyword.Counts) refl
+plain_keyword keyword.Grow = plain_all is_letter refl refl (text_of keyword.Grow) refl
+plain_keyword keyword.Watch = plain_all is_letter refl refl (text_of keyword.Watch) refl
+plain_keyword keyword.ResetWatch = plain_all is_letter refl refl (text_of keyword.ResetWatch) refl
+plain_keyword keyword.Stack = plain_all is_letter refl refl (text_of keyword.Stack) refl
+plain_keyword keyword.Probe = plain_all is_letter refl refl (text_of keyword.Probe) refl
+
+-- each keyword is found by its text
+pub keyword_again : (k : Keyword) → keyword_of (text_of k) ≡ Some k
+unfolding keyword_of
+keyword_again keyword.Machine = refl
+keyword_again keyword.Process = refl
+keyword_again keyword.Exit = refl
+keyword_again keyword.File = refl
+keyword_again keyword.Alloc = refl
+keyword_again keyword.Free = refl
+keyword_again keyword.Protect = refl
+keyword_again keyword.Query = refl
+keyword_again keyword.Create = refl
+keyword_again keyword.CreateFile = refl
+keyword_again keyword.Open = refl
+keyword_again keyword.Close = refl
+keyword_again keyword.Map = refl
+keyword_again keyword.Unmap = refl
+keyword_again keyword.Flush = refl
+keyword_again keyword.Read = refl
+keyword_again keyword.Write = refl
+keyword_again keyword.Exec = refl
+keyword_again keyword.Begin = refl
+keyword_again keyword.Resume = refl
+keyword_again keyword.Io = refl
+keyword_again keyword.Trim = refl
+keyword_again keyword.Age = refl
+keyword_again keyword.Writer = refl
+keyword_again keyword.Zeroer = refl
+keyword_again keyword.Fail = refl
+keyword_again keyword.Charge = refl
+keyword_again keyword.Counts = refl
+keyword_again keyword.Grow = refl
+keyword_again keyword.Watch = refl
+keyword_again keyword.ResetWatch = refl
+keyword_again keyword.Stack = refl
+keyword_again keyword.Probe = refl

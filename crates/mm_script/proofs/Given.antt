@@ -1,0 +1,33 @@
+-- The value of the next word, or its fault.
+use Rattle.std.proofs.Common.{◌≡◌, ℕ, ◌-◌, [], Option, Some, None, Result, Ok, Err, sym, ap, ◌∙◌, subst, arith}
+use Rattle.std.specs.Option.{ok_or}
+use Rattle.mm_types.specs.Spelling.{Text}
+use Rattle.mm_script.specs.declared.faults.LineFault.{LineFault}
+use Rattle.mm_script.specs.Place.{fault_at}
+use Rattle.mm_script.specs.Reading.{Rest, behind, word_read, first_read, word_as, Gives}
+use Rattle.mm_script.specs.Cursor.{word_from, TakesWord}
+
+-- what is left behind the word
+taken_rest : (old new : Rest) (text : Text) → TakesWord old text new → behind old (word_from new.last text) new.left ≡ new
+taken_rest old new text h = ap (λ (n : ℕ). record { left = new.left; end = old.end; number = n; last = new.last }) (sym h.number) ∙ ap (λ (e : ℕ). record { left = new.left; end = e; number = new.number; last = new.last }) (sym h.end)
+
+read_taken : {A : Type 0} (reads : Text → Option A) (old new : Rest) (text : Text) → TakesWord old text new → word_as reads old ≡ word_read (reads text) old (word_from new.last text) new.left
+unfolding word_as
+read_taken reads old new text h = ap (first_read reads old) h.left
+
+given_at : {A : Type 0} (old new : Rest) (text : Text) (f : LineFault) → TakesWord old text new → f ≡ fault_at new.last (new.number - 1) → (o : Option A) → Gives (ok_or o f) new (word_read o old (word_from new.last text) new.left)
+given_at old new text f t e None =
+    let n : old.number ≡ new.number - 1 = omega (arith, t.number) in
+    ap (λ (k : ℕ). Err (fault_at new.last k)) n ∙ ap (λ (g : LineFault). Err g) (sym e)
+given_at old new text f t e (Some x) = ap (λ (r : Rest). Ok (x, r)) (taken_rest old new text t)
+
+-- a word's value, or the fault at it
+pub given : {A : Type 0} (reads : Text → Option A) (old new : Rest) (text : Text) (f : LineFault) (r : Result A LineFault) → TakesWord old text new → f ≡ fault_at new.last (new.number - 1) → r ≡ ok_or (reads text) f → Gives r new (word_as reads old)
+given reads old new text f r t e h =
+    subst (λ (q : Result _ LineFault). Gives q new (word_as reads old)) (sym h)
+    (subst (λ (w : _). Gives (ok_or (reads text) f) new w) (sym (read_taken reads old new text t)) (given_at old new text f t e (reads text)))
+
+-- no word is left
+pub missing : {A : Type 0} (reads : Text → Option A) (old : Rest) (f : LineFault) → old.left ≡ [] → f ≡ fault_at old.end old.number → word_as reads old ≡ Err f
+unfolding word_as
+missing reads old f l e = ap (first_read reads old) l ∙ ap (λ (g : LineFault). Err g) (sym e)

@@ -1,0 +1,11 @@
+pub mod Binds
+pub mod Joined
+pub mod Plain
+pub mod Shapes
+pub mod EachForm
+pub mod Walk
+pub mod Laws
+pub mod Given
+pub mod Ranges
+pub mod Room
+pub mod Again

@@ -1,0 +1,5 @@
+use Rattle.mm_script.proofs.Again.{printed_again}
+use Rattle.mm_script.proofs.printing.print_event.Goals as goal
+
+pub returns-clause-again : goal.returns-clause-again
+returns-clause-again c = λ empty h. printed_again c.args.out.now c.print.new.out c.args.event.now c.print.ensures empty h

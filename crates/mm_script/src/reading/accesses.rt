@@ -1,0 +1,116 @@
+ghost use Rattle.std.specs.Prelude.{◌≡◌, ◌<◌};
+ghost use Rattle.mm_types.specs.declared.events.AccessSpec.TheVariants as spec;
+ghost use Rattle.mm_types.specs.declared.events.Event.TheVariants as line;
+ghost use Rattle.mm_script.specs.declared.keywords.Keyword.TheVariants as keyword;
+ghost use Rattle.mm_script.specs.Grammar.{lies_in_page};
+ghost use Rattle.mm_script.specs.Shape.{Then, End, AnyNumber, Number, ByteWord};
+ghost use Rattle.mm_script.specs.Reading.{event_in, line_of};
+
+use crate::LineFault;
+use crate::fields::Fields;
+use mm_types::{AccessSpec, Direction, Event, Pid, Tid};
+
+/// Whether bytes from an address on lie inside one page.
+fn lies_in_page(addr: u32, len: u32) -> bool
+    requires { len < 4096 }
+    ensures { result ≡ lies_in_page addr len }
+{
+    addr % 4096 + len <= 4096
+}
+
+/// `read <pid> <addr> <len>`
+#[tactic(auto, unfolding(crate::specs::Reading::line_of))]
+pub fn read(fields: &mut Fields) -> Result<Event, LineFault>
+    requires { fields.old.number ≡ 2 }
+    ensures { result ≡ line_of keyword.Read fields.old }
+{
+    let pid = fields.pid()?;
+    let addr = fields.number()?;
+    let len = fields.number_in(1, 64)?;
+    fields.end()?;
+    if !lies_in_page(addr, len) {
+        return Err(fields.fault());
+    }
+    Ok(Event::Read(pid, addr, len))
+}
+
+/// `write <pid> <addr> <bytes>`
+#[tactic(auto, unfolding(crate::specs::Reading::line_of))]
+pub fn write(fields: &mut Fields) -> Result<Event, LineFault>
+    requires { fields.old.number ≡ 2 }
+    ensures { result ≡ line_of keyword.Write fields.old }
+{
+    let pid = fields.pid()?;
+    let addr = fields.number()?;
+    let bytes = fields.bytes()?;
+    fields.end()?;
+    if !lies_in_page(addr, bytes.as_slice().len() as u32) {
+        return Err(fields.fault());
+    }
+    Ok(Event::Write(pid, addr, bytes))
+}
+
+/// `exec <pid> <addr>`
+#[tactic(auto, unfolding(crate::specs::Reading::line_of))]
+pub fn exec(fields: &mut Fields) -> Result<Event, LineFault>
+    requires { fields.old.number ≡ 2 }
+    ensures { result ≡ line_of keyword.Exec fields.old }
+{
+    let pid = fields.pid()?;
+    let addr = fields.number()?;
+    fields.end()?;
+    Ok(Event::Exec(pid, addr))
+}
+
+/// `resume <tid>`
+#[tactic(auto, unfolding(crate::specs::Reading::line_of))]
+pub fn resume(fields: &mut Fields) -> Result<Event, LineFault>
+    requires { fields.old.number ≡ 2 }
+    ensures { result ≡ line_of keyword.Resume fields.old }
+{
+    let tid = fields.tid()?;
+    fields.end()?;
+    Ok(Event::Resume(tid))
+}
+
+/// `begin <tid> <pid> read <addr> <len>`, `begin <tid> <pid> write <addr> <bytes>`
+#[tactic(auto, unfolding(crate::specs::Reading::line_of))]
+pub fn begin(fields: &mut Fields) -> Result<Event, LineFault>
+    requires { fields.old.number ≡ 2 }
+    ensures { result ≡ line_of keyword.Begin fields.old }
+{
+    let tid = fields.tid()?;
+    let pid = fields.pid()?;
+    match fields.direction()? {
+        Direction::Read => begin_read(fields, tid, pid),
+        Direction::Write => begin_write(fields, tid, pid),
+    }
+}
+
+/// The words of a read that is begun, behind `read`.
+fn begin_read(fields: &mut Fields, tid: Tid, pid: Pid) -> Result<Event, LineFault>
+    requires { fields.old.number ≡ 5 }
+    ensures { result ≡ event_in keyword.Begin (Then AnyNumber (Then (Number 1 64) End)) (λ addr len. line.Begin tid pid (spec.Read addr len)) fields.old }
+{
+    let addr = fields.number()?;
+    let len = fields.number_in(1, 64)?;
+    fields.end()?;
+    if !lies_in_page(addr, len) {
+        return Err(fields.fault());
+    }
+    Ok(Event::Begin(tid, pid, AccessSpec::Read(addr, len)))
+}
+
+/// The words of a write that is begun, behind `write`.
+fn begin_write(fields: &mut Fields, tid: Tid, pid: Pid) -> Result<Event, LineFault>
+    requires { fields.old.number ≡ 5 }
+    ensures { result ≡ event_in keyword.Begin (Then AnyNumber (Then ByteWord End)) (λ addr bytes. line.Begin tid pid (spec.Write addr bytes)) fields.old }
+{
+    let addr = fields.number()?;
+    let bytes = fields.bytes()?;
+    fields.end()?;
+    if !lies_in_page(addr, bytes.as_slice().len() as u32) {
+        return Err(fields.fault());
+    }
+    Ok(Event::Begin(tid, pid, AccessSpec::Write(addr, bytes)))
+}

@@ -1,0 +1,10 @@
+use Rattle.std.proofs.Common.{◌≡◌, ◌<◌, ◌^◌, drop}
+use Rattle.mm_text.specs.Field.{limited, digits_in}
+use Rattle.mm_text.proofs.Values.{scan}
+use Rattle.mm_text.proofs.fields.value.Given as goal
+
+abbrev pub invariant-loop-byte : goal.invariant-loop-byte
+invariant-loop-byte l = record {
+  low : l.sum < 2 ^ 32;
+  value : limited (digits_in l.base l.most l.digits) ≡ scan l.base l.sum (drop l.byte-index l.digits);
+}

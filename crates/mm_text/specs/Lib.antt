@@ -1,0 +1,4 @@
+pub mod Shortest
+pub mod Word
+pub mod Place
+pub mod Field

@@ -1,0 +1,147 @@
+ghost use Rattle.std.specs.Prelude.{◌≡◌, ◌≤◌, option_map};
+ghost use Rattle.std.specs.List.{list_all};
+ghost use Rattle.mm_text.specs.Field.{digit_value, hex_digits, is_letter, is_name_byte, limited, digits_in, number_of, pair_of, bytes_of, is_name, name_of};
+
+use mm_types::{ByteBuf, Name};
+
+/// The value of a hexadecimal digit of either case, or 16 for another byte.
+fn digit(byte: u8) -> u8
+    ensures value { result ≡ digit_value byte }
+    ensures most { result ≤ 16 }
+{
+    match byte {
+        b'0'..=b'9' => byte - b'0',
+        b'A'..=b'F' => byte - b'A' + 10,
+        b'a'..=b'f' => byte - b'a' + 10,
+        _ => 16,
+    }
+}
+
+/// What stands behind `0x`, where a word begins so.
+fn hex_digits(word: &[u8]) -> Option<&[u8]>
+    ensures { option_map (λ x. x.now) result ≡ hex_digits word.now }
+{
+    match word {
+        [b'0', b'x', digits @ ..] => Some(digits),
+        _ => None,
+    }
+}
+
+/// The number below 2^32 of 1 to `most` digits of a base.
+#[inline]
+#[tactic(auto, using(crate::proofs::Values::values))]
+fn value(base: u8, most: usize, digits: &[u8]) -> Option<u32>
+    requires low { 1 ≤ base }
+    requires high { base ≤ 16 }
+    ensures { result ≡ limited (digits_in base most digits.now) }
+{
+    if digits.is_empty() || digits.len() > most {
+        return None;
+    }
+    let mut sum = 0u64;
+    for byte in digits {
+        let digit = digit(*byte);
+        if digit >= base {
+            return None;
+        }
+        sum = sum * u64::from(base) + u64::from(digit);
+        if sum > 0xFFFF_FFFF {
+            return None;
+        }
+    }
+    Some(sum as u32)
+}
+
+/// The number that a word is: decimal, of 1 to 10 digits, or `0x` and 1 to 8 hexadecimal digits of either case; leading
+/// zeros are allowed. `None` where the word is another, or the number is 2^32 or more.
+pub fn number(word: &[u8]) -> Option<u32>
+    ensures { result ≡ number_of word.now }
+{
+    match hex_digits(word) {
+        Some(digits) => value(16, 8, digits),
+        None => value(10, 10, word),
+    }
+}
+
+/// The byte of two hexadecimal digits; `None` where one of them is none.
+fn pair(high: u8, low: u8) -> Option<u8>
+    ensures { result ≡ pair_of high low }
+{
+    let high = digit(high);
+    let low = digit(low);
+    if high < 16 && low < 16 {
+        Some(16 * high + low)
+    } else {
+        None
+    }
+}
+
+/// The bytes that a word is: 1 to 64 pairs of hexadecimal digits of either case; `None` where it is not that.
+#[tactic(auto, using(crate::proofs::Pairs::pairs))]
+pub fn bytes(word: &[u8]) -> Option<ByteBuf>
+    ensures { result ≡ bytes_of word.now }
+{
+    if word.len() > 128 {
+        return None;
+    }
+    let mut room = [0u8; 64];
+    let mut len = 0;
+    let mut rest = word;
+    while let [high, low, others @ ..] = rest {
+        room[len] = pair(*high, *low)?;
+        len += 1;
+        rest = others;
+    }
+    if !rest.is_empty() {
+        return None;
+    }
+    ByteBuf::from_slice(&room[..len])
+}
+
+fn is_letter(byte: u8) -> bool
+    ensures { result ≡ is_letter byte }
+{
+    match byte {
+        b'A'..=b'Z' | b'a'..=b'z' => true,
+        _ => false,
+    }
+}
+
+fn is_name_byte(byte: u8) -> bool
+    ensures { result ≡ is_name_byte byte }
+{
+    match byte {
+        b'0'..=b'9' | b'_' | b'.' | b'-' => true,
+        _ => is_letter(byte),
+    }
+}
+
+fn are_name_bytes(bytes: &[u8]) -> bool
+    ensures { result ≡ list_all is_name_byte bytes.now }
+{
+    bytes.iter().all(|byte| is_name_byte(*byte))
+}
+
+/// Whether a word is a letter, and letters, digits, `_`, `.` or `-` behind it.
+#[tactic(auto, using(crate::proofs::Made::made))]
+fn is_name(word: &[u8]) -> bool
+    ensures { result ≡ is_name word.now }
+{
+    match word {
+        [first, others @ ..] => is_letter(*first) && are_name_bytes(others),
+        [] => false,
+    }
+}
+
+/// The name that a word is: a letter, and at most 31 letters, digits, `_`, `.` or `-` behind it, in ASCII; `None` where
+/// it is not that.
+#[tactic(auto, using(crate::proofs::Made::made))]
+pub fn name(word: &[u8]) -> Option<Name>
+    ensures { result ≡ name_of word.now }
+{
+    if is_name(word) {
+        Name::from_slice(word)
+    } else {
+        None
+    }
+}

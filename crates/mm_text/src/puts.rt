@@ -1,0 +1,97 @@
+ghost use Rattle.std.specs.Prelude.{◌≡◌, ◌≤◌, ◌<◌, ◌+◌, ◌*◌, ◌++◌, [], length, drop};
+ghost use Rattle.mm_types.specs.Spelling.{glyph, decimal, hex_onto, hex8, byte_pairs};
+ghost use Rattle.mm_text.specs.Shortest.{digits_onto, hex_short};
+
+use crate::LineBuf;
+
+/// A digit below 16 as a byte, with upper-case letters from ten on.
+fn glyph(digit: u8) -> u8
+    requires { digit < 16 }
+    ensures { result ≡ glyph digit }
+{
+    if digit < 10 {
+        b'0' + digit
+    } else {
+        b'A' + (digit - 10)
+    }
+}
+
+/// Writes a number's digits at the end of `digits`, without leading zeros, and answers where they begin.
+#[inline]
+#[tactic(auto, using(crate::proofs::Digits::digits))]
+fn fill_short(base: u64, n: u64, digits: &mut [u8]) -> usize
+    requires low { 2 ≤ base }
+    requires high { base ≤ 16 }
+    ensures digits { digits_onto base (length digits.old) n [] ≡ drop result digits.new }
+    ensures within { result ≤ length digits.old }
+{
+    let mut at = digits.len();
+    let mut rest = n;
+    while at > 0 {
+        at -= 1;
+        digits[at] = glyph((rest % base) as u8);
+        if rest < base {
+            return at;
+        }
+        rest /= base;
+    }
+    at
+}
+
+/// Writes the last hexadecimal digits of a number, as many as `digits` has places.
+#[tactic(auto, using(crate::proofs::Digits::digits))]
+fn fill_hex(n: u32, digits: &mut [u8])
+    ensures { digits.new ≡ hex_onto (length digits.old) n [] }
+{
+    let mut at = digits.len();
+    let mut rest = n;
+    while at > 0 {
+        at -= 1;
+        digits[at] = glyph((rest % 16) as u8);
+        rest /= 16;
+    }
+}
+
+/// Writes a number in decimal, without leading zeros, at the end of a line.
+pub fn put_decimal(out: &mut LineBuf, n: u64)
+    requires { length out.old + length (decimal n) ≤ 256 }
+    ensures { out.new ≡ out.old ++ decimal n }
+{
+    let mut digits = [0u8; 20];
+    let from = fill_short(10, n, &mut digits);
+    out.push_slice(&digits[from..]);
+}
+
+/// Writes `0x` and a number's hexadecimal digits in upper case, without leading zeros, at the end of a line.
+pub fn put_hex_short(out: &mut LineBuf, n: u32)
+    requires { length out.old + length (hex_short n) ≤ 256 }
+    ensures { out.new ≡ out.old ++ hex_short n }
+{
+    let mut digits = [0u8; 8];
+    let from = fill_short(16, u64::from(n), &mut digits);
+    out.push_slice(b"0x");
+    out.push_slice(&digits[from..]);
+}
+
+/// Writes `0x` and eight hexadecimal digits in upper case at the end of a line.
+pub fn put_hex8(out: &mut LineBuf, n: u32)
+    requires { length out.old + 10 ≤ 256 }
+    ensures { out.new ≡ out.old ++ hex8 n }
+{
+    let mut digits = [0u8; 8];
+    fill_hex(n, &mut digits);
+    out.push_slice(b"0x");
+    out.push_slice(&digits);
+}
+
+/// Writes each byte as a pair of hexadecimal digits in upper case at the end of a line.
+#[tactic(auto, using(crate::proofs::Digits::digits))]
+pub fn put_bytes(out: &mut LineBuf, bytes: &[u8])
+    requires { length out.old + 2 * length bytes.now ≤ 256 }
+    ensures { out.new ≡ out.old ++ byte_pairs bytes.now }
+{
+    for byte in bytes {
+        out.push(glyph(*byte / 16));
+        out.push(glyph(*byte % 16));
+    }
+}

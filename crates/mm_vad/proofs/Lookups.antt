@@ -1,0 +1,109 @@
+-- What a look-up by a range tells of the list of regions.
+use Rattle.std.proofs.Common.{◌≡◌, ℕ, ◌-◌, ◌<◌, ◌≤◌, Bool, true, false, cond, List, [], ◌∷◌, length, Option, Some, None, refl, sym, ap, ◌∙◌, subst, arith}
+use Rattle.std.specs.List.{list_any}
+use Rattle.std.specs.Prelude.{◌||◌, find, option_map, option_and_then, ◌==◌, nat_le, nat_lt, All}
+use Rattle.std.proofs.lemmas.Bool.{eqb-true, leb-true, ltb-true, and_parts, or_parts}
+use Rattle.std.proofs.lemmas.List.Elements.{All-head, All-tail}
+use Rattle.std.proofs.lemmas.Option.{some_pair_parts}
+use Rattle.mm_types.specs.declared.numbers.Vpn.{Vpn}
+use Rattle.mm_types.specs.Address.{Range, end_of, holds_page}
+use Rattle.mm_gaps.specs.Ranges.{page_number, is_begun_at}
+use Rattle.mm_gaps.specs.Ranges.{pages_of as told_of}
+use Rattle.mm_vad.specs.declared.regions.Region.{Region}
+use Rattle.mm_vad.specs.Regions.{pages_of, holds, region_at, region_with_base}
+use Rattle.mm_vad.specs.Index.{regions_of, IsHeld, AllHeld, IsIndex}
+use Rattle.mm_vad.proofs.Held.{pair_of, find_held}
+
+-- the range that a search told of by its first page
+pub record Told (o : Option Range) (base : ℕ) : Type 0 where
+  pub range : Range
+  pub is : o ≡ Some range
+  pub first : range.first ≡ base
+
+pub told_some : (o : Option Range) (base : Vpn) (n : ℕ) → Some (base, n) ≡ option_map told_of o → Told o base.0
+told_some None base n e = cc
+told_some (Some r) base n e =
+    record { range = r; is = refl; first = sym (ap (λ (v : Vpn). v.0) (some_pair_parts base (page_number r.first) n r.count e).0) }
+
+pub told_none : (o : Option Range) → None ≡ option_map told_of o → o ≡ None
+told_none None e = refl
+told_none (Some r) e = cc
+
+-- what a search among regions finds passes its test, and has as many rows as pages
+found_region : (t : Region → Bool) (gs : List Region) (g : Region) → All (λ r. length r.rows ≡ r.pages) gs → find t gs ≡ Some g → (t g ≡ true) × (length g.rows ≡ g.pages)
+found_region t [] g a e = cc
+found_region t (x ∷ xs) g a e =
+    elim (t x) as (λ b. t x ≡ b → cond b (Some x) (find t xs) ≡ Some g → (t g ≡ true) × (length g.rows ≡ g.pages)) [
+      | true ↦ λ p k. (
+          let same : x ≡ g = cc in
+          subst (λ (r : Region). (t r ≡ true) × (length r.rows ≡ r.pages)) same (p, All-head (λ (r : Region). length r.rows ≡ r.pages) x xs a))
+      | false ↦ λ p k. found_region t xs g (All-tail (λ (r : Region). length r.rows ≡ r.pages) x xs a) k
+    ] refl e
+
+-- the page has a row in its region
+pub row_there : (gs : List Region) (page : ℕ) (g : Region) → All (λ r. length r.rows ≡ r.pages) gs → region_at gs page ≡ Some g → (g.base.0 ≤ page) × (page - g.base.0 < length g.rows)
+row_there gs page g a e =
+    let f = found_region (holds page) gs g a e in
+    let both = and_parts (nat_le g.base.0 page) (nat_lt page (end_of (pages_of g))) f.0 in
+    let low = leb-true g.base.0 page both.0 in
+    let high = ltb-true page (end_of (pages_of g)) both.1 in
+    (low, omega (arith, f.1))
+
+-- what a search among ranges finds passes its test, and a region is held at it
+pub found_range : (found : ℕ → Option Region) (t : Range → Bool) (rs : List Range) (r : Range) → AllHeld found rs → find t rs ≡ Some r → (t r ≡ true) × IsHeld found r
+found_range found t [] r h e = cc
+found_range found t (x ∷ xs) r h e =
+    elim (t x) as (λ b. t x ≡ b → cond b (Some x) (find t xs) ≡ Some r → (t r ≡ true) × IsHeld found r) [
+      | true ↦ λ p k. (
+          let same : x ≡ r = cc in
+          subst (λ (y : Range). (t y ≡ true) × IsHeld found y) same (p, h.0))
+      | false ↦ λ p k. found_range found t xs r h.1 k
+    ] refl e
+
+none_begins : (t : Range → Bool) (rs : List Range) → list_any t rs ≡ false → find t rs ≡ None
+none_begins t [] e = refl
+none_begins t (x ∷ xs) e =
+    let parts = or_parts (t x) (list_any t xs) e in
+    ap (λ (b : Bool). cond b (Some x) (find t xs)) parts.0 ∙ none_begins t xs parts.1
+
+one_begins : (t : Range → Bool) (rs : List Range) → list_any t rs ≡ true → (r : Range) × (find t rs ≡ Some r) × (t r ≡ true)
+one_begins t [] e = cc
+one_begins t (x ∷ xs) e =
+    elim (t x) as (λ b. t x ≡ b → (b || list_any t xs) ≡ true → (r : Range) × (cond b (Some x) (find t xs) ≡ Some r) × (t r ≡ true)) [
+      | true ↦ λ p k. (x, refl, p)
+      | false ↦ λ p k. one_begins t xs k
+    ] refl e
+
+module _ (found : ℕ → Option Region) (ranges : List Range) (index : IsIndex found ranges) where
+  -- the region that is found at the first page of the range is the one that the same search among the regions gives
+  pub found_there : (t : Range → Bool) (base : ℕ) → Told (find t ranges) base → found base ≡ find (λ g. t (pages_of g)) (regions_of found ranges)
+  found_there t base told =
+      sym (ap found told.first) ∙ sym (ap (option_and_then (λ (r : Range). found r.first)) told.is) ∙ sym (find_held found t ranges index.held)
+
+  pub none_there : (t : Range → Bool) → find t ranges ≡ None → find (λ g. t (pages_of g)) (regions_of found ranges) ≡ None
+  none_there t e = find_held found t ranges index.held ∙ ap (option_and_then (λ (r : Range). found r.first)) e
+
+  -- a region has the base where a range begins there
+  pub none_with_base : (base : ℕ) → is_begun_at base ranges ≡ false → region_with_base (regions_of found ranges) base ≡ None
+  none_with_base base e = none_there (λ r. r.first == base) (none_begins (λ r. r.first == base) ranges e)
+
+  pub with_base : (base : ℕ) → is_begun_at base ranges ≡ true → region_with_base (regions_of found ranges) base ≡ found base
+  with_base base e =
+      let one = one_begins (λ r. r.first == base) ranges e in
+      find_held found (λ r. r.first == base) ranges index.held
+      ∙ ap (option_and_then (λ (r : Range). found r.first)) one.1
+      ∙ ap found (eqb-true one.0.first base one.2)
+
+  -- the region that is found at the first page of the range of the page
+  pub region_there : (page base : ℕ) (region : Region) → Told (find (λ r. holds_page r page) ranges) base → found base ≡ Some region → (region.base.0 ≡ base) × (base ≤ page) × (page - base < length region.rows)
+  region_there page base region told e =
+      let f = found_range found (λ r. holds_page r page) ranges told.range index.held told.is in
+      let p = pair_of found told.range f.1 in
+      let both : Some p.region ≡ Some region = sym p.there ∙ ap found told.first ∙ e in
+      let same : p.region ≡ region = cc in
+      let at : p.region.base.0 ≡ told.range.first = ap (λ (r : Range). r.first) p.pages in
+      let sides = and_parts (nat_le told.range.first page) (nat_lt page (end_of told.range)) f.0 in
+      let low = leb-true told.range.first page sides.0 in
+      let high = ltb-true page (end_of told.range) sides.1 in
+      let rows : length p.region.rows ≡ length region.rows = ap (λ (g : Region). length g.rows) same in
+      (sym (ap (λ (g : Region). g.base.0) same) ∙ at ∙ told.first, omega (arith, told.first), omega (arith, told.first, p.whole, rows))

@@ -1,0 +1,14 @@
+//! Virtual address descriptors: the regions of an address space and the pages in them (the VAD tree of Windows
+//! Internals), without any page's contents.
+#![tactic(auto)]
+
+mod pages;
+mod regions;
+mod spaces;
+#[cfg(test)]
+mod tests;
+
+pub use mm_types::{Kind, View, ViewAccess};
+pub use pages::{Row, Rows};
+pub use regions::Region;
+pub use spaces::Space;

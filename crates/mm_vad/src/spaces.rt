@@ -1,0 +1,159 @@
+ghost use Rattle.std.specs.Prelude.{◌≡◌, ◌+◌, ◌-◌, ◌<◌, ◌≤◌, [], length, IsTrue, IsSome, OnOk, OnErr, option_map};
+ghost use Rattle.std.specs.Option.{option_copied};
+ghost use Rattle.mm_types.specs.Address.{is_free, lowest_gap};
+ghost use Rattle.mm_gaps.specs.Ranges.{page_number};
+
+use crate::{Region, Row};
+use mm_gaps::{Gaps, Steps, Uncounted};
+use mm_types::{NoMemory, Vpn};
+use std::alloc::Global;
+use std::collections::HashMap;
+use std::marker::Model;
+
+// No page at all is free from the first user page on, whatever is taken.
+const FIRST_USER_PAGE: Vpn = Vpn(0x10);
+
+/// The regions of one address space, no page in two of them.
+#[derive(Drop)]
+pub struct Space {
+    // The pages of the regions, in order.
+    taken: Gaps,
+    // The regions by their bases, which are the first pages of the ranges.
+    regions: HashMap<u32, Region>,
+}
+
+impl Model for Space {
+    ghost use Rattle.std.specs.Prelude.{min, nat_eq};
+    ghost use Rattle.std.specs.HashMap.{get, spare};
+    ghost use Rattle.mm_vad.specs.Regions.{SpaceOf};
+    ghost use Rattle.mm_vad.specs.Index.{regions_of, IsIndex};
+
+    ghost Value = { SpaceOf };
+
+    ghost view = { λ s. record { regions = regions_of (get nat_eq s.regions) s.taken.ranges; spare = min s.taken.spare (spare s.regions) } };
+
+    ghost invariant = { λ s. IsIndex (get nat_eq s.regions) s.taken.ranges };
+}
+
+impl Space {
+    ghost use Rattle.mm_vad.specs.Regions.{IsSpace, ranges_of, pages_of, region_at, region_from, region_with_base, add_region, remove_region, set_row, run_of_equal};
+
+    /// No region, and no spare room.
+    pub fn new(alloc: Global) -> Space
+        ensures { result ≡ record { regions = []; spare = 0 } }
+    {
+        Space {
+            taken: Gaps::new(alloc),
+            regions: HashMap::new(alloc),
+        }
+    }
+
+    /// The region in which page `v` lies. None exactly where it lies in none.
+    pub fn find(&self, v: Vpn) -> Option<&Region>
+        ensures found { option_copied result ≡ region_at self.now.regions v.0 }
+        ensures sound { IsSpace self.now.regions }
+    {
+        let (base, _) = self.taken.at(v)?;
+        self.regions.get(&base.0)
+    }
+
+    /// The first region whose base is page `v` or above it. None exactly where none begins there.
+    pub fn next_region(&self, v: Vpn) -> Option<&Region>
+        ensures found { option_copied result ≡ region_from self.now.regions v.0 }
+        ensures sound { IsSpace self.now.regions }
+    {
+        let (base, _) = self.taken.first_from(v)?;
+        self.regions.get(&base.0)
+    }
+
+    /// Writes the row of page `v`, which lies in a region.
+    pub fn set_row(&mut self, v: Vpn, row: Row)
+        requires { IsSome (region_at self.old.regions v.0) }
+        ensures after { self.new ≡ record self.old { regions = set_row self.old.regions v.0 row } }
+        ensures sound { IsSpace self.new.regions }
+    {
+        let Some((base, _)) = self.taken.at(v) else {
+            unreachable!()
+        };
+        let Some(region) = self.regions.get_mut(&base.0) else {
+            unreachable!()
+        };
+        region.rows.set(v.0 - base.0, row);
+    }
+
+    /// The lowest granule from which `n` user pages are free, as its first page. None exactly where there is none.
+    pub fn lowest_gap(&self, n: u32) -> Option<Vpn>
+        ensures found { result ≡ option_map page_number (lowest_gap (ranges_of self.now.regions) n) }
+        ensures sound { IsSpace self.now.regions }
+    {
+        let taken = &self.taken;
+        if n == 0 {
+            return Some(FIRST_USER_PAGE);
+        }
+        taken.lowest_gap(n, &mut Steps::new(Uncounted))
+    }
+
+    /// Whether the `n` pages from `first` on are user pages that lie in no region.
+    pub fn is_free(&self, first: Vpn, n: u32) -> bool
+        requires { 0 < n }
+        ensures { result ≡ is_free (ranges_of self.now.regions) (record { first = first.0; count = n }) }
+    {
+        self.taken.is_free(first, n)
+    }
+
+    /// Sees that there is room for one more region at least. `NoMemory` only where there was none and a request for
+    /// memory was refused; then the regions are as they were.
+    pub fn reserve(&mut self) -> Result<(), NoMemory>
+        ensures regions { self.new.regions ≡ self.old.regions }
+        ensures room { OnOk result (1 ≤ self.new.spare) }
+        ensures kept { self.old.spare ≤ self.new.spare }
+        ensures cause { OnErr result (self.old.spare ≡ 0) }
+    {
+        self.taken.reserve()?;
+        self.regions.reserve(1)?;
+        Ok(())
+    }
+
+    /// Adds a region of free user pages.
+    pub fn add(&mut self, region: Region)
+        requires some { 0 < region.pages }
+        requires free { IsTrue (is_free (ranges_of self.old.regions) (pages_of region)) }
+        requires whole { length region.rows ≡ region.pages }
+        requires room { 1 ≤ self.old.spare }
+        ensures after { self.new.regions ≡ add_region self.old.regions region }
+        ensures room { self.old.spare ≤ self.new.spare + 1 }
+        ensures sound { IsSpace self.new.regions }
+    {
+        self.taken.insert(region.base, region.pages);
+        let Ok(_) = self.regions.insert(region.base.0, region) else {
+            unreachable!()
+        };
+    }
+
+    /// Takes the region out whose base is `base`. None exactly where none has it, and then nothing changed.
+    pub fn remove(&mut self, base: Vpn) -> Option<Region>
+        ensures removed { result ≡ region_with_base self.old.regions base.0 }
+        ensures after { self.new.regions ≡ remove_region self.old.regions base.0 }
+        ensures room { self.old.spare ≤ self.new.spare }
+        ensures sound { IsSpace self.new.regions }
+    {
+        if !self.taken.is_begun_at(base) {
+            return None;
+        }
+        self.taken.remove(base);
+        self.regions.remove(&base.0)
+    }
+
+    /// How many pages from page `v` on, inside its region, are alike in state, protection and guard; a page that is
+    /// not committed counts as one of protection 0 without a guard. Page `v` lies in a region.
+    pub fn run_of_equal(&self, v: Vpn) -> u32
+        requires { IsSome (region_at self.now.regions v.0) }
+        ensures run { result ≡ run_of_equal self.now.regions v.0 }
+        ensures sound { IsSpace self.now.regions }
+    {
+        let Some(region) = self.find(v) else {
+            unreachable!()
+        };
+        region.rows.run_from(v.0 - region.base.0)
+    }
+}
