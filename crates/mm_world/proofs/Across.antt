@@ -192,7 +192,7 @@ bytes_at c k false a (Some y) new eb ea held kept = cc
 bytes_at c k b true old None eb ea held kept = cc
 bytes_at c k b false old (Some x) eb ea held kept = cc
 
-across_by : (t : Tables) (c : Key → Page) (q : OutcomeOf (Unit {0})) (o : OutcomeOf Page) → Spaces t → q ≡ tables_outcome o → Holds (KeepsPages (filled 0) (world_with t c)) o → Holds (KeepsSpaces (world_with t c)) o → AcrossBytes t c q o
+pub across_by : (t : Tables) (c : Key → Page) (q : OutcomeOf (Unit {0})) (o : OutcomeOf Page) → Spaces t → q ≡ tables_outcome o → Holds (KeepsPages (filled 0) (world_with t c)) o → Holds (KeepsSpaces (world_with t c)) o → AcrossBytes t c q o
 across_by t c q o spaces natural pages kept =
     let w = world_with t c in
     let before : Spaces w = spaces_back no_bytes w (subst (λ t. Spaces t) (sym (tables_back c t)) spaces) in

@@ -22,4 +22,6 @@ pub mod KeptPages
 pub mod KeptCalls
 pub mod Reconstruct
 pub mod Across
+pub mod AcrossFile
+pub mod KeptProbe
 pub mod References

@@ -10,7 +10,7 @@ use Rattle.mm_types.specs.declared.events.Event.TheVariants as line
 use Rattle.mm_types.specs.declared.views.Kind.{Kind}
 use Rattle.mm_types.specs.declared.views.Kind.TheVariants as kind
 use Rattle.mm_types.specs.declared.views.View.{View}
-use Rattle.mm_types.specs.Address.{Range, address_of, lowest_gap}
+use Rattle.mm_types.specs.Address.{Range, address_of, page_of, lowest_gap}
 use Rattle.mm_world.specs.World.{World, WorldOf, ProcessOf, RegionOf, RowOf, KeptOf, Page, Numbered, numbered, filled}
 use Rattle.mm_world.specs.Find.{process_of, set_regions, add_region, ranges_of}
 use Rattle.mm_world.specs.Keys.{Home, Own, InSection, Committed, committed_at, set_row, set_shared, guard_off}
@@ -19,7 +19,7 @@ use Rattle.mm_world.specs.Alloc.{commit_type}
 use Rattle.mm_world.specs.Access.{Attempt, ReadOf, WriteOf, Execute, access, access_at, perform, write_to, written, bytes_of, address_in, attempt_in}
 use Rattle.mm_world.specs.Report.{Report}
 use Rattle.mm_world.specs.Step.{unpaged, told, step, stepped, world_told, begin, resume, store_line, kept_by, keep}
-use Rattle.mm_world.specs.Stack.{StackOf, stack, probe_at, probe_in, probe_of, grown, made, stack_region}
+use Rattle.mm_world.specs.Stack.{StackOf, stack, probe, probe_at, probe_in, probe_of, grown, made, stack_region}
 use Rattle.mm_world.specs.Watch.{WatchOf, watch, reset_watch}
 use Rattle.mm_world.specs.System.{System, plain_line, outcome}
 use Rattle.mm_world.specs.WellFormed.{RowFits, RowsFit, PrivateRowFits, held_protections}
@@ -237,6 +237,9 @@ in_probe_in w s page (Some p) lives = in_probe_at w p s page (committed_at w p.r
 in_probe_of : (w : World) (page : ℕ) (s : Option StackOf) → Holds (KeepsSpaces w) (probe_of filled w page s)
 in_probe_of w page None = unchanged w _
 in_probe_of w page (Some s) = in_probe_in w s page (process_of w s.pid) refl
+
+pub in_probe : (w : World) (stacks : Numbered StackOf) (tid addr : ℕ) → Holds (KeepsSpaces w) (probe filled w stacks tid addr)
+in_probe w stacks tid addr = in_probe_of w (page_of addr) (numbered stacks tid)
 
 pub in_outcome : (s : System) (e : Event) (before after : Report) → Holds (KeepsSpaces s.world) (outcome s e before after)
 in_outcome s (line.Watch pid unwrites addr size count) before after = in_watch s.world s.watches pid.0 addr size count

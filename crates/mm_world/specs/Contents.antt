@@ -1,6 +1,7 @@
 -- A world with what each page holds changed by a function, and the tables that are left of a world when its bytes are taken away.
-use Rattle.std.specs.Prelude.{◌≡◌, ℕ, ◌+◌, ◌&&◌, if◌then◌else◌, is_some, List, [], ◌∷◌, Option, map, option_map, unwrap_or}
+use Rattle.std.specs.Prelude.{◌≡◌, ℕ, ◌+◌, ◌%◌, ◌&&◌, if◌then◌else◌, is_some, List, [], ◌∷◌, Option, map, option_map, unwrap_or}
 use Rattle.mm_types.specs.declared.numbers.Key.{Key}
+use Rattle.mm_types.specs.declared.numbers.Key.TheVariants as key
 use Rattle.mm_world.specs.World.{Page, World, RowOf, RegionOf, ProcessOf, AreaOf, WorldOf, filled}
 use Rattle.mm_world.specs.Keys.{content_of, private_key, shared_key}
 use Rattle.mm_world.specs.Outcome.{OutcomeOf}
@@ -109,3 +110,16 @@ BytesAfter t bytes after new =
 -- the call with this outcome on the tables has this one on a world with these tables
 pub record AcrossBytes (t : Tables) (bytes : Key → Page) (q : OutcomeOf (Unit {0})) (o : OutcomeOf Page) : Type 0 where
   pub across : (new : Key → Page) → BytesAfter t bytes q.world new → o ≡ record { answer = q.answer; world = world_with q.world new }
+
+-- what the pages of a new file hold, by their index; other keys do not matter
+abbrev pub file_bytes : ℕ → Key → Page
+file_bytes byte (key.Private pid page) = filled 0
+file_bytes byte (key.Shared area index) = filled ((byte + index) % 256)
+
+-- the bytes after a `file` line: its pages have theirs
+abbrev pub BytesAfterFile : ℕ → Tables → (Key → Page) → Tables → (Key → Page) → Type 0
+BytesAfterFile byte t bytes after new =
+    (k : Key) → new k ≡ (if is_some (content_of t k) && is_some (content_of after k) then bytes k else if is_some (content_of after k) then file_bytes byte k else filled 0)
+
+pub record AcrossFile (byte : ℕ) (t : Tables) (bytes : Key → Page) (q : OutcomeOf (Unit {0})) (o : OutcomeOf Page) : Type 0 where
+  pub across : (new : Key → Page) → BytesAfterFile byte t bytes q.world new → o ≡ record { answer = q.answer; world = world_with q.world new }

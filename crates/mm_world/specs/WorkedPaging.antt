@@ -277,6 +277,20 @@ short_of_frames_row =
     (line.Resume (tid 0) ⇒ codes "none") ∷
     []
 
+abbrev pub guard_at_a_resume_row : List WorkedLine
+guard_at_a_resume_row =
+    reported (telling (counts 0 8 0 0 0 0 8 0) ((shared_key 0 0, Some InStore) ∷ [])) (line.File (codes "d") 1 9 ⇒ codes "ok") ∷
+    reported (telling (counts 0 8 0 0 0 0 8 0) ((shared_key 0 0, Some InStore) ∷ [])) (line.Process 0 8 ⇒ codes "ok 1") ∷
+    reported (telling (counts 0 8 0 0 0 0 8 0) ((shared_key 0 0, Some InStore) ∷ [])) (line.CreateFile (pid 1) (codes "d") 0x02 None ⇒ codes "ok 4 0") ∷
+    reported (telling (counts 0 8 0 0 0 0 8 0) ((shared_key 0 0, Some InStore) ∷ [])) (line.Map (pid 1) 4 4 0 0 0 ⇒ codes "ok 0x00010000") ∷
+    reported (telling (counts 0 7 0 0 0 1 8 1) ((shared_key 0 0, Some BeingRead) ∷ [])) (line.Begin (tid 0) (pid 1) (spec.Read 0x10000 1) ⇒ codes "pending read") ∷
+    reported (telling (counts 0 7 0 0 0 1 8 1) ((shared_key 0 0, Some BeingRead) ∷ [])) (line.Protect (pid 1) 0x10000 1 0x102 ⇒ codes "ok 0x00000002") ∷
+    (line.Io 1 ⇒ codes "ok") ∷
+    (line.Resume (tid 0) ⇒ codes "raise 0x80000001") ∷
+    (line.Resume (tid 0) ⇒ codes "none") ∷
+    (line.Read (pid 1) 0x10000 1 ⇒ codes "ok 09") ∷
+    []
+
 abbrev pub plain_access_finishes_a_read_row : List WorkedLine
 plain_access_finishes_a_read_row =
     reported (telling (counts 0 8 0 0 0 0 8 0) ((shared_key 0 0, Some InStore) ∷ [])) (line.File (codes "d") 1 9 ⇒ codes "ok") ∷

@@ -151,6 +151,53 @@ files_and_flushing_row =
     reported (record quiet { file_writes = tally 1 0 }) (line.Flush (pid 1) 0x10000 0 ⇒ codes "ok") ∷
     []
 
+abbrev pub views_at_an_offset_row : List WorkedLine
+views_at_an_offset_row =
+    (line.File (codes "f") 18 1 ⇒ codes "ok") ∷
+    (line.Process 0 8 ⇒ codes "ok 1") ∷
+    (line.Process 0 8 ⇒ codes "ok 2") ∷
+    (line.CreateFile (pid 1) (codes "f") 0x04 (Some (codes "s")) ⇒ codes "ok 4 0") ∷
+    (line.CreateFile (pid 1) (codes "f") 0x04 (Some (codes "s")) ⇒ codes "ok 8 183") ∷
+    (line.CreateFile (pid 2) (codes "f") 0x04 None ⇒ codes "ok 4 0") ∷
+    (line.Map (pid 1) 4 4 0x10000 0x1000 0 ⇒ codes "ok 0x00010000") ∷
+    (line.Read (pid 1) 0x10000 1 ⇒ codes "ok 11") ∷
+    (line.Read (pid 1) 0x11000 1 ⇒ codes "raise 0xC0000005") ∷
+    (line.Map (pid 2) 4 2 0x10000 0 0x40000 ⇒ codes "ok 0x00040000") ∷
+    (line.Write (pid 2) 0x40010 (0xAA ∷ []) ⇒ codes "ok") ∷
+    (line.Read (pid 1) 0x10010 1 ⇒ codes "ok AA") ∷
+    (line.Query (pid 2) 0x40000 ⇒ codes "ok 0x00040000 0x00040000 0x00000004 0x00002000 0x00001000 0x00000004 0x00040000") ∷
+    (line.Query (pid 2) 0x30000 ⇒ codes "ok 0x00030000 0x00000000 0x00000000 0x00010000 0x00010000 0x00000001 0x00000000") ∷
+    (line.Map (pid 1) 4 1 0x10000 0x2001 0 ⇒ codes "error 487") ∷
+    (line.Flush (pid 2) 0x41000 0x1000 ⇒ codes "ok") ∷
+    (line.Flush (pid 2) 0x41000 0x1001 ⇒ codes "error 487") ∷
+    (line.Flush (pid 2) 0x50000 0 ⇒ codes "error 487") ∷
+    (line.Close (pid 1) 5 ⇒ codes "error 6") ∷
+    (line.Close (pid 1) 4 ⇒ codes "ok") ∷
+    (line.Open (pid 2) (codes "s") ⇒ codes "ok 8") ∷
+    (line.Close (pid 1) 8 ⇒ codes "ok") ∷
+    (line.Close (pid 2) 8 ⇒ codes "ok") ∷
+    (line.Open (pid 2) (codes "s") ⇒ codes "error 2") ∷
+    (line.Charge ⇒ codes "ok 0 28") ∷
+    []
+
+abbrev pub protections_by_view_row : List WorkedLine
+protections_by_view_row =
+    (line.Process 0 8 ⇒ codes "ok 1") ∷
+    (line.Create (pid 1) 0x2000 0x4000004 None ⇒ codes "ok 4 0") ∷
+    (line.Map (pid 1) 4 2 0 0 0 ⇒ codes "ok 0x00010000") ∷
+    (line.Map (pid 1) 4 2 0 0 0 ⇒ codes "ok 0x00020000") ∷
+    (line.Alloc (pid 1) 0x10000 0x1000 0x1000 0x02 ⇒ codes "ok 0x00010000") ∷
+    (line.Write (pid 1) 0x10000 (0x01 ∷ []) ⇒ codes "raise 0xC0000005") ∷
+    (line.Write (pid 1) 0x20000 (0x01 ∷ []) ⇒ codes "ok") ∷
+    (line.Read (pid 1) 0x10000 1 ⇒ codes "ok 01") ∷
+    (line.Alloc (pid 1) 0x20000 0x1000 0x1000 0x101 ⇒ codes "error 87") ∷
+    (line.Alloc (pid 1) 0x20000 0x1000 0x1000 0x104 ⇒ codes "ok 0x00020000") ∷
+    (line.Read (pid 1) 0x20000 1 ⇒ codes "raise 0x80000001") ∷
+    (line.Read (pid 1) 0x20000 1 ⇒ codes "ok 01") ∷
+    (line.Charge ⇒ codes "ok 1 12") ∷
+    (line.Protect (pid 1) 0x10000 0x2000 0x04 ⇒ codes "error 487") ∷
+    []
+
 abbrev pub marked_page_row : List WorkedLine
 marked_page_row =
     (line.Process 0 8 ⇒ codes "ok 1") ∷

@@ -9,7 +9,7 @@ ghost use Rattle.mm_world.specs.Find.{process_of};
 ghost use Rattle.mm_world.specs.Charge.{charge, limit};
 ghost use Rattle.mm_world.specs.Keys.{Committed, committed_at, content_of, key_of, private_key};
 ghost use Rattle.mm_world.specs.Alloc.{alloc};
-ghost use Rattle.mm_world.specs.Contents.{Tables, tables_of, tables_outcome, blank, bytes_in, world_with, AcrossBytes};
+ghost use Rattle.mm_world.specs.Contents.{Tables, tables_of, tables_outcome, blank, bytes_in, world_with, AcrossBytes, AcrossFile};
 ghost use Rattle.mm_world.specs.Free.{free};
 ghost use Rattle.mm_world.specs.Processes.{new_process, exit, new_file, take_fail, tell_charge, grow};
 ghost use Rattle.mm_world.specs.Protect.{protect};
@@ -124,4 +124,6 @@ pub fn calls_keep_bytes()
     ensures take_fail { (t : Tables) (bytes : Key → Page) → Spaces t → AcrossBytes t bytes (take_fail t) (take_fail (world_with t bytes)) }
     ensures grow { (t : Tables) (bytes : Key → Page) → Spaces t → (n : ℕ) → AcrossBytes t bytes (grow t n) (grow (world_with t bytes) n) }
     ensures stack { (t : Tables) (bytes : Key → Page) → Spaces t → (stacks : Numbered StackOf) (tid pid reserve commit : ℕ) → AcrossBytes t bytes (stack blank t stacks tid pid reserve commit) (stack filled (world_with t bytes) stacks tid pid reserve commit) }
+    ensures file { (t : Tables) (bytes : Key → Page) → Spaces t → (name : Text) (pages byte : ℕ) → AcrossFile byte t bytes (new_file blank t name pages byte) (new_file filled (world_with t bytes) name pages byte) }
+    ensures probe { (t : Tables) (bytes : Key → Page) → Spaces t → (stacks : Numbered StackOf) (tid addr : ℕ) → AcrossBytes t bytes (probe blank t stacks tid addr) (probe filled (world_with t bytes) stacks tid addr) }
 {}

@@ -3,7 +3,7 @@
 ghost use Rattle.std.specs.Prelude.{[], ◌∷◌, codes};
 ghost use Rattle.mm_world.specs.RunText.{Done};
 ghost use Rattle.mm_world.specs.Worked.{Gives, machine};
-ghost use Rattle.mm_world.specs.WorkedPaging.{shared_section_trimmed_row, far_past_the_frames_row, collided_fault_and_full_queue_row, given_up_while_read_row, rewritten_while_written_row, failing_writes_row, reads_that_fail_row, short_of_frames_row, plain_access_finishes_a_read_row, oldest_first_row};
+ghost use Rattle.mm_world.specs.WorkedPaging.{shared_section_trimmed_row, far_past_the_frames_row, collided_fault_and_full_queue_row, given_up_while_read_row, rewritten_while_written_row, failing_writes_row, reads_that_fail_row, short_of_frames_row, guard_at_a_resume_row, plain_access_finishes_a_read_row, oldest_first_row};
 
 /// A shared section, trimmed and written out.
 pub fn shared_section_trimmed()
@@ -43,6 +43,11 @@ pub fn reads_that_fail()
 /// A thread waits for a frame only where its access needs one: a copy does, beside the page that it copies.
 pub fn short_of_frames()
     ensures { Gives (machine 8 8 1 1) (codes "ok 12") short_of_frames_row Done [] }
+{}
+
+/// A kept access is decided in the world of its resume.
+pub fn guard_at_a_resume()
+    ensures { Gives (machine 8 8 1 1) (codes "ok 12") guard_at_a_resume_row Done [] }
 {}
 
 /// A plain access finishes a read that a thread began.

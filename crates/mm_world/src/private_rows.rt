@@ -3,7 +3,7 @@
 ghost use Rattle.std.specs.Prelude.{[], ◌∷◌, codes};
 ghost use Rattle.mm_world.specs.RunText.{Done, Script};
 ghost use Rattle.mm_world.specs.Worked.{Gives, machine, text_of};
-ghost use Rattle.mm_world.specs.WorkedPrivate.{smallest_machine_row, decommit_and_commit_row, rounding_row, half_in_half_out_row, commit_again_row, guard_row, query_runs_row, execute_and_edges_row};
+ghost use Rattle.mm_world.specs.WorkedPrivate.{smallest_machine_row, decommit_and_commit_row, rounding_row, half_in_half_out_row, commit_again_row, guard_row, query_runs_row, regions_side_by_side_row, execute_and_edges_row};
 
 /// The smallest machine: commitment is refused exactly past the limit.
 pub fn smallest_machine()
@@ -38,6 +38,11 @@ pub fn guard()
 /// Query tells runs of like pages, and free runs to the end of the user pages.
 pub fn query_runs()
     ensures { Gives (machine 8 8 1 0) (codes "ok 12") query_runs_row Done [] }
+{}
+
+/// Several regions: gaps, ranges that cross them, guards in queries, whole decommits.
+pub fn regions_side_by_side()
+    ensures { Gives (machine 8 8 1 0) (codes "ok 12") regions_side_by_side_row Done [] }
 {}
 
 /// Execution, the edges of the address space, and a run that ends at a faulty line.

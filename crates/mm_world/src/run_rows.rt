@@ -3,11 +3,16 @@
 ghost use Rattle.std.specs.Prelude.{[], ◌∷◌, codes};
 ghost use Rattle.mm_world.specs.RunText.{Done};
 ghost use Rattle.mm_world.specs.Worked.{Gives, machine};
-ghost use Rattle.mm_world.specs.WorkedRuns.{ends_of_processes_row, fail_lines_row, paging_file_grows_row, most_slots_row, paging_device_refuses_to_grow_row};
+ghost use Rattle.mm_world.specs.WorkedRuns.{ends_of_processes_row, what_an_exit_ends_row, fail_lines_row, paging_file_grows_row, most_slots_row, paging_device_refuses_to_grow_row};
 
 /// Sixty-four processes are made, and no number is given again.
 pub fn ends_of_processes()
     ensures { Gives (machine 8 8 1 0) (codes "ok 12") ends_of_processes_row Done [] }
+{}
+
+/// What the exit of a process ends, and what lives on by another.
+pub fn what_an_exit_ends()
+    ensures { Gives (machine 8 8 1 1) (codes "ok 12") what_an_exit_ends_row Done [] }
 {}
 
 /// Sixty-four `fail` lines are taken.

@@ -3,7 +3,7 @@
 ghost use Rattle.std.specs.Prelude.{[], ◌∷◌, codes};
 ghost use Rattle.mm_world.specs.RunText.{Done};
 ghost use Rattle.mm_world.specs.Worked.{Gives, machine};
-ghost use Rattle.mm_world.specs.WorkedSections.{copy_view_refused_row, copy_view_charged_whole_row, copy_on_write_row, reserve_section_row, reserve_section_read_view_row, handles_names_views_row, refusals_row, files_and_flushing_row, marked_page_row, mark_refused_row, marks_last_row};
+ghost use Rattle.mm_world.specs.WorkedSections.{copy_view_refused_row, copy_view_charged_whole_row, copy_on_write_row, reserve_section_row, reserve_section_read_view_row, handles_names_views_row, refusals_row, files_and_flushing_row, views_at_an_offset_row, protections_by_view_row, marked_page_row, mark_refused_row, marks_last_row};
 
 /// A copy view whose pages pass the limit is refused.
 pub fn copy_view_refused()
@@ -43,6 +43,16 @@ pub fn refusals()
 /// Files and flushing, with writes that fail.
 pub fn files_and_flushing()
     ensures { Gives (machine 8 8 1 2) (codes "ok 12") files_and_flushing_row Done [] }
+{}
+
+/// Views of a part of a file, by sections that share its pages, and names that last as long as handles.
+pub fn views_at_an_offset()
+    ensures { Gives (machine 8 24 1 20) (codes "ok 28") views_at_an_offset_row Done [] }
+{}
+
+/// A commit in a view changes the protection of that view alone.
+pub fn protections_by_view()
+    ensures { Gives (machine 8 8 1 0) (codes "ok 12") protections_by_view_row Done [] }
 {}
 
 /// Single pages of a shared view become copy on write.

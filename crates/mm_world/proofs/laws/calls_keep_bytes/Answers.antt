@@ -1,4 +1,6 @@
 use Rattle.mm_world.proofs.Across.{alloc_across, free_across, protect_across, query_across, create_across, create_file_across, open_across, close_across, map_across, unmap_across, flush_across, new_process_across, exit_across, take_fail_across, grow_across, stack_across}
+use Rattle.mm_world.proofs.AcrossFile.{new_file_across}
+use Rattle.mm_world.proofs.KeptProbe.{probe_across}
 use Rattle.mm_world.proofs.laws.calls_keep_bytes.Goals as goal
 
 pub returns-clause-alloc : goal.returns-clause-alloc
@@ -48,3 +50,9 @@ returns-clause-grow c = grow_across
 
 pub returns-clause-stack : goal.returns-clause-stack
 returns-clause-stack c = stack_across
+
+pub returns-clause-file : goal.returns-clause-file
+returns-clause-file c = new_file_across
+
+pub returns-clause-probe : goal.returns-clause-probe
+returns-clause-probe c = probe_across

@@ -1,0 +1,5 @@
+pub mod Cuts
+pub mod Rows
+pub mod Linking
+pub mod Standing
+pub mod Changes

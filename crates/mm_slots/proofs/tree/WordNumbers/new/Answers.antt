@@ -1,0 +1,5 @@
+use Rattle.mm_slots.proofs.BitLemmas.{zero_has_none}
+use Rattle.mm_slots.proofs.tree.WordNumbers.new.Goals as goal
+
+pub returns : goal.returns
+returns c = zero_has_none
