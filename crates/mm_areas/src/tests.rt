@@ -1,0 +1,27 @@
+#![tactic(auto, using(crate::proofs::AreaLemmas::opened, crate::proofs::AreaLemmas::still_there, crate::proofs::AreaLemmas::is_open, crate::proofs::AreaLemmas::closed, crate::proofs::AreaLemmas::none_open))]
+
+use crate::Protos;
+use mm_types::Area;
+use std::test::Fail;
+
+#[test]
+fn words_of_open_areas(rt: HostRuntime) -> Result<(), Fail> {
+    let mut protos = Protos::new(rt.alloc());
+    protos.open(Area(1), 4)?;
+    assert_eq!(rt; protos.get(Area(1), 3), 0);
+    protos.set(Area(1), 3, 0x56);
+    assert_eq!(rt; protos.get(Area(1), 3), 0x56);
+    assert_eq!(rt; protos.get(Area(1), 2), 0);
+    Ok(())
+}
+
+#[test]
+fn closed_areas_begin_anew(rt: HostRuntime) -> Result<(), Fail> {
+    let mut protos = Protos::new(rt.alloc());
+    protos.open(Area(2), 1)?;
+    protos.set(Area(2), 0, 0x12);
+    protos.close(Area(2));
+    protos.open(Area(2), 1)?;
+    assert_eq!(rt; protos.get(Area(2), 0), 0);
+    Ok(())
+}

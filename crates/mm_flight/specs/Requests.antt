@@ -1,0 +1,49 @@
+-- The requests in flight, and what the threads wait for.
+use Rattle.std.specs.Prelude.{◌≡◌, ℕ, ◌+◌, ◌≤◌, ◌<◌, ◌^◌, Bool, not, ◌==◌, if◌then◌else◌, List, filter, Option, option_map}
+use Rattle.std.specs.List.{list_any, position}
+use Rattle.mm_types.specs.declared.numbers.Frame.{Frame}
+use Rattle.mm_types.specs.declared.answers.Wait.{Wait}
+use Rattle.mm_types.specs.declared.answers.Wait.TheVariants as wait
+use Rattle.mm_flight.specs.declared.flights.Waiting.{Waiting}
+use Rattle.mm_flight.specs.declared.flights.Waiting.TheVariants as waiting
+
+-- at most so many requests; the frames with a request, oldest first; what each of the 256 threads waits for
+pub record FlightOf : Type 0 where
+  pub depth : ℕ
+  pub frames : List ℕ
+  pub waits : List Waiting
+
+abbrev pub number_of : Frame → ℕ
+number_of f = f.0
+
+-- the frame has a request
+abbrev pub is_in : ℕ → List ℕ → Bool
+is_in f frames = list_any (λ x. x == f) frames
+
+-- the others, in their order
+abbrev pub without : ℕ → List ℕ → List ℕ
+without f frames = filter (λ x. not (x == f)) frames
+
+-- how old the frame's request is: 1 is the oldest
+abbrev pub place_in : ℕ → List ℕ → Option ℕ
+place_in f frames = option_map (λ i. i + 1) (position (λ x. x == f) frames)
+
+-- what a thread waits for once the request of frame f has ended, well or not
+abbrev pub ended : ℕ → Bool → Waiting → Waiting
+ended f ok waiting.Nothing = waiting.Nothing
+ended f ok (waiting.For g) = if g.0 == f then (if ok then waiting.Done else waiting.Failed) else waiting.For g
+ended f ok waiting.Done = waiting.Done
+ended f ok waiting.Failed = waiting.Failed
+
+abbrev pub wait_of : Waiting → Wait
+wait_of waiting.Nothing = wait.None
+wait_of (waiting.For g) = wait.InFlight
+wait_of waiting.Done = wait.Done
+wait_of waiting.Failed = wait.Failed
+
+-- room for `depth` frames, `frames` of which are in flight, and a wait for each thread
+pub record HasRoom (depth frames room threads : ℕ) : Type 0 where
+  pub fits : depth < 2 ^ 32
+  pub within : frames ≤ depth
+  pub enough : depth ≤ room
+  pub all : threads ≡ 256

@@ -1,0 +1,168 @@
+ghost use Rattle.std.specs.Prelude.{◌≡◌, ◌-◌, ◌<◌, ◌≤◌, [], ◌∷◌, ◌++◌, length, map, not, replicate, IsTrue, IfOk, slice_get, slice_set, Some, option_map, true, false, filter, ◌==◌, vec_len, vec_capacity};
+ghost use Rattle.mm_flight.specs.Requests.{FlightOf, is_in, without, place_in, ended, wait_of, number_of};
+
+use mm_types::{Frame, NoMemory, Tid, Wait};
+use std::alloc::Global;
+use std::marker::Model;
+
+const THREADS: usize = 256;
+
+/// What a thread waits for.
+#[derive(Clone, Copy, PartialEq, Eq, Debug)]
+pub enum Waiting {
+    Nothing,
+    /// The request of this frame, which is in flight.
+    For(Frame),
+    /// Its request was done.
+    Done,
+    /// Its request failed.
+    Failed,
+}
+
+/// The frames whose request is in flight, oldest first, and what each thread waits for.
+///
+/// All room is taken when it is made: no later call takes memory.
+#[derive(Drop)]
+pub struct Flight {
+    depth: u32,
+    frames: Vec<Frame>,
+    waits: Vec<Waiting>,
+}
+
+impl Model for Flight {
+    ghost use Rattle.std.specs.Prelude.{map, length, vec_len, vec_capacity};
+    ghost use Rattle.mm_flight.specs.Requests.{FlightOf, number_of, HasRoom};
+
+    ghost Value = { FlightOf };
+
+    ghost view = { λ f. record { depth = f.depth; frames = map number_of f.frames.items; waits = f.waits.items } };
+
+    ghost invariant = { λ f. HasRoom f.depth (vec_len f.frames) (vec_capacity f.frames) (length f.waits.items) };
+}
+
+impl Flight {
+    /// No request is in flight, and no thread waits. At most `depth` requests can be in flight.
+    pub fn new(alloc: Global, depth: u32) -> Result<Flight, NoMemory>
+        ensures { IfOk result (λ f. f ≡ record { depth = depth; frames = []; waits = replicate 256 Waiting.Nothing }) }
+    {
+        let frames = Vec::with_capacity(alloc, depth as usize)?;
+        let mut waits = Vec::new(alloc);
+        waits.resize(THREADS, Waiting::Nothing)?;
+        Ok(Flight {
+            depth,
+            frames,
+            waits,
+        })
+    }
+
+    /// A request of a frame that has none begins; there are fewer than the depth.
+    pub fn begin(&mut self, f: Frame)
+        requires fewer { length self.old.frames < self.old.depth }
+        requires new { is_in f.0 self.old.frames ≡ false }
+        ensures { self.new ≡ record self.old { frames = self.old.frames ++ f.0 ∷ [] } }
+    {
+        match self.frames.push(f) {
+            Ok(()) => {}
+            Err(_) => unreachable!(),
+        }
+    }
+
+    /// How many requests are in flight.
+    pub fn len(&self) -> u32
+        ensures value { result ≡ length self.now.frames }
+        ensures within { result ≤ self.now.depth }
+    {
+        self.frames.len() as u32
+    }
+
+    /// Whether no request is in flight.
+    pub fn is_empty(&self) -> bool
+        ensures { result ≡ (length self.now.frames == 0) }
+    {
+        self.frames.is_empty()
+    }
+
+    /// The frame of the i-th oldest request, counted from 1.
+    pub fn nth(&self, i: u32) -> Option<Frame>
+        requires { 0 < i }
+        ensures { option_map number_of result ≡ slice_get self.now.frames (i - 1) }
+    {
+        self.frames.get(i as usize - 1).copied()
+    }
+
+    /// How old the frame's request is: the i of `nth`. `None` comes exactly where it has none.
+    pub fn place_of(&self, f: Frame) -> Option<u32>
+        ensures { result ≡ place_in f.0 self.now.frames }
+    {
+        for (i, frame) in self.frames.iter().enumerate() {
+            if frame.0 == f.0 {
+                return Some(i as u32 + 1);
+            }
+        }
+        None
+    }
+
+    /// The request of a frame in flight ends, well or not, and so does the wait of each thread for it.
+    pub fn end(&mut self, f: Frame, ok: bool)
+        requires { is_in f.0 self.old.frames ≡ true }
+        ensures { self.new ≡ record self.old { frames = without f.0 self.old.frames; waits = map (ended f.0 ok) self.old.waits } }
+    {
+        remove_frame(&mut self.frames, f);
+        end_waits(&mut self.waits, f, ok);
+    }
+
+    /// The thread waits for the request of a frame in flight from now on.
+    pub fn wait(&mut self, t: Tid, f: Frame)
+        requires { is_in f.0 self.old.frames ≡ true }
+        ensures { self.new ≡ record self.old { waits = slice_set self.old.waits t.0 (Waiting.For f) } }
+    {
+        self.waits[t.0 as usize] = Waiting::For(f);
+    }
+
+    /// How the thread's wait stands.
+    pub fn outcome(&self, t: Tid) -> Wait
+        ensures { slice_get (map wait_of self.now.waits) t.0 ≡ Some result }
+    {
+        match self.waits[t.0 as usize] {
+            Waiting::Nothing => Wait::None,
+            Waiting::For(_) => Wait::InFlight,
+            Waiting::Done => Wait::Done,
+            Waiting::Failed => Wait::Failed,
+        }
+    }
+
+    /// The thread waits for nothing from now on.
+    pub fn forget(&mut self, t: Tid)
+        ensures { self.new ≡ record self.old { waits = slice_set self.old.waits t.0 Waiting.Nothing } }
+    {
+        self.waits[t.0 as usize] = Waiting::Nothing;
+    }
+}
+
+/// What a thread waits for once the request of frame `f` has ended.
+fn after_end(waiting: Waiting, f: Frame, ok: bool) -> Waiting
+    ensures { result ≡ ended f.0 ok waiting }
+{
+    match waiting {
+        Waiting::For(g) if g == f => { if ok { Waiting::Done } else { Waiting::Failed } }
+        other => other,
+    }
+}
+
+/// Ends each wait for the request of frame `f`.
+fn end_waits(waits: &mut Vec<Waiting>, f: Frame, ok: bool)
+    ensures { waits.new.items ≡ map (ended f.0 ok) waits.old.items }
+{
+    for waiting in waits.iter_mut() {
+        *waiting = after_end(*waiting, f, ok);
+    }
+}
+
+/// Takes frame `f` out of the list.
+fn remove_frame(frames: &mut Vec<Frame>, f: Frame)
+    ensures items { frames.new.items ≡ filter (λ x. not (x.0 == f.0)) frames.old.items }
+    ensures len { vec_len frames.new ≤ vec_len frames.old }
+    ensures capacity { vec_capacity frames.new ≡ vec_capacity frames.old }
+{
+    frames.retain(|frame| frame.0 != f.0);
+}

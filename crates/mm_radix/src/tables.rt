@@ -1,0 +1,222 @@
+ghost use Rattle.std.specs.Prelude.{◌≡◌, ◌==◌, ◌+◌, ◌*◌, ◌/◌, ◌≤◌, ◌<◌, ℕ, List, [], length, Option, Some, None, IsSome, OnOk, OnErr, is_some, if◌then◌else◌, unwrap_or};
+ghost use Rattle.std.specs.Ordering.{nat_cmp};
+ghost use Rattle.std.specs.FinMap as finite;
+ghost use Rattle.mm_types.specs.Address.{first_user_page, end_of_user_pages};
+ghost use Rattle.mm_radix.specs.Pages.{pages, Reserves, Releases, AreReserved, reserved_word};
+ghost use Rattle.mm_radix.specs.Directory.{word_in, HasPlace, HavePlaces, SameWords, PlacesMore, Changes, no_word, with_word, IsDirectory, end_of_pages};
+
+use crate::leaves::{LEAF_PAGES, Leaf};
+use mm_types::{NoMemory, Vpn};
+use std::alloc::Global;
+use std::marker::Model;
+
+const LEAVES: usize = 512;
+
+/// The page-table words of one address space: a word for each reserved user page.
+///
+/// The directory is taken with the first reservation, a leaf of 1,024 words while pages of it are reserved.
+#[derive(Drop)]
+pub struct Table {
+    alloc: Global,
+    leaves: Vec<Leaf>,
+}
+
+impl Model for Table {
+    ghost use Rattle.std.specs.Prelude.{ℕ};
+    ghost use Rattle.std.specs.Ordering.{nat_cmp};
+    ghost use Rattle.std.specs.FinMap as finite;
+    ghost use Rattle.std.specs.Coded.{coded_ℕ};
+    ghost use Rattle.mm_radix.specs.Directory.{words_of, IsDirectory};
+
+    ghost Value = { finite.FinMap nat_cmp ℕ };
+
+    ghost coded = { finite.code coded_ℕ coded_ℕ };
+
+    ghost view = { λ t. words_of t.leaves.items };
+
+    ghost invariant = { λ t. IsDirectory t.leaves.items };
+}
+
+/// The word at a page that has a place in its leaf.
+fn word_at(leaves: &[Leaf], page: u32) -> Option<u64>
+    requires { HasPlace leaves.now page }
+    ensures { result ≡ word_in leaves.now page }
+{
+    let leaf = &leaves[page as usize / LEAF_PAGES];
+    leaf.word(page as usize % LEAF_PAGES)
+}
+
+/// Sets the word at a page that has a place in its leaf.
+fn set_at(leaves: &mut Vec<Leaf>, page: u32, word: u64)
+    requires { HasPlace leaves.old.items page }
+    ensures { leaves.new.items ≡ with_word leaves.old.items page (Some word) }
+{
+    let leaf = &mut leaves[page as usize / LEAF_PAGES];
+    leaf.set(page as usize % LEAF_PAGES, word);
+}
+
+/// Takes the word away at a page that has a place in its leaf.
+fn clear_at(leaves: &mut Vec<Leaf>, page: u32)
+    requires { HasPlace leaves.old.items page }
+    ensures { leaves.new.items ≡ with_word leaves.old.items page None }
+{
+    let leaf = &mut leaves[page as usize / LEAF_PAGES];
+    leaf.clear(page as usize % LEAF_PAGES);
+}
+
+/// Gives the page a word of 0 if it has none.
+fn reserve_at(leaves: &mut Vec<Leaf>, page: u32)
+    requires { HasPlace leaves.old.items page }
+    ensures { Changes reserved_word leaves.old.items leaves.new.items page 1 }
+{
+    if word_at(leaves, page).is_none() {
+        set_at(leaves, page, 0);
+    }
+}
+
+/// Gives each of `n` pages from `first` on a word of 0 if it has none.
+fn reserve_words(leaves: &mut Vec<Leaf>, first: u32, n: u32)
+    requires end { first + n ≤ end_of_pages }
+    requires places { HavePlaces leaves.old.items first n }
+    ensures { Changes reserved_word leaves.old.items leaves.new.items first n }
+{
+    for i in 0..n {
+        reserve_at(leaves, first + i);
+    }
+}
+
+/// Takes the words of `n` pages from `first` on away.
+fn clear_words(leaves: &mut Vec<Leaf>, first: u32, n: u32)
+    requires end { first + n ≤ end_of_pages }
+    requires places { HavePlaces leaves.old.items first n }
+    ensures { Changes no_word leaves.old.items leaves.new.items first n }
+{
+    for i in 0..n {
+        clear_at(leaves, first + i);
+    }
+}
+
+/// Makes the page's leaf present.
+fn place_leaf(alloc: Global, leaves: &mut Vec<Leaf>, page: u32) -> Result<(), NoMemory>
+    requires within { page < end_of_pages }
+    requires directory { IsDirectory leaves.old.items }
+    requires whole { length leaves.old.items ≡ 512 }
+    ensures placed { PlacesMore leaves.old.items leaves.new.items }
+    ensures place { OnOk result (HasPlace leaves.new.items page) }
+    ensures count { length leaves.new.items ≡ length leaves.old.items }
+{
+    let at = page as usize / LEAF_PAGES;
+    if !leaves[at].is_present() {
+        leaves[at] = Leaf::unreserved(alloc)?;
+    }
+    Ok(())
+}
+
+/// Makes the leaves of `n` pages from `first` on present.
+fn place_leaves(alloc: Global, leaves: &mut Vec<Leaf>, first: u32, n: u32) -> Result<(), NoMemory>
+    requires end { first + n ≤ end_of_pages }
+    requires directory { IsDirectory leaves.old.items }
+    requires whole { length leaves.old.items ≡ 512 }
+    ensures placed { PlacesMore leaves.old.items leaves.new.items }
+    ensures places { OnOk result (HavePlaces leaves.new.items first n) }
+{
+    for i in 0..n {
+        place_leaf(alloc, leaves, first + i)?;
+    }
+    Ok(())
+}
+
+/// Makes the directory whole.
+fn take_directory(alloc: Global, leaves: &mut Vec<Leaf>) -> Result<(), NoMemory>
+    requires { IsDirectory leaves.old.items }
+    ensures placed { PlacesMore leaves.old.items leaves.new.items }
+    ensures whole { OnOk result (length leaves.new.items ≡ 512) }
+{
+    for _ in leaves.len()..LEAVES {
+        leaves.push(Leaf::absent(alloc))?;
+    }
+    Ok(())
+}
+
+/// Gives the memory of the page's leaf back if no page of it is reserved.
+fn give_leaf_back(alloc: Global, leaves: &mut Vec<Leaf>, page: u32)
+    requires within { page / 1024 < length leaves.old.items }
+    requires directory { IsDirectory leaves.old.items }
+    ensures words { SameWords leaves.old.items leaves.new.items }
+    ensures directory { IsDirectory leaves.new.items }
+    ensures count { length leaves.new.items ≡ length leaves.old.items }
+{
+    let at = page as usize / LEAF_PAGES;
+    if leaves[at].is_unreserved() {
+        leaves[at] = Leaf::absent(alloc);
+    }
+}
+
+/// Gives the memory of leaves back, among those of `n` pages from `first` on, that have no reserved page.
+fn give_leaves_back(alloc: Global, leaves: &mut Vec<Leaf>, first: u32, n: u32)
+    requires end { first + n ≤ 1024 * length leaves.old.items }
+    requires directory { IsDirectory leaves.old.items }
+    ensures words { SameWords leaves.old.items leaves.new.items }
+    ensures directory { IsDirectory leaves.new.items }
+{
+    for i in 0..n {
+        give_leaf_back(alloc, leaves, first + i);
+    }
+}
+
+impl Table {
+    /// A table of no reserved page; it takes memory with its first reservation.
+    pub fn new(alloc: Global) -> Table
+        ensures { result ≡ finite.empty }
+    {
+        Table {
+            alloc,
+            leaves: Vec::new(alloc),
+        }
+    }
+
+    /// The word at a reserved page.
+    pub fn get(&self, v: Vpn) -> u64
+        requires { IsSome (finite.get self.now v.0) }
+        ensures { finite.get self.now v.0 ≡ Some result }
+    {
+        match word_at(&self.leaves, v.0) {
+            Some(word) => word,
+            None => unreachable!(),
+        }
+    }
+
+    /// Sets the word at a reserved page.
+    pub fn set(&mut self, v: Vpn, word: u64)
+        requires { IsSome (finite.get self.old v.0) }
+        ensures { self.new ≡ finite.insert self.old v.0 word }
+    {
+        set_at(&mut self.leaves, v.0, word);
+    }
+
+    /// Reserves `n` user pages from `first` on. Those that were not reserved have a word of 0, the others
+    /// keep theirs. After `NoMemory` nothing has changed.
+    pub fn reserve(&mut self, first: Vpn, n: u32) -> Result<(), NoMemory>
+        requires low { first_user_page ≤ first.0 }
+        requires high { first.0 + n ≤ end_of_user_pages }
+        ensures ok { OnOk result (Reserves self.old self.new (pages first.0 n)) }
+        ensures err { OnErr result (self.new ≡ self.old) }
+    {
+        take_directory(self.alloc, &mut self.leaves)?;
+        place_leaves(self.alloc, &mut self.leaves, first.0, n)?;
+        reserve_words(&mut self.leaves, first.0, n);
+        Ok(())
+    }
+
+    /// Takes the words of `n` reserved pages from `first` on away; they are not reserved from now on.
+    pub fn release(&mut self, first: Vpn, n: u32)
+        requires { AreReserved self.old (pages first.0 n) }
+        ensures { Releases self.old self.new (pages first.0 n) }
+    {
+        if n == 0 {
+            return;
+        }
+        clear_words(&mut self.leaves, first.0, n);
+        give_leaves_back(self.alloc, &mut self.leaves, first.0, n);
+    }
+}

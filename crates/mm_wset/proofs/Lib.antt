@@ -1,0 +1,4 @@
+pub mod RankLemmas
+pub mod HeldLemmas
+pub mod SetLemmas
+pub mod UserLemmas

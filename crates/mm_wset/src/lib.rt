@@ -1,0 +1,10 @@
+//! Working sets: which pages of a process are valid, at which place, and how long ago each was used.
+#![tactic(auto)]
+
+mod sets;
+mod tournaments;
+
+pub use sets::WorkingSet;
+
+#[cfg(test)]
+mod tests;
