@@ -1,0 +1,92 @@
+-- How logs that grow compose.
+use Rattle.std.proofs.Common.{◌≡◌, ℕ, List, [], ◌∷◌, ◌++◌, Option, Some, None, refl, sym, ap, ◌∙◌, subst, inl, inr, arith, append_assoc}
+use Rattle.std.specs.Prelude.{Bool, true, false}
+use Rattle.mm_types.proofs.Bytes.{append_nil, rose_then, rose_later}
+use Rattle.mm_types.specs.declared.moves.Move.{Move}
+use Rattle.mm_life.specs.Life.{FrameLife}
+use Rattle.mm_life.specs.Legal.{IsLegal}
+use Rattle.mm_life.specs.Effect.{after_move}
+use Rattle.mm_life.specs.MoveText.{spelling_of_move, IsMove}
+use Rattle.mm_life.specs.Logs.{Log, Front, Told, Grew, Noted}
+use Rattle.mm_life.proofs.Replays.{replays_then, spelled-append, moves-append}
+
+front_then : (a b c s t : List ℕ) (p q r : Bool) → (p ≡ true → q ≡ true) → (q ≡ true → r ≡ true) → Front a b s p q → Front b c t q r → Front a c (s ++ t) p r
+front_then a b c s t p false r pq qr u v =
+    let e : s ≡ u.front = u.whole ∙ ap (λ xs. u.front ++ xs) (u.all refl) ∙ append_nil u.front in
+    record {
+      front = u.front ++ v.front;
+      behind = v.behind;
+      whole = ap (λ xs. xs ++ t) e ∙ ap (λ xs. u.front ++ xs) v.whole ∙ sym (append_assoc u.front v.front v.behind);
+      written = v.written ∙ ap (λ xs. xs ++ v.front) u.written ∙ append_assoc a u.front v.front;
+      all = v.all;
+      none = λ h. let bad = pq h in cc;
+    }
+front_then a b c s t p true r pq qr u v =
+    record {
+      front = u.front;
+      behind = u.behind ++ t;
+      whole = ap (λ xs. xs ++ t) u.whole ∙ append_assoc u.front u.behind t;
+      written = v.written ∙ ap (λ xs. b ++ xs) (v.none refl) ∙ append_nil b ∙ u.written;
+      all = λ h. let bad = qr refl in cc;
+      none = u.none;
+    }
+
+told_then : (a b c : Option (List ℕ)) (s t : List ℕ) (p q r : Bool) → (p ≡ true → q ≡ true) → (q ≡ true → r ≡ true) → Told a b s p q → Told b c t q r → Told a c (s ++ t) p r
+told_then None None None s t p q r pq qr u v = tt
+told_then None None (Some c) s t p q r pq qr u v = absurd v
+told_then None (Some b) c s t p q r pq qr u v = absurd u
+told_then (Some a) None c s t p q r pq qr u v = absurd u
+told_then (Some a) (Some b) None s t p q r pq qr u v = absurd v
+told_then (Some a) (Some b) (Some c) s t p q r pq qr u v = front_then a b c s t p q r pq qr u v
+
+-- one text, and then another
+pub grew_then : (a b c : Log) (s t : List ℕ) → Grew a b s → Grew b c t → Grew a c (s ++ t)
+grew_then a b c s t u v =
+    record {
+      later = omega (arith, u.later, v.later);
+      stays = λ h. v.stays (u.stays h);
+      cause = λ h. elim (v.cause h) [
+        | inl q ↦ elim (u.cause q) [ inl p ↦ inl p | inr p ↦ inr (rose_then a.faults b.faults c.faults p v.later) ]
+        | inr q ↦ inr (rose_later a.faults b.faults c.faults u.later q)
+      ];
+      told = told_then a.bytes b.bytes c.bytes s t a.failed b.failed c.failed u.stays v.stays u.told v.told;
+    }
+
+told_none : (a : Option (List ℕ)) (p : Bool) → Told a a [] p p
+told_none None p = tt
+told_none (Some a) p = record { front = []; behind = []; whole = refl; written = sym (append_nil a); all = λ h. refl; none = λ h. refl }
+
+pub grew_nothing : (a : Log) → Grew a a []
+grew_nothing a = record { later = omega arith; stays = λ h. h; cause = λ h. inl h; told = told_none a.bytes a.failed }
+
+-- some moves, and then others
+pub noted_then : (a b c : Log) (l m n : FrameLife) → Noted a b l m → Noted b c m n → Noted a c l n
+noted_then a b c l m n u v =
+    record {
+      moves = u.moves ++ v.moves;
+      in_range = moves-append u.moves v.moves u.in_range v.in_range;
+      grew = subst (λ xs. Grew a c xs) (sym (spelled-append u.moves v.moves)) (grew_then a b c _ _ u.grew v.grew);
+      replays = replays_then u.moves v.moves l m n u.replays v.replays;
+    }
+
+-- no move
+pub noted_nothing : (a : Log) (l : FrameLife) → Noted a a l l
+noted_nothing a l = record { moves = []; in_range = tt; grew = grew_nothing a; replays = refl }
+
+-- one move
+pub noted_move : (a b : Log) (x : Move) (l : FrameLife) → IsLegal x l → IsMove x → Grew a b (spelling_of_move x) → Noted a b l (after_move l x)
+noted_move a b x l h r g =
+    record {
+      moves = x ∷ [];
+      in_range = (r, tt);
+      grew = subst (λ xs. Grew a b xs) (sym (append_nil (spelling_of_move x))) g;
+      replays = (h, refl);
+    }
+
+-- one move, to a state that is the one after it
+pub noted_to : (a b : Log) (x : Move) (l m : FrameLife) → IsLegal x l → IsMove x → m ≡ after_move l x → Grew a b (spelling_of_move x) → Noted a b l m
+noted_to a b x l m h r e g = subst (λ (k : FrameLife). Noted a b l k) (sym e) (noted_move a b x l h r g)
+
+-- the same log and the same state
+pub noted_same : (a b : Log) (l m : FrameLife) → b ≡ a → m ≡ l → Noted a b l m
+noted_same a b l m e f = subst (λ (k : FrameLife). Noted a b l k) (sym f) (subst (λ (c : Log). Noted a c l l) (sym e) (noted_nothing a l))

@@ -1,0 +1,11 @@
+pub mod Frames
+pub mod Life
+pub mod Legal
+pub mod Effect
+pub mod Replay
+pub mod Located
+pub mod Victims
+pub mod LogCounts
+pub mod MoveText
+pub mod Logs
+pub mod WorkedLogs

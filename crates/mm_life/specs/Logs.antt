@@ -1,0 +1,43 @@
+-- How the bytes of a recorder of moves grow.
+use Rattle.std.specs.Prelude.{◌≡◌, ◌⊎◌, ℕ, ◌≤◌, List, [], ◌++◌, Option, Some, None, Bool, true, false}
+use Rattle.mm_types.specs.Outside.{Rose}
+use Rattle.mm_types.specs.declared.moves.Move.{Move}
+use Rattle.mm_life.specs.Life.{FrameLife}
+use Rattle.mm_life.specs.Replay.{Replays}
+use Rattle.mm_life.specs.MoveText.{AreMoves, spelled_moves}
+
+-- the bytes taken, where told; whether the sink has failed; its count of faults
+pub record Log : Type 0 where
+  pub bytes : Option (List ℕ)
+  pub failed : Bool
+  pub faults : ℕ
+
+-- of this text a front was written, and all of it where the sink has not failed
+pub record Front (before after text : List ℕ) (was_failed is_failed : Bool) : Type 0 where
+  pub front : List ℕ
+  pub behind : List ℕ
+  pub whole : text ≡ front ++ behind
+  pub written : after ≡ before ++ front
+  pub all : is_failed ≡ false → behind ≡ []
+  pub none : was_failed ≡ true → front ≡ []
+
+abbrev pub Told : Option (List ℕ) → Option (List ℕ) → List ℕ → Bool → Bool → Type 0
+Told None None text was is = Unit {0}
+Told None (Some b) text was is = ⊥
+Told (Some a) None text was is = ⊥
+Told (Some a) (Some b) text was is = Front a b text was is
+
+-- The log grew by this text: where the sink fails in it, by a front of it, and from then on by nothing.
+-- It fails only where its count of faults rose.
+pub record Grew (old new : Log) (text : List ℕ) : Type 0 where
+  pub later : old.faults ≤ new.faults
+  pub stays : old.failed ≡ true → new.failed ≡ true
+  pub cause : new.failed ≡ true → (old.failed ≡ true) ⊎ Rose old.faults new.faults
+  pub told : Told old.bytes new.bytes text old.failed new.failed
+
+-- the log grew by a piece whose replay from the one state is the other
+pub record Noted (old new : Log) (l m : FrameLife) : Type 0 where
+  pub moves : List Move
+  pub in_range : AreMoves moves
+  pub grew : Grew old new (spelled_moves moves)
+  pub replays : Replays moves l m

@@ -1,0 +1,32 @@
+-- Which page of a working set goes first, and which modified frame can be written.
+use Rattle.std.specs.Prelude.{ℕ, ◌+◌, Bool, not, ◌&&◌, ◌||◌, nat_lt, ◌==◌, if◌then◌else◌, List, [], ◌∷◌, Option, Some, None, min}
+use Rattle.std.specs.List.{list_any}
+use Rattle.mm_life.specs.Frames.{record_at}
+use Rattle.mm_life.specs.Life.{FrameLife}
+use Rattle.mm_life.specs.Legal.{owner_is}
+
+-- a valid page of a process and its age: 0 at its `map` and at each line whose access there is answered `ok`
+pub record Aged : Type 0 where
+  pub page : ℕ
+  pub age : ℕ
+
+-- each later `age` line adds one, up to 7
+abbrev pub aged : ℕ → ℕ
+aged age = min (age + 1) 7
+
+-- the greatest age goes first, and among equal ages the lowest page
+abbrev pub goes_before : Aged → Aged → Bool
+goes_before a b = nat_lt b.age a.age || ((a.age == b.age) && nat_lt a.page b.page)
+
+abbrev pub first_of : Aged → Option Aged → Aged
+first_of a None = a
+first_of a (Some b) = if goes_before b a then b else a
+
+-- the page that goes first
+abbrev pub oldest : List Aged → Option Aged
+oldest [] = None
+oldest (a ∷ rest) = Some (first_of a (oldest rest))
+
+-- a modified frame can be written: its page has a block of its own, or a slot is free
+abbrev pub can_be_written : FrameLife → ℕ → Bool
+can_be_written l f = owner_is (λ k. not (l.paging k)) (record_at l.frames f) || list_any (λ b. b) l.free_slots

@@ -1,0 +1,13 @@
+//! The life of the page frames: what a log of moves may say, and what each move does.
+//!
+//! The definitions stand in `specs/`. What stands here are worked logs, replayed by computing the
+//! definitions, and laws over them: functions that do nothing and say something.
+#![tactic(auto)]
+
+mod sets;
+mod worked;
+
+pub use sets::ResidentSet;
+pub use worked::{
+    nothing_but_line_one, other_frame_is_illegal, rewritten_page_replays, smallest_set_replays,
+};

@@ -1,0 +1,32 @@
+ghost use Rattle.std.specs.Prelude.{◌≡◌, option_map, is_some, Some, None, [], ◌∷◌, ◌++◌, true, false, length};
+ghost use Rattle.mm_life.specs.Life.{counts_of, unstarted};
+ghost use Rattle.mm_life.specs.Legal.{is_legal};
+ghost use Rattle.mm_life.specs.Replay.{replay_log};
+ghost use Rattle.mm_life.specs.LogCounts.{counts_of_log};
+ghost use Rattle.mm_life.specs.WorkedLogs.{rewritten_log, rewritten_head, rewritten_tail, smallest_set_log, frame};
+
+/// A page rewritten while its write is in flight: the 24 moves replay, and leave one frame active and seven free.
+pub fn rewritten_page_replays()
+    ensures counts { option_map counts_of (replay_log rewritten_log)
+        ≡ Some (record { zeroed = 0; free = 7; standby = 0; modified = 0; active = 1; transition = 0; free_slots = 8; requests = 0 }) }
+    ensures log { counts_of_log rewritten_log ≡ record { moves = 24; zero_fills = 1; soft_faults = 2; hard_faults = 0; steals = 0; write_outs = 1 } }
+{}
+
+/// With the second frame cleared in place of the first free one, the sixth move is illegal and the five before it are not.
+pub fn other_frame_is_illegal()
+    ensures six { replay_log (rewritten_head 1) ≡ None }
+    ensures all { replay_log (rewritten_head 1 ++ rewritten_tail) ≡ None }
+    ensures first_free { is_some (replay_log (rewritten_head 0)) ≡ true }
+{}
+
+/// The smallest working set: its only page goes for the next.
+pub fn smallest_set_replays()
+    ensures { option_map counts_of (replay_log smallest_set_log)
+        ≡ Some (record { zeroed = 0; free = 4; standby = 0; modified = 1; active = 1; transition = 0; free_slots = 0; requests = 0 }) }
+{}
+
+/// Nothing is legal before the first line but that line.
+pub fn nothing_but_line_one()
+    ensures { option_map counts_of (replay_log [])
+        ≡ Some (record { zeroed = 0; free = 0; standby = 0; modified = 0; active = 0; transition = 0; free_slots = 0; requests = 0 }) }
+{}

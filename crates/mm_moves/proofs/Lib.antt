@@ -1,0 +1,9 @@
+pub mod Onto
+pub mod Growing
+pub mod Numbers
+pub mod ReadAgain
+pub mod Filtering
+pub mod Slotting
+pub mod Holding
+pub mod Flags
+pub mod Lines

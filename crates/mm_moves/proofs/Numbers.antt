@@ -1,0 +1,114 @@
+-- Numbers that are read digit by digit.
+use Rattle.std.proofs.Common.{◌≡◌, ℕ, zero, suc, ◌+◌, ◌-◌, ◌*◌, ◌/◌, ◌%◌, ◌^◌, ◌≤◌, ◌<◌, Bool, true, false, cond, [], ◌∷◌, ◌++◌, Option, Some, None, refl, sym, ap, ◌∙◌, subst, inl, inr, arith, add-one}
+use Rattle.std.specs.Prelude.{nat_le}
+use Rattle.std.proofs.lemmas.Bool.{lt-ltb, le-ltb, cases_lt, le-leb, and_from}
+use Rattle.std.proofs.lemmas.Nat.{div_below, mod_below}
+use Rattle.std.proofs.Math.Nat.{mod-eq_of_lt, pow-zero}
+use Rattle.std.proofs.lemmas.Grind.{pow_more}
+use Rattle.mm_types.specs.Spelling.{Text, glyph, decimal, decimal_onto}
+use Rattle.mm_moves.specs.Reading.{is_digit, number_from, below, read_number}
+
+abbrev next : Bool → (ℕ × Text) → (ℕ × Text) → ℕ × Text
+next b more last = cond b more last
+
+pub number_digit : (sum c : ℕ) (cs : Text) → 0x30 ≤ c → c ≤ 0x39 → number_from sum (c ∷ cs) ≡ number_from (10 * sum + (c - 0x30)) cs
+number_digit sum c cs low high =
+    ap (λ b. next b (number_from (10 * sum + (c - 0x30)) cs) (sum, c ∷ cs)) (and_from (nat_le 0x30 c) (nat_le c 0x39) (le-leb 0x30 c low) (le-leb c 0x39 high))
+
+-- the sum never falls
+grows_by : (b : Bool) (k : ℕ) (more last : ℕ × Text) → k ≤ more.0 → k ≤ last.0 → k ≤ (cond b more last).0
+grows_by true k more last p q = p
+grows_by false k more last p q = q
+
+pub number_grows : (sum : ℕ) (cs : Text) → sum ≤ (number_from sum cs).0
+number_grows sum [] = omega arith
+number_grows sum (c ∷ cs) =
+    grows_by (is_digit c) sum (number_from (10 * sum + (c - 0x30)) cs) (sum, c ∷ cs) (omega (arith, number_grows (10 * sum + (c - 0x30)) cs)) (omega arith)
+
+abbrev short : Bool → ℕ × Text → Option (ℕ × Text)
+short b p = cond b (Some p) None
+
+pub number_past : (sum : ℕ) (cs : Text) → 2 ^ 32 ≤ sum → below (2 ^ 32) (number_from sum cs) ≡ None
+number_past sum cs h = ap (λ b. short b (number_from sum cs)) (le-ltb (number_from sum cs).0 (2 ^ 32) (omega (arith, number_grows sum cs)))
+
+pub number_within : (p : ℕ × Text) → p.0 < 2 ^ 32 → below (2 ^ 32) p ≡ Some p
+number_within p h = ap (λ b. short b p) (lt-ltb p.0 (2 ^ 32) h)
+
+pub ruleset numbers = (number_digit, number_past, number_within)
+
+-- ---- what a number's spelling is read as
+
+glyph_digit : (sum d : ℕ) (rest : Text) → d < 10 → number_from sum (glyph d ∷ rest) ≡ number_from (10 * sum + d) rest
+glyph_digit sum d rest low =
+    let g : glyph d ≡ 0x30 + d = ap (λ b. cond b (0x30 + d) (0x37 + d)) (lt-ltb d 10 low) in
+    ap (λ c. number_from sum (c ∷ rest)) g
+    ∙ number_digit sum (0x30 + d) rest (omega arith) (omega arith)
+    ∙ ap (λ (k : ℕ). number_from k rest) (omega arith)
+
+abbrev either : Bool → Text → Text → Text
+either b last more = cond b last more
+
+step_last : (count n : ℕ) (rest : Text) → n < 10 → decimal_onto (suc count) n rest ≡ glyph (n % 10) ∷ rest
+unfolding decimal_onto
+step_last count n rest low = ap (λ b. either b (glyph (n % 10) ∷ rest) (decimal_onto count (n / 10) (glyph (n % 10) ∷ rest))) (lt-ltb n 10 low)
+
+step_more : (count n : ℕ) (rest : Text) → 10 ≤ n → decimal_onto (suc count) n rest ≡ decimal_onto count (n / 10) (glyph (n % 10) ∷ rest)
+unfolding decimal_onto
+step_more count n rest high = ap (λ b. either b (glyph (n % 10) ∷ rest) (decimal_onto count (n / 10) (glyph (n % 10) ∷ rest))) (le-ltb n 10 high)
+
+step_none : (n : ℕ) (rest : Text) → decimal_onto zero n rest ≡ rest
+unfolding decimal_onto
+step_none n rest = refl
+
+below_power : (count n : ℕ) → n < 10 ^ suc count → n / 10 < 10 ^ count
+below_power count n low = div_below n 10 (10 ^ count) (omega arith) (subst (λ (k : ℕ). n < k) (ap (λ (k : ℕ). 10 ^ k) (sym (add-one count)) ∙ pow_more 10 count) low)
+
+pub number_of-decimal_onto : (count n : ℕ) (rest : Text) → n < 10 ^ count → number_from 0 (decimal_onto count n rest) ≡ number_from n rest
+number_of-decimal_onto zero n rest low = ap (number_from 0) (step_none n rest) ∙ ap (λ (k : ℕ). number_from k rest) (omega (arith, pow-zero 10))
+number_of-decimal_onto (suc count) n rest low = elim (cases_lt n 10) [
+  | inl small ↦
+      (let d : n % 10 ≡ n = mod-eq_of_lt small in
+      ap (number_from 0) (step_last count n rest small)
+      ∙ glyph_digit 0 (n % 10) rest (omega (arith, mod_below n 10 (omega arith)))
+      ∙ ap (λ (k : ℕ). number_from k rest) (omega (arith, d)))
+  | inr large ↦
+      ap (number_from 0) (step_more count n rest large)
+      ∙ number_of-decimal_onto count (n / 10) (glyph (n % 10) ∷ rest) (below_power count n low)
+      ∙ glyph_digit (n / 10) (n % 10) rest (omega (arith, mod_below n 10 (omega arith)))
+      ∙ ap (λ (k : ℕ). number_from k rest) (omega arith)
+]
+
+-- the digits in front of a text are written as one text
+onto_append : (count n : ℕ) (rest behind : Text) → decimal_onto count n rest ++ behind ≡ decimal_onto count n (rest ++ behind)
+onto_append zero n rest behind = ap (λ t. t ++ behind) (step_none n rest) ∙ sym (step_none n (rest ++ behind))
+onto_append (suc count) n rest behind = elim (cases_lt n 10) [
+  | inl small ↦ ap (λ t. t ++ behind) (step_last count n rest small) ∙ sym (step_last count n (rest ++ behind) small)
+  | inr large ↦
+      ap (λ t. t ++ behind) (step_more count n rest large)
+      ∙ onto_append count (n / 10) (glyph (n % 10) ∷ rest) behind
+      ∙ sym (step_more count n (rest ++ behind) large)
+]
+
+-- no digit stands in front
+abbrev pub ends_number : Text → Bool
+ends_number [] = true
+ends_number (c ∷ cs) = cond (is_digit c) false true
+
+abbrev keep : Bool → (ℕ × Text) → (ℕ × Text) → ℕ × Text
+keep b more last = cond b more last
+
+stop_at : (b : Bool) (more last : ℕ × Text) → cond b false true ≡ true → cond b more last ≡ last
+stop_at true more last e = cc
+stop_at false more last e = refl
+
+number_stops : (n : ℕ) (behind : Text) → ends_number behind ≡ true → number_from n behind ≡ (n, behind)
+number_stops n [] e = refl
+number_stops n (c ∷ cs) e = stop_at (is_digit c) (number_from (10 * n + (c - 0x30)) cs) (n, c ∷ cs) e
+
+pub read_number-decimal : (n : ℕ) (behind : Text) → n < 2 ^ 32 → ends_number behind ≡ true → read_number (decimal n ++ behind) ≡ Some (n, behind)
+read_number-decimal n behind low ends =
+    let all : number_from 0 (decimal n ++ behind) ≡ (n, behind) =
+    ap (number_from 0) (onto_append 20 n [] behind)
+    ∙ number_of-decimal_onto 20 n behind (omega arith)
+    ∙ number_stops n behind ends in
+    ap (below (2 ^ 32)) all ∙ number_within (n, behind) low

@@ -1,0 +1,323 @@
+ghost use Rattle.std.specs.Prelude.{◌≡◌, ◌+◌, ◌-◌, ◌<◌, ◌≤◌, ◌==◌, true, false, [], ◌∷◌, ◌++◌, replicate, length, OnOk, OnErr, IfOk, Some, None, slice_set, slice_index_or};
+ghost use Rattle.mm_types.specs.declared.frames.Held.TheVariants as held;
+ghost use Rattle.mm_life.specs.Frames.{without};
+ghost use Rattle.mm_life.specs.Life.{changed, same_key, same_place, is_dead};
+ghost use Rattle.mm_life.specs.Legal.{is_lowest};
+ghost use Rattle.mm_life.specs.Effect.{freed};
+
+use mm_types::{Frame, Held, Key, NoMemory, Place};
+use std::alloc::Global;
+use std::collections::BTreeMap;
+use std::marker::Model;
+
+/// What is known of a live key: its frame or its home, and whether it was added with `zero`.
+#[derive(Clone, Copy, PartialEq, Eq, Debug)]
+pub(crate) struct Alive {
+    pub(crate) held: Held,
+    pub(crate) paging: bool,
+}
+
+/// The live keys.
+#[derive(Drop)]
+pub(crate) struct Keys {
+    map: BTreeMap<Key, Alive>,
+}
+
+impl Keys {
+    ghost use Rattle.mm_moves.specs.Holdings.{stands_in, paging_in, no_keys, no_paging};
+
+    pub(crate) fn new(alloc: Global) -> Keys
+        ensures stands { stands_in result ≡ no_keys }
+        ensures paging { paging_in result ≡ no_paging }
+    {
+        Keys {
+            map: BTreeMap::new(alloc),
+        }
+    }
+
+    /// Where the key's page is; `Dead` where the key is not live.
+    pub(crate) fn held(&self, key: Key) -> Held
+        ensures { result ≡ stands_in self.now key }
+    {
+        match self.map.get(&key) {
+            Some(alive) => alive.held,
+            None => Held::Dead,
+        }
+    }
+
+    /// Whether the key is live and was added with `zero`.
+    pub(crate) fn is_paging(&self, key: Key) -> bool
+        ensures { result ≡ paging_in self.now key }
+    {
+        match self.map.get(&key) {
+            Some(alive) => alive.paging,
+            None => false,
+        }
+    }
+
+    /// A key is live from now on.
+    pub(crate) fn add(&mut self, key: Key, held: Held, paging: bool) -> Result<(), NoMemory>
+        ensures stands { OnOk result (stands_in self.new ≡ changed same_key (stands_in self.old) key held) }
+        ensures paging { OnOk result (paging_in self.new ≡ changed same_key (paging_in self.old) key paging) }
+        ensures stands_err { OnErr result (stands_in self.new ≡ stands_in self.old) }
+        ensures paging_err { OnErr result (paging_in self.new ≡ paging_in self.old) }
+    {
+        self.map.insert(key, Alive { held, paging })?;
+        Ok(())
+    }
+
+    #[tactic(auto, using(crate::proofs::Holding::keeping))]
+    /// The page of a key is here from now on; the key is marked as it was.
+    pub(crate) fn place(&mut self, key: Key, held: Held) -> Result<(), NoMemory>
+        ensures stands { OnOk result (stands_in self.new ≡ changed same_key (stands_in self.old) key held) }
+        ensures paging { OnOk result (paging_in self.new ≡ paging_in self.old) }
+        ensures stands_err { OnErr result (stands_in self.new ≡ stands_in self.old) }
+        ensures paging_err { OnErr result (paging_in self.new ≡ paging_in self.old) }
+    {
+        let paging = self.is_paging(key);
+        match self.add(key, held, paging) {
+            Ok(()) => Ok(()),
+            Err(NoMemory) => Err(NoMemory),
+        }
+    }
+
+    /// The page of a live key is elsewhere from now on.
+    pub(crate) fn move_to(&mut self, key: Key, held: Held)
+        requires { is_dead (stands_in self.old key) ≡ false }
+        ensures stands { stands_in self.new ≡ changed same_key (stands_in self.old) key held }
+        ensures paging { paging_in self.new ≡ paging_in self.old }
+    {
+        let paging = self.is_paging(key);
+        match self.map.insert(key, Alive { held, paging }) {
+            Ok(_) => {}
+            Err(_) => unreachable!(),
+        }
+    }
+
+    /// A key is not live from now on.
+    pub(crate) fn remove(&mut self, key: Key)
+        ensures stands { stands_in self.new ≡ changed same_key (stands_in self.old) key held.Dead }
+        ensures paging { paging_in self.new ≡ changed same_key (paging_in self.old) key false }
+    {
+        let _ = self.map.remove(&key);
+    }
+}
+
+/// The valid places.
+#[derive(Drop)]
+pub(crate) struct Places {
+    map: BTreeMap<Place, Frame>,
+}
+
+impl Places {
+    ghost use Rattle.mm_moves.specs.Holdings.{frames_in, no_places};
+
+    pub(crate) fn new(alloc: Global) -> Places
+        ensures { frames_in result ≡ no_places }
+    {
+        Places {
+            map: BTreeMap::new(alloc),
+        }
+    }
+
+    /// The frame that the place is valid for, if any.
+    pub(crate) fn get(&self, place: Place) -> Option<Frame>
+        ensures { result ≡ frames_in self.now place }
+    {
+        self.map.get(&place).copied()
+    }
+
+    /// The place is valid from now on.
+    pub(crate) fn add(&mut self, place: Place, frame: Frame) -> Result<(), NoMemory>
+        ensures ok { OnOk result (frames_in self.new ≡ changed same_place (frames_in self.old) place (Some frame)) }
+        ensures err { OnErr result (frames_in self.new ≡ frames_in self.old) }
+    {
+        self.map.insert(place, frame)?;
+        Ok(())
+    }
+
+    /// The place is not valid from now on.
+    pub(crate) fn remove(&mut self, place: Place)
+        ensures { frames_in self.new ≡ changed same_place (frames_in self.old) place None }
+    {
+        let _ = self.map.remove(&place);
+    }
+}
+
+/// For each slot whether it is free.
+#[derive(Drop)]
+pub(crate) struct SlotMap {
+    free: Vec<bool>,
+}
+
+impl Model for SlotMap {
+    ghost use Rattle.std.specs.Prelude.{List, Bool};
+
+    ghost Value = { List Bool };
+
+    ghost view = { λ s. s.free.items };
+}
+
+impl SlotMap {
+    /// All slots are free.
+    pub(crate) fn new(alloc: Global, slots: u32) -> Result<SlotMap, NoMemory>
+        ensures { IfOk result (λ s. s ≡ replicate slots true) }
+    {
+        let free = vec![in alloc; true; slots as usize]?;
+        Ok(SlotMap { free })
+    }
+
+    pub(crate) fn none(alloc: Global) -> SlotMap
+        ensures { result ≡ [] }
+    {
+        SlotMap {
+            free: Vec::new(alloc),
+        }
+    }
+
+    #[tactic(auto, using(crate::proofs::Slotting::slotting))]
+    /// Whether a slot is the lowest free one.
+    pub(crate) fn is_lowest(&self, slot: u32) -> bool
+        ensures { result ≡ is_lowest slot self.now }
+    {
+        let slot = slot as usize;
+        for (i, free) in self.free.iter().enumerate() {
+            if i == slot {
+                return *free;
+            }
+            if *free {
+                return false;
+            }
+        }
+        false
+    }
+
+    /// A slot, if any, is free again.
+    pub(crate) fn give(&mut self, slot: Option<u32>)
+        ensures { self.new ≡ freed self.old slot }
+    {
+        match slot {
+            Some(slot) => set_flag(&mut self.free, slot, true),
+            None => {}
+        }
+    }
+
+    /// A slot is not free from now on.
+    pub(crate) fn take(&mut self, slot: u32)
+        ensures { self.new ≡ slice_set self.old slot false }
+    {
+        set_flag(&mut self.free, slot, false);
+    }
+
+    /// So many free slots more.
+    pub(crate) fn grow(&mut self, count: u32) -> Result<(), NoMemory>
+        ensures ok { OnOk result (self.new ≡ self.old ++ replicate count true) }
+        ensures err { OnErr result (self.new ≡ self.old) }
+    {
+        let len = self.free.len();
+        self.free.resize(len + count as usize, true)?;
+        Ok(())
+    }
+}
+
+/// Sets a flag, where there is such a place.
+fn set_flag(flags: &mut [bool], at: u32, flag: bool)
+    ensures { flags.new ≡ slice_set flags.old at flag }
+{
+    let at = at as usize;
+    if at < flags.len() {
+        flags[at] = flag;
+    }
+}
+
+/// The blocks that a key was ever added with.
+#[derive(Drop)]
+pub(crate) struct BlockSet {
+    added: Vec<bool>,
+}
+
+impl Model for BlockSet {
+    ghost use Rattle.std.specs.Prelude.{List, Bool};
+
+    ghost Value = { List Bool };
+
+    ghost view = { λ s. s.added.items };
+}
+
+impl BlockSet {
+    pub(crate) fn new(alloc: Global, blocks: u32) -> Result<BlockSet, NoMemory>
+        ensures { IfOk result (λ s. s ≡ replicate blocks false) }
+    {
+        let added = vec![in alloc; false; blocks as usize]?;
+        Ok(BlockSet { added })
+    }
+
+    pub(crate) fn none(alloc: Global) -> BlockSet
+        ensures { result ≡ [] }
+    {
+        BlockSet {
+            added: Vec::new(alloc),
+        }
+    }
+
+    pub(crate) fn has(&self, block: u32) -> bool
+        ensures { result ≡ slice_index_or self.now block false }
+    {
+        match self.added.get(block as usize) {
+            Some(added) => *added,
+            None => false,
+        }
+    }
+
+    pub(crate) fn add(&mut self, block: u32)
+        ensures { self.new ≡ slice_set self.old block true }
+    {
+        set_flag(&mut self.added, block, true);
+    }
+}
+
+/// The frames with a request, oldest first.
+#[derive(Drop)]
+pub(crate) struct InFlight {
+    frames: Vec<u32>,
+}
+
+impl Model for InFlight {
+    ghost use Rattle.std.specs.Prelude.{List, ℕ};
+
+    ghost Value = { List ℕ };
+
+    ghost view = { λ s. s.frames.items };
+}
+
+impl InFlight {
+    pub(crate) fn none(alloc: Global) -> InFlight
+        ensures { result ≡ [] }
+    {
+        InFlight {
+            frames: Vec::new(alloc),
+        }
+    }
+
+    pub(crate) fn len(&self) -> usize
+        ensures { result ≡ length self.now }
+    {
+        self.frames.len()
+    }
+
+    /// The youngest request is of this frame.
+    pub(crate) fn begin(&mut self, f: u32) -> Result<(), NoMemory>
+        ensures ok { OnOk result (self.new ≡ self.old ++ f ∷ []) }
+        ensures err { OnErr result (self.new ≡ self.old) }
+    {
+        self.frames.push(f)?;
+        Ok(())
+    }
+
+    /// A request of this frame has ended.
+    pub(crate) fn end(&mut self, f: u32)
+        ensures { self.new ≡ without f self.old }
+    {
+        self.frames.retain(|x| *x != f);
+    }
+}

@@ -1,0 +1,19 @@
+//! Moves of page frames as a log has them: their spelling both ways, a recorder that writes them to a sink,
+//! and the replay of a log as a running check.
+#![tactic(auto)]
+
+mod conditions;
+mod holdings;
+mod lives;
+mod readings;
+mod recorders;
+mod spellings;
+mod tables;
+
+pub use lives::{ApplyFault, Life};
+pub use readings::{lines_determine_moves, read_key, read_move};
+pub use recorders::{Moves, Recorder};
+pub use spellings::spell;
+
+#[cfg(test)]
+mod tests;

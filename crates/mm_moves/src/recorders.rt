@@ -1,0 +1,79 @@
+ghost use Rattle.std.specs.Prelude.{◌≡◌, false};
+ghost use Rattle.mm_types.specs.Outside.{Loans, Loan};
+ghost use Rattle.mm_life.specs.Logs.{Log, Grew};
+ghost use Rattle.mm_life.specs.MoveText.{spelling_of_move, IsMove};
+
+use crate::spell;
+use mm_io::{Sink, write_all};
+use mm_text::LineBuf;
+use mm_types::{Failed, Move};
+
+/// Takes note of moves, one after another.
+pub trait Moves {
+    /// The bytes written, where told; whether writing has failed; the count of faults, which never falls.
+    ghost log: { Self → Log };
+
+    /// The references that it holds.
+    ghost loans: { Self → Loans };
+
+    /// Writes the move's line. Where that fails a front of the line is written, and from then on nothing.
+    fn note(&mut self, m: Move)
+        ensures grew { Grew (log self.old) (log self.new) (spelling_of_move m) }
+        ensures in_range { IsMove m }
+        ensures loans { loans self.new ≡ loans self.old };
+
+    /// Whether a note failed.
+    fn failed(&self) -> bool
+        ensures { result ≡ (log self.now).failed };
+}
+
+/// Writes the moves that it is told to a sink that was lent to it. It keeps none of them.
+pub struct Recorder<'a, K: Sink> {
+    sink: &'a mut K,
+    failed: bool,
+}
+
+impl<'a, K: Sink> Recorder<'a, K> {
+    /// A recorder that has not failed.
+    pub fn new(sink: &'a mut K) -> Recorder<'a, K>
+        ensures same_reference { result.sink.ghost_name ≡ sink.entry.ghost_name }
+        ensures sink { result.sink.now ≡ sink.old }
+        ensures fresh { result.failed ≡ false }
+    {
+        Recorder {
+            sink,
+            failed: false,
+        }
+    }
+
+    /// Gives the sink back as it stands.
+    pub fn finish(self) -> &'a mut K
+        ensures same_reference { result.ghost_name ≡ self.entry.sink.ghost_name }
+        ensures sink { result.now ≡ self.entry.sink.now }
+    {
+        let Recorder { sink, failed: _ } = self;
+        sink
+    }
+}
+
+impl<'a, K: Sink> Moves for Recorder<'a, K> {
+    ghost log = { λ r. record { bytes = K.taken r.sink.now; failed = r.failed; faults = K.faults r.sink.now } };
+
+    ghost loans = { λ r. Loan r.sink.ghost_name };
+
+    #[tactic(auto, using(crate::proofs::Growing::growing))]
+    fn note(&mut self, m: Move) {
+        let mut line = LineBuf::new();
+        spell(&m, &mut line);
+        if !self.failed {
+            match write_all(self.sink, line.as_slice()) {
+                Ok(()) => {}
+                Err(Failed) => self.failed = true,
+            }
+        }
+    }
+
+    fn failed(&self) -> bool {
+        self.failed
+    }
+}

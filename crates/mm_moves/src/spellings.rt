@@ -1,0 +1,185 @@
+ghost use Rattle.std.specs.Prelude.{◌≡◌, ◌≤◌, ◌<◌, ◌+◌, ◌^◌, ◌∷◌, ◌++◌, [], List, ℕ, length};
+ghost use Rattle.mm_life.specs.MoveText.{numbered, place_onto, key_onto, kind_onto, stored_onto, home_onto, move_onto, spelling_of_move, IsKey, IsPlace, IsKind, IsStored, IsBlock, IsMove};
+
+use mm_text::{LineBuf, put_decimal};
+use mm_types::{Block, Frame, Key, LineKind, Move, Place, Stored};
+
+/// A word and a number, of at most 20 digits.
+#[tactic(auto, using(crate::proofs::Onto::onto))]
+fn put_numbered(out: &mut LineBuf, word: &[u8], n: u64)
+    requires { length out.old + length word.now + 20 ≤ 256 }
+    ensures text { (behind : List ℕ) → out.new ++ behind ≡ out.old ++ numbered word.now n behind }
+    ensures few { length out.new ≤ length out.old + length word.now + 20 }
+{
+    out.push_slice(word);
+    put_decimal(out, n);
+}
+
+/// Some words.
+#[tactic(auto, using(crate::proofs::Onto::onto))]
+fn put_words(out: &mut LineBuf, words: &[u8])
+    requires { length out.old + length words.now ≤ 256 }
+    ensures text { (behind : List ℕ) → out.new ++ behind ≡ out.old ++ (words.now ++ behind) }
+    ensures few { length out.new ≤ length out.old + length words.now }
+{
+    out.push_slice(words);
+}
+
+/// A word and the number of a frame.
+fn put_frame(out: &mut LineBuf, word: &[u8], frame: Frame)
+    requires { length out.old + length word.now + 20 ≤ 256 }
+    ensures text { (behind : List ℕ) → out.new ++ behind ≡ out.old ++ numbered word.now frame.0 behind }
+    ensures few { length out.new ≤ length out.old + length word.now + 20 }
+    ensures in_range { frame.0 < 2 ^ 32 }
+{
+    put_numbered(out, word, u64::from(frame.0));
+}
+
+fn put_place(out: &mut LineBuf, place: Place)
+    requires { length out.old + 41 ≤ 256 }
+    ensures text { (behind : List ℕ) → out.new ++ behind ≡ out.old ++ place_onto place behind }
+    ensures few { length out.new ≤ length out.old + 41 }
+    ensures in_range { IsPlace place }
+{
+    put_numbered(out, b"", u64::from(place.pid.0));
+    put_numbered(out, b".", u64::from(place.vpn.0));
+}
+
+/// Writes a key.
+pub(crate) fn put_key(out: &mut LineBuf, key: Key)
+    requires { length out.old + 42 ≤ 256 }
+    ensures text { (behind : List ℕ) → out.new ++ behind ≡ out.old ++ key_onto key behind }
+    ensures few { length out.new ≤ length out.old + 42 }
+    ensures in_range { IsKey key }
+{
+    match key {
+        Key::Private(pid, vpn) => {
+            put_numbered(out, b"p", u64::from(pid.0));
+            put_numbered(out, b".", u64::from(vpn.0));
+        }
+        Key::Shared(area, index) => {
+            put_numbered(out, b"s", u64::from(area.0));
+            put_numbered(out, b".", u64::from(index));
+        }
+    }
+}
+
+fn put_kind(out: &mut LineBuf, kind: LineKind)
+    requires { length out.old + 91 ≤ 256 }
+    ensures text { (behind : List ℕ) → out.new ++ behind ≡ out.old ++ kind_onto kind behind }
+    ensures few { length out.new ≤ length out.old + 91 }
+    ensures in_range { IsKind kind }
+{
+    match kind {
+        LineKind::Machine(frames, slots, depth, blocks) => {
+            put_numbered(out, b"machine ", u64::from(frames));
+            put_numbered(out, b" ", u64::from(slots));
+            put_numbered(out, b" ", u64::from(depth));
+            put_numbered(out, b" ", u64::from(blocks));
+        }
+        LineKind::Process(pid, min, max) => {
+            put_numbered(out, b"process ", u64::from(pid.0));
+            put_numbered(out, b" ", u64::from(min));
+            put_numbered(out, b" ", u64::from(max));
+        }
+        LineKind::Unbind(pid) => put_numbered(out, b"unbind ", u64::from(pid.0)),
+        LineKind::Access(pid) => put_numbered(out, b"access ", u64::from(pid.0)),
+        LineKind::Thread(pid) => put_numbered(out, b"thread ", u64::from(pid.0)),
+        LineKind::Trim(pid) => put_numbered(out, b"trim ", u64::from(pid.0)),
+        LineKind::Writer => put_words(out, b"writer"),
+        LineKind::Zeroer => put_words(out, b"zeroer"),
+        LineKind::Io => put_words(out, b"io"),
+        LineKind::Call => put_words(out, b"call"),
+        LineKind::Grow(count) => put_numbered(out, b"grow ", u64::from(count)),
+    }
+}
+
+fn put_stored(out: &mut LineBuf, stored: Stored)
+    requires { length out.old + 27 ≤ 256 }
+    ensures text { (behind : List ℕ) → out.new ++ behind ≡ out.old ++ stored_onto stored behind }
+    ensures few { length out.new ≤ length out.old + 27 }
+    ensures in_range { IsStored stored }
+{
+    match stored {
+        Stored::Slot(slot) => put_numbered(out, b" slot ", u64::from(slot.0)),
+        Stored::Block(block) => put_numbered(out, b" block ", u64::from(block.0)),
+    }
+}
+
+fn put_home(out: &mut LineBuf, home: Option<Block>)
+    requires { length out.old + 27 ≤ 256 }
+    ensures text { (behind : List ℕ) → out.new ++ behind ≡ out.old ++ home_onto home behind }
+    ensures few { length out.new ≤ length out.old + 27 }
+    ensures in_range { IsBlock home }
+{
+    match home {
+        None => put_words(out, b" zero"),
+        Some(block) => put_numbered(out, b" block ", u64::from(block.0)),
+    }
+}
+
+/// Writes a move without its line feed.
+pub(crate) fn put_move(m: &Move, out: &mut LineBuf)
+    requires { length out.old + 115 ≤ 256 }
+    ensures text { (behind : List ℕ) → out.new ++ behind ≡ out.old ++ move_onto m.now behind }
+    ensures few { length out.new ≤ length out.old + 115 }
+    ensures in_range { IsMove m.now }
+{
+    match *m {
+        Move::At(line, kind) => {
+            put_numbered(out, b"at ", u64::from(line));
+            put_words(out, b" ");
+            put_kind(out, kind);
+        }
+        Move::Add(key, home) => {
+            put_words(out, b"add ");
+            put_key(out, key);
+            put_home(out, home);
+        }
+        Move::Drop(key) => {
+            put_words(out, b"drop ");
+            put_key(out, key);
+        }
+        Move::Clear(frame) => put_frame(out, b"clear ", frame),
+        Move::Steal(frame) => put_frame(out, b"steal ", frame),
+        Move::Give(frame, key) => {
+            put_frame(out, b"give ", frame);
+            put_words(out, b" ");
+            put_key(out, key);
+        }
+        Move::Read(frame, key) => {
+            put_frame(out, b"read ", frame);
+            put_words(out, b" ");
+            put_key(out, key);
+        }
+        Move::Got(frame) => put_frame(out, b"got ", frame),
+        Move::Bad(frame) => put_frame(out, b"bad ", frame),
+        Move::Map(frame, place) => {
+            put_frame(out, b"map ", frame);
+            put_words(out, b" ");
+            put_place(out, place);
+        }
+        Move::Unmap(place) => {
+            put_words(out, b"unmap ");
+            put_place(out, place);
+        }
+        Move::Soil(frame) => put_frame(out, b"soil ", frame),
+        Move::Write(frame, stored) => {
+            put_frame(out, b"write ", frame);
+            put_stored(out, stored);
+        }
+        Move::Wrote(frame) => put_frame(out, b"wrote ", frame),
+        Move::Lost(frame) => put_frame(out, b"lost ", frame),
+    }
+}
+
+/// Writes a move's line, with its line feed, at the end of `out`. The longest has 116 bytes.
+pub fn spell(m: &Move, out: &mut LineBuf)
+    requires { length out.old + 116 ≤ 256 }
+    ensures line { out.new ≡ out.old ++ spelling_of_move m.now }
+    ensures few { length out.new ≤ length out.old + 116 }
+    ensures in_range { IsMove m.now }
+{
+    put_move(m, out);
+    out.push(b'\n');
+}
