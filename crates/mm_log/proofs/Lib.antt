@@ -1,0 +1,7 @@
+pub mod Tallying
+pub mod Counts
+pub mod Stuck
+pub mod Stories
+pub mod Pieces
+pub mod Shown
+pub mod Exactly

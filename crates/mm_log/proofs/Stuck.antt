@@ -1,0 +1,54 @@
+-- Bytes in front of which no legal move stands.
+use Rattle.std.proofs.Common.{◌≡◌, ℕ, suc, ◌+◌, ◌≤◌, ◌<◌, Bool, true, false, List, [], ◌∷◌, ◌++◌, length, take, drop, Option, Some, None, refl, sym, ap, ◌∙◌, subst, arith, append_assoc, length-append}
+use Rattle.mm_types.specs.Spelling.{Text}
+use Rattle.mm_types.specs.Outside.{IsEnd}
+use Rattle.mm_types.specs.declared.moves.Move.{Move}
+use Rattle.mm_life.specs.MoveText.{move_onto, move_text, IsMove}
+use Rattle.mm_life.specs.Life.{FrameLife}
+use Rattle.mm_life.specs.Legal.{is_legal}
+use Rattle.mm_moves.proofs.Lines.{NoFeed, move_onto-is, move_no_feed, move_short, one_line, no_line}
+use Rattle.mm_lines.specs.Lines.{IsLine}
+use Rattle.mm_lines.specs.Looking.{HasLine, IsLong}
+use Rattle.mm_log.specs.Verdict.{IsStuck, StuckBefore}
+
+more_than : (xs ys : Text) → length xs ≤ length (xs ++ ys)
+more_than xs ys = omega (arith, length-append xs ys)
+
+module _ (l : FrameLife) (held : Text) where
+  -- the first line is no legal move
+  line_with : (line rest more : Text) → held ≡ line ++ 10 ∷ rest → NoFeed line → ((m : Move) → IsMove m → move_text m ≡ line → is_legal l m ≡ false) → IsStuck l (held ++ more)
+  line_with line rest more whole first bad = record {
+    some = omega (arith, more_than held more, ap length whole, length-append line (10 ∷ rest));
+    illegal = λ m b h e.
+        let lines : move_text m ++ 10 ∷ b ≡ line ++ 10 ∷ (rest ++ more) =
+        sym (move_onto-is m (10 ∷ b)) ∙ sym e ∙ ap (λ t. t ++ more) whole ∙ append_assoc line (10 ∷ rest) more in
+        bad m h (one_line (move_text m) line b (rest ++ more) (move_no_feed m) first lines).0;
+  }
+
+  pub stuck_line : (left : Option Text) (n : ℕ) → HasLine held n → ((m : Move) → IsMove m → move_text m ≡ take n held → is_legal l m ≡ false) → StuckBefore left l held
+  stuck_line None n h bad = tt
+  stuck_line (Some more) n h bad = line_with (take n held) (drop (suc n) held) more h.feed.whole h.feed.first bad
+
+  -- the first line is too long
+  long_with : (front behind more : Text) → held ≡ front ++ behind → length front ≡ 257 → NoFeed front → IsStuck l (held ++ more)
+  long_with front behind more whole many no_feed = record {
+    some = omega (arith, more_than held more, ap length whole, length-append front behind);
+    illegal = λ m b h e.
+        let lines : move_text m ++ 10 ∷ b ≡ front ++ (behind ++ more) = sym (move_onto-is m (10 ∷ b)) ∙ sym e ∙ ap (λ t. t ++ more) whole ∙ append_assoc front behind more in
+        absurd (no_line (move_text m) front b (behind ++ more) no_feed (omega (arith, move_short m)) lines);
+  }
+
+  pub stuck_long : (left : Option Text) → IsLong held → StuckBefore left l held
+  stuck_long None h = tt
+  stuck_long (Some more) h = long_with h.front h.more more h.whole h.many h.no_feed
+
+  -- the last line has no line feed
+  pub stuck_end : (left : Option Text) → 0 < length held → IsLine held → IsEnd left → StuckBefore left l held
+  stuck_end None some h end = tt
+  stuck_end (Some more) some h end = record {
+    some = omega (arith, more_than held more);
+    illegal = λ m b k e.
+        let lines : move_text m ++ 10 ∷ b ≡ held ++ more = sym (move_onto-is m (10 ∷ b)) ∙ sym e in
+        let none : length more ≡ 0 = ap length end in
+        absurd (no_line (move_text m) held b more h.no_feed (omega (arith, ap length lines, length-append (move_text m) (10 ∷ b), length-append held more, none)) lines);
+  }

@@ -1,0 +1,33 @@
+-- Counting one move more.
+use Rattle.std.specs.Prelude.{◌≡◌, ℕ, ◌+◌, Bool, if◌then◌else◌, List, []}
+use Rattle.mm_types.specs.declared.moves.Move.{Move}
+use Rattle.mm_life.specs.Frames.{is_on}
+use Rattle.mm_life.specs.LogCounts.{CountsOfLog, is_give, is_read_in, is_steal, is_wrote, soft_fault, brought_in}
+
+pub record TallyOf : Type 0 where
+  pub counts : CountsOfLog
+  pub brought : List ℕ
+
+abbrev pub no_counts : CountsOfLog
+no_counts = record { moves = 0; zero_fills = 0; soft_faults = 0; hard_faults = 0; steals = 0; write_outs = 0 }
+
+abbrev pub no_tally : TallyOf
+no_tally = record { counts = no_counts; brought = [] }
+
+abbrev pub one_if : Bool → ℕ
+one_if b = if b then 1 else 0
+
+-- the counts with a move more, where these frames were brought in before it
+abbrev pub counted : CountsOfLog → List ℕ → Move → CountsOfLog
+counted c frames m = record {
+  moves = c.moves + 1;
+  zero_fills = c.zero_fills + one_if (is_give m);
+  soft_faults = c.soft_faults + soft_fault frames m;
+  hard_faults = c.hard_faults + one_if (is_read_in m);
+  steals = c.steals + one_if (is_steal m);
+  write_outs = c.write_outs + one_if (is_wrote m);
+}
+
+-- the same frames
+abbrev pub SameFrames : List ℕ → List ℕ → Type 0
+SameFrames xs ys = (f : ℕ) → is_on f xs ≡ is_on f ys

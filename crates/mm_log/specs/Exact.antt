@@ -1,0 +1,24 @@
+-- What a check of a log whose bytes are told has to say.
+use Rattle.std.specs.Prelude.{◌≡◌, ◌⊎◌, ℕ, List, [], ◌∷◌, Option, codes}
+use Rattle.mm_types.specs.Spelling.{Text}
+use Rattle.mm_types.specs.Outside.{Appended}
+use Rattle.mm_types.specs.declared.moves.Move.{Move}
+use Rattle.mm_life.specs.MoveText.{numbered}
+use Rattle.mm_life.specs.Life.{FrameLife}
+use Rattle.mm_life.specs.LogCounts.{counts_of_log}
+use Rattle.mm_log.specs.LogText.{yes_text}
+use Rattle.mm_log.specs.declared.endings.Asked.{Asked}
+
+-- memory was refused, or the source or the sink failed
+abbrev pub IsFault : ℕ → Type 0
+IsFault status = (status ≡ 1) ⊎ ((status ≡ 4) ⊎ (status ≡ 5))
+
+-- yes, with the counts of these moves, or where a key stands after them
+pub record SaysYes (a : Asked) (moves : List Move) (l : FrameLife) (took took' : Option Text) (status : ℕ) : Type 0 where
+  pub zero : status ≡ 0
+  pub text : Appended took took' (yes_text a (counts_of_log moves) l)
+
+-- no, at this line
+pub record SaysNo (line : ℕ) (took took' : Option Text) (status : ℕ) : Type 0 where
+  pub three : status ≡ 3
+  pub text : Appended took took' (numbered (codes "no line ") line (10 ∷ []))

@@ -1,0 +1,5 @@
+pub mod Counting
+pub mod LogText
+pub mod Verdict
+pub mod Stepping
+pub mod Exact

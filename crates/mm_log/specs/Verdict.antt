@@ -1,0 +1,74 @@
+-- What a check of a log says.
+use Rattle.std.specs.Prelude.{◌≡◌, ◌⊎◌, ℕ, ◌+◌, ◌<◌, ◌≤◌, Bool, false, List, [], ◌∷◌, ◌++◌, length, Option, Some, None}
+use Rattle.mm_types.specs.Outside.{Took, IsEnd, Appended}
+use Rattle.mm_types.specs.Spelling.{Text}
+use Rattle.mm_types.specs.declared.moves.Move.{Move}
+use Rattle.mm_life.specs.MoveText.{move_onto, spelled_moves, IsMove, AreMoves}
+use Rattle.mm_life.specs.Life.{FrameLife, unstarted}
+use Rattle.mm_life.specs.Legal.{is_legal}
+use Rattle.mm_life.specs.Replay.{Replays}
+use Rattle.mm_life.specs.LogCounts.{CountsOfLog, counts_of_log}
+use Rattle.mm_log.specs.Counting.{SameFrames}
+use Rattle.mm_log.specs.LogText.{text_of, status_of}
+use Rattle.mm_log.specs.declared.endings.Asked.{Asked}
+use Rattle.mm_log.specs.declared.endings.Ending.{Ending}
+use Rattle.mm_log.specs.declared.endings.Ending.TheVariants as ending
+
+-- the most bytes that a log may have
+abbrev pub most_bytes : ℕ
+most_bytes = 1000000000000
+
+-- There are bytes, and in front of them stands no whole line of a move that is legal in this state.
+pub record IsStuck (l : FrameLife) (bytes : Text) : Type 0 where
+  pub some : 0 < length bytes
+  pub illegal : (m : Move) (behind : Text) → IsMove m → bytes ≡ move_onto m (10 ∷ behind) → is_legal l m ≡ false
+
+-- the same of the bytes that were taken and those that are left, where these are told
+abbrev pub StuckBefore : Option Text → FrameLife → Text → Type 0
+StuckBefore None l bytes = Unit {0}
+StuckBefore (Some more) l bytes = IsStuck l (bytes ++ more)
+
+-- Behind the moves of whole lines, which lead to this state, stand these bytes; so many were taken in all.
+abbrev pub EndsAt : Ending → Option Text → List Move → FrameLife → Text → ℕ → Type 0
+EndsAt ending.Yes left moves l held total = (held ≡ []) × IsEnd left × (total ≤ most_bytes)
+EndsAt (ending.No line) left moves l held total = (line ≡ length moves + 1) × StuckBefore left l held × (total ≤ most_bytes)
+EndsAt ending.TooLong left moves l held total = most_bytes < total
+EndsAt ending.ReadFault left moves l held total = Unit {0}
+EndsAt ending.NoMemory left moves l held total = Unit {0}
+
+-- Bytes were taken: the lines of moves that replay, and those behind them that are held.
+pub record Replayed (left left' : Option Text) (held : Text) (moves : List Move) (l : FrameLife) (total : ℕ) : Type 0 where
+  pub taken : Text
+  pub took : Took left left' taken
+  pub whole : taken ≡ spelled_moves moves ++ held
+  pub in_range : AreMoves moves
+  pub replays : Replays moves unstarted l
+  pub total_is : total ≡ length taken
+
+-- The check came to an end.
+pub record Came (left left' : Option Text) (e : Ending) (l : FrameLife) (c : CountsOfLog) : Type 0 where
+  pub moves : List Move
+  pub held : Text
+  pub total : ℕ
+  pub replayed : Replayed left left' held moves l total
+  pub counts : e ≡ ending.Yes → c ≡ counts_of_log moves
+  pub ends : EndsAt e left' moves l held total
+
+-- A text was written whole, or where a write failed a front of it.
+pub record Tore (took took' : Option Text) (text : Text) : Type 0 where
+  pub some : 0 < length text
+  pub front : Text
+  pub behind : Text
+  pub whole : text ≡ front ++ behind
+  pub written : Appended took took' front
+
+abbrev pub Shows : Option Text → Option Text → Text → ℕ → ℕ → Type 0
+Shows took took' text status result = ((result ≡ status) × Appended took took' text) ⊎ ((result ≡ 5) × Tore took took' text)
+
+-- The whole run, over words that are a form.
+pub record Ran (asked : Asked) (left left' took took' : Option Text) (result : ℕ) : Type 0 where
+  pub ending : Ending
+  pub life : FrameLife
+  pub counts : CountsOfLog
+  pub came : Came left left' ending life counts
+  pub shows : Shows took took' (text_of asked ending counts life) (status_of ending) result

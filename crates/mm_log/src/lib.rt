@@ -1,0 +1,13 @@
+//! The checker of logs: whether a log of moves replays, its counts, and where a page stands at its end.
+#![tactic(auto)]
+
+mod checks;
+mod endings;
+mod tallies;
+mod texts;
+mod top;
+
+pub use top::run_log;
+
+#[cfg(test)]
+mod tests;

@@ -1,0 +1,113 @@
+ghost use Rattle.std.specs.Prelude.{◌≡◌, ◌≢◌, ◌⊎◌, ◌↔◌, ◌≤◌, ◌+◌, ◌++◌, ℕ, List, Option, Some, map, length, IsTrue, IfSome, string_bytes};
+ghost use Rattle.mm_types.specs.Outside.{Rose, Appended};
+ghost use Rattle.mm_types.specs.declared.moves.Move.{Move};
+ghost use Rattle.mm_life.specs.Life.{FrameLife, unstarted};
+ghost use Rattle.mm_life.specs.MoveText.{IsSpelled, AreMoves, spelled_moves};
+ghost use Rattle.mm_life.specs.Replay.{Replays};
+ghost use Rattle.mm_life.specs.LogCounts.{counts_of_log};
+ghost use Rattle.mm_log.specs.declared.endings.Asked.{Asked};
+ghost use Rattle.mm_log.specs.LogText.{Asks, IsForm, usage_text, yes_text};
+ghost use Rattle.mm_log.specs.Verdict.{most_bytes, Shows, Ran, IsStuck};
+ghost use Rattle.mm_log.specs.Exact.{IsFault, SaysYes, SaysNo};
+
+use crate::checks::{Checker, check_log};
+use crate::endings::{Asked, Ending};
+use crate::texts::{status_of, text_of};
+use mm_io::{Sink, Source, write_all};
+use mm_moves::read_key;
+use mm_types::{Failed, Key};
+use std::alloc::Global;
+
+/// The status of a run in which a write to `out` failed.
+const OUT_FAULT: u8 = 5;
+
+/// Whether a word is this text.
+fn is_word(word: &String, text: &[u8]) -> bool
+    ensures { IsTrue result ↔ (string_bytes word.now ≡ text.now) }
+{
+    word.as_bytes() == text
+}
+
+/// What the words ask, where they are a form.
+fn asked(words: &[String]) -> Option<Asked>
+    ensures forms { IfSome result (Asks (map string_bytes words.now)) }
+    ensures all { (a : Asked) → Asks (map string_bytes words.now) a → result ≡ Some a }
+{
+    match words {
+        [word] => {
+            if is_word(word, b"check") {
+                Some(Asked::Check)
+            } else {
+                None
+            }
+        }
+        [word, key] => {
+            if is_word(word, b"where") {
+                let key = read_key(key.as_bytes())?;
+                Some(Asked::Where(key))
+            } else {
+                None
+            }
+        }
+        _ => None,
+    }
+}
+
+/// Writes the text, if any, and answers the status, or that of a write that failed.
+#[tactic(auto, using(crate::proofs::Shown::shown))]
+fn write_text<O: Sink>(out: &mut O, text: &[u8], status: u8) -> u8
+    requires { status ≢ 5 }
+    ensures shows { Shows (O.taken out.old) (O.taken out.new) text.now status result }
+    ensures blame { result ≡ 5 → Rose (O.faults out.old) (O.faults out.new) }
+    ensures other { result ≢ 5 → result ≡ status }
+{
+    if text.is_empty() {
+        return status;
+    }
+    match write_all(out, text) {
+        Ok(()) => status,
+        Err(Failed) => OUT_FAULT,
+    }
+}
+
+/// Checks the log and answers what is asked.
+fn answer<S: Source, O: Sink>(alloc: Global, asked: Asked, source: &mut S, out: &mut O) -> u8
+    ensures ran { Ran asked (S.left source.old) (S.left source.new) (O.taken out.old) (O.taken out.new) result }
+    ensures read_fault { result ≡ 4 → Rose (S.faults source.old) (S.faults source.new) }
+    ensures out_fault { result ≡ 5 → Rose (O.faults out.old) (O.faults out.new) }
+    ensures no_usage { result ≢ 2 }
+{
+    let mut checker = Checker::new(alloc);
+    let ending = check_log(&mut checker, source);
+    let text = text_of(asked, ending, &checker);
+    write_text(out, text.as_slice(), status_of(ending))
+}
+
+#[tactic(auto, using(crate::proofs::Exactly::exactly))]
+/// Checks the log that the source gives, and writes the answer to `out`. The words are `check`, or `where` and a key.
+/// The status is 0 where the log replays, 1 where memory was refused, 2 where the words are no form, 3 where a line is
+/// no legal move, 4 and 5 where the source and the sink failed, 8 where the log has more than 1,000,000,000,000 bytes.
+pub fn run_log<S: Source, O: Sink>(
+    alloc: Global,
+    words: &[String],
+    source: &mut S,
+    out: &mut O,
+) -> u8
+    ensures ran { (a : Asked) → Asks (map string_bytes words.now) a → Ran a (S.left source.old) (S.left source.new) (O.taken out.old) (O.taken out.new) result }
+    ensures yes { (a : Asked) (text : List ℕ) (moves : List Move) (l : FrameLife) → Asks (map string_bytes words.now) a → S.left source.old ≡ Some text → length text ≤ most_bytes
+        → IsSpelled moves text → Replays moves unstarted l → SaysYes a moves l (O.taken out.old) (O.taken out.new) result ⊎ IsFault result }
+    ensures no { (a : Asked) (text rest : List ℕ) (moves : List Move) (l : FrameLife) → Asks (map string_bytes words.now) a → S.left source.old ≡ Some text → length text ≤ most_bytes
+        → AreMoves moves → text ≡ spelled_moves moves ++ rest → Replays moves unstarted l → IsStuck l rest → SaysNo (length moves + 1) (O.taken out.old) (O.taken out.new) result ⊎ IsFault result }
+
+    // Words that are no form are answered by the usage line, and nothing is read.
+    ensures usage { (IsForm (map string_bytes words.now) → ⊥) → Shows (O.taken out.old) (O.taken out.new) usage_text 2 result }
+    ensures unread { (IsForm (map string_bytes words.now) → ⊥) → S.left source.new ≡ S.left source.old }
+    ensures form { IsForm (map string_bytes words.now) → result ≢ 2 }
+    ensures read_fault { result ≡ 4 → Rose (S.faults source.old) (S.faults source.new) }
+    ensures out_fault { result ≡ 5 → Rose (O.faults out.old) (O.faults out.new) }
+{
+    match asked(words) {
+        Some(asked) => answer(alloc, asked, source, out),
+        None => write_text(out, b"usage: mmlog check | mmlog where KEY\n", 2),
+    }
+}
