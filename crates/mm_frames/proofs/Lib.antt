@@ -1,0 +1,4 @@
+pub mod Members
+pub mod Placings
+pub mod Counting
+pub mod Fresh

@@ -1,0 +1,21 @@
+use Rattle.std.proofs.Common.{◌≡◌, ◌≢◌, ◌<◌, ◌++◌, ◌∷◌, [], true, sym, ap, ◌∙◌, subst, refl, Some, None, List, ℕ, Option, get_or, set, length, arith}
+use Rattle.std.specs.Prelude.{slice_get, is_some, false}
+use Rattle.mm_types.specs.declared.frames.Record.{Record}
+use Rattle.mm_life.specs.Frames.{blank, given, being_read}
+use Rattle.mm_lists.specs.Lists.{ListsOf, AreApart}
+use Rattle.mm_ram.specs.Ram.{page_at}
+use Rattle.mm_frames.specs.declared.standing.Standing.TheVariants.{Bound, Cleared, Taken}
+use Rattle.mm_frames.specs.Base.{FramesOf}
+use Rattle.mm_frames.specs.Placing.{AreFrames}
+use Rattle.mm_frames.proofs.Placings.{on_none, token_low, token_off, token_holds, token_given, token_reading}
+use Rattle.mm_frames.proofs.frames.Frames.bind_read.Goals as goal
+
+pub invariant_of-self : goal.invariant_of-self
+invariant_of-self c =
+    let i = c.self.inside in
+    let f = c.d.inside.frame.0 in
+    let held : slice_get i.standing.items f ≡ Some Taken = ap (λ (w : FramesOf). slice_get w.standing f) c.self.view_is ∙ ap (λ (q : ℕ). slice_get c.args.self.now.standing q) c.d.view_is ∙ c.requires in
+    let low = token_low i.records i.standing.items i.lists i.ram c.self.invariant f Taken held in
+    subst (λ (rs : List Record). AreFrames rs (set i.standing.items f Bound) i.lists i.ram) (sym c.set.ensures)
+    (token_reading i.records i.standing.items i.lists i.ram c.self.invariant f Taken (being_read c.args.key c.args.backing) held refl refl
+    (record { empty = λ d. absurd (d refl); kept = λ e. refl; zero = λ e. cc; written = λ e d. cc }))

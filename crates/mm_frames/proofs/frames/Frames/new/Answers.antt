@@ -1,0 +1,19 @@
+use Rattle.std.proofs.Common.{sym, ap, ◌∙◌, subst, None, Option, List, ℕ, replicate, arith}
+use Rattle.mm_types.specs.declared.frames.Record.{Record}
+use Rattle.mm_life.specs.Frames.{blank}
+use Rattle.mm_lists.specs.Lists.{ListsOf}
+use Rattle.mm_frames.specs.declared.standing.Standing.{Standing}
+use Rattle.mm_frames.specs.declared.standing.Standing.TheVariants.{Free}
+use Rattle.mm_lists.specs.contracts.lists.Lists.{the_view}
+use Rattle.mm_frames.specs.Placing.{AreFrames}
+use Rattle.mm_frames.proofs.Fresh.{all_free}
+use Rattle.mm_frames.proofs.frames.Frames.new.Goals as goal
+
+pub invariant_of-result-2 : goal.invariant_of-result-2
+invariant_of-result-2 c =
+    let n = c.args.n in
+    let made = all_free n c.push_all.new.lists c.ranges.n.fits c.push_all.ensures.pushed c.push_all.ensures.apart in
+    subst (λ (rs : List Record). AreFrames rs c.in_ok-all_free.field-0.items (the_view c.lists.inside) c.in_ok-new-2.field-0) (sym c.in_ok-new.ensures)
+    (subst (λ (ss : List Standing). AreFrames (replicate n blank) ss (the_view c.lists.inside) c.in_ok-new-2.field-0) (sym c.in_ok-all_free.ensures)
+    (subst (λ (m : List (Option (List ℕ))). AreFrames (replicate n blank) (replicate n Free) (the_view c.lists.inside) m) (sym c.in_ok-new-2.ensures)
+    (subst (λ (v : ListsOf). AreFrames (replicate n blank) (replicate n Free) v (replicate n None)) (sym c.lists.view_is) made)))

@@ -1,0 +1,38 @@
+use Rattle.std.proofs.Common.{◌≡◌, ◌≢◌, ◌<◌, ◌++◌, ◌∷◌, [], sym, ap, ◌∙◌, subst, refl, Some, List, ℕ, Option, get_or, set, length, length-set, get_or-set_same, get_or-set_other, arith}
+use Rattle.std.specs.Prelude.{slice_get}
+use Rattle.mm_life.specs.Frames.{blank}
+use Rattle.mm_lists.specs.Lists.{ListsOf, AreApart, IsOnNone}
+use Rattle.mm_ram.specs.Ram.{page_at, zero_page, with_page}
+use Rattle.mm_frames.specs.declared.standing.Standing.{Standing}
+use Rattle.mm_frames.specs.declared.standing.Standing.TheVariants.{Zeroed, Free, Bound, Cleared, Taken}
+use Rattle.mm_frames.specs.Base.{FramesOf, standing_at}
+use Rattle.mm_frames.specs.Placing.{Holds, AreFrames}
+use Rattle.mm_frames.proofs.Placings.{on_none, token_low, token_off, token_holds, token_put, token_changed, as_zeroed, as_empty}
+use Rattle.mm_frames.proofs.frames.Frames.put_free.Goals as goal
+
+pub push_back-requires-clause-on_none : goal.push_back-requires-clause-on_none
+push_back-requires-clause-on_none c =
+    let i = c.self.inside in
+    let f = c.d.inside.frame.0 in
+    let held : slice_get i.standing.items f ≡ Some Taken = ap (λ (w : FramesOf). slice_get w.standing f) c.self.view_is ∙ ap (λ (q : ℕ). slice_get c.args.self.now.standing q) c.d.view_is ∙ c.requires in
+    let low = token_low i.records i.standing.items i.lists i.ram c.self.invariant f Taken held in
+    on_none i.records i.standing.items i.lists.lists f (token_off i.records i.standing.items i.lists i.ram c.self.invariant f Taken held refl)
+
+pub index_mut-requires : goal.index_mut-requires
+index_mut-requires c =
+    let i = c.self.inside in
+    let f = c.d.inside.frame.0 in
+    let held : slice_get i.standing.items f ≡ Some Taken = ap (λ (w : FramesOf). slice_get w.standing f) c.self.view_is ∙ ap (λ (q : ℕ). slice_get c.args.self.now.standing q) c.d.view_is ∙ c.requires in
+    let low = token_low i.records i.standing.items i.lists i.ram c.self.invariant f Taken held in
+    omega (arith, low, c.self.invariant.standings)
+
+pub invariant_of-self : goal.invariant_of-self
+invariant_of-self c =
+    let i = c.self.inside in
+    let f = c.d.inside.frame.0 in
+    let held : slice_get i.standing.items f ≡ Some Taken = ap (λ (w : FramesOf). slice_get w.standing f) c.self.view_is ∙ ap (λ (q : ℕ). slice_get c.args.self.now.standing q) c.d.view_is ∙ c.requires in
+    let low = token_low i.records i.standing.items i.lists i.ram c.self.invariant f Taken held in
+    let old = token_holds i.records i.standing.items i.lists i.ram c.self.invariant f Taken held in
+    let apart = subst (λ (ls : ListsOf). AreApart ls) c.push_back.ensures.pushed c.push_back.ensures.apart in
+    subst (λ (ls : ListsOf). AreFrames i.records (set i.standing.items f Free) ls i.ram) (sym c.push_back.ensures.pushed)
+    (token_put i.records i.standing.items i.lists i.ram c.self.invariant f Taken Free 1 held refl (omega arith) refl apart (as_empty Free _ _ (λ e. cc) (old.empty (λ e. cc)) (λ e. cc)))

@@ -1,0 +1,18 @@
+use Rattle.std.proofs.Common.{◌≡◌, ◌+◌, ◌++◌, ◌∷◌, [], suc, sym, ap, ◌∙◌, List, ℕ, arith, add-one}
+use Rattle.mm_life.specs.Life.{numbers_from}
+use Rattle.mm_lists.specs.Lists.{ListsOf, list_at, number_at, with_list}
+use Rattle.mm_frames.specs.Placing.{free_only}
+use Rattle.mm_frames.proofs.Fresh.{not_yet, numbers_next}
+use Rattle.mm_frames.proofs.frames.push_all.Goals as goal
+
+pub push_back-requires-clause-on_none : goal.push_back-requires-clause-on_none
+push_back-requires-clause-on_none c = λ j k e.
+    not_yet c.args.n c.loop-f.f j k (ap (λ (v : ListsOf). number_at v.lists j k) (sym c.loop-f.invariant.0) ∙ e)
+
+pub loop-f-preserved : goal.loop-f-preserved
+loop-f-preserved c = (
+  c.push_back.ensures.pushed
+      ∙ ap (λ (v : ListsOf). with_list v 1 (list_at v.lists 1 ++ c.loop-f.f ∷ [])) c.loop-f.invariant.0
+      ∙ ap (λ (xs : List ℕ). record { numbers = c.args.n; lists = free_only xs }) (sym (numbers_next c.loop-f.f)),
+  c.push_back.ensures.apart,
+)

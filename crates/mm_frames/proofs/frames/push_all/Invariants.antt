@@ -1,0 +1,8 @@
+use Rattle.std.proofs.Common.{◌≡◌}
+use Rattle.mm_life.specs.Life.{numbers_from}
+use Rattle.mm_lists.specs.Lists.{AreApart}
+use Rattle.mm_frames.specs.Placing.{free_only}
+use Rattle.mm_frames.proofs.frames.push_all.Given as goal
+
+abbrev pub invariant-loop-f : goal.invariant-loop-f
+invariant-loop-f l = (l.lists ≡ record { numbers = l.n; lists = free_only (numbers_from 0 l.f) }) × AreApart l.lists

@@ -1,0 +1,60 @@
+-- Each frame is on one list, active, in transition or in one token in hand.
+use Rattle.std.specs.Prelude.{◌≡◌, ◌≢◌, ℕ, ◌+◌, ◌<◌, ◌^◌, Bool, true, false, ◌&&◌, ◌||◌, ◌==◌, if◌then◌else◌, is_some, List, [], ◌∷◌, ◌++◌, length, map, Option, Some, None, slice_index_or}
+use Rattle.mm_types.specs.declared.frames.Record.{Record}
+use Rattle.mm_life.specs.Frames.{FrameTable, blank, is_idle, has_request, is_read}
+use Rattle.mm_lists.specs.Lists.{ListsOf, AreApart, list_at, number_at}
+use Rattle.mm_ram.specs.Ram.{page_at, zero_page}
+use Rattle.mm_frames.specs.declared.standing.Standing.{Standing}
+use Rattle.mm_frames.specs.declared.standing.Standing.TheVariants.{Zeroed, Free, Bound, Cleared, Taken}
+use Rattle.mm_frames.specs.Base.{standing_at}
+
+-- the list that a frame is on: zeroed, free, standby, modified are lists 0 to 3
+abbrev pub list_for : Standing → Record → Option ℕ
+list_for Zeroed r = Some 0
+list_for Free r = Some 1
+list_for Bound r = if is_idle r then Some (if r.changed then 3 else 2) else None
+list_for Cleared r = None
+list_for Taken r = None
+
+abbrev pub table_of : List Record → List (List ℕ) → FrameTable
+table_of records lists = record { records = records; zeroed = list_at lists 0; free = list_at lists 1; standby = list_at lists 2; modified = list_at lists 3 }
+
+-- a bound frame has an owner, or a request and no shares
+abbrev pub is_kept : Record → Bool
+is_kept r = is_some r.owner || (has_request r.request && (r.shares == 0))
+
+abbrev pub is_zero : Standing → Bool
+is_zero Zeroed = true
+is_zero Free = false
+is_zero Bound = false
+is_zero Cleared = true
+is_zero Taken = false
+
+-- each frame but these is on the list that it stands on, and on no other
+pub record Listed (but : ℕ → Bool) (records : List Record) (standing : List Standing) (lists : List (List ℕ)) : Type 0 where
+  pub held : (j k f : ℕ) → number_at lists j k ≡ Some f → (but f ≡ false) × (list_for (standing_at standing f) (slice_index_or records f blank) ≡ Some j)
+  pub there : (f j : ℕ) → f < length records → but f ≡ false → list_for (standing_at standing f) (slice_index_or records f blank) ≡ Some j → (k : ℕ) × (number_at lists j k ≡ Some f)
+
+-- what a frame holds, by where it stands
+pub record Holds (standing : Standing) (r : Record) (page : Option (List ℕ)) : Type 0 where
+  pub empty : standing ≢ Bound → r ≡ blank
+  pub kept : standing ≡ Bound → is_kept r ≡ true
+  pub zero : is_zero standing ≡ true → page ≡ Some zero_page
+  pub written : standing ≡ Bound → is_read r.request ≡ false → is_some page ≡ true
+
+abbrev pub none_but : ℕ → Bool
+none_but f = false
+
+pub record AreFrames (records : List Record) (standing : List Standing) (lists : ListsOf) (bytes : List (Option (List ℕ))) : Type 0 where
+  pub small : length records < 2 ^ 32
+  pub standings : length standing ≡ length records
+  pub pages : length bytes ≡ length records
+  pub numbers : lists.numbers ≡ length records
+  pub four : length lists.lists ≡ 4
+  pub apart : AreApart lists
+  pub listed : Listed none_but records standing lists.lists
+  pub holds : (f : ℕ) → f < length records → Holds (standing_at standing f) (slice_index_or records f blank) (page_at bytes f)
+
+-- four lists, with numbers on the second alone
+abbrev pub free_only : List ℕ → List (List ℕ)
+free_only xs = [] ∷ xs ∷ [] ∷ [] ∷ []

@@ -1,0 +1,342 @@
+ghost use Rattle.std.specs.Prelude.{◌≡◌, ◌≢◌, ℕ, ◌≤◌, ◌^◌, true, false, Some, IsSome, ◌<◌, ◌+◌, ◌++◌, ◌∷◌, [], length, replicate, count_by, None, IfOk, option_map, slice_get, slice_set};
+ghost use Rattle.mm_life.specs.Frames.{record_at, is_read, has_request, after_map, after_unmap, after_soil, after_write, slot_after_soil};
+ghost use Rattle.mm_life.specs.Life.{free_table, is_active, is_in_transition, numbers_from};
+ghost use Rattle.mm_lists.specs.Lists.{AreApart};
+ghost use Rattle.mm_frames.specs.Placing.{free_only, is_kept};
+ghost use Rattle.mm_ram.specs.Ram.{bytes_of, bytes_from, overwritten, with_page, page_size};
+ghost use Rattle.mm_frames.specs.Base.{FramesOf, zeroed_taken, free_taken, zeroed_put, free_put, now_cleared, given_to, reading_into, IsBlank, IsDirty};
+
+use crate::placing::{
+    FREE, MODIFIED, STANDBY, ZEROED, is_idle, leave, settle, slot_after_soil, soiled,
+};
+use crate::records::Records;
+use crate::{Blank, Dirty, Standing};
+use mm_lists::Lists;
+use mm_ram::Ram;
+use mm_types::{Backing, Frame, Key, NoMemory, Record, Request, Slot};
+use std::alloc::Global;
+use std::marker::Model;
+
+/// The frame database.
+#[derive(Drop)]
+pub struct Frames {
+    records: Records,
+    standing: Vec<Standing>,
+    lists: Lists,
+    ram: Ram,
+}
+
+impl Model for Frames {
+    ghost use Rattle.mm_frames.specs.Base.{FramesOf};
+    ghost use Rattle.mm_frames.specs.Placing.{AreFrames, table_of};
+
+    ghost Value = { FramesOf };
+
+    ghost view = { λ s. record { table = table_of s.records s.lists.lists; bytes = s.ram; standing = s.standing.items } };
+
+    ghost invariant = { λ s. AreFrames s.records s.standing.items s.lists s.ram };
+}
+
+/// How many frames stand where.
+#[derive(Clone, Copy, PartialEq, Eq, Debug)]
+pub struct FrameCounts {
+    pub zeroed: u32,
+    pub free: u32,
+    pub standby: u32,
+    pub modified: u32,
+    pub active: u32,
+    pub transition: u32,
+}
+
+/// All frames go to the free list, in rising order.
+fn push_all(lists: &mut Lists, n: u32)
+    requires empty { lists.old ≡ record { numbers = n; lists = free_only [] } }
+    requires apart { AreApart lists.old }
+    ensures pushed { lists.new ≡ record { numbers = n; lists = free_only (numbers_from 0 n) } }
+    ensures apart { AreApart lists.new }
+{
+    for f in 0..n {
+        lists.push_back(FREE, f);
+    }
+}
+
+fn all_free(alloc: Global, n: u32) -> Result<Vec<Standing>, NoMemory>
+    ensures { IfOk result (λ v. v.items ≡ replicate n Standing.Free) }
+{
+    Ok(vec![in alloc; Standing::Free; n as usize]?)
+}
+
+impl Frames {
+    /// What the frame database keeps of a frame.
+    pub fn look(&self, f: Frame) -> Record
+        requires { f.0 < length self.now.table.records }
+        ensures { result ≡ record_at self.now.table f.0 }
+    {
+        self.records.get(f.0)
+    }
+
+    /// How many frames stand where.
+    pub fn counts(&self) -> FrameCounts
+        ensures { result ≡ record {
+          zeroed = length self.now.table.zeroed;
+          free = length self.now.table.free;
+          standby = length self.now.table.standby;
+          modified = length self.now.table.modified;
+          active = count_by is_active self.now.table.records;
+          transition = count_by is_in_transition self.now.table.records;
+        } }
+    {
+        FrameCounts {
+            zeroed: self.lists.len(ZEROED),
+            free: self.lists.len(FREE),
+            standby: self.lists.len(STANDBY),
+            modified: self.lists.len(MODIFIED),
+            active: self.records.active(),
+            transition: self.records.transition(),
+        }
+    }
+
+    /// The first modified frame, `None` exactly where none is modified.
+    pub fn front_modified(&self) -> Option<Frame>
+        ensures { option_map (λ f. f.0) result ≡ slice_get self.now.table.modified 0 }
+    {
+        Some(Frame(self.lists.front(MODIFIED)?))
+    }
+
+    /// Takes the first zeroed frame, `None` exactly where none is zeroed.
+    pub fn take_zeroed(&mut self) -> Option<Blank>
+        ensures first { result ≡ slice_get self.old.table.zeroed 0 }
+        ensures taken { self.new ≡ zeroed_taken self.old }
+    {
+        let f = self.lists.pop_front(ZEROED)?;
+        self.standing[f as usize] = Standing::Cleared;
+        Some(Blank { frame: Frame(f) })
+    }
+
+    /// Takes the first free frame, `None` exactly where none is free.
+    pub fn take_free(&mut self) -> Option<Dirty>
+        ensures first { result ≡ slice_get self.old.table.free 0 }
+        ensures taken { self.new ≡ free_taken self.old }
+    {
+        let f = self.lists.pop_front(FREE)?;
+        self.standing[f as usize] = Standing::Taken;
+        Some(Dirty { frame: Frame(f) })
+    }
+
+    /// Spends a blank: its frame goes to the end of the zeroed list.
+    pub fn put_zeroed(&mut self, b: Blank)
+        requires { IsBlank self.old b }
+        ensures { self.new ≡ zeroed_put self.old b }
+    {
+        let Blank { frame } = b;
+        self.lists.push_back(ZEROED, frame.0);
+        self.standing[frame.0 as usize] = Standing::Zeroed;
+    }
+
+    /// Spends a dirty frame: it goes to the end of the free list.
+    pub fn put_free(&mut self, d: Dirty)
+        requires { IsDirty self.old d }
+        ensures { self.new ≡ free_put self.old d }
+    {
+        let Dirty { frame } = d;
+        self.lists.push_back(FREE, frame.0);
+        self.standing[frame.0 as usize] = Standing::Free;
+    }
+
+    /// Writes zeros over a frame in hand.
+    pub fn clear(&mut self, d: Dirty) -> Blank
+        requires { IsDirty self.old d }
+        ensures same { result ≡ d }
+        ensures cleared { self.new ≡ now_cleared self.old d }
+    {
+        let Dirty { frame } = d;
+        self.ram.zero(frame);
+        self.standing[frame.0 as usize] = Standing::Cleared;
+        Blank { frame }
+    }
+
+    /// A blank taken for dirty, as for a frame that is read into.
+    pub fn soil_blank(&mut self, b: Blank) -> Dirty
+        requires { IsBlank self.old b }
+        ensures same { result ≡ b }
+        ensures soiled { self.new
+            ≡ record self.old { standing = slice_set self.old.standing b Standing.Taken } }
+    {
+        let Blank { frame } = b;
+        self.standing[frame.0 as usize] = Standing::Taken;
+        Dirty { frame }
+    }
+
+    /// Spends a blank: its frame becomes that of a demand-zero page, and goes to modified (the move `give`).
+    pub fn bind(&mut self, b: Blank, key: Key) -> Frame
+        requires { IsBlank self.old b }
+        ensures same { result.0 ≡ b }
+        ensures bound { self.new ≡ given_to self.old b key }
+    {
+        let Blank { frame } = b;
+        self.records.set(
+            frame.0,
+            Record {
+                owner: Some(key),
+                changed: true,
+                backing: Backing::None,
+                shares: 0,
+                request: Request::None,
+            },
+        );
+        self.lists.push_back(MODIFIED, frame.0);
+        self.standing[frame.0 as usize] = Standing::Bound;
+        frame
+    }
+
+    /// Spends a dirty frame: the page is being read into it (the move `read`).
+    pub fn bind_read(&mut self, d: Dirty, key: Key, backing: Backing) -> Frame
+        requires { IsDirty self.old d }
+        ensures same { result.0 ≡ d }
+        ensures bound { self.new ≡ reading_into self.old d key backing }
+    {
+        let Dirty { frame } = d;
+        self.records.set(
+            frame.0,
+            Record {
+                owner: Some(key),
+                changed: false,
+                backing,
+                shares: 0,
+                request: Request::Read,
+            },
+        );
+        self.standing[frame.0 as usize] = Standing::Bound;
+        frame
+    }
+    /// `n` frames, all free, in rising order.
+    pub fn new(alloc: Global, n: u32) -> Result<Frames, NoMemory>
+        ensures { IfOk result (λ v. v
+            ≡ record { table = free_table n; bytes = replicate n None; standing = replicate n Standing.Free }) }
+    {
+        let mut lists = Lists::new(alloc, n, 4)?;
+        push_all(&mut lists, n);
+        Ok(Frames {
+            records: Records::new(alloc, n)?,
+            standing: all_free(alloc, n)?,
+            lists,
+            ram: Ram::new(alloc, n)?,
+        })
+    }
+
+    /// The modified frame behind `f`, `None` exactly where `f` is the last.
+    pub fn next_modified(&self, f: Frame) -> Option<Frame>
+        requires { (k : ℕ) × (slice_get self.now.table.modified k ≡ Some f.0) }
+        ensures { (k : ℕ) → slice_get self.now.table.modified k ≡ Some f.0
+            → option_map (λ g. g.0) result ≡ slice_get self.now.table.modified (k + 1) }
+    {
+        let behind = self.lists.next(f.0)?;
+        Some(Frame(behind))
+    }
+
+    /// Reads bytes of a frame that has an owner and no read request.
+    pub fn read(&self, f: Frame, off: u16, out: &mut [u8])
+        requires owned { IsSome (record_at self.now.table f.0).owner }
+        requires not_read { is_read (record_at self.now.table f.0).request ≡ false }
+        requires inside { off + length out.old ≤ page_size }
+        ensures { out.new ≡ bytes_from (bytes_of self.now.bytes f.0) off (length out.old) }
+    {
+        self.ram.read(f, off, out);
+    }
+
+    /// Reads all bytes of a frame that has an owner or a write request, and no read request.
+    pub fn take(&self, f: Frame, out: &mut [u8; 4096])
+        requires kept { is_kept (record_at self.now.table f.0) ≡ true }
+        requires not_read { is_read (record_at self.now.table f.0).request ≡ false }
+        ensures { out.new ≡ bytes_of self.now.bytes f.0 }
+    {
+        self.ram.take(f, out);
+    }
+
+    /// Writes bytes of a frame that has an owner and no read request.
+    pub fn write(&mut self, f: Frame, off: u16, bytes: &[u8])
+        requires owned { IsSome (record_at self.old.table f.0).owner }
+        requires not_read { is_read (record_at self.old.table f.0).request ≡ false }
+        requires inside { off + length bytes.now ≤ page_size }
+        ensures { self.new ≡ record self.old {
+          bytes = with_page self.old.bytes f.0
+              (overwritten (bytes_of self.old.bytes f.0) off bytes.now);
+        } }
+    {
+        self.ram.write(f, off, bytes);
+    }
+
+    /// Copies the bytes of one frame to another; both have an owner and no read request.
+    pub fn copy(&mut self, from: Frame, to: Frame)
+        requires from_owned { IsSome (record_at self.old.table from.0).owner }
+        requires from_not_read { is_read (record_at self.old.table from.0).request ≡ false }
+        requires to_owned { IsSome (record_at self.old.table to.0).owner }
+        requires to_not_read { is_read (record_at self.old.table to.0).request ≡ false }
+        requires other { from.0 ≢ to.0 }
+        ensures { self.new ≡ record self.old {
+          bytes = with_page self.old.bytes to.0
+              (bytes_of self.old.bytes from.0);
+        } }
+    {
+        self.ram.copy(from, to);
+    }
+
+    /// One more valid entry names the frame, which has an owner and no read request (the move `map`).
+    pub fn share(&mut self, f: Frame)
+        requires owned { IsSome (record_at self.old.table f.0).owner }
+        requires not_read { is_read (record_at self.old.table f.0).request ≡ false }
+        requires room { (record_at self.old.table f.0).shares + 1 < 2 ^ 32 }
+        ensures { self.new ≡ record self.old { table = after_map self.old.table f.0 } }
+    {
+        let r = self.records.get(f.0);
+        leave(&mut self.lists, f.0, is_idle(&r));
+        let shared = Record {
+            shares: r.shares + 1,
+            ..r
+        };
+        self.records.set(f.0, shared);
+    }
+
+    /// A valid entry names the frame no more: without shares and request it settles (the move `unmap`).
+    pub fn unshare(&mut self, f: Frame)
+        requires { 1 ≤ (record_at self.old.table f.0).shares }
+        ensures { self.new ≡ record self.old { table = after_unmap self.old.table f.0 } }
+    {
+        let r = self.records.get(f.0);
+        let unshared = Record {
+            shares: r.shares - 1,
+            ..r
+        };
+        self.records.set(f.0, unshared);
+        settle(&mut self.lists, f.0, &unshared);
+    }
+
+    /// The page of a frame with shares and no read request is changed (the move `soil`): a slot that
+    /// backed it is given back.
+    pub fn soil(&mut self, f: Frame) -> Option<Slot>
+        requires shared { 1 ≤ (record_at self.old.table f.0).shares }
+        requires not_read { is_read (record_at self.old.table f.0).request ≡ false }
+        ensures slot { option_map (λ s. s.0) result ≡ slot_after_soil (record_at self.old.table f.0) }
+        ensures soiled { self.new ≡ record self.old { table = after_soil self.old.table f.0 } }
+    {
+        let r = self.records.get(f.0);
+        self.records.set(f.0, soiled(&r));
+        slot_after_soil(&r)
+    }
+
+    /// A write of a changed frame without a request begins (the move `write`): it leaves its list, if any.
+    pub fn start_write(&mut self, f: Frame, backing: Backing)
+        requires owned { IsSome (record_at self.old.table f.0).owner }
+        requires no_request { has_request (record_at self.old.table f.0).request ≡ false }
+        ensures { self.new ≡ record self.old { table = after_write self.old.table f.0 backing } }
+    {
+        let r = self.records.get(f.0);
+        leave(&mut self.lists, f.0, is_idle(&r));
+        let written = Record {
+            backing,
+            request: Request::Write,
+            ..r
+        };
+        self.records.set(f.0, written);
+    }
+}

@@ -1,0 +1,101 @@
+ghost use Rattle.std.specs.Prelude.{◌≡◌, ◌≢◌, ◌+◌, ◌<◌, ◌++◌, ◌∷◌, [], true, false, length, map, if◌then◌else◌, option_map};
+ghost use Rattle.mm_lists.specs.Lists.{IsOnOne, IsOnNone, AreApart, list_at, with_list, without};
+ghost use Rattle.mm_life.specs.Frames.{is_idle, soiled, without_slot, slot_of, slot_after_soil};
+
+use mm_lists::Lists;
+use mm_types::{Backing, Record, Request, Slot};
+
+/// The lists by their numbers.
+pub const ZEROED: u32 = 0;
+
+pub const FREE: u32 = 1;
+
+pub const STANDBY: u32 = 2;
+
+pub const MODIFIED: u32 = 3;
+
+/// Whether a frame has neither shares nor a request.
+pub fn is_idle(r: &Record) -> bool
+    ensures { result ≡ is_idle r.now }
+{
+    match r.request {
+        Request::None => r.shares == 0,
+        Request::Read | Request::Write | Request::WriteAgain => false,
+    }
+}
+
+/// The frame leaves its list, if it is on one.
+pub fn leave(lists: &mut Lists, f: u32, idle: bool)
+    requires on_one { idle ≡ true → IsOnOne lists.old.lists f }
+    requires on_none { idle ≡ false → IsOnNone lists.old.lists f }
+    requires apart { AreApart lists.old }
+    ensures left { lists.new ≡ record lists.old { lists = map (without f) lists.old.lists } }
+    ensures apart { AreApart lists.new }
+{
+    if idle {
+        lists.unlink(f);
+    }
+}
+
+/// An idle frame goes to modified where it is changed, else to standby.
+pub fn settle(lists: &mut Lists, f: u32, r: &Record)
+    requires four { length lists.old.lists ≡ 4 }
+    requires below { f < lists.old.numbers }
+    requires on_none { IsOnNone lists.old.lists f }
+    requires apart { AreApart lists.old }
+    ensures apart { AreApart lists.new }
+    ensures idle { is_idle r.now ≡ true → lists.new
+        ≡ with_list lists.old (if r.now.changed then 3 else 2)
+        (list_at lists.old.lists (if r.now.changed then 3 else 2) ++ f ∷ []) }
+    ensures other { is_idle r.now ≡ false → lists.new ≡ lists.old }
+{
+    if is_idle(r) {
+        let list = if r.changed { MODIFIED } else { STANDBY };
+        lists.push_back(list, f);
+    }
+}
+
+/// The record of a frame whose page is changed.
+pub fn soiled(r: &Record) -> Record
+    ensures { result ≡ soiled r.now }
+{
+    match r.request {
+        Request::None => Record {
+            changed: true,
+            backing: without_slot(r.backing),
+            ..*r
+        },
+        Request::Read | Request::Write | Request::WriteAgain => Record {
+            request: Request::WriteAgain,
+            ..*r
+        },
+    }
+}
+
+fn without_slot(backing: Backing) -> Backing
+    ensures { result ≡ without_slot backing }
+{
+    match backing {
+        Backing::None | Backing::Slot(_) => Backing::None,
+        Backing::Block(b) => Backing::Block(b),
+    }
+}
+
+/// The slot that is given back as a page is changed.
+pub fn slot_after_soil(r: &Record) -> Option<Slot>
+    ensures { option_map (λ s. s.0) result ≡ slot_after_soil r.now }
+{
+    match r.request {
+        Request::None => slot_of(r.backing),
+        Request::Read | Request::Write | Request::WriteAgain => None,
+    }
+}
+
+fn slot_of(backing: Backing) -> Option<Slot>
+    ensures { option_map (λ s. s.0) result ≡ slot_of backing }
+{
+    match backing {
+        Backing::Slot(s) => Some(s),
+        Backing::None | Backing::Block(_) => None,
+    }
+}
