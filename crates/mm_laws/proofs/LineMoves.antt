@@ -1,0 +1,174 @@
+-- `at` keeps what holds, and it holds right after the line of the machine.
+use Rattle.std.proofs.Common.{◌≡◌, ◌⊎◌, ℕ, zero, suc, ◌+◌, ◌≤◌, Bool, true, not, List, [], ◌∷◌, ◌++◌, length, Option, Some, None, refl, sym, ap, ◌∙◌, inl, inr, arith, length-append}
+use Rattle.std.specs.Prelude.{◌==◌, ◌&&◌, is_some, nat_lt, nat_le, replicate, slice_get}
+use Rattle.std.proofs.lemmas.Bool.{and_parts, leb-true, le-ltb}
+use Rattle.std.proofs.lemmas.List.{length-replicate}
+use Rattle.mm_types.specs.Machine.{MachineOf}
+use Rattle.mm_types.specs.declared.frames.Record.{Record}
+use Rattle.mm_types.specs.declared.frames.Held.TheVariants as held
+use Rattle.mm_types.specs.declared.moves.LineKind.{LineKind}
+use Rattle.mm_types.specs.declared.moves.LineKind.TheVariants as kind
+use Rattle.mm_types.specs.declared.moves.Move.TheVariants as move
+use Rattle.mm_life.specs.Frames.{record_at, blank, slot_of}
+use Rattle.mm_life.specs.Life.{FrameLife, life_at, free_table, set_in, unstarted, no_machine}
+use Rattle.mm_life.specs.Legal.{IsLegal, is_legal_kind}
+use Rattle.mm_life.specs.Effect.{after_move, after_at}
+use Rattle.mm_laws.specs.Tally.{one_if}
+use Rattle.mm_laws.specs.Holders.{Holder, Home, Behind, holding}
+use Rattle.mm_laws.specs.Places.{residents}
+use Rattle.mm_laws.specs.Sights.{sight, Stands}
+use Rattle.mm_laws.specs.Sound.{SlotsHeld, Sound}
+use Rattle.mm_laws.proofs.Tallies.{times-numbers}
+use Rattle.mm_laws.proofs.Sights.{stand_blank}
+use Rattle.mm_laws.proofs.PlaceCounts.{shown_process}
+
+-- ---- right after line 1
+
+at_blank : (n f : ℕ) → record_at (free_table n) f ≡ blank
+at_blank n f = all_blank n f
+  where
+    all_blank : (n f : ℕ) → record_at (free_table n) f ≡ blank
+    all_blank zero f = refl
+    all_blank (suc n) zero = refl
+    all_blank (suc n) (suc f) = all_blank n f
+
+first_stands : (n : ℕ) → Stands (free_table n) []
+first_stands n f =
+    let e : one_if (nat_lt f (length (replicate n blank))) ≡ one_if (nat_lt f (0 + n)) = ap (λ (k : ℕ). one_if (nat_lt f k)) (let h = length-replicate {A = Record} n blank in omega (arith, h)) in
+    let on = times-numbers n 0 f in
+    let none : one_if (nat_lt f 0) ≡ 0 = ap one_if (le-ltb f 0 (omega arith)) in
+    stand_blank (sight (free_table n) [] f) (at_blank n f) (omega (arith, e, on, none)) refl refl refl
+
+all_free : (n s : ℕ) (b : Bool) → slice_get (replicate n true) s ≡ Some b → b ≡ true
+all_free zero s b e = cc
+all_free (suc n) zero b e = cc
+all_free (suc n) (suc s) b e = all_free n s b e
+
+no_set : (pid : ℕ) → set_in [] pid ≡ None
+no_set zero = refl
+no_set (suc k) = refl
+
+first_held : (n : ℕ) (h : Holder) → holding (free_table n) (λ k. held.Dead) h ≡ None
+first_held n (Home k) = refl
+first_held n (Behind f) = ap (λ (r : Record). slot_of r.backing) (at_blank n f)
+
+pub sound_at : (m : MachineOf) (n : ℕ) (k : LineKind) → Sound (life_at m n k)
+sound_at m n k = record {
+  standing = first_stands m.frames;
+  owned = record {
+    owned = λ f k e. let bad : None ≡ Some k = sym (ap (λ (r : Record). r.owner) (at_blank m.frames f)) ∙ e in cc;
+    owner = λ k f e. cc;
+  };
+  held = record {
+    holder = λ s. None;
+    found = λ h s e. let bad : None ≡ Some s = sym (first_held m.frames h) ∙ e in cc;
+    held = λ s h e. cc;
+    taken = λ s b e. sym (ap not (all_free m.slots s b e));
+    past = λ s e. refl;
+  };
+  shown = record {
+    places = [];
+    once = λ p. refl;
+    shares = λ f. sym (ap (λ (r : Record). r.shares) (at_blank m.frames f));
+    resident = λ pid. sym (ap residents (no_set pid));
+    fits = λ p f k e w. cc;
+    below = λ pid s e. let bad : None ≡ Some s = sym (no_set pid) ∙ e in cc;
+  };
+  paged = record { keys = []; once = λ k. refl; long = refl };
+  homed = record {
+    home = λ k. refl;
+    backing = λ f k e. let bad : None ≡ Some k = sym (ap (λ (r : Record). r.owner) (at_blank m.frames f)) ∙ e in cc;
+  };
+  limited = omega arith;
+  few = λ a b. omega arith;
+  framed = length-replicate m.frames blank;
+  slotted = length-replicate m.slots true;
+}
+
+pub sound_unstarted : Sound unstarted
+sound_unstarted = sound_at no_machine 0 kind.Call
+
+-- ---- a paging file that grows
+
+more_free : (free : List Bool) (n s : ℕ) (b : Bool) → slice_get (free ++ replicate n true) s ≡ Some b → (slice_get free s ≡ Some b) ⊎ ((slice_get free s ≡ None) × (b ≡ true))
+more_free [] n s b e = inr (refl, all_free n s b e)
+more_free (x ∷ free) n zero b e = inl e
+more_free (x ∷ free) n (suc s) b e = more_free free n s b e
+
+past_more : (free : List Bool) (n s : ℕ) → slice_get (free ++ replicate n true) s ≡ None → slice_get free s ≡ None
+past_more [] n s e = refl
+past_more (x ∷ free) n zero e = cc
+past_more (x ∷ free) n (suc s) e = past_more free n s e
+
+slots_grown : (free : List Bool) (n : ℕ) (held_by : Holder → Option ℕ) → SlotsHeld free held_by → SlotsHeld (free ++ replicate n true) held_by
+slots_grown free n held_by s = record {
+  holder = s.holder;
+  found = s.found;
+  held = s.held;
+  taken = λ t b e. elim (more_free free n t b e) [
+    | inl h ↦ s.taken t b h
+    | inr h ↦ ap is_some (s.past t h.0) ∙ sym (ap not h.1)
+  ];
+  past = λ t e. s.past t (past_more free n t e);
+}
+
+-- ---- `at`
+
+module _ (l : FrameLife) (s : Sound l) where
+  -- a line that changes nothing but the line
+  lines : (n : ℕ) (k : LineKind) → length l.flight ≤ l.machine.depth → Sound (record l { line = n; kind = k })
+  lines n k depth = record {
+    standing = s.standing;
+    owned = s.owned;
+    held = s.held;
+    shown = s.shown;
+    paged = s.paged;
+    homed = s.homed;
+    limited = s.limited;
+    few = λ a b. depth;
+    framed = s.framed;
+    slotted = s.slotted;
+  }
+
+  starts : (n : ℕ) (k : LineKind) → length l.flight ≤ l.machine.depth → Sound (after_at l n k)
+  starts n (kind.Machine frames slots depth blocks) h = sound_at (record { frames = frames; slots = slots; depth = depth; blocks = blocks }) n (kind.Machine frames slots depth blocks)
+  starts n (kind.Process pid min max) h = record {
+    standing = s.standing;
+    owned = s.owned;
+    held = s.held;
+    shown = shown_process l.valid l.frames l.sets (record { min = min; max = max; resident = 0 }) refl s.shown;
+    paged = s.paged;
+    homed = s.homed;
+    limited = s.limited;
+    few = λ a b. h;
+    framed = s.framed;
+    slotted = s.slotted;
+  }
+  starts n (kind.Unbind pid) h = lines n (kind.Unbind pid) h
+  starts n (kind.Access pid) h = lines n (kind.Access pid) h
+  starts n (kind.Thread pid) h = lines n (kind.Thread pid) h
+  starts n (kind.Trim pid) h = lines n (kind.Trim pid) h
+  starts n kind.Writer h = lines n kind.Writer h
+  starts n kind.Zeroer h = lines n kind.Zeroer h
+  starts n kind.Io h = lines n kind.Io h
+  starts n kind.Call h = lines n kind.Call h
+  starts n (kind.Grow count) h = record {
+    standing = s.standing;
+    owned = s.owned;
+    held = slots_grown l.free_slots count (holding l.frames l.stands) s.held;
+    shown = s.shown;
+    paged = s.paged;
+    homed = s.homed;
+    limited = let e = s.limited in omega (arith, e);
+    few = λ a b. h;
+    framed = s.framed;
+    slotted = let e = s.slotted in omega (arith, e, length-append l.free_slots (replicate count true), length-replicate {A = Bool} count true);
+  }
+
+  pub at_depth : (n : ℕ) (k : LineKind) → IsLegal (move.At n k) l → length l.flight ≤ l.machine.depth
+  at_depth n k h =
+      let p = and_parts ((n == l.line + 1) && nat_le (length l.flight) l.machine.depth) (is_legal_kind l k) h in
+      leb-true (length l.flight) l.machine.depth (and_parts (n == l.line + 1) (nat_le (length l.flight) l.machine.depth) p.0).1
+
+  pub keeps_at : (n : ℕ) (k : LineKind) → IsLegal (move.At n k) l → Sound (after_move l (move.At n k))
+  keeps_at n k h = starts n k (at_depth n k h)

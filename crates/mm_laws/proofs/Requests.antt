@@ -1,0 +1,167 @@
+-- `got`, `bad`, `wrote` and `lost` keep what holds: requests that end.
+use Rattle.std.proofs.Common.{◌≡◌, ℕ, ◌+◌, ◌<◌, ◌≤◌, Bool, true, false, cond, not, List, length, Option, Some, None, refl, sym, ap, ◌∙◌, subst, arith, length-set}
+use Rattle.std.specs.Prelude.{◌==◌, ◌&&◌, ◌||◌, is_some}
+use Rattle.std.proofs.lemmas.Bool.{and_parts, or_right, not_from_true, and_right}
+use Rattle.mm_types.specs.declared.numbers.Frame.{Frame}
+use Rattle.mm_types.specs.declared.numbers.Key.{Key}
+use Rattle.mm_types.specs.declared.frames.Record.{Record}
+use Rattle.mm_types.specs.declared.frames.Request.{Request}
+use Rattle.mm_types.specs.declared.frames.Request.TheVariants as request
+use Rattle.mm_types.specs.declared.frames.Held.TheVariants as held
+use Rattle.mm_types.specs.declared.moves.Move.TheVariants as move
+use Rattle.mm_life.specs.Frames.{FrameTable, record_at, blank, slot_of, without_slot, without, with_record, settled, to_free, has_request, is_read, is_write, is_again, read_done, write_done, write_lost}
+use Rattle.mm_life.specs.Life.{FrameLife, same_key, changed}
+use Rattle.mm_life.specs.Legal.{IsLegal, is_io, is_access, is_call}
+use Rattle.mm_life.specs.Effect.{after_move, homed, home_at, slot_at, freed}
+use Rattle.mm_laws.specs.Tally.{times}
+use Rattle.mm_laws.specs.Holders.{holding}
+use Rattle.mm_laws.specs.PagingKeys.{is_backing_for}
+use Rattle.mm_laws.specs.Fits.{is_kept, Fit}
+use Rattle.mm_laws.specs.Sights.{sight, Stands}
+use Rattle.mm_laws.specs.Sound.{SlotsHeld, Sound}
+use Rattle.mm_laws.proofs.Fits.{fit_read_done, fit_write_done, fit_write_lost, slot_without}
+use Rattle.mm_laws.proofs.Sights.{kept_inside, kept_not_fresh, busy_off}
+use Rattle.mm_laws.proofs.Changes.{Changes, flights_ended, changes_settled, changes_freed}
+use Rattle.mm_laws.proofs.Owners.{owned_leave}
+use Rattle.mm_laws.proofs.SlotHolders.{slots_still, slots_given_up, slots_sent_home}
+use Rattle.mm_laws.proofs.KeyCounts.{homed_frame, homed_key, backing_is_home, backing_kept}
+use Rattle.mm_laws.proofs.Sound.{sound_frame, sound_key, no_owner, ended_few, orphan_unshared}
+use Rattle.mm_laws.proofs.FreshMoves.{home_is_no_frame, slot_of_home}
+
+pub length-freed : (free : List Bool) (o : Option ℕ) → length (freed free o) ≡ length free
+length-freed free None = refl
+length-freed free (Some s) = length-set free s true
+
+-- what is known of a frame with a request
+pub record Requested (d : FrameTable) (q : List ℕ) (f : ℕ) : Type 0 where
+  pub low : f < length d.records
+  pub fresh : times f d.zeroed + times f d.free ≡ 0
+  pub standby : times f d.standby ≡ 0
+  pub modified : times f d.modified ≡ 0
+
+pub requested : (d : FrameTable) (q : List ℕ) (f : ℕ) → Stands d q → has_request (record_at d f).request ≡ true → Requested d q f
+requested d q f s h =
+    let kept : is_kept (record_at d f) ≡ true = or_right (is_some (record_at d f).owner) (has_request (record_at d f).request) h in
+    let off = busy_off (sight d q f) (s f) (and_right ((record_at d f).shares == 0) (not (has_request (record_at d f).request)) (not_from_true (has_request (record_at d f).request) h)) in
+    record { low = kept_inside d f kept; fresh = kept_not_fresh (sight d q f) (s f) kept; standby = off.0; modified = off.1 }
+
+pub read_has : (q : Request) → is_read q ≡ true → has_request q ≡ true
+read_has request.None e = cc
+read_has request.Read e = refl
+read_has request.Write e = refl
+read_has request.WriteAgain e = refl
+
+pub write_has : (q : Request) → is_write q ≡ true → has_request q ≡ true
+write_has request.None e = cc
+write_has request.Read e = refl
+write_has request.Write e = refl
+write_has request.WriteAgain e = refl
+
+module _ (l : FrameLife) (s : Sound l) (f : ℕ) (busy : has_request (record_at l.frames f).request ≡ true) where
+  abbrev d : FrameTable
+  d = l.frames
+
+  abbrev r : Record
+  r = record_at l.frames f
+
+  abbrev q' : List ℕ
+  q' = without f l.flight
+
+  fewer : is_access l.kind ≡ false → is_call l.kind ≡ false → length (without f l.flight) ≤ l.machine.depth
+  fewer a b = let h = s.few a b in let e = ended_few l.flight f in omega (arith, h, e)
+
+  known : Requested l.frames l.flight f
+  known = requested l.frames l.flight f s.standing busy
+
+  -- without an owner the frame goes to free, with its slot
+  pub orphan_ends : is_some r.owner ≡ false → Sound (record l { frames = to_free l.frames f; free_slots = freed l.free_slots (slot_of r.backing); flight = without f l.flight })
+  orphan_ends none =
+      let o = no_owner r none in
+      let c = changes_freed d l.flight q' f (flights_ended l.flight f) known.low known.fresh known.standby known.modified in
+      sound_frame l s (to_free d f) q' (freed l.free_slots (slot_of r.backing)) f blank c (sym o) (sym (orphan_unshared r (s.standing f).fit o)) (λ k e b. cc)
+      (slots_given_up d (to_free d f) l.flight q' f blank c l.free_slots l.stands refl s.held) (length-freed l.free_slots (slot_of r.backing)) fewer
+
+  -- with an owner it settles
+  pub owned_ends : (new : Record) (free' : List Bool) → is_some r.owner ≡ true → new.owner ≡ r.owner → new.shares ≡ r.shares → has_request new.request ≡ false → Fit new
+      → ((b : Bool) → is_backing_for b r.backing ≡ true → is_backing_for b new.backing ≡ true)
+      → ((d' : FrameTable) → Changes l.frames d' l.flight (without f l.flight) f new → SlotsHeld free' (holding d' l.stands)) → length free' ≡ length l.free_slots
+      → Sound (record l { frames = settled (with_record l.frames f new) f; free_slots = free'; flight = without f l.flight })
+  owned_ends new free' owned owner shares quiet fit backing slots size =
+      let c = changes_settled d l.flight q' f 0 new (flights_ended l.flight f) known.low (ap is_some owner ∙ owned) fit known.fresh known.standby known.modified (sym (ap (λ b. cond b 1 0) quiet)) in
+      sound_frame l s (settled (with_record d f new) f) q' free' f new c owner shares (λ k e b. backing (l.paging k) b) (slots (settled (with_record d f new) f) c) size fewer
+
+module _ (l : FrameLife) (s : Sound l) (f : Frame) where
+  pub keeps_got : IsLegal (move.Got f) l → Sound (after_move l (move.Got f))
+  keeps_got h =
+      let read = (and_parts (is_read (record_at l.frames f.0).request) (is_io l.kind || is_access l.kind) h).0 in
+      let busy = read_has (record_at l.frames f.0).request read in
+      elim (is_some (record_at l.frames f.0).owner) as (λ b. is_some (record_at l.frames f.0).owner ≡ b → Sound (record l { frames = cond b (settled (with_record l.frames f.0 (read_done (record_at l.frames f.0))) f.0) (to_free l.frames f.0); free_slots = freed l.free_slots (cond b None (slot_of (record_at l.frames f.0).backing)); flight = without f.0 l.flight })) [
+        | true ↦ λ o.
+            owned_ends l s f.0 busy (read_done (record_at l.frames f.0)) l.free_slots o refl refl refl (fit_read_done (record_at l.frames f.0) (s.standing f.0).fit o read) (λ b k. k)
+            (λ d' c. slots_still l.frames d' l.flight (without f.0 l.flight) f.0 (read_done (record_at l.frames f.0)) c l.free_slots l.stands refl s.held) refl
+        | false ↦ λ o. orphan_ends l s f.0 busy o
+      ] refl
+
+  bad_owned : (k : Key) → (record_at l.frames f.0).owner ≡ Some k → is_read (record_at l.frames f.0).request ≡ true → Sound (record l { frames = to_free l.frames f.0; free_slots = l.free_slots; stands = changed same_key l.stands k (home_at (record_at l.frames f.0).backing); flight = without f.0 l.flight })
+  bad_owned k o read =
+      let busy = read_has (record_at l.frames f.0).request read in
+      let known = requested l.frames l.flight f.0 s.standing busy in
+      let c = changes_freed l.frames l.flight (without f.0 l.flight) f.0 (flights_ended l.flight f.0) known.low known.fresh known.standby known.modified in
+      let now = homed_frame l.frames (to_free l.frames f.0) l.flight (without f.0 l.flight) f.0 blank c l.paging l.stands (λ q e. cc) s.homed in
+      let home = home_at (record_at l.frames f.0).backing in
+      let frame : l.stands k ≡ held.Frame f = s.owned.owned f.0 k o in
+      sound_key l s (to_free l.frames f.0) (without f.0 l.flight) l.free_slots f.0 blank c k home refl ((s.standing f.0).fit.reading read).0
+      (owned_leave l.frames (to_free l.frames f.0) l.flight (without f.0 l.flight) f.0 blank c l.stands s.owned k home refl o (home_is_no_frame (record_at l.frames f.0).backing))
+      (homed_key l.paging (to_free l.frames f.0) l.stands k home (backing_is_home (l.paging k) (record_at l.frames f.0).backing (s.homed.backing f.0 k o)) now)
+      (slots_sent_home l.frames (to_free l.frames f.0) l.flight (without f.0 l.flight) f.0 blank c l.free_slots l.stands k home refl (ap slot_at frame) (slot_of_home (record_at l.frames f.0).backing) s.held)
+      refl (fewer l s f.0 busy)
+
+  pub keeps_bad : IsLegal (move.Bad f) l → Sound (after_move l (move.Bad f))
+  keeps_bad h =
+      let read = (and_parts (is_read (record_at l.frames f.0).request) (is_io l.kind || is_access l.kind) h).0 in
+      elim (record_at l.frames f.0).owner as (λ o. (record_at l.frames f.0).owner ≡ o → Sound (record l { frames = to_free l.frames f.0; free_slots = freed l.free_slots (cond (is_some o) None (slot_of (record_at l.frames f.0).backing)); stands = homed l o (record_at l.frames f.0).backing; flight = without f.0 l.flight })) [
+        | None ↦ λ o. orphan_ends l s f.0 (read_has (record_at l.frames f.0).request read) (ap is_some o)
+        | Some k ↦ λ o. bad_owned k o read
+      ] refl
+
+  wrote_owned : is_some (record_at l.frames f.0).owner ≡ true → is_write (record_at l.frames f.0).request ≡ true → (again : Bool) → is_again (record_at l.frames f.0).request ≡ again
+      → Sound (record l { frames = settled (with_record l.frames f.0 (write_done (record_at l.frames f.0))) f.0; free_slots = freed l.free_slots (cond (not again) None (slot_of (record_at l.frames f.0).backing)); flight = without f.0 l.flight })
+  wrote_owned o w again e =
+      let known = fit_write_done (record_at l.frames f.0) (s.standing f.0).fit o w in
+      let busy = write_has (record_at l.frames f.0).request w in
+      elim again as (λ a. is_again (record_at l.frames f.0).request ≡ a → Sound (record l { frames = settled (with_record l.frames f.0 (write_done (record_at l.frames f.0))) f.0; free_slots = freed l.free_slots (cond (not a) None (slot_of (record_at l.frames f.0).backing)); flight = without f.0 l.flight })) [
+        | true ↦ λ a.
+            let made : write_done (record_at l.frames f.0) ≡ record (record_at l.frames f.0) { request = request.None; backing = without_slot (record_at l.frames f.0).backing } = ap (λ b. cond b (record (record_at l.frames f.0) { request = request.None; backing = without_slot (record_at l.frames f.0).backing }) (record (record_at l.frames f.0) { request = request.None; changed = false })) a in
+            subst (λ (x : Record). Sound (record l { frames = settled (with_record l.frames f.0 x) f.0; free_slots = freed l.free_slots (slot_of (record_at l.frames f.0).backing); flight = without f.0 l.flight })) (sym made)
+            (owned_ends l s f.0 busy (record (record_at l.frames f.0) { request = request.None; backing = without_slot (record_at l.frames f.0).backing }) (freed l.free_slots (slot_of (record_at l.frames f.0).backing)) o refl refl refl
+            (subst Fit made known) (λ b k. backing_kept b (record_at l.frames f.0).backing k)
+            (λ d' c. slots_given_up l.frames d' l.flight (without f.0 l.flight) f.0 _ c l.free_slots l.stands (slot_without (record_at l.frames f.0).backing) s.held) (length-freed l.free_slots (slot_of (record_at l.frames f.0).backing)))
+        | false ↦ λ a.
+            let made : write_done (record_at l.frames f.0) ≡ record (record_at l.frames f.0) { request = request.None; changed = false } = ap (λ b. cond b (record (record_at l.frames f.0) { request = request.None; backing = without_slot (record_at l.frames f.0).backing }) (record (record_at l.frames f.0) { request = request.None; changed = false })) a in
+            subst (λ (x : Record). Sound (record l { frames = settled (with_record l.frames f.0 x) f.0; free_slots = l.free_slots; flight = without f.0 l.flight })) (sym made)
+            (owned_ends l s f.0 busy (record (record_at l.frames f.0) { request = request.None; changed = false }) l.free_slots o refl refl refl
+            (subst Fit made known) (λ b k. k)
+            (λ d' c. slots_still l.frames d' l.flight (without f.0 l.flight) f.0 _ c l.free_slots l.stands refl s.held) refl)
+      ] e
+
+  pub keeps_wrote : IsLegal (move.Wrote f) l → Sound (after_move l (move.Wrote f))
+  keeps_wrote h =
+      let write = (and_parts (is_write (record_at l.frames f.0).request) (is_io l.kind || is_access l.kind || is_call l.kind) h).0 in
+      let busy = write_has (record_at l.frames f.0).request write in
+      elim (is_some (record_at l.frames f.0).owner) as (λ b. is_some (record_at l.frames f.0).owner ≡ b → Sound (record l { frames = cond b (settled (with_record l.frames f.0 (write_done (record_at l.frames f.0))) f.0) (to_free l.frames f.0); free_slots = freed l.free_slots (cond (b && not (is_again (record_at l.frames f.0).request)) None (slot_of (record_at l.frames f.0).backing)); flight = without f.0 l.flight })) [
+        | true ↦ λ o. wrote_owned o write (is_again (record_at l.frames f.0).request) refl
+        | false ↦ λ o. orphan_ends l s f.0 busy o
+      ] refl
+
+  pub keeps_lost : IsLegal (move.Lost f) l → Sound (after_move l (move.Lost f))
+  keeps_lost h =
+      let write = (and_parts (is_write (record_at l.frames f.0).request) (is_io l.kind || is_access l.kind || is_call l.kind) h).0 in
+      let busy = write_has (record_at l.frames f.0).request write in
+      elim (is_some (record_at l.frames f.0).owner) as (λ b. is_some (record_at l.frames f.0).owner ≡ b → Sound (record l { frames = cond b (settled (with_record l.frames f.0 (write_lost (record_at l.frames f.0))) f.0) (to_free l.frames f.0); free_slots = freed l.free_slots (slot_of (record_at l.frames f.0).backing); flight = without f.0 l.flight })) [
+        | true ↦ λ o.
+            owned_ends l s f.0 busy (write_lost (record_at l.frames f.0)) (freed l.free_slots (slot_of (record_at l.frames f.0).backing)) o refl refl refl (fit_write_lost (record_at l.frames f.0) (s.standing f.0).fit o write)
+            (λ b k. backing_kept b (record_at l.frames f.0).backing k)
+            (λ d' c. slots_given_up l.frames d' l.flight (without f.0 l.flight) f.0 (write_lost (record_at l.frames f.0)) c l.free_slots l.stands (slot_without (record_at l.frames f.0).backing) s.held)
+            (length-freed l.free_slots (slot_of (record_at l.frames f.0).backing))
+        | false ↦ λ o. orphan_ends l s f.0 busy o
+      ] refl

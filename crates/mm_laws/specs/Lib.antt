@@ -1,0 +1,12 @@
+pub mod Tally
+pub mod Standing
+pub mod Holders
+pub mod Places
+pub mod PagingKeys
+pub mod Fits
+pub mod Sights
+pub mod Sound
+pub mod Reached
+pub mod Requests
+pub mod WorkedBursts
+pub mod FileBlocks

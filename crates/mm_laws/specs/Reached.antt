@@ -1,0 +1,18 @@
+-- The states that replays reach.
+use Rattle.std.specs.Prelude.{Bool, false, ◌&&◌, ◌==◌, List}
+use Rattle.mm_types.specs.declared.moves.LineKind.TheVariants as kind
+use Rattle.mm_types.specs.declared.moves.Move.{Move}
+use Rattle.mm_types.specs.declared.moves.Move.TheVariants as move
+use Rattle.mm_life.specs.Life.{FrameLife, unstarted}
+use Rattle.mm_life.specs.Legal.{is_machine}
+use Rattle.mm_life.specs.Replay.{Replays}
+
+-- a list of moves, legal one after another, leads here from before the first line
+pub record Reached (l : FrameLife) : Type 0 where
+  pub moves : List Move
+  pub replays : Replays moves unstarted l
+
+-- `at 1 machine ..` with numbers in range
+abbrev pub is_first_line : Move → Bool
+is_first_line (move.At n (kind.Machine frames slots depth blocks)) = (n == 1) && is_machine (record { frames = frames; slots = slots; depth = depth; blocks = blocks })
+is_first_line _ = false

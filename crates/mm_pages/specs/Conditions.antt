@@ -1,0 +1,120 @@
+-- When a call of a store may be made: which lines make it, and what its keys and places must be.
+use Rattle.std.specs.Prelude.{◌≡◌, ◌≤◌, ◌<◌, ℕ, ◌+◌, Bool, true, false, ◌⊎◌, Option, None, Some, IsSome}
+use Rattle.mm_types.specs.declared.numbers.Key.{Key}
+use Rattle.mm_types.specs.declared.numbers.Key.TheVariants as key
+use Rattle.mm_types.specs.declared.numbers.Pid.{Pid}
+use Rattle.mm_types.specs.declared.numbers.Place.{Place}
+use Rattle.mm_types.specs.declared.moves.LineKind.{LineKind}
+use Rattle.mm_types.specs.declared.moves.LineKind.TheVariants as kind
+use Rattle.mm_types.specs.Address.{Range, holds_page}
+use Rattle.mm_types.specs.Machine.{MachineOf}
+use Rattle.mm_world.specs.World.{Page}
+use Rattle.mm_world.specs.Failure.{Need}
+use Rattle.mm_pages.specs.Store.{StoreOf, own_key, kind_of_machine}
+use Rattle.mm_pages.specs.Reports.{IsBegun}
+
+abbrev pub place_at : Pid → ℕ → Place
+place_at pid page = record { pid = pid; vpn = record { 0 = page } }
+
+-- ---- lines
+
+-- numbers that a `process` line can have
+pub record IsProcess (s : StoreOf) (pid : Pid) (min max : ℕ) : Type 0 where
+  pub next : pid.0 ≡ s.last_pid + 1
+  pub few : pid.0 ≤ 64
+  pub ordered : min ≤ max
+  pub some : 1 ≤ max
+  pub most : max ≤ 65536
+
+abbrev pub IsLineKind : StoreOf → LineKind → Type 0
+IsLineKind s (kind.Machine frames slots depth blocks) = ⊥
+IsLineKind s (kind.Process pid min max) = IsProcess s pid min max
+IsLineKind s (kind.Unbind pid) = Unit {0}
+IsLineKind s (kind.Access pid) = Unit {0}
+IsLineKind s (kind.Thread pid) = Unit {0}
+IsLineKind s (kind.Trim pid) = Unit {0}
+IsLineKind s kind.Writer = Unit {0}
+IsLineKind s kind.Zeroer = Unit {0}
+IsLineKind s kind.Io = Unit {0}
+IsLineKind s kind.Call = Unit {0}
+IsLineKind s (kind.Grow n) = ⊥
+
+abbrev pub pid_after : ℕ → LineKind → ℕ
+pid_after last (kind.Machine frames slots depth blocks) = last
+pid_after last (kind.Process pid min max) = pid.0
+pid_after last (kind.Unbind pid) = last
+pid_after last (kind.Access pid) = last
+pid_after last (kind.Thread pid) = last
+pid_after last (kind.Trim pid) = last
+pid_after last kind.Writer = last
+pid_after last kind.Zeroer = last
+pid_after last kind.Io = last
+pid_after last kind.Call = last
+pid_after last (kind.Grow n) = last
+
+-- a line that takes pages away, or a call of any other form
+abbrev pub IsReleasing : LineKind → Type 0
+IsReleasing k = (k ≡ kind.Call) ⊎ ((pid : Pid) × (k ≡ kind.Unbind pid))
+
+-- ---- places and keys
+
+-- all these pages of the process are bound, or none is
+abbrev pub AllBound : StoreOf → Pid → Range → Bool → Type 0
+AllBound s pid range b = (page : ℕ) → holds_page range page ≡ true → s.bound (place_at pid page) ≡ b
+
+abbrev pub NoneNamed : StoreOf → Pid → Range → Type 0
+NoneNamed s pid range = (page : ℕ) → holds_page range page ≡ true → s.names (place_at pid page) ≡ None
+
+-- a place that names a key is given up in a line that unbinds pages of that process
+abbrev pub MayUnbind : StoreOf → Pid → Range → Type 0
+MayUnbind s pid range = (s.kind ≡ kind.Unbind pid) ⊎ (IsReleasing s.kind × NoneNamed s pid range)
+
+-- a private key of a bound place that names none, or an index of an open area
+abbrev pub HasHome : StoreOf → Key → Type 0
+HasHome s (key.Private pid vpn) = (s.bound (record { pid = pid; vpn = vpn }) ≡ true) × (s.names (record { pid = pid; vpn = vpn }) ≡ None)
+HasHome s (key.Shared area index) = (pages : ℕ) × ((s.areas area.0 ≡ Some pages) × (index < pages))
+
+-- a private key that its place names goes in a line that unbinds pages of its process; a shared one is named by no place
+abbrev pub MayRemove : StoreOf → Key → Type 0
+MayRemove s (key.Private pid vpn) =
+    (s.kind ≡ kind.Unbind pid) ⊎ (IsReleasing s.kind × (s.names (record { pid = pid; vpn = vpn }) ≡ None))
+MayRemove s (key.Shared area index) = IsReleasing s.kind × ((place : Place) → s.names place ≡ Some (key.Shared area index) → ⊥)
+
+-- a private key is used at its own place alone, a shared one where the place has no key of its own
+abbrev pub IsHomeAt : (Key → Option Page) → Place → Key → Type 0
+IsHomeAt contents place (key.Private pid vpn) = key.Private pid vpn ≡ own_key place
+IsHomeAt contents place (key.Shared area index) = contents (own_key place) ≡ None
+
+-- a key can be used at a place that is bound and names none or this key
+pub record IsAt (contents : Key → Option Page) (s : StoreOf) (place : Place) (k : Key) : Type 0 where
+  pub live : IsSome (contents k)
+  pub home : IsHomeAt contents place k
+  pub bound : s.bound place ≡ true
+  pub named : (s.names place ≡ None) ⊎ (s.names place ≡ Some k)
+
+abbrev pub touch : Key → Need
+touch k = record { key = k; copy = None }
+
+-- the line is a plain access of the process, or a thread's whose access is ready
+abbrev pub MayAccess : StoreOf → Place → Need → Type 0
+MayAccess s place need =
+    (s.kind ≡ kind.Access place.pid) ⊎ ((s.kind ≡ kind.Thread place.pid) × (s.ready ≡ Some (record { place = place; need = need })))
+
+-- ---- a new store of a machine
+
+pub record IsNew (m : MachineOf) (contents : Key → Option Page) (s : StoreOf) : Type 0 where
+  pub empty : (k : Key) → contents k ≡ None
+  pub machine : s.machine ≡ m
+  pub closed : (pid : ℕ) → s.is_open pid ≡ false
+  pub no_area : (area : ℕ) → s.areas area ≡ None
+  pub unbound : (place : Place) → s.bound place ≡ false
+  pub no_name : (place : Place) → s.names place ≡ None
+  pub not_paging : (k : Key) → s.paging k ≡ false
+  pub no_keys : s.paging_keys ≡ 0
+  pub no_block : (k : Key) → s.block_of k ≡ None
+  pub unused : (block : ℕ) → s.used block ≡ false
+  pub line : s.line ≡ 1
+  pub kind : s.kind ≡ kind_of_machine m
+  pub no_pid : s.last_pid ≡ 0
+  pub not_ready : s.ready ≡ None
+  pub begun : IsBegun s.report

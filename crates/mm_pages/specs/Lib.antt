@@ -1,0 +1,4 @@
+pub mod Devices
+pub mod Store
+pub mod Reports
+pub mod Conditions

@@ -1,0 +1,195 @@
+ghost use Rattle.std.specs.Prelude.{◌≡◌, ◌≢◌, ◌≤◌, ◌<◌, ◌+◌, ◌-◌, ◌^◌, ◌==◌, ℕ, Bool, true, false, Option, Some, None, List, IsSome, IsErrOf, IsOk, OnOk, OnErr, IfOk, length, take, drop, unwrap_or};
+ghost use Rattle.mm_types.specs.declared.faults.GrowFault.TheVariants as grow_fault;
+ghost use Rattle.mm_types.specs.declared.moves.LineKind.TheVariants as kind;
+ghost use Rattle.mm_types.specs.declared.numbers.Key.{Key};
+ghost use Rattle.mm_types.specs.declared.numbers.Key.TheVariants.{Private};
+ghost use Rattle.mm_types.specs.Address.{are_user_pages};
+ghost use Rattle.mm_types.specs.Machine.{limit_of};
+ghost use Rattle.mm_types.specs.Outside.{Loans, Rose};
+ghost use Rattle.mm_world.specs.World.{Page, filled};
+ghost use Rattle.mm_world.specs.Access.{written};
+ghost use Rattle.mm_world.specs.Failure.{same_key};
+ghost use Rattle.mm_world.specs.Processes.{with_slots, most_slots};
+ghost use Rattle.mm_world.specs.Step.{is_failed_extension};
+ghost use Rattle.mm_pages.specs.Store.{StoreOf, changed, changed_in, same_place, unnamed};
+ghost use Rattle.mm_pages.specs.Reports.{begun, rearranged, called, fetched, IsBegun, IsCaused, Ends};
+ghost use Rattle.mm_pages.specs.Conditions.{IsLineKind, pid_after, AllBound, MayUnbind, HasHome, MayRemove, IsAt, MayAccess, touch, place_at};
+
+use mm_types::{GrowFault, Key, LineKind, NoMemory, PageFault, Pid, Place, Vpn};
+
+/// A store of pages by key, each of 4,096 bytes.
+///
+/// A key is live from its `add` to its `remove`. A place, a page of an open process, is bound while a region has it, and
+/// names the key last used there. What a call may do depends on the kind of the line that began last (`line`).
+/// The profile's own boundary: below it pages may be paged, above it nobody can tell.
+pub trait Pages {
+    /// The bytes of each live key; none where the key is not live.
+    ghost contents: { Self → Key → Option Page };
+
+    /// Everything else that the store shows.
+    ghost store: { Self → StoreOf };
+
+    /// The references that the store holds.
+    ghost loans: { Self → Loans };
+
+    /// No access to this store ever fails or waits.
+    ghost unpaged: { Bool };
+
+    /// Opens a new process, in the line that makes it, with the least and the greatest size of its working set in pages.
+    /// After `NoMemory` nothing has changed.
+    fn open_process(&mut self, pid: Pid, min: u32, max: u32) -> Result<(), NoMemory>
+        requires new { (store self.old).is_open pid.0 ≡ false }
+        requires kind { (store self.old).kind ≡ kind.Process pid min max }
+        ensures ok { OnOk result (store self.new ≡ record (store self.old) { is_open = changed ◌==◌ (store self.old).is_open pid.0 true }) }
+        ensures err { OnErr result (store self.new ≡ store self.old) }
+        ensures contents { contents self.new ≡ contents self.old }
+        ensures loans { loans self.new ≡ loans self.old };
+
+    /// Closes an open process that has no bound place.
+    fn close_process(&mut self, pid: Pid)
+        requires open { (store self.old).is_open pid.0 ≡ true }
+        requires unbound { (page : ℕ) → (store self.old).bound (place_at pid page) ≡ false }
+        ensures store { store self.new ≡ record (store self.old) { is_open = changed ◌==◌ (store self.old).is_open pid.0 false } }
+        ensures contents { contents self.new ≡ contents self.old }
+        ensures loans { loans self.new ≡ loans self.old };
+
+    /// Binds `n` user pages of an open process from `first` on, none of which is bound; they name nothing.
+    /// After `NoMemory` nothing has changed.
+    fn bind(&mut self, pid: Pid, first: Vpn, n: u32) -> Result<(), NoMemory>
+        requires open { (store self.old).is_open pid.0 ≡ true }
+        requires user { are_user_pages (record { first = first.0; count = n }) ≡ true }
+        requires unbound { AllBound (store self.old) pid (record { first = first.0; count = n }) false }
+        ensures ok { OnOk result (store self.new ≡ record (store self.old) {
+          bound = changed_in pid (record { first = first.0; count = n }) (store self.old).bound true;
+          names = changed_in pid (record { first = first.0; count = n }) (store self.old).names None;
+        }) }
+        ensures err { OnErr result (store self.new ≡ store self.old) }
+        ensures contents { contents self.new ≡ contents self.old }
+        ensures loans { loans self.new ≡ loans self.old };
+
+    /// Gives up `n` bound pages of a process from `first` on that have no live private key.
+    fn unbind(&mut self, pid: Pid, first: Vpn, n: u32)
+        requires bound { AllBound (store self.old) pid (record { first = first.0; count = n }) true }
+        requires dead { (page : ℕ) → first.0 ≤ page → page < first.0 + n → contents self.old (Private pid (record { 0 = page })) ≡ None }
+        requires kind { MayUnbind (store self.old) pid (record { first = first.0; count = n }) }
+        ensures store { store self.new ≡ record (store self.old) {
+          bound = changed_in pid (record { first = first.0; count = n }) (store self.old).bound false;
+          names = changed_in pid (record { first = first.0; count = n }) (store self.old).names None;
+          report = rearranged (store self.old).report (store self.new).report;
+        } }
+        ensures contents { contents self.new ≡ contents self.old }
+        ensures loans { loans self.new ≡ loans self.old };
+
+    /// Sees that there is room for `total` page-file keys, which is at most the commit limit. Room never falls.
+    fn reserve(&mut self, total: u32) -> Result<(), NoMemory>
+        requires { total ≤ limit_of (store self.old).machine }
+        ensures store { store self.new ≡ record (store self.old) { room = (store self.new).room } }
+        ensures later { (store self.old).room ≤ (store self.new).room }
+        ensures ok { OnOk result (total ≤ (store self.new).room) }
+        ensures contents { contents self.new ≡ contents self.old }
+        ensures loans { loans self.new ≡ loans self.old };
+
+    /// A page-file key comes to be, and reads as zero. There is room for it.
+    fn add(&mut self, key: Key)
+        requires dead { contents self.old key ≡ None }
+        requires home { HasHome (store self.old) key }
+        requires room { (store self.old).paging_keys < (store self.old).room }
+        requires kind { (store self.old).kind ≡ kind.Call }
+        ensures contents { contents self.new ≡ changed same_key (contents self.old) key (Some (filled 0)) }
+        ensures store { store self.new ≡ record (store self.old) {
+          paging = changed same_key (store self.old).paging key true;
+          paging_keys = (store self.old).paging_keys + 1;
+          report = rearranged (store self.old).report (store self.new).report;
+        } }
+        ensures loans { loans self.new ≡ loans self.old };
+
+    /// A page-file key is no more, and its own place names nothing.
+    fn remove(&mut self, key: Key)
+        requires live { (store self.old).paging key ≡ true }
+        requires kind { MayRemove (store self.old) key }
+        ensures contents { contents self.new ≡ changed same_key (contents self.old) key None }
+        ensures store { store self.new ≡ record (store self.old) {
+          names = unnamed key (store self.old).names;
+          paging = changed same_key (store self.old).paging key false;
+          paging_keys = (store self.old).paging_keys - 1;
+          report = rearranged (store self.old).report (store self.new).report;
+        } }
+        ensures loans { loans self.new ≡ loans self.old };
+
+    /// Reads up to 64 bytes of a key's page from `off` on, at a place that may use the key; the place then names it.
+    /// Why it fails stands in `fault`: only as paging fails, in an unpaged store never.
+    fn read(&mut self, place: Place, key: Key, off: u16, out: &mut [u8]) -> Result<(), PageFault>
+        requires at { IsAt (contents self.old) (store self.old) place key }
+        requires few { length out.old ≤ 64 }
+        requires inside { off + length out.old ≤ 4096 }
+        requires kind { MayAccess (store self.old) place (touch key) }
+        ensures length { length out.new ≡ length out.old }
+        ensures bytes { OnOk result (out.new ≡ take (length out.old) (drop off (unwrap_or (contents self.old key) (filled 0)))) }
+        ensures contents { contents self.new ≡ contents self.old }
+        ensures ok { OnOk result (store self.new ≡ record (fetched (store self.old) (store self.new)) { names = changed same_place (store self.old).names place (Some key) }) }
+        ensures err { OnErr result (store self.new ≡ fetched (store self.old) (store self.new)) }
+        ensures caused { IsCaused (store self.old) (store self.new) }
+        ensures fault { IsBegun (store self.old).report → Ends (touch key) (store self.new).report result }
+        ensures unpaged { unpaged ≡ true → IsOk result }
+        ensures loans { loans self.new ≡ loans self.old };
+
+    /// Writes up to 64 bytes of a key's page from `off` on, as `read`. Only that key's bytes change, and only after Ok.
+    fn write(&mut self, place: Place, key: Key, off: u16, bytes: &[u8]) -> Result<(), PageFault>
+        requires at { IsAt (contents self.old) (store self.old) place key }
+        requires few { length bytes.now ≤ 64 }
+        requires inside { off + length bytes.now ≤ 4096 }
+        requires kind { MayAccess (store self.old) place (touch key) }
+        ensures written { OnOk result (contents self.new ≡ changed same_key (contents self.old) key (Some (written (unwrap_or (contents self.old key) (filled 0)) off bytes.now))) }
+        ensures kept { OnErr result (contents self.new ≡ contents self.old) }
+        ensures ok { OnOk result (store self.new ≡ record (fetched (store self.old) (store self.new)) { names = changed same_place (store self.old).names place (Some key) }) }
+        ensures err { OnErr result (store self.new ≡ fetched (store self.old) (store self.new)) }
+        ensures caused { IsCaused (store self.old) (store self.new) }
+        ensures fault { IsBegun (store self.old).report → Ends (touch key) (store self.new).report result }
+        ensures unpaged { unpaged ≡ true → IsOk result }
+        ensures loans { loans self.new ≡ loans self.old };
+
+    /// A line begins: its number is one more than the last one's, and its kind is neither `machine` nor `grow`.
+    fn line(&mut self, line: u32, kind: LineKind)
+        requires next { line ≡ (store self.old).line + 1 }
+        requires kind { IsLineKind (store self.old) kind }
+        ensures store { store self.new ≡ record (store self.old) {
+          line = line;
+          kind = kind;
+          last_pid = pid_after (store self.old).last_pid kind;
+          ready = None;
+          report = begun (store self.old).report;
+        } }
+        ensures contents { contents self.new ≡ contents self.old }
+        ensures loans { loans self.new ≡ loans self.old };
+
+    /// A line begins in which the paging file grows by `n` slots, in the place of `line`. `Failed` comes only where the
+    /// paging device's count of faults rose, and the line is a call that changed nothing; after `Memory` no line has begun.
+    fn grow(&mut self, line: u32, n: u32) -> Result<(), GrowFault>
+        requires next { line ≡ (store self.old).line + 1 }
+        requires some { 1 ≤ n }
+        requires most { (store self.old).machine.slots + n ≤ most_slots }
+        ensures contents { contents self.new ≡ contents self.old }
+        ensures ok { OnOk result (store self.new ≡ record (store self.old) {
+          machine = with_slots (store self.old).machine n;
+          room = (store self.new).room;
+          line = line;
+          kind = kind.Grow n;
+          ready = None;
+          report = record (begun (store self.old).report) { counts = (store self.new).report.counts; extended = (store self.new).report.extended };
+          paging_device = called (store self.old).paging_device (store self.new).paging_device;
+        }) }
+        ensures extended { OnOk result (is_failed_extension (store self.new).report.extended ≡ false) }
+        ensures later { (store self.old).room ≤ (store self.new).room }
+        ensures failed { IsErrOf result grow_fault.Failed → store self.new ≡ record (store self.old) {
+          line = line;
+          kind = kind.Call;
+          ready = None;
+          report = record (begun (store self.old).report) { extended = Some false };
+          paging_device = called (store self.old).paging_device (store self.new).paging_device;
+        } }
+        ensures memory { IsErrOf result grow_fault.Memory → store self.new ≡ store self.old }
+        ensures faults { (store self.old).paging_device.faults ≤ (store self.new).paging_device.faults }
+        ensures cause { IsErrOf result grow_fault.Failed → Rose (store self.old).paging_device.faults (store self.new).paging_device.faults }
+        ensures unpaged { unpaged ≡ true → IsErrOf result grow_fault.Failed → ⊥ }
+        ensures loans { loans self.new ≡ loans self.old };
+}
