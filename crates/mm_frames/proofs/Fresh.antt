@@ -1,12 +1,11 @@
 -- All frames are free.
-use Rattle.std.proofs.Common.{◌≡◌, ◌≢◌, ℕ, zero, suc, ◌+◌, ◌<◌, ◌≤◌, ◌^◌, Bool, true, false, List, [], ◌∷◌, ◌++◌, length, get_or, set, replicate, Option, Some, None, refl, sym, ap, ◌∙◌, subst, arith}
+use Rattle.std.proofs.Common.{◌≡◌, ℕ, zero, suc, ◌+◌, ◌<◌, ◌^◌, List, [], ◌∷◌, ◌++◌, length, get_or, replicate, Some, None, refl, sym, ap, ◌∙◌, subst, arith}
 use Rattle.std.specs.Prelude.{slice_get}
 use Rattle.std.proofs.lemmas.List.{get_or-replicate, length-replicate}
 use Rattle.mm_types.specs.declared.frames.Record.{Record}
 use Rattle.mm_life.specs.Frames.{blank}
 use Rattle.mm_life.specs.Life.{numbers_from}
-use Rattle.mm_lists.specs.Lists.{ListsOf, AreApart, IsOnNone, list_at, number_at}
-use Rattle.mm_ram.specs.Ram.{page_at}
+use Rattle.mm_lists.specs.Lists.{ListsOf, AreApart, IsOnNone, number_at}
 use Rattle.mm_frames.specs.declared.standing.Standing.{Standing}
 use Rattle.mm_frames.specs.declared.standing.Standing.TheVariants.{Free}
 use Rattle.mm_frames.specs.Base.{standing_at}

@@ -2,3 +2,6 @@ pub mod Members
 pub mod Placings
 pub mod Counting
 pub mod Fresh
+pub mod Departures
+pub mod OnePlace
+pub mod AtRest

@@ -1,5 +1,5 @@
 -- Where the frames are, as one of them moves.
-use Rattle.std.proofs.Common.{◌≡◌, ◌≢◌, ◌⊎◌, ℕ, zero, suc, ◌+◌, ◌<◌, ◌≤◌, ◌^◌, Bool, true, false, cond, List, [], ◌∷◌, ◌++◌, length, drop, map, get_or, set, Option, Some, None, refl, sym, ap, ◌∙◌, subst, inl, inr, arith, length-set, get_or-set_same, get_or-set_other}
+use Rattle.std.proofs.Common.{◌≡◌, ◌≢◌, ℕ, ◌+◌, ◌<◌, ◌≤◌, Bool, true, false, cond, List, [], ◌∷◌, ◌++◌, length, drop, map, get_or, set, Option, Some, None, refl, sym, ap, ◌∙◌, subst, inl, inr, arith, length-set, get_or-set_same, get_or-set_other}
 use Rattle.std.specs.Prelude.{slice_get, ◌==◌, ◌||◌, ◌&&◌, ◌-◌, not, if◌then◌else◌, is_some}
 use Rattle.std.specs.Cmp.{unsigned_Decides}
 use Rattle.std.proofs.lemmas.List.{set-get_or, get_or_past, length-map}
@@ -10,9 +10,9 @@ use Rattle.mm_types.specs.declared.frames.Request.{Request}
 use Rattle.mm_types.specs.declared.frames.Request.TheVariants as request
 use Rattle.mm_types.proofs.Cells.{same_or_not, get_within}
 use Rattle.mm_types.proofs.Tables.{differ}
-use Rattle.mm_life.specs.Frames.{blank, is_idle, is_read, has_request, with_record, off_lists, shared, settled, settled_by, FrameTable, soiled, being_written, without_slot}
+use Rattle.mm_life.specs.Frames.{blank, is_idle, is_read, has_request, with_record, off_lists, shared, settled, settled_by, soiled, being_written, without_slot}
 use Rattle.mm_lists.specs.Lists.{ListsOf, AreApart, IsOnNone, IsOnOne, list_at, number_at, with_list, without}
-use Rattle.mm_ram.specs.Ram.{page_at, zero_page, with_page}
+use Rattle.mm_ram.specs.Ram.{page_at, zero_page}
 use Rattle.mm_frames.specs.declared.standing.Standing.{Standing}
 use Rattle.mm_frames.specs.declared.standing.Standing.TheVariants.{Zeroed, Free, Bound, Cleared, Taken}
 use Rattle.mm_frames.specs.Base.{standing_at}

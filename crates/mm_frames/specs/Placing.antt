@@ -1,12 +1,13 @@
 -- Each frame is on one list, active, in transition or in one token in hand.
-use Rattle.std.specs.Prelude.{◌≡◌, ◌≢◌, ℕ, ◌+◌, ◌<◌, ◌^◌, Bool, true, false, ◌&&◌, ◌||◌, ◌==◌, if◌then◌else◌, is_some, List, [], ◌∷◌, ◌++◌, length, map, Option, Some, None, slice_index_or}
+use Rattle.std.specs.Prelude.{cond, ◌≡◌, ◌≢◌, ℕ, ◌+◌, ◌<◌, ◌^◌, Bool, true, false, ◌&&◌, ◌||◌, ◌==◌, if◌then◌else◌, is_some, List, [], ◌∷◌, length, Option, Some, None, slice_index_or}
 use Rattle.mm_types.specs.declared.frames.Record.{Record}
-use Rattle.mm_life.specs.Frames.{FrameTable, blank, is_idle, has_request, is_read}
+use Rattle.mm_life.specs.Frames.{FrameTable, blank, record_at, is_idle, has_request, is_read, is_on}
+use Rattle.mm_life.specs.Life.{is_active, is_in_transition}
 use Rattle.mm_lists.specs.Lists.{ListsOf, AreApart, list_at, number_at}
 use Rattle.mm_ram.specs.Ram.{page_at, zero_page}
 use Rattle.mm_frames.specs.declared.standing.Standing.{Standing}
 use Rattle.mm_frames.specs.declared.standing.Standing.TheVariants.{Zeroed, Free, Bound, Cleared, Taken}
-use Rattle.mm_frames.specs.Base.{standing_at}
+use Rattle.mm_frames.specs.Base.{FramesOf, standing_at}
 
 -- the list that a frame is on: zeroed, free, standby, modified are lists 0 to 3
 abbrev pub list_for : Standing → Record → Option ℕ
@@ -58,3 +59,34 @@ pub record AreFrames (records : List Record) (standing : List Standing) (lists :
 -- four lists, with numbers on the second alone
 abbrev pub free_only : List ℕ → List (List ℕ)
 free_only xs = [] ∷ xs ∷ [] ∷ [] ∷ []
+
+-- ---- what the type keeps, in what contracts see
+
+abbrev pub lists_of : FrameTable → List (List ℕ)
+lists_of d = d.zeroed ∷ d.free ∷ d.standby ∷ d.modified ∷ []
+
+abbrev pub ArePlaced : FramesOf → Type 0
+ArePlaced v = AreFrames v.table.records v.standing (record { numbers = length v.table.records; lists = lists_of v.table }) v.bytes
+
+abbrev pub is_in_hand : Standing → Bool
+is_in_hand Zeroed = false
+is_in_hand Free = false
+is_in_hand Bound = false
+is_in_hand Cleared = true
+is_in_hand Taken = true
+
+abbrev pub one_if : Bool → ℕ
+one_if b = cond b 1 0
+
+-- on how many of the four lists, active, in transition and in hand the frame is
+abbrev pub places : FramesOf → ℕ → ℕ
+places v f =
+    one_if (is_on f v.table.zeroed) + one_if (is_on f v.table.free) + one_if (is_on f v.table.standby) + one_if (is_on f v.table.modified)
+    + one_if (is_active (record_at v.table f)) + one_if (is_in_transition (record_at v.table f)) + one_if (is_in_hand (standing_at v.standing f))
+
+-- a page that no valid entry and no request holds, changed or not
+pub record IsAtRest (changed_page : Bool) (r : Record) : Type 0 where
+  pub owned : is_some r.owner ≡ true
+  pub unshared : r.shares ≡ 0
+  pub no_request : has_request r.request ≡ false
+  pub same : r.changed ≡ changed_page

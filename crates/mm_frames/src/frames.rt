@@ -1,16 +1,17 @@
-ghost use Rattle.std.specs.Prelude.{◌≡◌, ◌≢◌, ℕ, ◌≤◌, ◌^◌, true, false, Some, IsSome, ◌<◌, ◌+◌, ◌++◌, ◌∷◌, [], length, replicate, count_by, None, IfOk, option_map, slice_get, slice_set};
-ghost use Rattle.mm_life.specs.Frames.{record_at, is_read, has_request, after_map, after_unmap, after_soil, after_write, slot_after_soil};
+ghost use Rattle.std.specs.Prelude.{◌≡◌, ◌≢◌, ℕ, ◌≤◌, ◌^◌, true, false, Some, IsSome, IfSome, ◌<◌, ◌+◌, ◌++◌, ◌∷◌, [], length, replicate, count_by, None, IfOk, option_map, slice_get, slice_set};
+ghost use Rattle.mm_life.specs.Frames.{blank, record_at, is_idle, is_on, is_read, is_write, has_request, with_record, off_lists, settled, after_map, after_unmap, after_soil, after_write, slot_after_soil, slot_after_read, slot_after_drop};
 ghost use Rattle.mm_life.specs.Life.{free_table, is_active, is_in_transition, numbers_from};
 ghost use Rattle.mm_lists.specs.Lists.{AreApart};
-ghost use Rattle.mm_frames.specs.Placing.{free_only, is_kept};
-ghost use Rattle.mm_ram.specs.Ram.{bytes_of, bytes_from, overwritten, with_page, page_size};
-ghost use Rattle.mm_frames.specs.Base.{FramesOf, zeroed_taken, free_taken, zeroed_put, free_put, now_cleared, given_to, reading_into, IsBlank, IsDirty};
+ghost use Rattle.mm_frames.specs.Placing.{free_only, is_kept, ArePlaced, IsAtRest, places};
+ghost use Rattle.mm_ram.specs.Ram.{bytes_of, bytes_from, overwritten, page_at, with_page, zero_page, page_size};
+ghost use Rattle.mm_frames.specs.Base.{FramesOf, zeroed_taken, free_taken, standby_taken, zeroed_put, free_put, now_cleared, given_to, reading_into, IsBlank, IsDirty, can_be_soiled, can_go_to, read_ended, write_ended, slot_after_write, forgotten, stands_with, gone_free, ended_with};
 
 use crate::placing::{
-    FREE, MODIFIED, STANDBY, ZEROED, is_idle, leave, settle, slot_after_soil, soiled,
+    FREE, MODIFIED, STANDBY, ZEROED, has_request, is_idle, leave, settle, slot_after_read,
+    slot_after_soil, slot_after_write, slot_of, soiled, written,
 };
-use crate::records::Records;
-use crate::{Blank, Dirty, Standing};
+use crate::records::{BLANK, Records};
+use crate::{Blank, Dirty, Ended, Standing, Stolen};
 use mm_lists::Lists;
 use mm_ram::Ram;
 use mm_types::{Backing, Frame, Key, NoMemory, Record, Request, Slot};
@@ -103,9 +104,10 @@ impl Frames {
         Some(Frame(self.lists.front(MODIFIED)?))
     }
 
-    /// Takes the first zeroed frame, `None` exactly where none is zeroed.
+    /// Takes the first zeroed frame, `None` exactly where none is zeroed. Its bytes are all zero.
     pub fn take_zeroed(&mut self) -> Option<Blank>
         ensures first { result ≡ slice_get self.old.table.zeroed 0 }
+        ensures zero { IfSome result (λ f. page_at self.new.bytes f ≡ Some zero_page) }
         ensures taken { self.new ≡ zeroed_taken self.old }
     {
         let f = self.lists.pop_front(ZEROED)?;
@@ -121,6 +123,26 @@ impl Frames {
         let f = self.lists.pop_front(FREE)?;
         self.standing[f as usize] = Standing::Taken;
         Some(Dirty { frame: Frame(f) })
+    }
+
+    /// Takes the first frame on standby from its page (the move `steal`, with the frame in hand in place of on
+    /// free); `None` exactly where none is on standby.
+    pub fn take_standby(&mut self) -> Option<Stolen>
+        ensures first { option_map (λ s. s.dirty) result ≡ slice_get self.old.table.standby 0 }
+        ensures key { IfSome result (λ s. (record_at self.old.table s.dirty).owner ≡ Some s.key) }
+        ensures backing { IfSome result (λ s. (record_at self.old.table s.dirty).backing ≡ s.backing) }
+        ensures taken { self.new ≡ standby_taken self.old }
+    {
+        let f = self.lists.pop_front(STANDBY)?;
+        let r = self.records.get(f);
+        let key = r.owner.unwrap();
+        self.records.set(f, BLANK);
+        self.standing[f as usize] = Standing::Taken;
+        Some(Stolen {
+            dirty: Dirty { frame: Frame(f) },
+            key,
+            backing: r.backing,
+        })
     }
 
     /// Spends a blank: its frame goes to the end of the zeroed list.
@@ -172,6 +194,7 @@ impl Frames {
         requires { IsBlank self.old b }
         ensures same { result.0 ≡ b }
         ensures bound { self.new ≡ given_to self.old b key }
+        ensures zero { page_at self.new.bytes b ≡ Some zero_page }
     {
         let Blank { frame } = b;
         self.records.set(
@@ -311,11 +334,11 @@ impl Frames {
         settle(&mut self.lists, f.0, &unshared);
     }
 
-    /// The page of a frame with shares and no read request is changed (the move `soil`): a slot that
-    /// backed it is given back.
+    /// The page of a frame with shares is changed (the move `soil`): a slot that backed it is given back. It
+    /// was not changed, or it is being written and was not changed since that began.
     pub fn soil(&mut self, f: Frame) -> Option<Slot>
         requires shared { 1 ≤ (record_at self.old.table f.0).shares }
-        requires not_read { is_read (record_at self.old.table f.0).request ≡ false }
+        requires clean { can_be_soiled (record_at self.old.table f.0) ≡ true }
         ensures slot { option_map (λ s. s.0) result ≡ slot_after_soil (record_at self.old.table f.0) }
         ensures soiled { self.new ≡ record self.old { table = after_soil self.old.table f.0 } }
     {
@@ -324,8 +347,11 @@ impl Frames {
         slot_after_soil(&r)
     }
 
-    /// A write of a changed frame without a request begins (the move `write`): it leaves its list, if any.
+    /// A write of a changed frame without a request begins (the move `write`): it leaves its list, if any. It
+    /// goes to the block that backs the frame, or for a modified frame without one to a slot.
     pub fn start_write(&mut self, f: Frame, backing: Backing)
+        requires changed { (record_at self.old.table f.0).changed ≡ true }
+        requires target { can_go_to backing (record_at self.old.table f.0) ≡ true }
         requires owned { IsSome (record_at self.old.table f.0).owner }
         requires no_request { has_request (record_at self.old.table f.0).request ≡ false }
         ensures { self.new ≡ record self.old { table = after_write self.old.table f.0 backing } }
@@ -338,5 +364,154 @@ impl Frames {
             ..r
         };
         self.records.set(f.0, written);
+    }
+
+    /// A bound frame leaves its list, if it is on one, and goes to free with an empty record.
+    fn free(&mut self, f: Frame)
+        requires kept { is_kept (record_at self.old.table f.0) ≡ true }
+        ensures freed { self.new ≡ gone_free self.old f.0 }
+        ensures busy { is_idle (record_at self.old.table f.0) ≡ false
+            → off_lists self.old.table f.0 ≡ self.old.table }
+    {
+        let r = self.records.get(f.0);
+        leave(&mut self.lists, f.0, is_idle(&r));
+        self.records.set(f.0, BLANK);
+        self.lists.push_back(FREE, f.0);
+        self.standing[f.0 as usize] = Standing::Free;
+    }
+
+    /// A bound frame that is on no list has this record now, and settles.
+    fn settle_as(&mut self, f: Frame, r: Record)
+        requires kept { is_kept (record_at self.old.table f.0) ≡ true }
+        requires busy { is_idle (record_at self.old.table f.0) ≡ false }
+        requires owned { IsSome r.owner }
+        requires bytes { IsSome (page_at self.old.bytes f.0) }
+        ensures { self.new
+            ≡ record self.old { table = settled (with_record self.old.table f.0 r) f.0 } }
+    {
+        self.records.set(f.0, r);
+        settle(&mut self.lists, f.0, &r);
+    }
+
+    /// The request of a frame ends and leaves this record: without an owner the frame goes to free.
+    fn end_request(&mut self, f: Frame, r: Record)
+        requires kept { is_kept (record_at self.old.table f.0) ≡ true }
+        requires busy { is_idle (record_at self.old.table f.0) ≡ false }
+        requires bytes { IsSome (page_at self.old.bytes f.0) }
+        ensures { self.new ≡ record self.old {
+          table = ended_with r self.old.table f.0;
+          standing = stands_with r.owner self.old.standing f.0;
+        } }
+    {
+        if r.owner.is_some() {
+            self.settle_as(f, r);
+        } else {
+            self.free(f);
+        }
+    }
+
+    /// The read request of a frame ends: with the page's bytes (the move `got`), or without (the move `bad`).
+    ///
+    /// Answers the page that the frame was read for, if it still lives, the slot to give back, and the backing
+    /// that was read: after a failure the page's home.
+    pub fn end_read(&mut self, f: Frame, bytes: Option<&[u8; 4096]>) -> Ended
+        requires reading { is_read (record_at self.old.table f.0).request ≡ true }
+        ensures owner { result.owner ≡ (record_at self.old.table f.0).owner }
+        ensures slot { option_map (λ s. s.0) result.slot ≡ slot_after_read (record_at self.old.table f.0) }
+        ensures home { result.home ≡ (record_at self.old.table f.0).backing }
+        ensures ended { self.new ≡ read_ended self.old f.0 (option_map (λ page. page.now) bytes.entry) }
+    {
+        let r = self.records.get(f.0);
+        let ended = Ended {
+            owner: r.owner,
+            slot: slot_after_read(&r),
+            home: r.backing,
+        };
+        match bytes {
+            Some(page) => {
+                self.ram.fill(f, page);
+                let left = Record {
+                    request: Request::None,
+                    ..r
+                };
+                self.end_request(f, left);
+            }
+            None => self.free(f),
+        }
+        ended
+    }
+
+    /// The write request of a frame ends: well (the move `wrote`), or not (the move `lost`).
+    ///
+    /// Answers the page that the frame holds, if it still lives, the slot to give back, and the backing that
+    /// was written.
+    pub fn end_write(&mut self, f: Frame, ok: bool) -> Ended
+        requires writing { is_write (record_at self.old.table f.0).request ≡ true }
+        ensures owner { result.owner ≡ (record_at self.old.table f.0).owner }
+        ensures slot { option_map (λ s. s.0) result.slot
+            ≡ slot_after_write ok (record_at self.old.table f.0) }
+        ensures home { result.home ≡ (record_at self.old.table f.0).backing }
+        ensures ended { self.new ≡ write_ended self.old f.0 ok }
+    {
+        let r = self.records.get(f.0);
+        self.end_request(f, written(&r, ok));
+        Ended {
+            owner: r.owner,
+            slot: slot_after_write(&r, ok),
+            home: r.backing,
+        }
+    }
+
+    /// The page of a frame without shares is no more (the move `drop`). Answers the slot to give back: a frame
+    /// with a request keeps its slot, and goes to free only as the request ends.
+    pub fn forget(&mut self, f: Frame) -> Option<Slot>
+        requires owned { IsSome (record_at self.old.table f.0).owner }
+        requires unshared { (record_at self.old.table f.0).shares ≡ 0 }
+        ensures slot { option_map (λ s. s.0) result ≡ slot_after_drop (record_at self.old.table f.0) }
+        ensures forgotten { self.new ≡ forgotten self.old f.0 }
+    {
+        let r = self.records.get(f.0);
+        if has_request(&r) {
+            self.records.set(f.0, Record { owner: None, ..r });
+            return None;
+        }
+        self.free(f);
+        slot_of(r.backing)
+    }
+
+    /// A law, which does nothing: each frame is on exactly one list, active, in transition, or in one token
+    /// in hand; and `ArePlaced`, all that the type keeps.
+    pub fn every_frame_has_one_place(&self)
+        ensures placed { ArePlaced self.now }
+        ensures one { (f : ℕ) → f < length self.now.table.records → places self.now f ≡ 1 }
+    {
+        let _ = &self.records;
+    }
+
+    /// A law, which does nothing: what the frames on each list hold, and on which list a page at rest is.
+    pub fn lists_hold_what_they_say(&self)
+        ensures zeroed { (k f : ℕ) → slice_get self.now.table.zeroed k ≡ Some f
+            → record_at self.now.table f ≡ blank }
+        ensures free { (k f : ℕ) → slice_get self.now.table.free k ≡ Some f
+            → record_at self.now.table f ≡ blank }
+        ensures standby { (k f : ℕ) → slice_get self.now.table.standby k ≡ Some f
+            → IsAtRest false (record_at self.now.table f) }
+        ensures modified { (k f : ℕ) → slice_get self.now.table.modified k ≡ Some f
+            → IsAtRest true (record_at self.now.table f) }
+        ensures clean { (f : ℕ) → IsAtRest false (record_at self.now.table f)
+            → is_on f self.now.table.standby ≡ true }
+        ensures changed { (f : ℕ) → IsAtRest true (record_at self.now.table f)
+            → is_on f self.now.table.modified ≡ true }
+    {
+        let _ = &self.records;
+    }
+
+    /// A law, which does nothing: the bytes of each zeroed frame, and of a blank in hand, are all zero.
+    pub fn zeroed_frames_are_zero(&self)
+        ensures zeroed { (k f : ℕ) → slice_get self.now.table.zeroed k ≡ Some f
+            → page_at self.now.bytes f ≡ Some zero_page }
+        ensures blank { (f : ℕ) → IsBlank self.now f → page_at self.now.bytes f ≡ Some zero_page }
+    {
+        let _ = &self.records;
     }
 }

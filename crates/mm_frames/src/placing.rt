@@ -1,6 +1,7 @@
 ghost use Rattle.std.specs.Prelude.{◌≡◌, ◌≢◌, ◌+◌, ◌<◌, ◌++◌, ◌∷◌, [], true, false, length, map, if◌then◌else◌, option_map};
 ghost use Rattle.mm_lists.specs.Lists.{IsOnOne, IsOnNone, AreApart, list_at, with_list, without};
-ghost use Rattle.mm_life.specs.Frames.{is_idle, soiled, without_slot, slot_of, slot_after_soil};
+ghost use Rattle.mm_life.specs.Frames.{is_idle, has_request, is_write, soiled, write_done, write_lost, without_slot, slot_of, slot_after_soil, slot_after_read};
+ghost use Rattle.mm_frames.specs.Base.{record_written, slot_after_write};
 
 use mm_lists::Lists;
 use mm_types::{Backing, Record, Request, Slot};
@@ -21,6 +22,15 @@ pub fn is_idle(r: &Record) -> bool
     match r.request {
         Request::None => r.shares == 0,
         Request::Read | Request::Write | Request::WriteAgain => false,
+    }
+}
+
+pub fn has_request(r: &Record) -> bool
+    ensures { result ≡ has_request r.now.request }
+{
+    match r.request {
+        Request::None => false,
+        Request::Read | Request::Write | Request::WriteAgain => true,
     }
 }
 
@@ -91,11 +101,53 @@ pub fn slot_after_soil(r: &Record) -> Option<Slot>
     }
 }
 
-fn slot_of(backing: Backing) -> Option<Slot>
+/// The slot that a backing is.
+pub fn slot_of(backing: Backing) -> Option<Slot>
     ensures { option_map (λ s. s.0) result ≡ slot_of backing }
 {
     match backing {
         Backing::Slot(s) => Some(s),
         Backing::None | Backing::Block(_) => None,
     }
+}
+
+/// The slot that is given back as a read ends: that of a page which is no more.
+pub fn slot_after_read(r: &Record) -> Option<Slot>
+    ensures { option_map (λ s. s.0) result ≡ slot_after_read r.now }
+{
+    match r.owner {
+        Some(_) => None,
+        None => slot_of(r.backing),
+    }
+}
+
+/// The record of a frame whose write ended.
+pub fn written(r: &Record, ok: bool) -> Record
+    requires { is_write r.now.request ≡ true }
+    ensures { result ≡ record_written ok r.now }
+{
+    if !ok || r.request == Request::WriteAgain {
+        let backing = without_slot(r.backing);
+        return Record {
+            request: Request::None,
+            backing,
+            ..*r
+        };
+    }
+    Record {
+        request: Request::None,
+        changed: false,
+        ..*r
+    }
+}
+
+/// The slot that is given back as a write ends: that of a page which is no more, or has to be written again.
+pub fn slot_after_write(r: &Record, ok: bool) -> Option<Slot>
+    requires { is_write r.now.request ≡ true }
+    ensures { option_map (λ s. s.0) result ≡ slot_after_write ok r.now }
+{
+    if ok && r.request == Request::Write && r.owner.is_some() {
+        return None;
+    }
+    slot_of(r.backing)
 }

@@ -27,7 +27,7 @@ impl Model for Records {
 }
 
 /// The record of a frame that was never used, or is free or zeroed.
-const BLANK: Record = Record {
+pub const BLANK: Record = Record {
     owner: None,
     changed: false,
     backing: Backing::None,

@@ -1,5 +1,4 @@
-use Rattle.std.proofs.Common.{◌≡◌, ◌+◌, ◌++◌, ◌∷◌, [], suc, sym, ap, ◌∙◌, List, ℕ, arith, add-one}
-use Rattle.mm_life.specs.Life.{numbers_from}
+use Rattle.std.proofs.Common.{◌++◌, ◌∷◌, [], sym, ap, ◌∙◌, List, ℕ}
 use Rattle.mm_lists.specs.Lists.{ListsOf, list_at, number_at, with_list}
 use Rattle.mm_frames.specs.Placing.{free_only}
 use Rattle.mm_frames.proofs.Fresh.{not_yet, numbers_next}

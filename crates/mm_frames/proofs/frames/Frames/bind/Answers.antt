@@ -1,13 +1,12 @@
-use Rattle.std.proofs.Common.{◌≡◌, ◌≢◌, ◌<◌, ◌++◌, ◌∷◌, [], true, sym, ap, ◌∙◌, subst, refl, Some, None, List, ℕ, Option, get_or, set, length, arith}
-use Rattle.std.specs.Prelude.{slice_get, is_some, false}
+use Rattle.std.proofs.Common.{◌≡◌, ◌++◌, ◌∷◌, [], sym, ap, ◌∙◌, subst, refl, Some, List, ℕ, set, arith}
+use Rattle.std.specs.Prelude.{slice_get, is_some}
 use Rattle.mm_types.specs.declared.frames.Record.{Record}
-use Rattle.mm_life.specs.Frames.{blank, given, being_read}
+use Rattle.mm_life.specs.Frames.{given}
 use Rattle.mm_lists.specs.Lists.{ListsOf, AreApart, list_at, with_list}
-use Rattle.mm_ram.specs.Ram.{page_at}
-use Rattle.mm_frames.specs.declared.standing.Standing.TheVariants.{Bound, Cleared, Taken}
+use Rattle.mm_frames.specs.declared.standing.Standing.TheVariants.{Bound, Cleared}
 use Rattle.mm_frames.specs.Base.{FramesOf}
 use Rattle.mm_frames.specs.Placing.{AreFrames}
-use Rattle.mm_frames.proofs.Placings.{on_none, token_low, token_off, token_holds, token_given, token_reading}
+use Rattle.mm_frames.proofs.Placings.{on_none, token_low, token_off, token_holds, token_given}
 use Rattle.mm_frames.proofs.frames.Frames.bind.Goals as goal
 
 pub push_back-requires-clause-on_none : goal.push_back-requires-clause-on_none

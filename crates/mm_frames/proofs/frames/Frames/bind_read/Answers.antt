@@ -1,13 +1,11 @@
-use Rattle.std.proofs.Common.{◌≡◌, ◌≢◌, ◌<◌, ◌++◌, ◌∷◌, [], true, sym, ap, ◌∙◌, subst, refl, Some, None, List, ℕ, Option, get_or, set, length, arith}
-use Rattle.std.specs.Prelude.{slice_get, is_some, false}
+use Rattle.std.proofs.Common.{◌≡◌, sym, ap, ◌∙◌, subst, refl, Some, List, ℕ, set}
+use Rattle.std.specs.Prelude.{slice_get}
 use Rattle.mm_types.specs.declared.frames.Record.{Record}
-use Rattle.mm_life.specs.Frames.{blank, given, being_read}
-use Rattle.mm_lists.specs.Lists.{ListsOf, AreApart}
-use Rattle.mm_ram.specs.Ram.{page_at}
-use Rattle.mm_frames.specs.declared.standing.Standing.TheVariants.{Bound, Cleared, Taken}
+use Rattle.mm_life.specs.Frames.{being_read}
+use Rattle.mm_frames.specs.declared.standing.Standing.TheVariants.{Bound, Taken}
 use Rattle.mm_frames.specs.Base.{FramesOf}
 use Rattle.mm_frames.specs.Placing.{AreFrames}
-use Rattle.mm_frames.proofs.Placings.{on_none, token_low, token_off, token_holds, token_given, token_reading}
+use Rattle.mm_frames.proofs.Placings.{token_low, token_reading}
 use Rattle.mm_frames.proofs.frames.Frames.bind_read.Goals as goal
 
 pub invariant_of-self : goal.invariant_of-self

@@ -1,7 +1,7 @@
-use Rattle.std.proofs.Common.{◌≡◌, true, false, sym, ap, ◌∙◌, subst, refl, Some, List, ℕ, Option, get_or, set, ◌<◌, arith}
+use Rattle.std.proofs.Common.{◌≡◌, true, false, sym, ap, ◌∙◌, subst, List, ℕ, Option, get_or, arith}
 use Rattle.std.specs.Prelude.{is_some}
 use Rattle.mm_life.specs.Frames.{blank, record_at, is_read}
-use Rattle.mm_ram.specs.Ram.{page_at, bytes_of, overwritten}
+use Rattle.mm_ram.specs.Ram.{bytes_of}
 use Rattle.mm_frames.specs.Base.{FramesOf}
 use Rattle.mm_frames.specs.Placing.{AreFrames, is_kept}
 use Rattle.mm_frames.proofs.Placings.{kept_owned, frame_low, frame_written, rewritten}

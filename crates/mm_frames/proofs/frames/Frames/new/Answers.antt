@@ -1,4 +1,4 @@
-use Rattle.std.proofs.Common.{sym, ap, ◌∙◌, subst, None, Option, List, ℕ, replicate, arith}
+use Rattle.std.proofs.Common.{sym, subst, None, Option, List, ℕ, replicate}
 use Rattle.mm_types.specs.declared.frames.Record.{Record}
 use Rattle.mm_life.specs.Frames.{blank}
 use Rattle.mm_lists.specs.Lists.{ListsOf}

@@ -1,13 +1,10 @@
-use Rattle.std.proofs.Common.{◌≡◌, ◌≢◌, ◌<◌, ◌++◌, ◌∷◌, [], sym, ap, ◌∙◌, subst, refl, Some, List, ℕ, Option, get_or, set, length, length-set, get_or-set_same, get_or-set_other, arith}
+use Rattle.std.proofs.Common.{◌≡◌, sym, ap, ◌∙◌, subst, refl, Some, ℕ, set, arith}
 use Rattle.std.specs.Prelude.{slice_get}
-use Rattle.mm_life.specs.Frames.{blank}
-use Rattle.mm_lists.specs.Lists.{ListsOf, AreApart, IsOnNone}
-use Rattle.mm_ram.specs.Ram.{page_at, zero_page, with_page}
-use Rattle.mm_frames.specs.declared.standing.Standing.{Standing}
-use Rattle.mm_frames.specs.declared.standing.Standing.TheVariants.{Zeroed, Free, Bound, Cleared, Taken}
-use Rattle.mm_frames.specs.Base.{FramesOf, standing_at}
-use Rattle.mm_frames.specs.Placing.{Holds, AreFrames}
-use Rattle.mm_frames.proofs.Placings.{on_none, token_low, token_off, token_holds, token_put, token_changed, as_zeroed, as_empty}
+use Rattle.mm_lists.specs.Lists.{ListsOf, AreApart}
+use Rattle.mm_frames.specs.declared.standing.Standing.TheVariants.{Free, Taken}
+use Rattle.mm_frames.specs.Base.{FramesOf}
+use Rattle.mm_frames.specs.Placing.{AreFrames}
+use Rattle.mm_frames.proofs.Placings.{on_none, token_low, token_off, token_holds, token_put, as_empty}
 use Rattle.mm_frames.proofs.frames.Frames.put_free.Goals as goal
 
 pub push_back-requires-clause-on_none : goal.push_back-requires-clause-on_none

@@ -1,7 +1,7 @@
-use Rattle.std.proofs.Common.{◌≡◌, true, false, sym, ap, ◌∙◌, subst, refl, Some, List, ℕ, Option, map, get_or, set}
+use Rattle.std.proofs.Common.{◌≡◌, true, sym, ap, ◌∙◌, subst, refl, List, map, get_or, set}
 use Rattle.std.specs.Prelude.{is_some}
 use Rattle.mm_types.specs.declared.frames.Record.{Record}
-use Rattle.mm_life.specs.Frames.{FrameTable, blank, record_at, is_read, is_idle, shared, after_map}
+use Rattle.mm_life.specs.Frames.{FrameTable, blank, record_at, is_idle, shared, after_map}
 use Rattle.mm_lists.specs.Lists.{ListsOf, AreApart, without}
 use Rattle.mm_frames.specs.Base.{FramesOf}
 use Rattle.mm_frames.specs.Placing.{AreFrames, is_kept, table_of}

@@ -1,12 +1,13 @@
-use Rattle.std.proofs.Common.{◌≡◌, ◌≤◌, true, false, sym, ap, ◌∙◌, subst, refl, Some, List, ℕ, Option, get_or, set}
+use Rattle.std.proofs.Common.{◌≡◌, ◌≤◌, true, false, sym, ap, ◌∙◌, subst, refl, List, ℕ, get_or, set}
 use Rattle.std.specs.Prelude.{is_some}
 use Rattle.mm_types.specs.declared.frames.Record.{Record}
-use Rattle.mm_life.specs.Frames.{FrameTable, blank, record_at, is_read, is_idle, soiled, after_soil}
+use Rattle.mm_life.specs.Frames.{blank, record_at, is_read, is_idle, soiled}
 use Rattle.mm_ram.specs.Ram.{page_at}
 use Rattle.mm_frames.specs.declared.standing.Standing.TheVariants.{Bound}
-use Rattle.mm_frames.specs.Base.{FramesOf}
-use Rattle.mm_frames.specs.Placing.{AreFrames, Holds, is_kept, table_of}
+use Rattle.mm_frames.specs.Base.{FramesOf, can_be_soiled}
+use Rattle.mm_frames.specs.Placing.{AreFrames, Holds, is_kept}
 use Rattle.mm_frames.proofs.Placings.{kept_owned, shared_kept, shared_owned, shared_busy, frame_written, busy_stays, busy_list, soiled_shares, soiled_owned}
+use Rattle.mm_frames.proofs.Departures.{soiled_no_read}
 use Rattle.mm_frames.proofs.frames.Frames.soil.Goals as goal
 
 pub invariant_of-self : goal.invariant_of-self
@@ -16,7 +17,7 @@ invariant_of-self c =
     let some : 1 ≤ (get_or i.records f blank).shares = subst (λ (w : FramesOf). 1 ≤ (record_at w.table f).shares) (sym c.self.view_is) c.requires.shared in
     let kept : is_kept (get_or i.records f blank) ≡ true = shared_kept i.records i.standing.items i.lists i.ram c.self.invariant f some in
     let busy : is_idle (get_or i.records f blank) ≡ false = shared_busy (get_or i.records f blank) some in
-    let not_read : is_read (get_or i.records f blank).request ≡ false = ap (λ (w : FramesOf). is_read (record_at w.table f).request) c.self.view_is ∙ c.requires.not_read in
+    let not_read : is_read (get_or i.records f blank).request ≡ false = soiled_no_read (get_or i.records f blank) (ap (λ (w : FramesOf). can_be_soiled (record_at w.table f)) c.self.view_is ∙ c.requires.clean) in
     let now : c.set.new.self ≡ set i.records f (soiled (get_or i.records f blank)) = c.set.ensures ∙ ap (λ (q : Record). set i.records f q) c.soiled.ensures ∙ ap (λ (q : Record). set i.records f (soiled q)) c.get-r.ensures in
     let new = soiled (get_or i.records f blank) in
     let still : 1 ≤ new.shares = subst (λ (n : ℕ). 1 ≤ n) (sym (soiled_shares (get_or i.records f blank))) some in

@@ -1,10 +1,8 @@
-use Rattle.std.proofs.Common.{◌≡◌, true, false, sym, ap, ◌∙◌, subst, refl, Some, List, ℕ, Option, get_or, set}
-use Rattle.std.specs.Prelude.{is_some}
+use Rattle.std.proofs.Common.{◌≡◌, true, false, ap, ◌∙◌, get_or}
 use Rattle.mm_life.specs.Frames.{blank, record_at, is_read}
-use Rattle.mm_ram.specs.Ram.{page_at, bytes_of, overwritten}
 use Rattle.mm_frames.specs.Base.{FramesOf}
-use Rattle.mm_frames.specs.Placing.{AreFrames, is_kept}
-use Rattle.mm_frames.proofs.Placings.{kept_owned, frame_written, rewritten}
+use Rattle.mm_frames.specs.Placing.{is_kept}
+use Rattle.mm_frames.proofs.Placings.{frame_written}
 use Rattle.mm_frames.proofs.frames.Frames.take.Goals as goal
 
 pub take-requires : goal.take-requires

@@ -1,10 +1,9 @@
-use Rattle.std.proofs.Common.{◌≡◌, ◌≢◌, ◌<◌, sym, ap, ◌∙◌, subst, refl, Some, List, ℕ, Option, get_or, set, arith}
-use Rattle.mm_types.specs.declared.frames.Record.{Record}
+use Rattle.std.proofs.Common.{◌≡◌, sym, subst, refl, get_or, set, arith}
 use Rattle.mm_life.specs.Frames.{blank}
 use Rattle.mm_lists.specs.Lists.{ListsOf, AreApart}
 use Rattle.mm_ram.specs.Ram.{page_at}
 use Rattle.mm_frames.specs.declared.standing.Standing.{Standing}
-use Rattle.mm_frames.specs.declared.standing.Standing.TheVariants.{Zeroed, Free, Bound, Cleared, Taken}
+use Rattle.mm_frames.specs.declared.standing.Standing.TheVariants.{Free, Taken}
 use Rattle.mm_frames.specs.Base.{standing_at}
 use Rattle.mm_frames.specs.Placing.{Holds, AreFrames}
 use Rattle.mm_frames.proofs.Placings.{first_low, first_list, free_stands, as_empty, taken}

@@ -1,12 +1,11 @@
-use Rattle.std.proofs.Common.{◌≡◌, ◌≢◌, ◌<◌, sym, ap, ◌∙◌, subst, refl, Some, List, ℕ, Option, get_or, set, arith}
-use Rattle.mm_types.specs.declared.frames.Record.{Record}
+use Rattle.std.proofs.Common.{◌≡◌, sym, ap, subst, refl, get_or, set, arith}
 use Rattle.mm_life.specs.Frames.{blank}
 use Rattle.mm_lists.specs.Lists.{ListsOf, AreApart}
 use Rattle.mm_ram.specs.Ram.{page_at}
 use Rattle.mm_frames.specs.declared.standing.Standing.{Standing}
-use Rattle.mm_frames.specs.declared.standing.Standing.TheVariants.{Zeroed, Free, Bound, Cleared, Taken}
+use Rattle.mm_frames.specs.declared.standing.Standing.TheVariants.{Zeroed, Cleared}
 use Rattle.mm_frames.specs.Base.{standing_at}
-use Rattle.mm_frames.specs.Placing.{Holds, AreFrames}
+use Rattle.mm_frames.specs.Placing.{Holds, AreFrames, is_zero}
 use Rattle.mm_frames.proofs.Placings.{first_low, first_list, zeroed_stands, as_cleared, taken}
 use Rattle.mm_frames.proofs.frames.Frames.take_zeroed.Goals as goal
 
@@ -27,3 +26,12 @@ invariant_of-self-2 c =
     let apart = subst (λ (ls : ListsOf). AreApart ls) c.in_ok-f.ensures.popped c.in_ok-f.ensures.apart in
     subst (λ (ls : ListsOf). AreFrames i.records (set i.standing.items f Cleared) ls i.ram) (sym c.in_ok-f.ensures.popped)
     (taken i.records i.standing.items i.lists i.ram c.self.invariant f Cleared 0 (omega arith) first apart refl (as_cleared _ _ held))
+
+pub returns-clause-zero : goal.returns-clause-zero
+returns-clause-zero c =
+    let i = c.self.inside in
+    let f = c.in_ok-f.f in
+    let first = sym c.in_ok-f.ensures.first in
+    let low = first_low i.records i.standing.items i.lists i.ram c.self.invariant f 0 first in
+    let was : standing_at i.standing.items f ≡ Zeroed = zeroed_stands (standing_at i.standing.items f) (get_or i.records f blank) (first_list i.records i.standing.items i.lists i.ram c.self.invariant f 0 first) in
+    (c.self.invariant.holds f low).zero (ap is_zero was)

@@ -1,8 +1,8 @@
-use Rattle.std.proofs.Common.{◌≡◌, ◌≤◌, ◌++◌, ◌∷◌, [], true, false, cond, sym, ap, ◌∙◌, subst, refl, Some, None, List, ℕ, Option, get_or, set}
-use Rattle.std.specs.Prelude.{Bool, is_some}
+use Rattle.std.proofs.Common.{◌≡◌, ◌≤◌, true, false, cond, sym, ap, ◌∙◌, subst, refl, List, ℕ, get_or, set}
+use Rattle.std.specs.Prelude.{is_some}
 use Rattle.mm_types.specs.declared.frames.Record.{Record}
 use Rattle.mm_life.specs.Frames.{FrameTable, blank, record_at, is_read, is_idle, unshared, with_record, settled, settled_by, after_unmap}
-use Rattle.mm_lists.specs.Lists.{ListsOf, AreApart, list_at, with_list}
+use Rattle.mm_lists.specs.Lists.{ListsOf, AreApart}
 use Rattle.mm_ram.specs.Ram.{page_at}
 use Rattle.mm_frames.specs.declared.standing.Standing.TheVariants.{Bound}
 use Rattle.mm_frames.specs.Base.{FramesOf}
