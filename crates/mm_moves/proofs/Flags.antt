@@ -15,7 +15,7 @@ use Rattle.mm_types.specs.declared.moves.LineKind.{LineKind}
 use Rattle.mm_life.specs.declared.sets.ResidentSet.{ResidentSet}
 use Rattle.mm_life.specs.Frames.{FrameTable}
 use Rattle.mm_life.specs.Life.{changed, free_table, life_at}
-use Rattle.mm_moves.specs.Standing.{flagged}
+use Rattle.mm_moves.specs.Replaying.{flagged}
 
 none_at : (n k : ℕ) → slice_index_or (replicate n false) k false ≡ false
 none_at zero k = refl

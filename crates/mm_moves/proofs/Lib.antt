@@ -2,8 +2,14 @@ pub mod Onto
 pub mod Growing
 pub mod Numbers
 pub mod ReadAgain
-pub mod Filtering
 pub mod Slotting
 pub mod Holding
 pub mod Flags
 pub mod Lines
+pub mod Members
+pub mod Fresh
+pub mod Placing
+pub mod Owners
+pub mod Places
+pub mod Sharing
+pub mod Soundness

@@ -3,8 +3,8 @@ ghost use Rattle.mm_life.specs.Legal.{is_call, is_io, is_access, is_thread, is_u
 ghost use Rattle.mm_life.specs.Life.{is_shared, key_of_place, is_live, is_dead, set_of, set_in};
 ghost use Rattle.mm_types.specs.declared.moves.Move.TheVariants as move;
 
-use crate::lives::Life;
-use crate::tables::{has_request, is_again, is_read, is_write};
+use crate::records::{has_request, is_again, is_read, is_write};
+use crate::states::State;
 use mm_life::ResidentSet;
 use mm_types::{Backing, Block, Frame, Held, Key, LineKind, Move, Pid, Place, Record, Stored};
 
@@ -225,9 +225,9 @@ pub(crate) fn set_of(sets: &[ResidentSet], pid: Pid) -> Option<ResidentSet>
 
 // ---- conditions over the state
 
-ghost use Rattle.mm_moves.specs.Standing.{life};
+ghost use Rattle.mm_moves.specs.Replaying.{life};
 
-fn is_legal_kind(l: &Life, kind: LineKind) -> bool
+fn is_legal_kind(l: &State, kind: LineKind) -> bool
     ensures { result ≡ is_legal_kind (life l.now) kind }
 {
     match kind {
@@ -243,19 +243,19 @@ fn is_legal_kind(l: &Life, kind: LineKind) -> bool
     }
 }
 
-fn has_depth(l: &Life) -> bool
+fn has_depth(l: &State) -> bool
     ensures { result ≡ has_depth (life l.now) }
 {
     l.flight.len() < l.depth as usize
 }
 
-fn is_live(l: &Life, key: Key) -> bool
+fn is_live(l: &State, key: Key) -> bool
     ensures { result ≡ is_live (life l.now) key }
 {
     !is_dead(l.keys.held(key))
 }
 
-fn shows_shared(l: &Life, place: Place) -> bool
+fn shows_shared(l: &State, place: Place) -> bool
     ensures { result ≡ shows_shared (life l.now) place }
 {
     match l.places.get(place) {
@@ -264,7 +264,7 @@ fn shows_shared(l: &Life, place: Place) -> bool
     }
 }
 
-fn may_copy(l: &Life, key: Key) -> bool
+fn may_copy(l: &State, key: Key) -> bool
     ensures { result ≡ may_copy (life l.now) key }
 {
     match key {
@@ -273,7 +273,7 @@ fn may_copy(l: &Life, key: Key) -> bool
     }
 }
 
-fn is_unmapped(l: &Life, held: Held) -> bool
+fn is_unmapped(l: &State, held: Held) -> bool
     ensures { result ≡ is_unmapped (life l.now) held }
 {
     match held {
@@ -282,13 +282,13 @@ fn is_unmapped(l: &Life, held: Held) -> bool
     }
 }
 
-fn is_short(l: &Life) -> bool
+fn is_short(l: &State) -> bool
     ensures { result ≡ is_short (life l.now) }
 {
     l.table.is_zeroed_empty() && l.table.is_free_empty() && l.table.is_standby_empty()
 }
 
-fn may_unmap(l: &Life, place: Place, r: &Record) -> bool
+fn may_unmap(l: &State, place: Place, r: &Record) -> bool
     ensures { result ≡ may_unmap (life l.now) place r.now }
 {
     let set = set_of(&l.sets, place.pid);
@@ -307,7 +307,7 @@ fn limit(frames: u32, slots: u32, depth: u32) -> u64
     (u64::from(frames) + u64::from(slots)).saturating_sub(2 * u64::from(depth) + 2)
 }
 
-fn is_legal_add(l: &Life, key: Key, block: Option<Block>) -> bool
+fn is_legal_add(l: &State, key: Key, block: Option<Block>) -> bool
     ensures { result ≡ is_legal_add (life l.now) key block }
 {
     match block {
@@ -322,7 +322,7 @@ fn is_legal_add(l: &Life, key: Key, block: Option<Block>) -> bool
     }
 }
 
-fn is_legal_drop(l: &Life, key: Key) -> bool
+fn is_legal_drop(l: &State, key: Key) -> bool
     ensures { result ≡ is_legal (life l.now) (move.Drop key) }
 {
     (is_call(l.kind) || is_unbind(l.kind))
@@ -330,14 +330,14 @@ fn is_legal_drop(l: &Life, key: Key) -> bool
         && is_unmapped(l, l.keys.held(key))
 }
 
-fn is_legal_clear(l: &Life, frame: Frame) -> bool
+fn is_legal_clear(l: &State, frame: Frame) -> bool
     ensures { result ≡ is_legal (life l.now) (move.Clear frame) }
 {
     l.table.is_first_free(frame.0)
         && (is_zeroer(l.kind) || (is_touch(l.kind) && l.table.is_zeroed_empty()))
 }
 
-fn is_legal_steal(l: &Life, frame: Frame) -> bool
+fn is_legal_steal(l: &State, frame: Frame) -> bool
     ensures { result ≡ is_legal (life l.now) (move.Steal frame) }
 {
     l.table.is_first_standby(frame.0)
@@ -346,13 +346,13 @@ fn is_legal_steal(l: &Life, frame: Frame) -> bool
         && is_touch(l.kind)
 }
 
-fn is_legal_give(l: &Life, frame: Frame, key: Key) -> bool
+fn is_legal_give(l: &State, frame: Frame, key: Key) -> bool
     ensures { result ≡ is_legal (life l.now) (move.Give frame key) }
 {
     l.table.is_first_zeroed(frame.0) && is_zero(l.keys.held(key)) && is_touch(l.kind)
 }
 
-fn is_legal_read(l: &Life, frame: Frame, key: Key) -> bool
+fn is_legal_read(l: &State, frame: Frame, key: Key) -> bool
     ensures { result ≡ is_legal (life l.now) (move.Read frame key) }
 {
     let first = l.table.is_first_free(frame.0)
@@ -362,14 +362,14 @@ fn is_legal_read(l: &Life, frame: Frame, key: Key) -> bool
         && (is_access(l.kind) || (is_thread(l.kind) && has_depth(l)))
 }
 
-fn is_legal_read_end(l: &Life, frame: Frame) -> bool
+fn is_legal_read_end(l: &State, frame: Frame) -> bool
     ensures got { result ≡ is_legal (life l.now) (move.Got frame) }
     ensures bad { result ≡ is_legal (life l.now) (move.Bad frame) }
 {
     is_read(l.table.record(frame.0).request) && (is_io(l.kind) || is_access(l.kind))
 }
 
-fn is_legal_map(l: &Life, frame: Frame, place: Place) -> bool
+fn is_legal_map(l: &State, frame: Frame, place: Place) -> bool
     ensures { result ≡ is_legal (life l.now) (move.Map frame place) }
 {
     let r = l.table.record(frame.0);
@@ -383,7 +383,7 @@ fn is_legal_map(l: &Life, frame: Frame, place: Place) -> bool
         && is_below_max(set_of(&l.sets, place.pid))
 }
 
-fn is_legal_unmap(l: &Life, place: Place) -> bool
+fn is_legal_unmap(l: &State, place: Place) -> bool
     ensures { result ≡ is_legal (life l.now) (move.Unmap place) }
 {
     match l.places.get(place) {
@@ -392,7 +392,7 @@ fn is_legal_unmap(l: &Life, place: Place) -> bool
     }
 }
 
-fn is_legal_soil(l: &Life, frame: Frame) -> bool
+fn is_legal_soil(l: &State, frame: Frame) -> bool
     ensures { result ≡ is_legal (life l.now) (move.Soil frame) }
 {
     let r = l.table.record(frame.0);
@@ -401,7 +401,7 @@ fn is_legal_soil(l: &Life, frame: Frame) -> bool
     r.shares > 0 && (clean || writing) && is_touch(l.kind)
 }
 
-fn is_owner_paging(l: &Life, r: &Record) -> bool
+fn is_owner_paging(l: &State, r: &Record) -> bool
     ensures { result ≡ owner_is (life l.now).paging r.now }
 {
     match r.owner {
@@ -410,7 +410,7 @@ fn is_owner_paging(l: &Life, r: &Record) -> bool
     }
 }
 
-fn may_write_block(l: &Life, frame: u32) -> bool
+fn may_write_block(l: &State, frame: u32) -> bool
     ensures { result ≡ may_write_block (life l.now) frame }
 {
     let modified = l.table.is_modified(frame);
@@ -419,7 +419,7 @@ fn may_write_block(l: &Life, frame: u32) -> bool
         || is_call(l.kind)
 }
 
-fn is_legal_write(l: &Life, frame: Frame, stored: Stored) -> bool
+fn is_legal_write(l: &State, frame: Frame, stored: Stored) -> bool
     ensures { result ≡ is_legal (life l.now) (move.Write frame stored) }
 {
     let r = l.table.record(frame.0);
@@ -440,7 +440,7 @@ fn is_legal_write(l: &Life, frame: Frame, stored: Stored) -> bool
     }
 }
 
-fn is_legal_write_end(l: &Life, frame: Frame) -> bool
+fn is_legal_write_end(l: &State, frame: Frame) -> bool
     ensures wrote { result ≡ is_legal (life l.now) (move.Wrote frame) }
     ensures lost { result ≡ is_legal (life l.now) (move.Lost frame) }
 {
@@ -448,7 +448,7 @@ fn is_legal_write_end(l: &Life, frame: Frame) -> bool
         && (is_io(l.kind) || is_access(l.kind) || is_call(l.kind))
 }
 
-fn is_legal_at(l: &Life, line: u32, kind: LineKind) -> bool
+fn is_legal_at(l: &State, line: u32, kind: LineKind) -> bool
     ensures { result ≡ is_legal (life l.now) (move.At line kind) }
 {
     u64::from(line) == u64::from(l.line) + 1
@@ -457,7 +457,7 @@ fn is_legal_at(l: &Life, line: u32, kind: LineKind) -> bool
 }
 
 /// Whether a move is legal.
-pub(crate) fn is_legal(l: &Life, m: &Move) -> bool
+pub(crate) fn is_legal(l: &State, m: &Move) -> bool
     ensures { result ≡ is_legal (life l.now) m.now }
 {
     match *m {

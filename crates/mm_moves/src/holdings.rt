@@ -2,9 +2,8 @@ ghost use Rattle.std.specs.Prelude.{◌≡◌, ◌+◌, ◌-◌, ◌<◌, ◌≤
 ghost use Rattle.mm_types.specs.declared.frames.Held.TheVariants as held;
 ghost use Rattle.mm_life.specs.Frames.{without};
 ghost use Rattle.mm_life.specs.Life.{changed, same_key, same_place, is_dead};
-ghost use Rattle.mm_life.specs.Legal.{is_lowest};
-ghost use Rattle.mm_life.specs.Effect.{freed};
 
+use crate::free_slots::set_flag;
 use mm_types::{Frame, Held, Key, NoMemory, Place};
 use std::alloc::Global;
 use std::collections::BTreeMap;
@@ -141,92 +140,6 @@ impl Places {
         ensures { frames_in self.new ≡ changed same_place (frames_in self.old) place None }
     {
         let _ = self.map.remove(&place);
-    }
-}
-
-/// For each slot whether it is free.
-#[derive(Drop)]
-pub(crate) struct SlotMap {
-    free: Vec<bool>,
-}
-
-impl Model for SlotMap {
-    ghost use Rattle.std.specs.Prelude.{List, Bool};
-
-    ghost Value = { List Bool };
-
-    ghost view = { λ s. s.free.items };
-}
-
-impl SlotMap {
-    /// All slots are free.
-    pub(crate) fn new(alloc: Global, slots: u32) -> Result<SlotMap, NoMemory>
-        ensures { IfOk result (λ s. s ≡ replicate slots true) }
-    {
-        let free = vec![in alloc; true; slots as usize]?;
-        Ok(SlotMap { free })
-    }
-
-    pub(crate) fn none(alloc: Global) -> SlotMap
-        ensures { result ≡ [] }
-    {
-        SlotMap {
-            free: Vec::new(alloc),
-        }
-    }
-
-    #[tactic(auto, using(crate::proofs::Slotting::slotting))]
-    /// Whether a slot is the lowest free one.
-    pub(crate) fn is_lowest(&self, slot: u32) -> bool
-        ensures { result ≡ is_lowest slot self.now }
-    {
-        let slot = slot as usize;
-        for (i, free) in self.free.iter().enumerate() {
-            if i == slot {
-                return *free;
-            }
-            if *free {
-                return false;
-            }
-        }
-        false
-    }
-
-    /// A slot, if any, is free again.
-    pub(crate) fn give(&mut self, slot: Option<u32>)
-        ensures { self.new ≡ freed self.old slot }
-    {
-        match slot {
-            Some(slot) => set_flag(&mut self.free, slot, true),
-            None => {}
-        }
-    }
-
-    /// A slot is not free from now on.
-    pub(crate) fn take(&mut self, slot: u32)
-        ensures { self.new ≡ slice_set self.old slot false }
-    {
-        set_flag(&mut self.free, slot, false);
-    }
-
-    /// So many free slots more.
-    pub(crate) fn grow(&mut self, count: u32) -> Result<(), NoMemory>
-        ensures ok { OnOk result (self.new ≡ self.old ++ replicate count true) }
-        ensures err { OnErr result (self.new ≡ self.old) }
-    {
-        let len = self.free.len();
-        self.free.resize(len + count as usize, true)?;
-        Ok(())
-    }
-}
-
-/// Sets a flag, where there is such a place.
-fn set_flag(flags: &mut [bool], at: u32, flag: bool)
-    ensures { flags.new ≡ slice_set flags.old at flag }
-{
-    let at = at as usize;
-    if at < flags.len() {
-        flags[at] = flag;
     }
 }
 

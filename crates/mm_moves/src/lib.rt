@@ -3,11 +3,16 @@
 #![tactic(auto)]
 
 mod conditions;
+mod four_lists;
+mod free_slots;
 mod holdings;
+mod listings;
 mod lives;
 mod readings;
 mod recorders;
+mod records;
 mod spellings;
+mod states;
 mod tables;
 
 pub use lives::{ApplyFault, Life};

@@ -1,17 +1,14 @@
-ghost use Rattle.std.specs.Prelude.{◌≡◌, ◌+◌, ◌-◌, ◌<◌, ◌≤◌, ◌↔◌, true, false, IsTrue, OnOk, OnErr, IfSome, Some, None, Err, length};
-ghost use Rattle.mm_types.specs.Machine.{MachineOf, IsMachine};
-ghost use Rattle.mm_types.specs.declared.moves.Move.TheVariants as move;
-ghost use Rattle.mm_types.specs.declared.moves.LineKind.TheVariants as kind;
-ghost use Rattle.mm_life.specs.Life.{unstarted, set_in, with_resident, is_dead};
-ghost use Rattle.mm_life.specs.Legal.{is_legal, IsLegal, is_below_max};
-ghost use Rattle.mm_life.specs.Effect.{after_move, after_at, after_add, unlisted, home_at, backing_of, homed};
+ghost use Rattle.std.specs.Prelude.{◌≡◌, ◌↔◌, true, false, OnOk, OnErr, Err};
+ghost use Rattle.mm_life.specs.Life.{unstarted};
+ghost use Rattle.mm_life.specs.Legal.{is_legal, IsLegal};
+ghost use Rattle.mm_life.specs.Effect.{after_move};
 ghost use Rattle.mm_life.specs.Located.{held_at};
+ghost use Rattle.mm_moves.specs.Replaying.{life as life_of};
+ghost use Rattle.mm_moves.specs.Sound.{Sound};
 
-use crate::conditions::{is_dead, is_legal};
-use crate::holdings::{BlockSet, InFlight, Keys, Places, SlotMap};
-use crate::tables::{Table, is_read, slot_after_read, slot_after_soil, slot_after_wrote, slot_of};
-use mm_life::ResidentSet;
-use mm_types::{Backing, Block, Frame, Held, Key, LineKind, Move, NoMemory, Pid, Place, Stored};
+use crate::conditions::is_legal;
+use crate::states::State;
+use mm_types::{Held, Key, Move, NoMemory};
 use std::alloc::Global;
 
 /// Why a move was not applied.
@@ -26,22 +23,8 @@ pub enum ApplyFault {
 /// The replay of a log as a running check: the state after the moves so far. It keeps none of them.
 #[derive(Drop)]
 pub struct Life {
-    alloc: Global,
-    pub(crate) frames: u32,
-    pub(crate) slots: u32,
-    pub(crate) depth: u32,
-    pub(crate) blocks: u32,
-    pub(crate) line: u32,
-    pub(crate) kind: LineKind,
-    pub(crate) sets: Vec<ResidentSet>,
-    pub(crate) table: Table,
-    pub(crate) free_slots: SlotMap,
-    pub(crate) keys: Keys,
-    pub(crate) paging_keys: u64,
-    pub(crate) added: BlockSet,
-    pub(crate) places: Places,
-    pub(crate) flight: InFlight,
-    ghost sized: { length added ≡ blocks },
+    state: State,
+    ghost sound: { Sound (life_of state) },
 }
 
 impl Life {
@@ -52,21 +35,7 @@ impl Life {
         ensures { life result ≡ unstarted }
     {
         Life {
-            alloc,
-            frames: 0,
-            slots: 0,
-            depth: 0,
-            blocks: 0,
-            line: 0,
-            kind: LineKind::Call,
-            sets: Vec::new(alloc),
-            table: Table::empty(alloc),
-            free_slots: SlotMap::none(alloc),
-            keys: Keys::new(alloc),
-            paging_keys: 0,
-            added: BlockSet::none(alloc),
-            places: Places::new(alloc),
-            flight: InFlight::none(alloc),
+            state: State::new(alloc),
         }
     }
 
@@ -74,20 +43,7 @@ impl Life {
     pub fn held(&self, key: Key) -> Held
         ensures { result ≡ held_at (life self.now) key }
     {
-        match self.keys.held(key) {
-            Held::Frame(frame) => {
-                let r = self.table.record(frame.0);
-                if is_read(r.request) {
-                    home_of(r.backing)
-                } else {
-                    Held::Frame(frame)
-                }
-            }
-            Held::Slot(slot) => Held::Slot(slot),
-            Held::Block(block) => Held::Block(block),
-            Held::Zero => Held::Zero,
-            Held::Dead => Held::Dead,
-        }
+        self.state.held(key)
     }
 
     /// Takes the next move. `Illegal` comes exactly where the move is not legal in the state so far, `Memory`
@@ -98,416 +54,13 @@ impl Life {
         ensures illegal { (result ≡ Err ApplyFault.Illegal) ↔ (is_legal (life self.old) m.now ≡ false) }
         ensures err { OnErr result (life self.new ≡ life self.old) }
     {
-        if !is_legal(self, m) {
+        if !is_legal(&self.state, m) {
             return Err(ApplyFault::Illegal);
         }
-        match self.make(m) {
+        self.state.table.keeps_lists();
+        match self.state.make(m) {
             Ok(()) => Ok(()),
             Err(NoMemory) => Err(ApplyFault::Memory),
         }
-    }
-
-    /// Makes a legal move.
-    fn make(&mut self, m: &Move) -> Result<(), NoMemory>
-        requires { IsLegal m.now (life self.old) }
-        ensures ok { OnOk result (life self.new ≡ after_move (life self.old) m.now) }
-        ensures err { OnErr result (life self.new ≡ life self.old) }
-    {
-        match *m {
-            Move::At(line, kind) => self.at(line, kind),
-            Move::Add(key, block) => self.add(key, block),
-            Move::Drop(key) => self.drop_key(key),
-            Move::Clear(frame) => self.clear(frame),
-            Move::Steal(frame) => self.steal(frame),
-            Move::Give(frame, key) => self.give(frame, key),
-            Move::Read(frame, key) => self.read(frame, key),
-            Move::Got(frame) => self.got(frame),
-            Move::Bad(frame) => self.bad(frame),
-            Move::Map(frame, place) => self.map(frame, place),
-            Move::Unmap(place) => self.unmap(place),
-            Move::Soil(frame) => self.soil(frame),
-            Move::Write(frame, stored) => self.write(frame, stored),
-            Move::Wrote(frame) => self.wrote(frame),
-            Move::Lost(frame) => self.lost(frame),
-        }
-    }
-
-    // ---- `at`
-
-    #[tactic(auto, using(crate::proofs::Flags::flags))]
-    fn at_machine(
-        &mut self,
-        line: u32,
-        frames: u32,
-        slots: u32,
-        depth: u32,
-        blocks: u32,
-    ) -> Result<(), NoMemory>
-        ensures ok { OnOk result (life self.new ≡ after_at (life self.old) line (kind.Machine frames slots depth blocks)) }
-        ensures err { OnErr result (life self.new ≡ life self.old) }
-    {
-        let alloc = self.alloc;
-        let table = Table::new(alloc, frames)?;
-        let free_slots = SlotMap::new(alloc, slots)?;
-        let added = BlockSet::new(alloc, blocks)?;
-        self.frames = frames;
-        self.slots = slots;
-        self.depth = depth;
-        self.blocks = blocks;
-        self.line = line;
-        self.kind = LineKind::Machine(frames, slots, depth, blocks);
-        self.sets.clear();
-        self.table = table;
-        self.free_slots = free_slots;
-        self.keys = Keys::new(alloc);
-        self.paging_keys = 0;
-        self.added = added;
-        self.places = Places::new(alloc);
-        self.flight = InFlight::none(alloc);
-        Ok(())
-    }
-
-    fn at_process(&mut self, line: u32, pid: Pid, min: u32, max: u32) -> Result<(), NoMemory>
-        ensures ok { OnOk result (life self.new ≡ after_at (life self.old) line (kind.Process pid min max)) }
-        ensures err { OnErr result (life self.new ≡ life self.old) }
-    {
-        self.sets.push(ResidentSet {
-            min,
-            max,
-            resident: 0,
-        })?;
-        self.line = line;
-        self.kind = LineKind::Process(pid, min, max);
-        Ok(())
-    }
-
-    fn at_grow(&mut self, line: u32, count: u32) -> Result<(), NoMemory>
-        requires { self.old.slots + count ≤ 262144 }
-        ensures ok { OnOk result (life self.new ≡ after_at (life self.old) line (kind.Grow count)) }
-        ensures err { OnErr result (life self.new ≡ life self.old) }
-    {
-        self.free_slots.grow(count)?;
-        self.slots += count;
-        self.line = line;
-        self.kind = LineKind::Grow(count);
-        Ok(())
-    }
-
-    fn at(&mut self, line: u32, kind: LineKind) -> Result<(), NoMemory>
-        requires { IsLegal (move.At line kind) (life self.old) }
-        ensures ok { OnOk result (life self.new ≡ after_at (life self.old) line kind) }
-        ensures err { OnErr result (life self.new ≡ life self.old) }
-    {
-        match kind {
-            LineKind::Machine(frames, slots, depth, blocks) => self.at_machine(
-                line, frames, slots, depth, blocks,
-            ),
-            LineKind::Process(pid, min, max) => self.at_process(line, pid, min, max),
-            LineKind::Grow(count) => self.at_grow(line, count),
-            LineKind::Unbind(_)
-            | LineKind::Access(_)
-            | LineKind::Thread(_)
-            | LineKind::Trim(_)
-            | LineKind::Writer
-            | LineKind::Zeroer
-            | LineKind::Io
-            | LineKind::Call => {
-                self.line = line;
-                self.kind = kind;
-                Ok(())
-            }
-        }
-    }
-
-    // ---- keys
-
-    fn add_zero(&mut self, key: Key) -> Result<(), NoMemory>
-        requires { IsLegal (move.Add key None) (life self.old) }
-        ensures ok { OnOk result (life self.new ≡ after_add (life self.old) key None) }
-        ensures err { OnErr result (life self.new ≡ life self.old) }
-    {
-        self.keys.add(key, Held::Zero, true)?;
-        self.paging_keys += 1;
-        Ok(())
-    }
-
-    #[tactic(auto, using(crate::proofs::Flags::flags))]
-    fn add_block(&mut self, key: Key, block: Block) -> Result<(), NoMemory>
-        requires { block.0 < self.old.blocks }
-        ensures ok { OnOk result (life self.new ≡ after_add (life self.old) key (Some block)) }
-        ensures err { OnErr result (life self.new ≡ life self.old) }
-    {
-        self.keys.place(key, Held::Block(block))?;
-        self.added.add(block.0);
-        Ok(())
-    }
-
-    fn add(&mut self, key: Key, block: Option<Block>) -> Result<(), NoMemory>
-        requires { IsLegal (move.Add key block) (life self.old) }
-        ensures ok { OnOk result (life self.new ≡ after_add (life self.old) key block) }
-        ensures err { OnErr result (life self.new ≡ life self.old) }
-    {
-        match block {
-            None => self.add_zero(key),
-            Some(block) => self.add_block(key, block),
-        }
-    }
-
-    /// A key is not live from now on.
-    fn unlist(&mut self, key: Key)
-        ensures { life self.new ≡ unlisted (life self.old) key }
-    {
-        self.keys.remove(key);
-        self.paging_keys = self.paging_keys.saturating_sub(1);
-    }
-
-    fn drop_key(&mut self, key: Key) -> Result<(), NoMemory>
-        ensures ok { OnOk result (life self.new ≡ after_move (life self.old) (move.Drop key)) }
-        ensures err { OnErr result (life self.new ≡ life self.old) }
-    {
-        match self.keys.held(key) {
-            Held::Frame(frame) => {
-                let slot = slot_after_soil(&self.table.record(frame.0));
-                self.table.drop_page(frame.0)?;
-                self.free_slots.give(slot);
-                self.unlist(key);
-            }
-            Held::Slot(slot) => {
-                self.free_slots.give(Some(slot.0));
-                self.unlist(key);
-            }
-            Held::Block(_) | Held::Zero | Held::Dead => self.unlist(key),
-        }
-        Ok(())
-    }
-
-    // ---- frames that are found
-
-    fn clear(&mut self, frame: Frame) -> Result<(), NoMemory>
-        ensures ok { OnOk result (life self.new ≡ after_move (life self.old) (move.Clear frame)) }
-        ensures err { OnErr result (life self.new ≡ life self.old) }
-    {
-        self.table.clear(frame.0)
-    }
-
-    /// Whether the owner, if any, is live. The owner of a frame is, in each state that moves lead to.
-    fn has_live_owner(&self, owner: Option<Key>) -> bool
-        ensures { IsTrue result → IfSome owner (λ k. is_dead ((life self.now).stands k) ≡ false) }
-    {
-        match owner {
-            Some(key) => !is_dead(self.keys.held(key)),
-            None => true,
-        }
-    }
-
-    /// The owner, if any, has the backing as home from now on.
-    fn send_home(&mut self, owner: Option<Key>, home: Backing)
-        requires { IfSome owner (λ k. is_dead ((life self.old).stands k) ≡ false) }
-        ensures { life self.new ≡ record (life self.old) { stands = homed (life self.old) owner home } }
-    {
-        match owner {
-            Some(key) => self.keys.move_to(key, home_of(home)),
-            None => {}
-        }
-    }
-
-    fn steal(&mut self, frame: Frame) -> Result<(), NoMemory>
-        ensures ok { OnOk result (life self.new ≡ after_move (life self.old) (move.Steal frame)) }
-        ensures err { OnErr result (life self.new ≡ life self.old) }
-    {
-        let r = self.table.record(frame.0);
-        if !self.has_live_owner(r.owner) {
-            return Err(NoMemory);
-        }
-        self.table.steal(frame.0)?;
-        self.send_home(r.owner, r.backing);
-        Ok(())
-    }
-
-    fn give(&mut self, frame: Frame, key: Key) -> Result<(), NoMemory>
-        requires { IsLegal (move.Give frame key) (life self.old) }
-        ensures ok { OnOk result (life self.new ≡ after_move (life self.old) (move.Give frame key)) }
-        ensures err { OnErr result (life self.new ≡ life self.old) }
-    {
-        self.table.give(frame.0, key)?;
-        self.keys.move_to(key, Held::Frame(frame));
-        Ok(())
-    }
-
-    fn read(&mut self, frame: Frame, key: Key) -> Result<(), NoMemory>
-        requires { IsLegal (move.Read frame key) (life self.old) }
-        ensures ok { OnOk result (life self.new ≡ after_move (life self.old) (move.Read frame key)) }
-        ensures err { OnErr result (life self.new ≡ life self.old) }
-    {
-        let home = backing_of(self.keys.held(key));
-        self.flight.begin(frame.0)?;
-        self.table.read(frame.0, key, home);
-        self.keys.move_to(key, Held::Frame(frame));
-        Ok(())
-    }
-
-    // ---- the ends of requests
-
-    fn got(&mut self, frame: Frame) -> Result<(), NoMemory>
-        ensures ok { OnOk result (life self.new ≡ after_move (life self.old) (move.Got frame)) }
-        ensures err { OnErr result (life self.new ≡ life self.old) }
-    {
-        let slot = slot_after_read(&self.table.record(frame.0));
-        self.table.got(frame.0)?;
-        self.free_slots.give(slot);
-        self.flight.end(frame.0);
-        Ok(())
-    }
-
-    fn bad(&mut self, frame: Frame) -> Result<(), NoMemory>
-        ensures ok { OnOk result (life self.new ≡ after_move (life self.old) (move.Bad frame)) }
-        ensures err { OnErr result (life self.new ≡ life self.old) }
-    {
-        let r = self.table.record(frame.0);
-        if !self.has_live_owner(r.owner) {
-            return Err(NoMemory);
-        }
-        self.table.bad(frame.0)?;
-        self.free_slots.give(slot_after_read(&r));
-        self.flight.end(frame.0);
-        self.send_home(r.owner, r.backing);
-        Ok(())
-    }
-
-    fn wrote(&mut self, frame: Frame) -> Result<(), NoMemory>
-        ensures ok { OnOk result (life self.new ≡ after_move (life self.old) (move.Wrote frame)) }
-        ensures err { OnErr result (life self.new ≡ life self.old) }
-    {
-        let slot = slot_after_wrote(&self.table.record(frame.0));
-        self.table.wrote(frame.0)?;
-        self.free_slots.give(slot);
-        self.flight.end(frame.0);
-        Ok(())
-    }
-
-    fn lost(&mut self, frame: Frame) -> Result<(), NoMemory>
-        ensures ok { OnOk result (life self.new ≡ after_move (life self.old) (move.Lost frame)) }
-        ensures err { OnErr result (life self.new ≡ life self.old) }
-    {
-        let slot = slot_of(self.table.record(frame.0).backing);
-        self.table.lost(frame.0)?;
-        self.free_slots.give(slot);
-        self.flight.end(frame.0);
-        Ok(())
-    }
-
-    // ---- places
-
-    fn map(&mut self, frame: Frame, place: Place) -> Result<(), NoMemory>
-        requires { IsLegal (move.Map frame place) (life self.old) }
-        ensures ok { OnOk result (life self.new ≡ after_move (life self.old) (move.Map frame place)) }
-        ensures err { OnErr result (life self.new ≡ life self.old) }
-    {
-        if self.table.record(frame.0).shares == u32::MAX {
-            return Err(NoMemory);
-        }
-        self.places.add(place, frame)?;
-        self.table.map(frame.0);
-        add_resident(&mut self.sets, place.pid);
-        Ok(())
-    }
-
-    fn unmap(&mut self, place: Place) -> Result<(), NoMemory>
-        ensures ok { OnOk result (life self.new ≡ after_move (life self.old) (move.Unmap place)) }
-        ensures err { OnErr result (life self.new ≡ life self.old) }
-    {
-        match self.places.get(place) {
-            Some(frame) => {
-                self.table.unmap(frame.0)?;
-                self.places.remove(place);
-                remove_resident(&mut self.sets, place.pid);
-                Ok(())
-            }
-            None => Ok(()),
-        }
-    }
-
-    // ---- changed pages
-
-    fn soil(&mut self, frame: Frame) -> Result<(), NoMemory>
-        ensures ok { OnOk result (life self.new ≡ after_move (life self.old) (move.Soil frame)) }
-        ensures err { OnErr result (life self.new ≡ life self.old) }
-    {
-        let slot = slot_after_soil(&self.table.record(frame.0));
-        self.table.soil(frame.0);
-        self.free_slots.give(slot);
-        Ok(())
-    }
-
-    fn write(&mut self, frame: Frame, stored: Stored) -> Result<(), NoMemory>
-        ensures ok { OnOk result (life self.new ≡ after_move (life self.old) (move.Write frame stored)) }
-        ensures err { OnErr result (life self.new ≡ life self.old) }
-    {
-        self.flight.begin(frame.0)?;
-        match stored {
-            Stored::Slot(slot) => {
-                self.table.write(frame.0, Backing::Slot(slot));
-                self.free_slots.take(slot.0);
-            }
-            Stored::Block(block) => self.table.write(frame.0, Backing::Block(block)),
-        }
-        Ok(())
-    }
-}
-
-/// The backing that a home is.
-fn backing_of(held: Held) -> Backing
-    ensures { result ≡ backing_of held }
-{
-    match held {
-        Held::Slot(slot) => Backing::Slot(slot),
-        Held::Block(block) => Backing::Block(block),
-        Held::Frame(_) | Held::Zero | Held::Dead => Backing::None,
-    }
-}
-
-/// A pid has one valid place more.
-fn add_resident(sets: &mut [ResidentSet], pid: Pid)
-    requires { is_below_max (set_in sets.old pid.0) ≡ true }
-    ensures { sets.new ≡ with_resident sets.old pid.0 (λ n. n + 1) }
-{
-    if pid.0 == 0 {
-        return;
-    }
-    let at = usize::from(pid.0 - 1);
-    if at < sets.len() {
-        let set = sets[at];
-        sets[at] = ResidentSet {
-            resident: set.resident + 1,
-            ..set
-        };
-    }
-}
-
-/// A pid has one valid place fewer.
-fn remove_resident(sets: &mut [ResidentSet], pid: Pid)
-    ensures { sets.new ≡ with_resident sets.old pid.0 (λ n. n - 1) }
-{
-    if pid.0 == 0 {
-        return;
-    }
-    let at = usize::from(pid.0 - 1);
-    if at < sets.len() {
-        let set = sets[at];
-        sets[at] = ResidentSet {
-            resident: set.resident.saturating_sub(1),
-            ..set
-        };
-    }
-}
-
-/// The home that a backing is.
-fn home_of(backing: Backing) -> Held
-    ensures { result ≡ home_at backing }
-{
-    match backing {
-        Backing::None => Held::Zero,
-        Backing::Slot(slot) => Held::Slot(slot),
-        Backing::Block(block) => Held::Block(block),
     }
 }

@@ -31,6 +31,27 @@ const REWRITTEN: [&[u8]; 24] = [
     b"map 0 1.16",
 ];
 
+/// The smallest working set: its only page goes for the next.
+const SMALLEST_SET: [&[u8]; 14] = [
+    b"at 1 machine 6 0 1 0",
+    b"at 2 process 1 0 1",
+    b"at 3 call",
+    b"add p1.16 zero",
+    b"add p1.17 zero",
+    b"at 4 access 1",
+    b"clear 0",
+    b"give 0 p1.16",
+    b"map 0 1.16",
+    b"at 5 access 1",
+    b"clear 1",
+    b"give 1 p1.17",
+    b"unmap 1.16",
+    b"map 1 1.17",
+];
+
+/// What follows is a paging file that had no slot, and grows.
+const GROWN: [&[u8]; 3] = [b"at 6 grow 2", b"at 7 writer", b"write 0 slot 0"];
+
 /// How many lines are moves that are legal in turn.
 fn accepted(life: &mut Life, lines: &[&[u8]]) -> usize {
     for (i, line) in lines.iter().enumerate() {
@@ -67,6 +88,34 @@ fn the_sixth_move_with_another_frame(rt: HostRuntime) -> Result<(), Fail> {
         Err(ApplyFault::Illegal)
     );
     assert_eq!(rt; life.apply(&Move::Clear(Frame(0))), Ok(()));
+    Ok(())
+}
+
+#[test]
+fn the_smallest_working_set(rt: HostRuntime) -> Result<(), Fail> {
+    let mut life = Life::new(rt.alloc());
+    assert_eq!(rt; accepted(&mut life, &SMALLEST_SET[..12]), 12);
+    assert_eq!(rt; accepted(&mut life, &SMALLEST_SET[13..]), 0);
+    assert_eq!(rt; accepted(&mut life, &SMALLEST_SET[12..]), 2);
+    assert_eq!(rt;
+        life.held(Key::Private(Pid(1), Vpn(16))),
+        Held::Frame(Frame(0))
+    );
+    assert_eq!(rt;
+        life.held(Key::Private(Pid(1), Vpn(17))),
+        Held::Frame(Frame(1))
+    );
+    Ok(())
+}
+
+#[test]
+fn a_paging_file_that_grows(rt: HostRuntime) -> Result<(), Fail> {
+    let mut life = Life::new(rt.alloc());
+    assert_eq!(rt; accepted(&mut life, &SMALLEST_SET), 14);
+    assert_eq!(rt; accepted(&mut life, &GROWN[2..]), 0);
+    assert_eq!(rt; accepted(&mut life, &GROWN[..2]), 2);
+    assert_eq!(rt; accepted(&mut life, &[b"write 0 slot 1"]), 0);
+    assert_eq!(rt; accepted(&mut life, &GROWN[2..]), 1);
     Ok(())
 }
 

@@ -1,10 +1,4 @@
-pub mod Accesses
-pub mod Additions
-pub mod Charging
-pub mod Committing
 pub mod Ends
-pub mod FirstPlaces
-pub mod Packings
 pub mod Scripts
 pub mod Stops
 pub mod Stories

@@ -1,12 +1,9 @@
-pub mod Attempts
 pub mod Built
 pub mod Deciding
-pub mod Holding
-pub mod Machinery
-pub mod Packed
+pub mod Kept
 pub mod Reading
 pub mod Script
-pub mod Shown
+pub mod Simulated
 pub mod Steps
 pub mod Story
 pub mod Texts

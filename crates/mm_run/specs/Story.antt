@@ -134,11 +134,6 @@ IsBlamed _ s s' o o' = Unit {0}
 abbrev pub EndsAt : ℕ → ℕ → Ending → Type 0
 EndsAt n len e = ((0 < n) × (len ≡ 0) × (e ≡ ending.Done)) ⊎ (((0 < len) ⊎ (n ≡ 0)) × (e ≡ ending.Script (n + 1) (len + 1)))
 
--- There is no world before the first line, and there is one behind it.
-pub record Begun (n : ℕ) (world : Option World) : Type 0 where
-  pub none : n ≡ 0 → world ≡ None
-  pub some : 0 < n → (w : World) × (world ≡ Some w)
-
 -- These words are the form `run`.
 abbrev pub IsForm : List (String Global) → Type 0
 IsForm words = map string_bytes words ≡ codes "run" ∷ []

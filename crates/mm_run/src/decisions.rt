@@ -1,6 +1,7 @@
 ghost use Rattle.std.specs.Prelude.{◌≡◌, ◌≢◌, ◌<◌, ◌≤◌, ◌+◌, ℕ, [], List, Option, None, length, MatchOption, IfNone, IfSome};
 ghost use Rattle.mm_lines.specs.Looking.{HasLine};
-ghost use Rattle.mm_run.specs.Story.{Went, Came, IsBlamed, EndsAt, Begun, outside, stand};
+ghost use Rattle.mm_run.specs.Simulated.{Begun};
+ghost use Rattle.mm_run.specs.Story.{Went, Came, IsBlamed, EndsAt, outside, stand};
 
 use crate::endings::Ending;
 use crate::readings::{is_built, read_event};
@@ -28,8 +29,8 @@ fn answer_line<O: Sink>(
     requires behind { length held.old < len + 1 + 4096 }
     requires begun { Begun n simulator.old }
     ensures went { (left : Option (List ℕ)) → MatchOption result
-        (Went (outside left (O.taken out.old)) (outside left (O.taken out.new)) (stand held.old n simulator.old) (stand held.new (n + 1) simulator.new))
-        (λ e. Came (outside left (O.taken out.old)) (outside left (O.taken out.new)) (stand held.old n simulator.old) e) }
+        (Went (outside left (O.taken out.old)) (outside left (O.taken out.new)) (stand held.old n simulator.old.world) (stand held.new (n + 1) simulator.new.world))
+        (λ e. Came (outside left (O.taken out.old)) (outside left (O.taken out.new)) (stand held.old n simulator.old.world) e) }
     ensures few { IfNone result (length held.new < 4096) }
     ensures begun { IfNone result (Begun (n + 1) simulator.new) }
     ensures blame { IfSome result (λ e. (s : ℕ) → IsBlamed e s s (O.faults out.old) (O.faults out.new)) }
@@ -82,8 +83,8 @@ fn decide_line<S: Source, O: Sink>(
     requires held { length held.old < 4096 }
     requires begun { Begun n simulator.old }
     ensures went { MatchOption result
-        (Went (outside (S.left source.old) (O.taken out.old)) (outside (S.left source.new) (O.taken out.new)) (stand held.old n simulator.old) (stand held.new (n + 1) simulator.new))
-        (λ e. Came (outside (S.left source.old) (O.taken out.old)) (outside (S.left source.new) (O.taken out.new)) (stand held.old n simulator.old) e) }
+        (Went (outside (S.left source.old) (O.taken out.old)) (outside (S.left source.new) (O.taken out.new)) (stand held.old n simulator.old.world) (stand held.new (n + 1) simulator.new.world))
+        (λ e. Came (outside (S.left source.old) (O.taken out.old)) (outside (S.left source.new) (O.taken out.new)) (stand held.old n simulator.old.world) e) }
     ensures few { IfNone result (length held.new < 4096) }
     ensures begun { IfNone result (Begun (n + 1) simulator.new) }
     ensures blame { IfSome result (λ e. IsBlamed e (S.faults source.old) (S.faults source.new) (O.faults out.old) (O.faults out.new)) }

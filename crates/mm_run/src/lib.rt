@@ -3,15 +3,14 @@
 
 mod decisions;
 mod endings;
-mod memories;
-mod processes;
 mod readings;
-mod searches;
 mod simulators;
 mod top;
 
 pub use endings::Ending;
 pub use top::run;
 
+#[cfg(test)]
+mod row_tests;
 #[cfg(test)]
 mod tests;

@@ -108,9 +108,5 @@ pub(crate) fn read_event(line: &[u8], n: u32) -> Result<Event, u32>
 pub(crate) fn is_built(event: &Event) -> bool
     ensures { result ≡ is_built event.now }
 {
-    match event {
-        Event::Machine(_) | Event::Process(..) | Event::Read(..) | Event::Write(..) => true,
-        Event::Alloc(_, addr, _, kind, prot) => *addr == 0 && *kind == 0x3000 && *prot == 0x04,
-        _ => false,
-    }
+    is_machine(event) || mm_core::is_built(event)
 }

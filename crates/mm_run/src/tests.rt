@@ -33,7 +33,7 @@ fn outcome(
 }
 
 /// The status and the text of a run on which nothing fails.
-fn quiet(alloc: Global, script: &[u8]) -> Result<(u8, Vec<u8>), AllocError> {
+pub(super) fn quiet(alloc: Global, script: &[u8]) -> Result<(u8, Vec<u8>), AllocError> {
     outcome(alloc, "run", script, &[], 4096, &[])
 }
 
@@ -98,7 +98,7 @@ fn long_lines(rt: HostRuntime) -> Result<(), Fail> {
 
 #[test]
 fn lines_not_built(rt: HostRuntime) -> Result<(), Fail> {
-    let (status, text) = quiet(rt.alloc(), b"machine 8 4 1 0\ncharge\nprocess 0 1\n")?;
+    let (status, text) = quiet(rt.alloc(), b"machine 8 4 1 0\ncounts\nprocess 0 1\n")?;
     assert_eq!(rt; status, 9);
     assert_eq!(rt; text.as_slice(), b"ok 8\n".as_slice());
     Ok(())

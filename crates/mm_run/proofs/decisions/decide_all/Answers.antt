@@ -1,12 +1,13 @@
 use Rattle.std.proofs.Common.{◌≡◌, ℕ, ap, length, subst, arith}
 use Rattle.mm_run.specs.Story.{Came, outside, stand}
+use Rattle.mm_run.specs.Simulated.{Simulated}
 use Rattle.mm_run.proofs.Stories.{went_none, went_then, went_came}
 use Rattle.mm_run.proofs.Worlds.{begun_none, stand_is}
 use Rattle.mm_run.proofs.decisions.decide_all.Goals as goal
 
 pub loop-n-init : goal.loop-n-init
 loop-n-init g c = record {
-  went = went_none _ _ _ (stand_is _ _ _ c.new-held.ensures c.new-simulator.ensures);
+  went = went_none _ _ _ (stand_is _ _ _ c.new-held.ensures (ap (λ (t : Simulated). t.world) c.new-simulator.ensures));
   few = omega (arith, ap length c.new-held.ensures);
   begun = begun_none _ c.new-simulator.ensures;
   idle = omega arith;
@@ -37,5 +38,5 @@ returns-clause-came g c =
     let took = g.O.Sink.taken in
     let full : 1000000 ≡ l.n = omega arith in
     went_came _ _ _ _ _ c.behind_last.result l.invariant.went
-    (subst (λ (k : ℕ). Came (outside (left l.source) (took l.out)) (outside (left c.behind_last.new.source) (took l.out)) (stand l.held k l.simulator) c.behind_last.result) full
-    (c.behind_last.ensures.came l.simulator (took l.out)))
+    (subst (λ (k : ℕ). Came (outside (left l.source) (took l.out)) (outside (left c.behind_last.new.source) (took l.out)) (stand l.held k l.simulator.world) c.behind_last.result) full
+    (c.behind_last.ensures.came l.simulator.world (took l.out)))

@@ -1,0 +1,5 @@
+pub mod Fits
+pub mod Ranges
+pub mod Private
+pub mod Tables
+pub mod Effects

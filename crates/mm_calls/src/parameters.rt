@@ -1,0 +1,78 @@
+ghost use Rattle.std.specs.Prelude.{◌≡◌};
+ghost use Rattle.mm_types.specs.Address.{is_user_page};
+ghost use Rattle.mm_world.specs.Alloc.{are_alloc_parameters, is_reserving};
+ghost use Rattle.mm_world.specs.Free.{are_free_parameters};
+ghost use Rattle.mm_world.specs.Protect.{are_protect_parameters};
+ghost use Rattle.mm_world.specs.Rows.{is_protection_among, private_protections, all_protections};
+
+/// MEM_COMMIT.
+const COMMIT_TYPE: u32 = 0x1000;
+
+/// MEM_RESERVE.
+pub(crate) const RESERVE_TYPE: u32 = 0x2000;
+
+/// MEM_DECOMMIT.
+const DECOMMIT_TYPE: u32 = 0x4000;
+
+/// MEM_RELEASE.
+pub(crate) const RELEASE_TYPE: u32 = 0x8000;
+
+/// PAGE_NOACCESS with PAGE_GUARD, which no page can have.
+const GUARDED_NO_ACCESS: u32 = 0x101;
+
+/// Whether private pages can have the protection, guard included.
+fn is_private_protection(prot: u32) -> bool
+    ensures { result ≡ is_protection_among private_protections prot }
+{
+    matches!(prot % 0x100, 0x01 | 0x02 | 0x04 | 0x10 | 0x20 | 0x40)
+        && prot < 0x200
+        && prot != GUARDED_NO_ACCESS
+}
+
+/// Whether any page can have the protection, guard included.
+fn is_protection(prot: u32) -> bool
+    ensures { result ≡ is_protection_among all_protections prot }
+{
+    matches!(
+        prot % 0x100,
+        0x01 | 0x02 | 0x04 | 0x08 | 0x10 | 0x20 | 0x40 | 0x80
+    ) && prot < 0x200
+        && prot != GUARDED_NO_ACCESS
+}
+
+/// Whether an `alloc` with these can be tried.
+pub(crate) fn are_alloc_parameters(size: u32, kind: u32, prot: u32) -> bool
+    ensures { result ≡ are_alloc_parameters size kind prot }
+{
+    (kind == COMMIT_TYPE || kind == RESERVE_TYPE || kind == COMMIT_TYPE + RESERVE_TYPE)
+        && size != 0
+        && is_private_protection(prot)
+}
+
+/// Whether an `alloc` makes a new region.
+pub(crate) fn is_reserving(addr: u32, kind: u32) -> bool
+    ensures { result ≡ is_reserving addr kind }
+{
+    addr == 0 || kind != COMMIT_TYPE
+}
+
+/// Whether a `free` with these can be tried.
+pub(crate) fn are_free_parameters(size: u32, kind: u32) -> bool
+    ensures { result ≡ are_free_parameters size kind }
+{
+    kind == DECOMMIT_TYPE || kind == RELEASE_TYPE && size == 0
+}
+
+/// Whether a `protect` with these can be tried.
+pub(crate) fn are_protect_parameters(size: u32, prot: u32) -> bool
+    ensures { result ≡ are_protect_parameters size prot }
+{
+    size != 0 && is_protection(prot)
+}
+
+/// Whether the page is a user page.
+pub(crate) fn is_user_page(page: u32) -> bool
+    ensures { result ≡ is_user_page page }
+{
+    0x10 <= page && page < 0x7FFF0
+}

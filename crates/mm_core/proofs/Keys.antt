@@ -1,0 +1,70 @@
+-- The key of a place, and when a store may use it there.
+use Rattle.std.proofs.Common.{◌≡◌, ◌⊎◌, inl, inr, ℕ, true, false, Option, Some, None, refl, sym, ◌∙◌, ap, is_some, option_map, unwrap_or}
+use Rattle.std.specs.Prelude.{option_and_then}
+use Rattle.mm_types.specs.declared.numbers.Key.{Key}
+use Rattle.mm_types.specs.declared.numbers.Pid.{Pid}
+use Rattle.mm_types.specs.declared.numbers.Place.{Place}
+use Rattle.mm_world.specs.World.{Page, ProcessOf}
+use Rattle.mm_world.specs.Find.{process_of, region_with}
+use Rattle.mm_world.specs.Keys.{Home, Own, Committed, committed_at, key_of, private_key, content_of}
+use Rattle.mm_world.specs.Contents.{Tables}
+use Rattle.mm_pages.specs.Store.{StoreOf}
+use Rattle.mm_pages.specs.Conditions.{IsAt, place_at}
+use Rattle.mm_calls.specs.Fits.{Fits, key_at}
+use Rattle.mm_world.proofs.Finding.{committed_is, row_has_live_key}
+
+-- the key of a place whose row has bytes of its own
+pub key-own : (t : Tables) (pid : Pid) (page : ℕ) (p : ProcessOf (Unit {0})) (c : Committed (Unit {0})) → process_of t pid.0 ≡ Some p → committed_at t p.regions page ≡ Some c → c.home ≡ Own tt → key_at t (place_at pid page) ≡ Some (private_key pid.0 page)
+key-own t pid page p c lives committed own =
+    ap (λ p. option_and_then (λ (p : ProcessOf (Unit {0})). option_map (λ (c : Committed (Unit {0})). key_of pid.0 page c.home) (committed_at t p.regions page)) p) lives
+    ∙ ap (λ c. option_map (λ (c : Committed (Unit {0})). key_of pid.0 page c.home) c) committed
+    ∙ ap (λ (home : Home (Unit {0})). Some (key_of pid.0 page home)) own
+
+-- what stands behind the key of a place
+record Behind (t : Tables) (place : Place) (k : Key) : Type 0 where
+  process : ProcessOf (Unit {0})
+  row : Committed (Unit {0})
+  lives : process_of t place.pid.0 ≡ Some process
+  committed : committed_at t process.regions place.vpn.0 ≡ Some row
+  is : key_of place.pid.0 place.vpn.0 row.home ≡ k
+
+behind : (t : Tables) (place : Place) (k : Key) → key_at t place ≡ Some k → Behind t place k
+behind t place k e = by_process (process_of t place.pid.0) refl e
+  where
+    by_row : (p : ProcessOf (Unit {0})) (o : Option (Committed (Unit {0}))) → process_of t place.pid.0 ≡ Some p → committed_at t p.regions place.vpn.0 ≡ o → option_map (λ (c : Committed (Unit {0})). key_of place.pid.0 place.vpn.0 c.home) o ≡ Some k → Behind t place k
+    by_row p None lives committed e = cc
+    by_row p (Some c) lives committed e = record { process = p; row = c; lives = lives; committed = committed; is = cc }
+
+    by_process : (o : Option (ProcessOf (Unit {0}))) → process_of t place.pid.0 ≡ o → option_and_then (λ (p : ProcessOf (Unit {0})). option_map (λ (c : Committed (Unit {0})). key_of place.pid.0 place.vpn.0 c.home) (committed_at t p.regions place.vpn.0)) o ≡ Some k → Behind t place k
+    by_process None lives e = cc
+    by_process (Some p) lives e = by_row p (committed_at t p.regions place.vpn.0) lives refl e
+
+module _ (t : Tables) (contents : Key → Option Page) (s : StoreOf) (fits : Fits t contents s) (place : Place) (k : Key) (at : key_at t place ≡ Some k) where
+  pub key-live : is_some (contents k) ≡ true
+  key-live =
+      let b = behind t place k at in
+      fits.live k ∙ ap (λ (k : Key). is_some (content_of t k)) (sym b.is) ∙ row_has_live_key t place.pid.0 place.vpn.0 b.process b.row b.lives b.committed
+
+  key-bound : s.bound place ≡ true
+  key-bound =
+      let b = behind t place k at in
+      let h = committed_is t b.process.regions place.vpn.0 b.row b.committed in
+      fits.bound place
+      ∙ ap (λ o. unwrap_or (option_map (λ (p : ProcessOf (Unit {0})). is_some (region_with p.regions place.vpn.0)) o) false) b.lives
+      ∙ ap is_some h.region
+
+  key-named : (s.names place ≡ None) ⊎ (s.names place ≡ Some k)
+  key-named = by_name (s.names place) refl
+    where
+      by_name : (o : Option Key) → s.names place ≡ o → (s.names place ≡ None) ⊎ (s.names place ≡ Some k)
+      by_name None e = inl e
+      by_name (Some j) e = let same : Some j ≡ Some k = sym (fits.named place j e) ∙ at in inr (e ∙ same)
+
+pub key-at : (t : Tables) (contents : Key → Option Page) (s : StoreOf) → Fits t contents s → (pid : Pid) (page : ℕ) → key_at t (place_at pid page) ≡ Some (private_key pid.0 page) → IsAt contents s (place_at pid page) (private_key pid.0 page)
+key-at t contents s fits pid page at =
+    record {
+      live = key-live t contents s fits (place_at pid page) (private_key pid.0 page) at;
+      home = refl;
+      bound = key-bound t contents s fits (place_at pid page) (private_key pid.0 page) at;
+      named = key-named t contents s fits (place_at pid page) (private_key pid.0 page) at;
+    }

@@ -1,0 +1,10 @@
+pub mod With
+pub mod Writing
+pub mod Accesses
+pub mod Fitting
+pub mod Lines
+pub mod Charged
+pub mod Rows
+pub mod Calls
+pub mod Keys
+pub mod AccessLines

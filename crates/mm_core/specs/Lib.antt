@@ -1,0 +1,4 @@
+pub mod Accessing
+pub mod Stepping
+pub mod Built
+pub mod Shown

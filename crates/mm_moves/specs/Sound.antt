@@ -1,0 +1,62 @@
+-- What holds wherever moves lead: frames and keys agree on who is where, and a frame has a share for each valid place.
+use Rattle.std.specs.Prelude.{◌≡◌, ℕ, ◌<◌, ◌≤◌, Bool, true, false, List, [], ◌∷◌, length, Option, Some, None}
+use Rattle.mm_types.specs.declared.numbers.Frame.{Frame}
+use Rattle.mm_types.specs.declared.numbers.Key.{Key}
+use Rattle.mm_types.specs.declared.numbers.Place.{Place}
+use Rattle.mm_types.specs.declared.frames.Held.{Held}
+use Rattle.mm_types.specs.declared.frames.Held.TheVariants as held
+use Rattle.mm_life.specs.Frames.{FrameTable, record_at, is_first}
+use Rattle.mm_life.specs.Life.{FrameLife, same_place}
+use Rattle.mm_moves.specs.Listed.{is_owned}
+
+abbrev pub frame : ℕ → Frame
+frame f = record { 0 = f }
+
+-- ---- what the lists say of the records
+
+pub record IsEmptyFrame (d : FrameTable) (f : ℕ) : Type 0 where
+  pub low : f < length d.records
+  pub owner : (record_at d f).owner ≡ None
+  pub shares : (record_at d f).shares ≡ 0
+
+pub record Listed (d : FrameTable) : Type 0 where
+  pub zeroed : (f : ℕ) → is_first f d.zeroed ≡ true → IsEmptyFrame d f
+  pub free : (f : ℕ) → is_first f d.free ≡ true → IsEmptyFrame d f
+  pub standby : (f : ℕ) → is_first f d.standby ≡ true → (record_at d f).shares ≡ 0
+  pub owned : (f : ℕ) → is_owned (record_at d f) ≡ true
+
+-- ---- owners
+
+-- a frame has the key as its owner exactly where the key stands in the frame
+pub record Owned (owner : ℕ → Option Key) (stands : Key → Held) : Type 0 where
+  pub there : (f : ℕ) (k : Key) → owner f ≡ Some k → stands k ≡ held.Frame (frame f)
+  pub back : (k : Key) (f : Frame) → stands k ≡ held.Frame f → owner f.0 ≡ Some k
+
+-- ---- places
+
+-- the place is none of these
+abbrev pub IsNone : Place → List Place → Type 0
+IsNone p [] = Unit {0}
+IsNone p (q ∷ qs) = (same_place q p ≡ false) × IsNone p qs
+
+abbrev pub Differ : List Place → Type 0
+Differ [] = Unit {0}
+Differ (p ∷ ps) = IsNone p ps × Differ ps
+
+abbrev pub ValidFor : (Place → Option Frame) → ℕ → List Place → Type 0
+ValidFor valid f [] = Unit {0}
+ValidFor valid f (p ∷ ps) = (valid p ≡ Some (frame f)) × ValidFor valid f ps
+
+-- a frame has at least as many shares as places are valid for it
+abbrev pub Counted : (ℕ → ℕ) → (Place → Option Frame) → Type 0
+Counted shares valid = (f : ℕ) (ps : List Place) → Differ ps → ValidFor valid f ps → length ps ≤ shares f
+
+abbrev pub owner_in : FrameTable → ℕ → Option Key
+owner_in d f = (record_at d f).owner
+
+abbrev pub shares_in : FrameTable → ℕ → ℕ
+shares_in d f = (record_at d f).shares
+
+pub record Sound (l : FrameLife) : Type 0 where
+  pub owned : Owned (owner_in l.frames) l.stands
+  pub counted : Counted (shares_in l.frames) l.valid

@@ -1,0 +1,5 @@
+pub mod Changes
+pub mod Contents
+pub mod Fitting
+pub mod Flags
+pub mod Ranges

@@ -1,0 +1,5 @@
+use Rattle.mm_plain.proofs.Flags.{none_set}
+use Rattle.mm_plain.proofs.processes.Processes.new.Goals as goal
+
+pub returns : goal.returns
+returns c = none_set 256

@@ -1,0 +1,6 @@
+pub mod Stocks
+pub mod Processes
+pub mod Places
+pub mod Shown
+pub mod Fitting
+pub mod Plain

@@ -1,0 +1,74 @@
+ghost use Rattle.std.specs.Prelude.{◌≡◌, ◌+◌, ◌≤◌, length, replicate, take, drop, IfOk};
+ghost use Rattle.mm_world.specs.World.{filled};
+ghost use Rattle.mm_world.specs.Access.{written};
+
+use mm_types::NoMemory;
+use std::alloc::Global;
+use std::marker::Model;
+
+/// The 4,096 bytes of a page, on the heap.
+#[derive(Drop)]
+pub(crate) struct PageBox {
+    bytes: Box<[u8; 4096]>,
+}
+
+impl Model for PageBox {
+    ghost use Rattle.std.specs.Prelude.{List, ℕ};
+
+    ghost Value = { List ℕ };
+
+    ghost view = { λ p. p.bytes.value };
+}
+
+/// Writes the bytes from a place on.
+fn put_bytes(bytes: &mut [u8], at: usize, new: &[u8])
+    requires { at + length new.now ≤ length bytes.old }
+    ensures { bytes.new ≡ written bytes.old at new.now }
+{
+    let end = at + new.len();
+    bytes[at..end].copy_from_slice(new);
+}
+
+/// Reads bytes from a place on.
+fn get_bytes(bytes: &[u8], at: usize, out: &mut [u8])
+    requires { at + length out.old ≤ length bytes.now }
+    ensures { out.new ≡ take (length out.old) (drop at bytes.now) }
+{
+    let end = at + out.len();
+    out.copy_from_slice(&bytes[at..end]);
+}
+
+impl PageBox {
+    /// A page of zeros.
+    #[tactic(auto, unfolding(mm_world::specs::World::filled))]
+    pub(crate) fn zeroed(alloc: Global) -> Result<PageBox, NoMemory>
+        ensures { IfOk result (λ page. page ≡ filled 0) }
+    {
+        let bytes = Box::new(alloc, [0; 4096])?;
+        Ok(PageBox { bytes })
+    }
+
+    /// The page is all zeros from now on.
+    #[tactic(auto, unfolding(mm_world::specs::World::filled))]
+    pub(crate) fn clear(&mut self)
+        ensures { self.new ≡ filled 0 }
+    {
+        *self.bytes = [0; 4096];
+    }
+
+    /// Reads bytes from `off` on.
+    pub(crate) fn read(&self, off: u16, out: &mut [u8])
+        requires { off + length out.old ≤ 4096 }
+        ensures { out.new ≡ take (length out.old) (drop off self.now) }
+    {
+        get_bytes(&*self.bytes, off as usize, out);
+    }
+
+    /// Writes bytes from `off` on.
+    pub(crate) fn write(&mut self, off: u16, bytes: &[u8])
+        requires { off + length bytes.now ≤ 4096 }
+        ensures { self.new ≡ written self.old off bytes.now }
+    {
+        put_bytes(&mut *self.bytes, off as usize, bytes);
+    }
+}

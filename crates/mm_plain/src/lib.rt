@@ -1,0 +1,16 @@
+//! The unpaged store: each page stands in a box of its own, and no access ever fails or waits.
+//!
+//! The page of a private key is kept at the key's own place, beside the key that the place names. So a page comes and
+//! goes without a change of the map, and `add` takes no memory.
+#![tactic(auto)]
+
+mod boxes;
+mod places;
+mod plain;
+mod processes;
+mod stock;
+
+pub use plain::Plain;
+
+#[cfg(test)]
+mod tests;

@@ -1,0 +1,12 @@
+pub mod Shows
+pub mod Around
+pub mod Ranged
+pub mod Owned
+pub mod RowsKept
+pub mod Carried
+pub mod OfPage
+pub mod Kept
+pub mod Gaps
+pub mod Told
+pub mod Made
+pub mod Written

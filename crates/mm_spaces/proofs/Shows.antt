@@ -1,0 +1,111 @@
+-- What look-ups among the regions that `mm_vad` keeps, and changes of a row, are among those that are shown.
+use Rattle.std.proofs.Common.{◌≡◌, ℕ, ◌-◌, Bool, true, false, cond, List, [], ◌∷◌, length, map, Option, Some, None, refl, sym, ap, ◌∙◌, subst, slice_get, slice_set, is_some, option_map}
+use Rattle.std.specs.Prelude.{find, All}
+use Rattle.std.proofs.lemmas.List.{length-map, map-set}
+use Rattle.std.proofs.lemmas.List.Elements.{All-head, All-tail}
+use Rattle.std.proofs.lemmas.Option.{slice_get-map}
+use Rattle.mm_types.specs.declared.views.Kind.{Kind}
+use Rattle.mm_types.specs.declared.views.Kind.TheVariants as kind
+use Rattle.mm_types.specs.Address.{Range, holds_page}
+use Rattle.mm_vad.specs.declared.pages.Row.{Row}
+use Rattle.mm_vad.specs.declared.regions.Region.{Region}
+use Rattle.mm_vad.specs.Regions.{holds, region_at, set_row, with_row}
+use Rattle.mm_vad.specs.Regions.{pages_of as kept_pages}
+use Rattle.mm_vad.proofs.Held.{set_here, set_later}
+use Rattle.mm_world.specs.World.{RowOf, RegionOf, pages_of}
+use Rattle.mm_world.specs.Find.{Found, one_later, region_with, is_private}
+use Rattle.mm_world.specs.Rows.{row_at}
+use Rattle.mm_spaces.specs.declared.rows.RowChange.{RowChange}
+use Rattle.mm_spaces.specs.Shown.{row_of, region_of, shown}
+use Rattle.mm_spaces.specs.RowChanges.{changed}
+
+pub record IsThere {A : Type 0} (o : Option A) : Type 0 where
+  pub thing : A
+  pub is : o ≡ Some thing
+
+pub there : {A : Type 0} (o : Option A) → is_some o ≡ true → IsThere o
+there None e = cc
+there (Some x) e = record { thing = x; is = refl }
+
+-- what was found one place later
+pub record Later {A : Type 0} (o : Option (Found A)) (r : Found A) : Type 0 where
+  pub found : Found A
+  pub is : o ≡ Some found
+  pub same : one_later found ≡ r
+
+pub later : {A : Type 0} (o : Option (Found A)) (r : Found A) → option_map one_later o ≡ Some r → Later o r
+later None r e = cc
+later (Some f) r e = record { found = f; is = refl; same = cc }
+
+pub private_kind : (k : Kind) → is_private k ≡ true → k ≡ kind.Private
+private_kind kind.Private e = refl
+private_kind (kind.View v) e = cc
+
+pub shown_pages : (g : Region) → length g.rows ≡ g.pages → pages_of (region_of g) ≡ kept_pages g
+shown_pages g whole = ap (λ (n : ℕ). record { first = g.base.0; count = n }) (length-map g.rows (row_of g.kind) ∙ whole)
+
+-- the region in which a page lies, as it is kept
+pub record Here (gs : List Region) (page : ℕ) (r : Found (RegionOf (Unit {0}))) : Type 0 where
+  pub region : Region
+  pub found : region_at gs page ≡ Some region
+  pub is : region_of region ≡ r.thing
+  pub written : (row : Row) → shown (set_row gs page row) ≡ slice_set (shown gs) r.place (region_of (with_row page row region))
+
+here_first : (x : Region) (xs : List Region) (page : ℕ) → holds page x ≡ true → Here (x ∷ xs) page (record { place = 0; thing = region_of x })
+here_first x xs page t = record {
+  region = x;
+  found = ap (λ (b : Bool). cond b (Some x) (find (holds page) xs)) t;
+  is = refl;
+  written = λ row. ap shown (set_here page row x xs t);
+}
+
+here_later : (x : Region) (xs : List Region) (page : ℕ) (r : Found (RegionOf (Unit {0}))) → holds page x ≡ false → Here xs page r → Here (x ∷ xs) page (one_later r)
+here_later x xs page r f h = record {
+  region = h.region;
+  found = ap (λ (b : Bool). cond b (Some x) (find (holds page) xs)) f ∙ h.found;
+  is = h.is;
+  written = λ row. ap shown (set_later page row x xs f) ∙ ap (λ rs. region_of x ∷ rs) (h.written row);
+}
+
+pub here : (gs : List Region) (page : ℕ) (r : Found (RegionOf (Unit {0}))) → All (λ g. length g.rows ≡ g.pages) gs → region_with (shown gs) page ≡ Some r → Here gs page r
+here [] page r a e = cc
+here (x ∷ xs) page r a e =
+    let held : holds_page (pages_of (region_of x)) page ≡ holds page x = ap (λ (p : Range). holds_page p page) (shown_pages x (All-head (λ (g : Region). length g.rows ≡ g.pages) x xs a)) in
+    by_test (holds page x) refl (ap (λ (b : Bool). cond b (Some (record { place = 0; thing = region_of x })) (option_map one_later (region_with (shown xs) page))) (sym held) ∙ e)
+    (λ f is. here xs page f (All-tail (λ (g : Region). length g.rows ≡ g.pages) x xs a) is)
+  where
+    by_test : (b : Bool) → holds page x ≡ b → cond b (Some (record { place = 0; thing = region_of x })) (option_map one_later (region_with (shown xs) page)) ≡ Some r → ((f : Found (RegionOf (Unit {0}))) → region_with (shown xs) page ≡ Some f → Here xs page f) → Here (x ∷ xs) page r
+    by_test true t k rest =
+        let same : record { place = 0; thing = region_of x } ≡ r = cc in
+        subst (Here (x ∷ xs) page) same (here_first x xs page t)
+    by_test false f k rest =
+        let l = later (region_with (shown xs) page) r k in
+        subst (Here (x ∷ xs) page) l.same (here_later x xs page l.found f (rest l.found l.is))
+
+-- ---- one row changed
+
+abbrev pub with_changed : RowChange → ℕ → RowOf (Unit {0}) → RegionOf (Unit {0}) → RegionOf (Unit {0})
+with_changed change page row r = record r { rows = slice_set r.rows (page - r.base) (changed change r.kind row) }
+
+changed_in : (change : RowChange) (k : Kind) (old new : Row) → is_private k ≡ true → row_of kind.Private new ≡ changed change kind.Private (row_of kind.Private old) → row_of k new ≡ changed change k (row_of k old)
+changed_in change k old new private is = subst (λ (k : Kind). row_of k new ≡ changed change k (row_of k old)) (sym (private_kind k private)) is
+
+with_rows : Region → List (RowOf (Unit {0})) → RegionOf (Unit {0})
+with_rows g rows = record { base = g.base.0; alloc_prot = g.alloc_prot.0; kind = g.kind; rows = rows }
+
+region_changed : (g : Region) (page : ℕ) (change : RowChange) (old new : Row) (row : RowOf (Unit {0})) → slice_get g.rows (page - g.base.0) ≡ Some old → is_private g.kind ≡ true → row_at (region_of g) page ≡ Some row → row_of kind.Private new ≡ changed change kind.Private (row_of kind.Private old) → region_of (with_row page new g) ≡ with_changed change page row (region_of g)
+unfolding with_rows
+region_changed g page change old new row at private there is =
+    let i = page - g.base.0 in
+    let both : Some (row_of g.kind old) ≡ Some row = sym (ap (option_map (row_of g.kind)) at) ∙ sym (slice_get-map (row_of g.kind) g.rows i) ∙ there in
+    let same : row_of g.kind old ≡ row = cc in
+    ap (with_rows g)
+    (map-set (row_of g.kind) g.rows i new
+    ∙ ap (slice_set (map (row_of g.kind) g.rows) i) (changed_in change g.kind old new private is ∙ ap (changed change g.kind) same))
+
+pub row_changed : (gs : List Region) (page : ℕ) (r : Found (RegionOf (Unit {0}))) (h : Here gs page r) (change : RowChange) (old new : Row) (row : RowOf (Unit {0})) → slice_get h.region.rows (page - h.region.base.0) ≡ Some old → is_private r.thing.kind ≡ true → row_at r.thing page ≡ Some row → row_of kind.Private new ≡ changed change kind.Private (row_of kind.Private old) → shown (set_row gs page new) ≡ slice_set (shown gs) r.place (with_changed change page row r.thing)
+row_changed gs page r h change old new row at private there is =
+    h.written new
+    ∙ ap (slice_set (shown gs) r.place)
+    (subst (λ (t : RegionOf (Unit {0})). is_private t.kind ≡ true → row_at t page ≡ Some row → region_of (with_row page new h.region) ≡ with_changed change page row t) h.is
+    (λ p q. region_changed h.region page change old new row at p q is) private there)

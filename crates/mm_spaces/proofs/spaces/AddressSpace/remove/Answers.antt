@@ -1,0 +1,18 @@
+use Rattle.std.proofs.Common.{◌≡◌, Some, sym, ap, ◌∙◌, subst}
+use Rattle.std.specs.Prelude.{remove}
+use Rattle.mm_types.specs.Address.{page_of}
+use Rattle.mm_world.specs.Free.{private_at}
+use Rattle.mm_spaces.specs.Tables.{RegionsOf}
+use Rattle.mm_spaces.proofs.Made.{kept_remove, removed}
+use Rattle.mm_spaces.proofs.spaces.AddressSpace.remove.Goals as goal
+
+pub invariant_of-self : goal.invariant_of-self
+invariant_of-self c =
+    kept_remove c.self.inside.space.regions c.remove.new.self.regions (page_of c.args.addr) c.self.invariant c.remove.ensures.after c.remove.ensures.sound
+
+pub returns-clause-removed : goal.returns-clause-removed
+returns-clause-removed c = λ r e. (
+    let vs = c.self.inside.space.regions in
+    let there = subst (λ (v : RegionsOf). private_at v.regions c.args.addr ≡ Some r) (sym c.self.view_is) e in
+    removed vs c.remove.new.self.regions c.args.addr r c.self.invariant c.remove.ensures.after there
+    ∙ ap (λ (v : RegionsOf). remove v.regions r.place) c.self.view_is)

@@ -1,0 +1,4 @@
+pub mod Shown
+pub mod Tables
+pub mod Finds
+pub mod RowChanges

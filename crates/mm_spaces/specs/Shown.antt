@@ -1,0 +1,33 @@
+-- The regions of an address space as the definitions of worlds have them, read off those that `mm_vad` keeps.
+use Rattle.std.specs.Prelude.{Bool, if◌then◌else◌, List, map, Some, None}
+use Rattle.std.specs.List.{list_all}
+use Rattle.mm_types.specs.declared.views.Kind.{Kind}
+use Rattle.mm_types.specs.declared.views.Kind.TheVariants as kind
+use Rattle.mm_vad.specs.declared.pages.Row.{Row}
+use Rattle.mm_vad.specs.declared.regions.Region.{Region}
+use Rattle.mm_world.specs.World.{RowOf, RegionOf}
+use Rattle.mm_world.specs.Find.{is_private}
+
+-- whether the page has bytes of its own: a private row where it is committed, a view's where it was copied
+abbrev pub has_own : Kind → Row → Bool
+has_own kind.Private row = row.committed
+has_own (kind.View v) row = row.copied
+
+abbrev pub row_of : Kind → Row → RowOf (Unit {0})
+row_of kind row =
+    record {
+      prot = row.prot.0;
+      guard = row.guard;
+      marked = row.marked;
+      own = if has_own kind row then Some tt else None;
+    }
+
+abbrev pub region_of : Region → RegionOf (Unit {0})
+region_of r = record { base = r.base.0; alloc_prot = r.alloc_prot.0; kind = r.kind; rows = map (row_of r.kind) r.rows }
+
+abbrev pub shown : List Region → List (RegionOf (Unit {0}))
+shown regions = map region_of regions
+
+-- no region is a view
+abbrev pub all_private : {B : Type 0} → List (RegionOf B) → Bool
+all_private regions = list_all (λ r. is_private r.kind) regions
