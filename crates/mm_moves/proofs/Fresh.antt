@@ -1,11 +1,11 @@
 -- No frames, and frames that are all free.
-use Rattle.std.proofs.Common.{◌≡◌, ◌≢◌, ℕ, zero, suc, ◌+◌, ◌<◌, ◌≤◌, Bool, true, false, List, [], ◌∷◌, ◌++◌, length, get_or, drop, replicate, Option, Some, None, refl, sym, ap, ◌∙◌, subst, arith}
-use Rattle.std.specs.Prelude.{slice_get, if◌then◌else◌}
-use Rattle.std.proofs.lemmas.List.{get_or-replicate, length-replicate}
+use Rattle.std.proofs.Common.{◌≡◌, ℕ, zero, suc, ◌+◌, ◌<◌, List, [], ◌∷◌, ◌++◌, drop, replicate, Some, None, refl, sym, ap, ◌∙◌, arith}
+use Rattle.std.specs.Prelude.{slice_get}
+use Rattle.std.proofs.lemmas.List.{length-replicate}
 use Rattle.mm_types.specs.declared.frames.Record.{Record}
-use Rattle.mm_life.specs.Frames.{blank, is_idle}
+use Rattle.mm_life.specs.Frames.{blank}
 use Rattle.mm_life.specs.Life.{numbers_from}
-use Rattle.mm_lists.specs.Lists.{ListsOf, AreApart, IsOnNone, IsOnOne, list_at, number_at, with_list}
+use Rattle.mm_lists.specs.Lists.{ListsOf, IsOnNone, IsOnOne, list_at, number_at, with_list}
 use Rattle.mm_moves.specs.Listed.{free_alone, no_lists, AreFour, belongs, record_of, is_owned, Kept}
 
 pub alone : (xs : List ℕ) (j k g : ℕ) → number_at (free_alone xs) j k ≡ Some g → (j ≡ 1) × (slice_get xs k ≡ Some g)

@@ -13,3 +13,4 @@ pub mod Owners
 pub mod Places
 pub mod Sharing
 pub mod Soundness
+pub mod Flying

@@ -1,8 +1,8 @@
 -- What is on the lists after a number left them or was put behind one.
-use Rattle.std.proofs.Common.{◌≡◌, ◌≢◌, ◌⊎◌, ℕ, zero, suc, ◌+◌, ◌<◌, ◌≤◌, Bool, true, false, cond, List, [], ◌∷◌, ◌++◌, length, get_or, set, map, drop, Some, None, refl, sym, ap, ◌∙◌, subst, inl, inr, arith, length-set, get_or-set_same, get_or-set_other}
-use Rattle.std.specs.Prelude.{slice_get, ◌==◌, not}
+use Rattle.std.proofs.Common.{◌≡◌, ◌≢◌, ◌⊎◌, ℕ, zero, suc, ◌<◌, Bool, cond, List, [], ◌∷◌, ◌++◌, length, set, map, drop, Some, None, refl, sym, ap, ◌∙◌, inl, inr, arith, get_or-set_same, get_or-set_other}
+use Rattle.std.specs.Prelude.{slice_get, not}
 use Rattle.std.specs.Cmp.{unsigned_Decides}
-use Rattle.std.proofs.lemmas.List.{get_or-map, set-get_or, get_or_past}
+use Rattle.std.proofs.lemmas.List.{set-get_or}
 use Rattle.mm_types.proofs.Cells.{same_or_not, get_within}
 use Rattle.mm_types.proofs.Tables.{differ}
 use Rattle.mm_lists.specs.Lists.{IsOnNone, list_at, number_at, without}
@@ -17,7 +17,7 @@ pub record Removes (f : ℕ) (lists lists' : List (List ℕ)) : Type 0 where
 keep : Bool → ℕ → List ℕ → List ℕ
 keep b x xs = cond b (x ∷ xs) xs
 
-without_found : (f : ℕ) (xs : List ℕ) (k g : ℕ) → slice_get (without f xs) k ≡ Some g → (g ≢ f) × ((m : ℕ) × (slice_get xs m ≡ Some g))
+pub without_found : (f : ℕ) (xs : List ℕ) (k g : ℕ) → slice_get (without f xs) k ≡ Some g → (g ≢ f) × ((m : ℕ) × (slice_get xs m ≡ Some g))
 without_found f [] k g e = let bad : None ≡ Some g = e in cc
 without_found f (x ∷ xs) k g e = elim (same_or_not x f) [
   | inl s ↦

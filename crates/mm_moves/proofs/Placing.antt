@@ -1,19 +1,15 @@
 -- The list of each frame, as one frame leaves its list, changes or goes to one.
-use Rattle.std.proofs.Common.{◌≡◌, ◌≢◌, ◌⊎◌, ℕ, zero, suc, ◌+◌, ◌<◌, ◌≤◌, Bool, true, false, cond, List, [], ◌∷◌, ◌++◌, length, get_or, set, map, drop, Option, Some, None, refl, sym, ap, ◌∙◌, subst, inl, inr, arith, length-set, get_or-set_same, get_or-set_other}
+use Rattle.std.proofs.Common.{◌≡◌, ◌≢◌, ◌⊎◌, ℕ, zero, suc, ◌<◌, ◌≤◌, Bool, true, false, cond, List, [], ◌∷◌, ◌++◌, length, set, map, drop, Option, Some, None, refl, sym, ap, ◌∙◌, inl, inr, arith, length-set, get_or-set_same, get_or-set_other}
 use Rattle.std.specs.Prelude.{◌-◌, slice_get, ◌==◌, ◌&&◌, ◌||◌, not, nat_lt, is_some, if◌then◌else◌}
 use Rattle.std.specs.Cmp.{unsigned_Decides}
-use Rattle.std.specs.List.{list_any}
 use Rattle.std.proofs.lemmas.Bool.{and_parts}
-use Rattle.std.proofs.lemmas.List.{get_or_past, length-map, set-get_or}
+use Rattle.std.proofs.lemmas.List.{get_or_past}
 use Rattle.mm_types.specs.declared.numbers.Key.{Key}
 use Rattle.mm_types.specs.declared.frames.Record.{Record}
-use Rattle.mm_types.specs.declared.frames.Request.{Request}
-use Rattle.mm_types.specs.declared.frames.Request.TheVariants as request
-use Rattle.mm_types.specs.declared.frames.Backing.{Backing}
 use Rattle.mm_types.proofs.Cells.{same_or_not}
 use Rattle.mm_types.proofs.Tables.{differ}
-use Rattle.mm_life.specs.Frames.{FrameTable, blank, is_idle, has_request, is_read, is_write, is_first, is_empty, is_on, rest, off_lists, with_record, settled, settled_by, shared, soiled, being_written, disowned, unshared, without_slot}
-use Rattle.mm_lists.specs.Lists.{ListsOf, AreApart, IsOnNone, IsOnOne, list_at, number_at, with_list, without}
+use Rattle.mm_life.specs.Frames.{blank, is_idle, has_request, is_read, is_first, is_empty, is_on, rest, off_lists}
+use Rattle.mm_lists.specs.Lists.{ListsOf, IsOnOne, list_at, number_at, with_list, without}
 use Rattle.mm_lists.proofs.Cuts.{without_other}
 use Rattle.mm_moves.specs.Listed.{AreFour, table_of, first_taken, put_behind, record_of, belongs, is_owned, is_changed_page, Kept, Off}
 use Rattle.mm_moves.specs.Sound.{Listed, IsEmptyFrame}
@@ -314,8 +310,15 @@ module _ (records : List Record) (v : ListsOf) (f : ℕ) (k : Kept records v) wh
 
 -- ---- what the lists say of the records
 
-idle_alone : (r : Record) → is_idle r ≡ true → r.shares ≡ 0
+pub idle_alone : (r : Record) → is_idle r ≡ true → r.shares ≡ 0
 idle_alone r e = (unsigned_Decides r.shares 0).0 (and_parts (r.shares == 0) (not (has_request r.request)) e).0
+
+pub idle_quiet : (r : Record) → is_idle r ≡ true → has_request r.request ≡ false
+idle_quiet r e = not_so (has_request r.request) (and_parts (r.shares == 0) (not (has_request r.request)) e).1
+  where
+    not_so : (b : Bool) → not b ≡ true → b ≡ false
+    not_so true e = let bad : false ≡ true = e in cc
+    not_so false e = refl
 
 nobody : (o : Option Key) → (is_some o ≡ true → ⊥) → o ≡ None
 nobody None h = refl
@@ -325,7 +328,8 @@ pub listed_of : (records : List Record) (v : ListsOf) → Kept records v → Lis
 listed_of records v k = record {
   zeroed = λ f e. empty f 0 (omega arith) (first_at f (list_at v.lists 0) e);
   free = λ f e. empty f 1 (omega arith) (first_at f (list_at v.lists 1) e);
-  standby = λ f e. idle_alone (record_of records f) (belongs_idle (record_of records f) 2 (k.listed 2 0 f (first_at f (list_at v.lists 2) e)));
+  standby = λ f e. belongs_idle (record_of records f) 2 (k.listed 2 0 f (first_at f (list_at v.lists 2) e));
+  modified = λ f e. let h = found f (list_at v.lists 3) e in belongs_idle (record_of records f) 3 (k.listed 3 h.0 f h.1);
   owned = k.owned;
 }
   where
@@ -336,6 +340,7 @@ listed_of records v k = record {
           low = omega (arith, k.lists.apart.below j 0 f first, k.numbers);
           owner = nobody (record_of records f).owner (λ o. owned_not_low (record_of records f) j o low here);
           shares = idle_alone (record_of records f) (belongs_idle (record_of records f) j here);
+          quiet = idle_quiet (record_of records f) (belongs_idle (record_of records f) j here);
         }
 
 -- ---- records that are no longer read

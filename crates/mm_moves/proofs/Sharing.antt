@@ -1,12 +1,17 @@
 -- Owners and shares of the frames, as one record is set.
-use Rattle.std.proofs.Common.{◌≡◌, ◌≢◌, ℕ, zero, suc, ◌+◌, ◌<◌, ◌≤◌, Bool, true, false, cond, List, [], ◌∷◌, length, get_or, set, Option, Some, None, refl, sym, ap, ◌∙◌, subst, ◌++◌, arith}
+use Rattle.std.proofs.Common.{◌≡◌, ◌≢◌, ℕ, zero, suc, ◌+◌, ◌<◌, ◌≤◌, Bool, true, false, cond, List, [], ◌∷◌, length, set, Option, Some, None, refl, sym, ap, ◌∙◌, subst, ◌++◌, inl, inr, arith, length-set, get_or-set_same, get_or-set_other}
 use Rattle.std.specs.Prelude.{◌||◌, ◌&&◌, ◌==◌, not, is_some, if◌then◌else◌}
 use Rattle.std.specs.Cmp.{unsigned_Decides}
+use Rattle.mm_types.proofs.Cells.{same_or_not}
 use Rattle.mm_types.specs.declared.numbers.Key.{Key}
 use Rattle.mm_types.specs.declared.frames.Record.{Record}
 use Rattle.mm_life.specs.Frames.{FrameTable, blank, is_read, settled_by, soiled, write_done, has_request, is_again, is_idle, without_slot, with_record, settled, to_free, record_at}
 use Rattle.mm_types.specs.declared.frames.Request.TheVariants as request
+use Rattle.mm_lists.specs.Lists.{without}
+use Rattle.mm_lists.proofs.Cuts.{push_cases}
 use Rattle.mm_moves.specs.Listed.{record_of, is_owned}
+use Rattle.mm_moves.specs.Sound.{Requested}
+use Rattle.mm_moves.proofs.Members.{without_found}
 
 abbrev pub owner_of : List Record → ℕ → Option Key
 owner_of rs f = (record_of rs f).owner
@@ -73,11 +78,13 @@ read_shares r o e = (unsigned_Decides r.shares 0).0 (or_right (is_some r.owner) 
 -- ---- changes that leave owners, and take no shares
 
 pub record Keeps (rs rs' : List Record) : Type 0 where
+  pub long : length rs' ≡ length rs
   pub owners : (g : ℕ) → owner_of rs' g ≡ owner_of rs g
   pub shares : (g : ℕ) → shares_of rs g ≤ shares_of rs' g
 
 pub keeps_set : (rs : List Record) (f : ℕ) (r : Record) → r.owner ≡ owner_of rs f → r.shares ≡ shares_of rs f → Keeps rs (set rs f r)
 keeps_set rs f r o s = record {
+  long = length-set rs f r;
   owners = set_keeps (λ (q : Record). q.owner) rs f r o;
   shares = λ g. omega (arith, set_keeps (λ (q : Record). q.shares) rs f r s g);
 }
@@ -94,6 +101,48 @@ keeps_ended d f x owned o s = by_owner (is_some (record_at d f).owner) refl
     by_owner true e =
         subst (λ (rs : List Record). Keeps d.records rs) (sym (settled_records (record_at (with_record d f x) f) (with_record d f x) f)) (keeps_set d.records f x o s)
     by_owner false e = keeps_set d.records f blank (no_owner (record_at d f).owner e) (sym (unowned_shares (record_at d f) owned e))
+
+-- ---- requests
+
+abbrev pub asks : List Record → ℕ → Bool
+asks rs f = has_request (record_of rs f).request
+
+pub requests_kept : (rs rs' : List Record) (xs : List ℕ) → Requested rs xs → ((g : ℕ) → asks rs' g ≡ asks rs g) → Requested rs' xs
+requests_kept rs rs' xs q same = λ k f e. same f ∙ q k f e
+
+-- a frame without a request is not among them
+pub requests_quiet : (rs : List Record) (f : ℕ) (r : Record) (xs : List ℕ) → Requested rs xs → asks rs f ≡ false → Requested (set rs f r) xs
+requests_quiet rs f r xs q quiet = λ k g e. elim (same_or_not g f) [
+  | inl s ↦ let bad : true ≡ false = sym (q k g e) ∙ ap (λ (n : ℕ). asks rs n) s ∙ quiet in cc
+  | inr d ↦ ap (λ (x : Record). has_request x.request) (get_or-set_other rs f g r blank d) ∙ q k g e
+]
+
+pub requests_begun : (rs : List Record) (f : ℕ) (r : Record) (xs : List ℕ) → Requested rs xs → f < length rs → has_request r.request ≡ true → Requested (set rs f r) (xs ++ f ∷ [])
+requests_begun rs f r xs q low asking = λ k g e. elim (same_or_not g f) [
+  | inl s ↦ ap (λ (n : ℕ). asks (set rs f r) n) s ∙ ap (λ (x : Record). has_request x.request) (get_or-set_same rs f r blank low) ∙ asking
+  | inr d ↦ elim (push_cases xs f k g e) [
+    | inl h ↦ absurd (d h.1)
+    | inr h ↦ ap (λ (x : Record). has_request x.request) (get_or-set_other rs f g r blank d) ∙ q k g h
+  ]
+]
+
+pub requests_ended : (rs rs' : List Record) (f : ℕ) (xs : List ℕ) → Requested rs xs → ((g : ℕ) → g ≢ f → record_of rs' g ≡ record_of rs g) → Requested rs' (without f xs)
+requests_ended rs rs' f xs q others = λ k g e.
+    let h = without_found f xs k g e in
+    ap (λ (x : Record). has_request x.request) (others g h.0) ∙ q h.1.0 g h.1.1
+
+pub ended_others : (d : FrameTable) (f : ℕ) (x : Record) (g : ℕ) → g ≢ f → record_of (if is_some (record_at d f).owner then settled (with_record d f x) f else to_free d f).records g ≡ record_of d.records g
+ended_others d f x g n =
+    cond_same (λ (e : FrameTable). record_of e.records g) (is_some (record_at d f).owner) (settled (with_record d f x) f) (to_free d f) (record_of d.records g)
+    (ap (λ (rs : List Record). record_of rs g) (settled_records (record_at (with_record d f x) f) (with_record d f x) f) ∙ get_or-set_other d.records f g x blank n)
+    (get_or-set_other d.records f g blank blank n)
+
+pub soiled_request : (r : Record) → has_request (soiled r).request ≡ has_request r.request
+soiled_request r = by_request (has_request r.request) refl
+  where
+    by_request : (b : Bool) → has_request r.request ≡ b → has_request (if b then record r { request = request.WriteAgain } else record r { changed = true; backing = without_slot r.backing }).request ≡ has_request r.request
+    by_request true e = sym e
+    by_request false e = refl
 
 pub soiled_owner : (r : Record) → (soiled r).owner ≡ r.owner
 soiled_owner r = cond_same (λ (q : Record). q.owner) (has_request r.request) (record r { request = request.WriteAgain }) (record r { changed = true; backing = without_slot r.backing }) r.owner refl refl

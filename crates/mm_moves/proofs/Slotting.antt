@@ -1,6 +1,6 @@
 -- The lowest free slot, kept apart from the others.
-use Rattle.std.proofs.Common.{◌≡◌, ◌≢◌, ℕ, zero, suc, ◌+◌, ◌<◌, ◌≤◌, Bool, true, false, List, [], ◌∷◌, ◌++◌, length, replicate, get_or, set, Option, Some, None, refl, sym, ap, ◌∙◌, subst, inl, inr, arith}
-use Rattle.std.specs.Prelude.{not, ◌&&◌, ◌==◌, count_by, slice_get, slice_set}
+use Rattle.std.proofs.Common.{◌≡◌, ◌≢◌, ℕ, zero, suc, ◌<◌, ◌≤◌, Bool, true, false, List, [], ◌∷◌, ◌++◌, length, Option, Some, None, refl, sym, ap, ◌∙◌, subst, inl, inr, arith}
+use Rattle.std.specs.Prelude.{not, ◌&&◌, ◌==◌, slice_get, slice_set}
 use Rattle.std.specs.Cmp.{unsigned_Decides}
 use Rattle.mm_types.proofs.Cells.{same_or_not, get_set_same, get_set_other, get_within}
 use Rattle.mm_types.proofs.Tables.{differ}

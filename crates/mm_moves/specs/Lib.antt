@@ -6,3 +6,4 @@ pub mod Listings
 pub mod Slotted
 pub mod Sound
 pub mod Replaying
+pub mod Flying

@@ -21,5 +21,5 @@ life c = record {
   paging_keys = c.paging_keys;
   added = flagged c.added;
   valid = frames_in c.places;
-  flight = c.flight;
+  flight = c.flight.requests;
 }

@@ -1,13 +1,15 @@
--- What holds wherever moves lead: frames and keys agree on who is where, and a frame has a share for each valid place.
-use Rattle.std.specs.Prelude.{◌≡◌, ℕ, ◌<◌, ◌≤◌, Bool, true, false, List, [], ◌∷◌, length, Option, Some, None}
+-- What holds wherever moves lead: frames and keys agree on who is where, a frame has a share for each valid place,
+-- and the frames in flight have a request.
+use Rattle.std.specs.Prelude.{◌≡◌, ℕ, ◌<◌, ◌≤◌, true, false, List, [], ◌∷◌, length, Option, Some, None, slice_get}
 use Rattle.mm_types.specs.declared.numbers.Frame.{Frame}
 use Rattle.mm_types.specs.declared.numbers.Key.{Key}
 use Rattle.mm_types.specs.declared.numbers.Place.{Place}
+use Rattle.mm_types.specs.declared.frames.Record.{Record}
 use Rattle.mm_types.specs.declared.frames.Held.{Held}
 use Rattle.mm_types.specs.declared.frames.Held.TheVariants as held
-use Rattle.mm_life.specs.Frames.{FrameTable, record_at, is_first}
+use Rattle.mm_life.specs.Frames.{FrameTable, record_at, is_first, is_on, is_idle, has_request}
 use Rattle.mm_life.specs.Life.{FrameLife, same_place}
-use Rattle.mm_moves.specs.Listed.{is_owned}
+use Rattle.mm_moves.specs.Listed.{record_of, is_owned}
 
 abbrev pub frame : ℕ → Frame
 frame f = record { 0 = f }
@@ -18,11 +20,13 @@ pub record IsEmptyFrame (d : FrameTable) (f : ℕ) : Type 0 where
   pub low : f < length d.records
   pub owner : (record_at d f).owner ≡ None
   pub shares : (record_at d f).shares ≡ 0
+  pub quiet : has_request (record_at d f).request ≡ false
 
 pub record Listed (d : FrameTable) : Type 0 where
   pub zeroed : (f : ℕ) → is_first f d.zeroed ≡ true → IsEmptyFrame d f
   pub free : (f : ℕ) → is_first f d.free ≡ true → IsEmptyFrame d f
-  pub standby : (f : ℕ) → is_first f d.standby ≡ true → (record_at d f).shares ≡ 0
+  pub standby : (f : ℕ) → is_first f d.standby ≡ true → is_idle (record_at d f) ≡ true
+  pub modified : (f : ℕ) → is_on f d.modified ≡ true → is_idle (record_at d f) ≡ true
   pub owned : (f : ℕ) → is_owned (record_at d f) ≡ true
 
 -- ---- owners
@@ -57,6 +61,12 @@ owner_in d f = (record_at d f).owner
 abbrev pub shares_in : FrameTable → ℕ → ℕ
 shares_in d f = (record_at d f).shares
 
+-- each frame in the list has a request
+abbrev pub Requested : List Record → List ℕ → Type 0
+Requested records flight = (k f : ℕ) → slice_get flight k ≡ Some f → has_request (record_of records f).request ≡ true
+
 pub record Sound (l : FrameLife) : Type 0 where
+  pub sized : length l.frames.records ≡ l.machine.frames
   pub owned : Owned (owner_in l.frames) l.stands
   pub counted : Counted (shares_in l.frames) l.valid
+  pub requested : Requested l.frames.records l.flight

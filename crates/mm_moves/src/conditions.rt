@@ -246,7 +246,7 @@ fn is_legal_kind(l: &State, kind: LineKind) -> bool
 fn has_depth(l: &State) -> bool
     ensures { result ≡ has_depth (life l.now) }
 {
-    l.flight.len() < l.depth as usize
+    l.flight.len() < l.depth
 }
 
 fn is_live(l: &State, key: Key) -> bool
@@ -451,9 +451,7 @@ fn is_legal_write_end(l: &State, frame: Frame) -> bool
 fn is_legal_at(l: &State, line: u32, kind: LineKind) -> bool
     ensures { result ≡ is_legal (life l.now) (move.At line kind) }
 {
-    u64::from(line) == u64::from(l.line) + 1
-        && l.flight.len() <= l.depth as usize
-        && is_legal_kind(l, kind)
+    u64::from(line) == u64::from(l.line) + 1 && l.flight.len() <= l.depth && is_legal_kind(l, kind)
 }
 
 /// Whether a move is legal.

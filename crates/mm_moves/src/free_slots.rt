@@ -1,4 +1,4 @@
-ghost use Rattle.std.specs.Prelude.{◌≡◌, ◌+◌, ◌-◌, ◌<◌, ◌≤◌, ◌^◌, true, false, [], ◌++◌, length, replicate, OnOk, OnErr, IfOk, Some, slice_get, slice_set};
+ghost use Rattle.std.specs.Prelude.{◌≡◌, ◌+◌, ◌-◌, ◌<◌, ◌≤◌, ◌^◌, true, false, [], ◌++◌, length, replicate, OnOk, OnErr, IfOk, Some, slice_get, slice_index_or, slice_set};
 ghost use Rattle.mm_life.specs.Legal.{is_lowest};
 ghost use Rattle.mm_life.specs.Effect.{freed};
 ghost use Rattle.mm_moves.specs.Slotted.{no_slots, IsLowestIn, without_slot};
@@ -121,6 +121,16 @@ fn is_taken(free: &[bool], slot: u32) -> bool
 {
     match free.get(slot as usize) {
         Some(free) => !*free,
+        None => false,
+    }
+}
+
+/// A flag; that is not set, where there is no such place.
+pub(crate) fn flag_at(flags: &[bool], at: u32) -> bool
+    ensures { result ≡ slice_index_or flags.now at false }
+{
+    match flags.get(at as usize) {
+        Some(flag) => *flag,
         None => false,
     }
 }

@@ -1,9 +1,8 @@
 ghost use Rattle.std.specs.Prelude.{◌≡◌, ◌+◌, ◌-◌, ◌<◌, ◌≤◌, ◌==◌, true, false, [], ◌∷◌, ◌++◌, replicate, length, OnOk, OnErr, IfOk, Some, None, slice_set, slice_index_or};
 ghost use Rattle.mm_types.specs.declared.frames.Held.TheVariants as held;
-ghost use Rattle.mm_life.specs.Frames.{without};
 ghost use Rattle.mm_life.specs.Life.{changed, same_key, same_place, is_dead};
 
-use crate::free_slots::set_flag;
+use crate::free_slots::{flag_at, set_flag};
 use mm_types::{Frame, Held, Key, NoMemory, Place};
 use std::alloc::Global;
 use std::collections::BTreeMap;
@@ -176,61 +175,12 @@ impl BlockSet {
     pub(crate) fn has(&self, block: u32) -> bool
         ensures { result ≡ slice_index_or self.now block false }
     {
-        match self.added.get(block as usize) {
-            Some(added) => *added,
-            None => false,
-        }
+        flag_at(&self.added, block)
     }
 
     pub(crate) fn add(&mut self, block: u32)
         ensures { self.new ≡ slice_set self.old block true }
     {
         set_flag(&mut self.added, block, true);
-    }
-}
-
-/// The frames with a request, oldest first.
-#[derive(Drop)]
-pub(crate) struct InFlight {
-    frames: Vec<u32>,
-}
-
-impl Model for InFlight {
-    ghost use Rattle.std.specs.Prelude.{List, ℕ};
-
-    ghost Value = { List ℕ };
-
-    ghost view = { λ s. s.frames.items };
-}
-
-impl InFlight {
-    pub(crate) fn none(alloc: Global) -> InFlight
-        ensures { result ≡ [] }
-    {
-        InFlight {
-            frames: Vec::new(alloc),
-        }
-    }
-
-    pub(crate) fn len(&self) -> usize
-        ensures { result ≡ length self.now }
-    {
-        self.frames.len()
-    }
-
-    /// The youngest request is of this frame.
-    pub(crate) fn begin(&mut self, f: u32) -> Result<(), NoMemory>
-        ensures ok { OnOk result (self.new ≡ self.old ++ f ∷ []) }
-        ensures err { OnErr result (self.new ≡ self.old) }
-    {
-        self.frames.push(f)?;
-        Ok(())
-    }
-
-    /// A request of this frame has ended.
-    pub(crate) fn end(&mut self, f: u32)
-        ensures { self.new ≡ without f self.old }
-    {
-        self.frames.retain(|x| *x != f);
     }
 }

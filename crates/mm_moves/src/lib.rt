@@ -6,6 +6,7 @@ mod conditions;
 mod four_lists;
 mod free_slots;
 mod holdings;
+mod in_flight;
 mod listings;
 mod lives;
 mod readings;

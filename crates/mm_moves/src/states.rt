@@ -6,10 +6,11 @@ ghost use Rattle.mm_life.specs.Life.{unstarted, set_in, with_resident, is_dead};
 ghost use Rattle.mm_life.specs.Legal.{is_legal, IsLegal, is_below_max};
 ghost use Rattle.mm_life.specs.Effect.{after_move, after_at, after_add, unlisted, home_at, backing_of, homed};
 ghost use Rattle.mm_life.specs.Located.{held_at};
-ghost use Rattle.mm_moves.specs.Sound.{Sound};
+ghost use Rattle.mm_moves.specs.Sound.{Listed, Sound};
 
 use crate::free_slots::SlotMap;
-use crate::holdings::{BlockSet, InFlight, Keys, Places};
+use crate::holdings::{BlockSet, Keys, Places};
+use crate::in_flight::InFlight;
 use crate::records::{is_read, slot_after_read, slot_after_soil, slot_after_wrote, slot_of};
 use crate::tables::Table;
 use mm_life::ResidentSet;
@@ -36,6 +37,7 @@ pub(crate) struct State {
     pub(crate) flight: InFlight,
     ghost sized: { length added ≡ blocks },
     ghost slotted: { length free_slots ≡ slots },
+    ghost requested: { flight.frames ≡ frames },
 }
 
 impl State {
@@ -88,6 +90,7 @@ impl State {
     pub(crate) fn make(&mut self, m: &Move) -> Result<(), NoMemory>
         requires legal { IsLegal m.now (life self.old) }
         requires sound { Sound (life self.old) }
+        requires listed { Listed self.old.table }
         ensures ok { OnOk result (life self.new ≡ after_move (life self.old) m.now) }
         ensures err { OnErr result (life self.new ≡ life self.old) }
     {
@@ -110,7 +113,10 @@ impl State {
                 self.give(frame, key);
                 Ok(())
             }
-            Move::Read(frame, key) => self.read(frame, key),
+            Move::Read(frame, key) => {
+                self.read(frame, key);
+                Ok(())
+            }
             Move::Got(frame) => {
                 self.got(frame);
                 Ok(())
@@ -128,7 +134,10 @@ impl State {
                 self.soil(frame);
                 Ok(())
             }
-            Move::Write(frame, stored) => self.write(frame, stored),
+            Move::Write(frame, stored) => {
+                self.write(frame, stored);
+                Ok(())
+            }
             Move::Wrote(frame) => {
                 self.wrote(frame);
                 Ok(())
@@ -158,6 +167,7 @@ impl State {
         let table = Table::new(alloc, frames)?;
         let free_slots = SlotMap::new(alloc, slots)?;
         let added = BlockSet::new(alloc, blocks)?;
+        let flight = InFlight::new(alloc, frames)?;
         self.frames = frames;
         self.slots = slots;
         self.depth = depth;
@@ -171,7 +181,7 @@ impl State {
         self.paging_keys = 0;
         self.added = added;
         self.places = Places::new(alloc);
-        self.flight = InFlight::none(alloc);
+        self.flight = flight;
         Ok(())
     }
 
@@ -328,16 +338,16 @@ impl State {
         self.keys.move_to(key, Held::Frame(frame));
     }
 
-    fn read(&mut self, frame: Frame, key: Key) -> Result<(), NoMemory>
-        requires { IsLegal (move.Read frame key) (life self.old) }
-        ensures ok { OnOk result (life self.new ≡ after_move (life self.old) (move.Read frame key)) }
-        ensures err { OnErr result (life self.new ≡ life self.old) }
+    fn read(&mut self, frame: Frame, key: Key)
+        requires legal { IsLegal (move.Read frame key) (life self.old) }
+        requires sound { Sound (life self.old) }
+        requires listed { Listed self.old.table }
+        ensures { life self.new ≡ after_move (life self.old) (move.Read frame key) }
     {
         let home = backing_of(self.keys.held(key));
-        self.flight.begin(frame.0)?;
+        self.flight.begin(frame.0);
         self.table.read(frame.0, key, home);
         self.keys.move_to(key, Held::Frame(frame));
-        Ok(())
     }
 
     // ---- the ends of requests
@@ -425,12 +435,13 @@ impl State {
         self.free_slots.give(slot);
     }
 
-    fn write(&mut self, frame: Frame, stored: Stored) -> Result<(), NoMemory>
-        requires { IsLegal (move.Write frame stored) (life self.old) }
-        ensures ok { OnOk result (life self.new ≡ after_move (life self.old) (move.Write frame stored)) }
-        ensures err { OnErr result (life self.new ≡ life self.old) }
+    fn write(&mut self, frame: Frame, stored: Stored)
+        requires legal { IsLegal (move.Write frame stored) (life self.old) }
+        requires sound { Sound (life self.old) }
+        requires listed { Listed self.old.table }
+        ensures { life self.new ≡ after_move (life self.old) (move.Write frame stored) }
     {
-        self.flight.begin(frame.0)?;
+        self.flight.begin(frame.0);
         match stored {
             Stored::Slot(slot) => {
                 self.table.write(frame.0, Backing::Slot(slot));
@@ -438,7 +449,6 @@ impl State {
             }
             Stored::Block(block) => self.table.write(frame.0, Backing::Block(block)),
         }
-        Ok(())
     }
 }
 

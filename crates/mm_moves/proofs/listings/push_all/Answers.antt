@@ -1,4 +1,4 @@
-use Rattle.std.proofs.Common.{◌≡◌, ◌+◌, ◌++◌, ◌∷◌, [], List, ℕ, sym, ap, ◌∙◌}
+use Rattle.std.proofs.Common.{◌++◌, ◌∷◌, [], List, ℕ, sym, ap, ◌∙◌}
 use Rattle.mm_lists.specs.Lists.{ListsOf, list_at, number_at, with_list}
 use Rattle.mm_moves.specs.Listed.{free_alone}
 use Rattle.mm_moves.proofs.Fresh.{not_yet, numbers_more}

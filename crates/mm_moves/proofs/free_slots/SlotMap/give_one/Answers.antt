@@ -1,4 +1,4 @@
-use Rattle.std.proofs.Common.{◌≡◌, ◌∙◌, ℕ, List, Bool, true, false, Option, Some, None, ap, subst, sym, arith}
+use Rattle.std.proofs.Common.{◌≡◌, ◌∙◌, ℕ, List, Bool, true, false, Option, Some, ap, subst, sym}
 use Rattle.std.specs.Prelude.{slice_get, slice_set}
 use Rattle.mm_moves.specs.Slotted.{AreApartFrom}
 use Rattle.mm_moves.proofs.Slotting.{given_first, given_taken, lowest_taken, given_behind, given_before}

@@ -1,4 +1,4 @@
-use Rattle.std.proofs.Common.{◌≡◌, ◌++◌, ℕ, List, Bool, true, Option, Some, None, replicate, subst, sym, ap, ◌∙◌}
+use Rattle.std.proofs.Common.{◌++◌, ℕ, List, Bool, true, Option, replicate, subst, sym, ap, ◌∙◌}
 use Rattle.mm_moves.specs.Slotted.{AreApartFrom}
 use Rattle.mm_moves.proofs.Slotting.{grown_some}
 use Rattle.mm_moves.proofs.free_slots.SlotMap.grow.Goals as goal

@@ -1,8 +1,7 @@
-use Rattle.std.proofs.Common.{◌≡◌, ◌∙◌, Bool, true, false, ap, subst, sym}
-use Rattle.mm_types.specs.declared.frames.Record.{Record}
+use Rattle.std.proofs.Common.{◌∙◌, ap, subst, sym}
 use Rattle.mm_life.specs.Frames.{is_idle}
 use Rattle.mm_lists.specs.Lists.{ListsOf}
-use Rattle.mm_moves.specs.Listed.{AreFour, Off, table_of, record_of}
+use Rattle.mm_moves.specs.Listed.{AreFour, Off, table_of}
 use Rattle.mm_moves.proofs.Placing.{off_left, busy_off, table_left, table_stays}
 use Rattle.mm_moves.proofs.listings.Listing.leave.Goals as goal
 

@@ -1,4 +1,4 @@
-use Rattle.std.proofs.Common.{◌≡◌, List, subst, sym}
+use Rattle.std.proofs.Common.{List, subst, sym}
 use Rattle.mm_types.specs.declared.frames.Record.{Record}
 use Rattle.mm_moves.specs.Listed.{Off}
 use Rattle.mm_moves.proofs.Placing.{off_set}

@@ -1,4 +1,4 @@
-use Rattle.std.proofs.Common.{◌≡◌, rules}
+use Rattle.std.proofs.Common.{rules}
 use Rattle.mm_life.specs.Legal.{IsLegal}
 use Rattle.mm_moves.specs.Replaying.{life}
 use Rattle.mm_moves.proofs.Soundness.{sound_made}

@@ -1,4 +1,4 @@
-use Rattle.std.proofs.Common.{sym, ◌∙◌}
+use Rattle.std.proofs.Common.{sym}
 use Rattle.mm_moves.specs.Replaying.{life}
 use Rattle.mm_moves.proofs.Soundness.{frame_owned}
 use Rattle.mm_moves.proofs.states.State.drop_key.Goals as goal
