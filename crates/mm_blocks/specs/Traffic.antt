@@ -1,0 +1,60 @@
+-- The reads and writes of a device, as its log tells them, and those that were named to fail.
+use Rattle.std.specs.Prelude.{◌≡◌, ℕ, ◌-◌, ◌==◌, ◌≤◌, Bool, true, false, not, ◌&&◌, if◌then◌else◌, List, [], ◌++◌, map, replicate, Option, Some, None, Result, is_ok, IsErrOf}
+use Rattle.std.specs.List.{list_any}
+use Rattle.mm_types.specs.Outside.{Rose}
+use Rattle.mm_types.specs.declared.devices.Direction.{Direction}
+use Rattle.mm_types.specs.declared.devices.Direction.TheVariants as direction
+use Rattle.mm_types.specs.declared.faults.OpenFault.{OpenFault}
+use Rattle.mm_types.specs.declared.faults.OpenFault.TheVariants as fault
+use Rattle.mm_blocks.specs.declared.device_calls.DeviceCall.{DeviceCall}
+use Rattle.mm_blocks.specs.declared.device_calls.NamedCalls.{NamedCalls}
+
+-- what a block holds before its first write
+abbrev pub empty_block : List ℕ
+empty_block = replicate 4096 0
+
+-- a read or a write of block i with this outcome
+abbrev pub made_call : {T E : Type 0} → Direction → ℕ → Result T E → DeviceCall
+made_call d i r = record { direction = d; block = i; succeeded = is_ok r }
+
+-- These calls came behind those in the log. A device may stop telling its log, and tells it again only when it is opened.
+abbrev pub Logged : Option (List DeviceCall) → Option (List DeviceCall) → List DeviceCall → Type 0
+Logged None None calls = Unit {0}
+Logged None (Some b) calls = ⊥
+Logged (Some a) None calls = Unit {0}
+Logged (Some a) (Some b) calls = b ≡ a ++ calls
+
+-- No call is in the log, where it is told.
+abbrev pub NoneLogged : Option (List DeviceCall) → Type 0
+NoneLogged None = Unit {0}
+NoneLogged (Some calls) = calls ≡ []
+
+abbrev pub same_direction : Direction → Direction → Bool
+same_direction direction.Read direction.Read = true
+same_direction direction.Read direction.Write = false
+same_direction direction.Write direction.Read = false
+same_direction direction.Write direction.Write = true
+
+-- the next call of this direction is one of those named
+abbrev pub is_due : Direction → NamedCalls → Bool
+is_due d c = same_direction d c.direction && (c.passes == 0) && not (c.fails == 0)
+
+-- what is still named after one more call of this direction
+abbrev pub one_further : Direction → NamedCalls → NamedCalls
+one_further d c = if same_direction d c.direction then (if c.passes == 0 then record c { fails = c.fails - 1 } else record c { passes = c.passes - 1 }) else c
+
+-- no call is named
+abbrev pub none_named : List NamedCalls
+none_named = []
+
+-- the next call of this direction is named to fail
+abbrev pub is_named : Direction → List NamedCalls → Bool
+is_named d calls = list_any (is_due d) calls
+
+abbrev pub after_call : Direction → List NamedCalls → List NamedCalls
+after_call d calls = map (one_further d) calls
+
+-- A count of faults never falls, and the device failed only where it rose.
+pub record HasOpenCause {T : Type 0} (before now : ℕ) (result : Result T OpenFault) : Type 0 where
+  pub later : before ≤ now
+  pub failed : IsErrOf result fault.Failed → Rose before now

@@ -1,0 +1,201 @@
+ghost use Rattle.std.specs.Prelude.{◌≡◌, ◌≤◌, ◌<◌, ◌+◌, ◌++◌, ◌↔◌, [], ◌∷◌, Some, None, OnOk, OnErr, IfOk, IfSome, IfNone, IsErr, IsErrOf, length, replicate, slice_get, slice_set, vec_len, vec_capacity};
+ghost use Rattle.std.specs.Bool.{OnTrue, OnFalse};
+ghost use Rattle.mm_types.specs.Outside.{Loans, NoLoan, HasCause};
+ghost use Rattle.mm_types.specs.declared.devices.Direction.TheVariants as way;
+ghost use Rattle.mm_types.specs.declared.faults.OpenFault.TheVariants as fault;
+ghost use Rattle.mm_blocks.specs.Numbered.{NextFails, next_call, told};
+ghost use Rattle.mm_blocks.specs.Traffic.{Logged, NoneLogged, HasOpenCause, made_call, is_named, after_call, none_named, empty_block};
+
+use crate::call_logs::CallLog;
+use crate::fail_lists::FailList;
+use crate::{Blocks, DeviceCall};
+use mm_types::{Direction, Failed, NoMemory, OpenFault};
+use std::alloc::Global;
+
+/// Blocks in memory (own). Its calls are numbered from 1, `open` and `extend` too; those in a list fail, and
+/// no other but for want of memory in `open` and `extend`. It tells its log as long as at most so many
+/// reads and writes were made since `open` as it was made with room for. Reads and writes take no memory.
+#[derive(Drop)]
+pub struct MemBlocks {
+    blocks: Vec<[u8; 4096]>,
+    list: FailList,
+    log: CallLog,
+}
+
+/// Puts n blocks of zeros at the end. There is room for them.
+fn push_empty(blocks: &mut Vec<[u8; 4096]>, n: u32)
+    requires room { vec_len blocks.old + n ≤ vec_capacity blocks.old }
+    ensures { blocks.new.items ≡ blocks.old.items ++ replicate n empty_block }
+{
+    for _ in 0..n {
+        match blocks.push([0; 4096]) {
+            Ok(()) => {}
+            Err(_) => unreachable!(),
+        }
+    }
+}
+
+impl MemBlocks {
+    /// A device without blocks, of which the calls in `fails` fail, with room for a log of `log` calls.
+    pub fn new(alloc: Global, fails: Vec<u32>, log: u32) -> Result<MemBlocks, NoMemory>
+        ensures blocks { IfOk result (λ d. ⟦<MemBlocks as Blocks>⟧.blocks d ≡ []) }
+        ensures log { IfOk result (λ d. ⟦<MemBlocks as Blocks>⟧.log d ≡ Some []) }
+        ensures named { IfOk result (λ d. ⟦<MemBlocks as Blocks>⟧.named d ≡ []) }
+        ensures fails { IfOk result (λ d. d.list.fails ≡ fails) }
+        ensures calls { IfOk result (λ d. d.list.calls ≡ 0) }
+        ensures room { IfOk result (λ d. d.log.room ≡ log) }
+        ensures made { IfOk result (λ d. d.log.made ≡ 0) }
+    {
+        let log = CallLog::new(alloc, log)?;
+        Ok(MemBlocks {
+            blocks: Vec::new(alloc),
+            list: FailList {
+                fails,
+                calls: 0,
+                faults: 0,
+            },
+            log,
+        })
+    }
+
+    /// The reads and writes since it was opened, where there was room for all of them.
+    pub fn log(&self) -> Option<&[DeviceCall]>
+        ensures some { IfSome result (λ calls. ⟦<MemBlocks as Blocks>⟧.log self.now ≡ Some calls.now) }
+        ensures none { IfNone result (⟦<MemBlocks as Blocks>⟧.log self.now ≡ None) }
+    {
+        self.log.calls()
+    }
+
+    /// The bytes of block i, counted from 0.
+    pub fn block(&self, i: u32) -> &[u8; 4096]
+        requires { i < length (⟦<MemBlocks as Blocks>⟧.blocks self.now) }
+        ensures { slice_get (⟦<MemBlocks as Blocks>⟧.blocks self.now) i ≡ Some result.now }
+    {
+        &self.blocks[i as usize]
+    }
+
+    /// How many blocks it has.
+    pub fn count(&self) -> usize
+        ensures { result ≡ length (⟦<MemBlocks as Blocks>⟧.blocks self.now) }
+    {
+        self.blocks.len()
+    }
+}
+
+impl Blocks for MemBlocks {
+    ghost blocks = { λ d. d.blocks.items };
+
+    ghost log = { λ d. told d.log.room d.log.made d.log.calls.items };
+
+    ghost named = { λ d. none_named };
+
+    ghost faults = { λ d. d.list.faults };
+
+    ghost loans = { λ d. NoLoan };
+
+    fn open(&mut self, n: u32) -> Result<(), OpenFault>
+        ensures ok { OnOk result (self.new.blocks.items ≡ replicate n empty_block) }
+        ensures log { OnOk result (NoneLogged (told self.new.log.room self.new.log.made self.new.log.calls.items)) }
+        ensures named { none_named ≡ none_named }
+        ensures cause { HasOpenCause self.old.list.faults self.new.list.faults result }
+        ensures loans { NoLoan ≡ NoLoan }
+        ensures err { OnErr result (self.new.blocks.items ≡ self.old.blocks.items) }
+        ensures err_log { OnErr result (self.new.log ≡ self.old.log) }
+        ensures fails { IsErrOf result fault.Failed ↔ NextFails self.old.list.fails.items self.old.list.calls }
+        ensures calls { self.new.list.calls ≡ next_call self.old.list.calls }
+        ensures same_fails { self.new.list.fails ≡ self.old.list.fails }
+        ensures room { self.new.log.room ≡ self.old.log.room }
+        ensures made { OnOk result (self.new.log.made ≡ 0) }
+    {
+        if self.list.next_fails() {
+            return Err(OpenFault::Failed);
+        }
+        if self.blocks.reserve(n as usize).is_err() {
+            return Err(OpenFault::Memory);
+        }
+        self.blocks.clear();
+        push_empty(&mut self.blocks, n);
+        self.log.begin();
+        Ok(())
+    }
+
+    fn extend(&mut self, n: u32) -> Result<(), OpenFault>
+        ensures ok { OnOk result (self.new.blocks.items ≡ self.old.blocks.items ++ replicate n empty_block) }
+        ensures err { OnErr result (self.new.blocks.items ≡ self.old.blocks.items) }
+        ensures log { told self.new.log.room self.new.log.made self.new.log.calls.items ≡ told self.old.log.room self.old.log.made self.old.log.calls.items }
+        ensures named { none_named ≡ none_named }
+        ensures cause { HasOpenCause self.old.list.faults self.new.list.faults result }
+        ensures loans { NoLoan ≡ NoLoan }
+        ensures fails { IsErrOf result fault.Failed ↔ NextFails self.old.list.fails.items self.old.list.calls }
+        ensures calls { self.new.list.calls ≡ next_call self.old.list.calls }
+        ensures same_fails { self.new.list.fails ≡ self.old.list.fails }
+        ensures same_log { self.new.log ≡ self.old.log }
+    {
+        if self.list.next_fails() {
+            return Err(OpenFault::Failed);
+        }
+        if self.blocks.reserve(n as usize).is_err() {
+            return Err(OpenFault::Memory);
+        }
+        push_empty(&mut self.blocks, n);
+        Ok(())
+    }
+
+    fn read(&mut self, i: u32, out: &mut [u8; 4096]) -> Result<(), Failed>
+        requires { i < length self.old.blocks.items }
+        ensures ok { OnOk result (slice_get self.old.blocks.items i ≡ Some out.new) }
+        ensures blocks { self.new.blocks.items ≡ self.old.blocks.items }
+        ensures named_fails { OnTrue (is_named way.Read none_named) (IsErr result) }
+        ensures named_quiet { OnTrue (is_named way.Read none_named) (told self.new.log.room self.new.log.made self.new.log.calls.items ≡ told self.old.log.room self.old.log.made self.old.log.calls.items) }
+        ensures logged { OnFalse (is_named way.Read none_named) (Logged (told self.old.log.room self.old.log.made self.old.log.calls.items) (told self.new.log.room self.new.log.made self.new.log.calls.items) (made_call way.Read i result ∷ [])) }
+        ensures named { none_named ≡ after_call way.Read none_named }
+        ensures cause { HasCause self.old.list.faults self.new.list.faults result }
+        ensures loans { NoLoan ≡ NoLoan }
+        ensures fails { IsErr result ↔ NextFails self.old.list.fails.items self.old.list.calls }
+        ensures calls { self.new.list.calls ≡ next_call self.old.list.calls }
+        ensures same_fails { self.new.list.fails ≡ self.old.list.fails }
+        ensures room { self.new.log.room ≡ self.old.log.room }
+        ensures made { self.new.log.made ≡ next_call self.old.log.made }
+    {
+        let fails = self.list.next_fails();
+        self.log.note(DeviceCall {
+            direction: Direction::Read,
+            block: i,
+            succeeded: !fails,
+        });
+        if fails {
+            return Err(Failed);
+        }
+        *out = self.blocks[i as usize];
+        Ok(())
+    }
+
+    fn write(&mut self, i: u32, bytes: &[u8; 4096]) -> Result<(), Failed>
+        requires { i < length self.old.blocks.items }
+        ensures ok { OnOk result (self.new.blocks.items ≡ slice_set self.old.blocks.items i bytes.now) }
+        ensures err { OnErr result (self.new.blocks.items ≡ self.old.blocks.items) }
+        ensures named_fails { OnTrue (is_named way.Write none_named) (IsErr result) }
+        ensures named_quiet { OnTrue (is_named way.Write none_named) (told self.new.log.room self.new.log.made self.new.log.calls.items ≡ told self.old.log.room self.old.log.made self.old.log.calls.items) }
+        ensures logged { OnFalse (is_named way.Write none_named) (Logged (told self.old.log.room self.old.log.made self.old.log.calls.items) (told self.new.log.room self.new.log.made self.new.log.calls.items) (made_call way.Write i result ∷ [])) }
+        ensures named { none_named ≡ after_call way.Write none_named }
+        ensures cause { HasCause self.old.list.faults self.new.list.faults result }
+        ensures loans { NoLoan ≡ NoLoan }
+        ensures fails { IsErr result ↔ NextFails self.old.list.fails.items self.old.list.calls }
+        ensures calls { self.new.list.calls ≡ next_call self.old.list.calls }
+        ensures same_fails { self.new.list.fails ≡ self.old.list.fails }
+        ensures room { self.new.log.room ≡ self.old.log.room }
+        ensures made { self.new.log.made ≡ next_call self.old.log.made }
+    {
+        let fails = self.list.next_fails();
+        self.log.note(DeviceCall {
+            direction: Direction::Write,
+            block: i,
+            succeeded: !fails,
+        });
+        if fails {
+            return Err(Failed);
+        }
+        self.blocks[i as usize] = *bytes;
+        Ok(())
+    }
+}
