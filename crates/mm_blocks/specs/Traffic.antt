@@ -1,5 +1,5 @@
 -- The reads and writes of a device, as its log tells them, and those that were named to fail.
-use Rattle.std.specs.Prelude.{◌≡◌, ℕ, ◌-◌, ◌==◌, ◌≤◌, Bool, true, false, not, ◌&&◌, if◌then◌else◌, List, [], ◌++◌, map, replicate, Option, Some, None, Result, is_ok, IsErrOf}
+use Rattle.std.specs.Prelude.{◌≡◌, ℕ, ◌-◌, ◌==◌, ◌≤◌, Bool, true, false, not, ◌&&◌, if◌then◌else◌, List, [], ◌∷◌, ◌++◌, map, replicate, Option, Some, None, Result, is_ok, IsErrOf}
 use Rattle.std.specs.List.{list_any}
 use Rattle.mm_types.specs.Outside.{Rose}
 use Rattle.mm_types.specs.declared.devices.Direction.{Direction}
@@ -58,3 +58,8 @@ after_call d calls = map (one_further d) calls
 pub record HasOpenCause {T : Type 0} (before now : ℕ) (result : Result T OpenFault) : Type 0 where
   pub later : before ≤ now
   pub failed : IsErrOf result fault.Failed → Rose before now
+
+-- the log of a device over another, which tells it as long as the other names no call itself
+abbrev pub told_by : List NamedCalls → Option (List DeviceCall) → Option (List DeviceCall)
+told_by [] log = log
+told_by (c ∷ calls) log = None

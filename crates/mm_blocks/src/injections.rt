@@ -1,4 +1,4 @@
-ghost use Rattle.std.specs.Prelude.{◌≡◌, ◌+◌, [], take};
+ghost use Rattle.std.specs.Prelude.{◌≡◌, ◌+◌, []};
 ghost use Rattle.mm_types.specs.Outside.{Loan};
 
 use crate::plans::Plan;
@@ -11,7 +11,6 @@ use mm_types::{Direction, Failed, OpenFault};
 pub struct Injected<'a, B: Blocks> {
     device: &'a mut B,
     plan: Plan,
-    ghost plain: { B.named device.now ≡ [] },
 }
 
 impl<'a, B: Blocks> Injected<'a, B> {
@@ -20,7 +19,8 @@ impl<'a, B: Blocks> Injected<'a, B> {
         requires plain { B.named device.old ≡ [] }
         ensures same_reference { result.device.ghost_name ≡ device.entry.ghost_name }
         ensures device { result.device.now ≡ device.old }
-        ensures named { take result.plan.count result.plan.entries ≡ [] }
+        ensures plain { B.named result.device.now ≡ [] }
+        ensures named { result.plan.named ≡ [] }
         ensures faults { result.plan.faults ≡ 0 }
     {
         Injected {
@@ -33,7 +33,7 @@ impl<'a, B: Blocks> Injected<'a, B> {
     pub fn finish(self) -> &'a mut B
         ensures same_reference { result.ghost_name ≡ self.entry.device.ghost_name }
         ensures device { result.now ≡ self.entry.device.now }
-        ensures plain { B.named result.now ≡ [] }
+        ensures faults { self.entry.plan.named ≡ [] → B.faults result.now ≡ B.faults self.entry.device.now + self.entry.plan.faults }
     {
         let Injected { device, plan: _ } = self;
         device
@@ -41,11 +41,13 @@ impl<'a, B: Blocks> Injected<'a, B> {
 }
 
 impl<'a, B: Blocks> Blocks for Injected<'a, B> {
+    ghost use Rattle.mm_blocks.specs.Traffic.{told_by};
+
     ghost blocks = { λ d. B.blocks d.device.now };
 
-    ghost log = { λ d. B.log d.device.now };
+    ghost log = { λ d. told_by (B.named d.device.now) (B.log d.device.now) };
 
-    ghost named = { λ d. take d.plan.count d.plan.entries };
+    ghost named = { λ d. d.plan.named };
 
     ghost faults = { λ d. B.faults d.device.now + d.plan.faults };
 

@@ -5,6 +5,7 @@ ghost use Rattle.mm_blocks.specs.Traffic.{is_named, after_call, one_further};
 
 use crate::device_calls::{NamedCalls, after_one, is_next};
 use mm_types::Direction;
+use std::marker::Model;
 
 /// How often calls may be named.
 pub(crate) const ROOM: usize = 64;
@@ -12,10 +13,20 @@ pub(crate) const ROOM: usize = 64;
 /// The calls that are to fail, in the order in which they were named, and how many of them did.
 #[derive(Drop)]
 pub(crate) struct Plan {
-    pub entries: [NamedCalls; ROOM],
-    pub count: usize,
-    pub faults: u64,
-    ghost within: { count ≤ 64 },
+    entries: [NamedCalls; ROOM],
+    count: usize,
+    faults: u64,
+}
+
+impl Model for Plan {
+    ghost use Rattle.std.specs.Prelude.{take};
+    ghost use Rattle.mm_blocks.specs.Plans.{PlanOf, IsPlan};
+
+    ghost Value = { PlanOf };
+
+    ghost view = { λ p. record { named = take p.count p.entries; faults = p.faults } };
+
+    ghost invariant = { λ p. IsPlan p.count p.entries p.faults };
 }
 
 /// The first `count` of these, one call of this direction further.
@@ -28,11 +39,23 @@ fn move_on(entries: &mut [NamedCalls; ROOM], count: usize, direction: Direction)
     }
 }
 
+/// Whether the next call of this direction is one of the first `count` of these.
+fn is_due(entries: &[NamedCalls; ROOM], count: usize, direction: Direction) -> bool
+    requires { count ≤ 64 }
+    ensures { result ≡ is_named direction (take count entries.now) }
+{
+    for i in 0..count {
+        if is_next(direction, entries[i]) {
+            return true;
+        }
+    }
+    false
+}
+
 impl Plan {
     /// No call is named.
     pub(crate) fn new() -> Plan
-        ensures named { take result.count result.entries ≡ [] }
-        ensures faults { result.faults ≡ 0 }
+        ensures { result ≡ record { named = []; faults = 0 } }
     {
         let none = NamedCalls {
             direction: Direction::Read,
@@ -48,9 +71,9 @@ impl Plan {
 
     /// Of the calls of this direction from now on, the k-th, counted from 1, is the first of n that fail.
     pub(crate) fn add(&mut self, direction: Direction, k: u32, n: u32)
-        requires room { length (take self.old.count self.old.entries) < 64 }
+        requires room { length self.old.named < 64 }
         requires first { 1 ≤ k }
-        ensures named { take self.new.count self.new.entries ≡ take self.old.count self.old.entries ++ record { direction = direction; passes = k - 1; fails = n } ∷ [] }
+        ensures named { self.new.named ≡ self.old.named ++ record { direction = direction; passes = k - 1; fails = n } ∷ [] }
         ensures faults { self.new.faults ≡ self.old.faults }
     {
         self.entries[self.count] = NamedCalls {
@@ -61,26 +84,15 @@ impl Plan {
         self.count += 1;
     }
 
-    fn is_due(&self, direction: Direction) -> bool
-        ensures { result ≡ is_named direction (take self.now.count self.now.entries) }
-    {
-        for i in 0..self.count {
-            if is_next(direction, self.entries[i]) {
-                return true;
-            }
-        }
-        false
-    }
-
     /// One more call of this direction: whether it was named to fail.
     pub(crate) fn fails(&mut self, direction: Direction) -> bool
-        ensures due { result ≡ is_named direction (take self.old.count self.old.entries) }
-        ensures named { take self.new.count self.new.entries ≡ after_call direction (take self.old.count self.old.entries) }
+        ensures due { result ≡ is_named direction self.old.named }
+        ensures named { self.new.named ≡ after_call direction self.old.named }
         ensures later { self.old.faults ≤ self.new.faults }
         ensures rose { OnTrue result (Rose self.old.faults self.new.faults) }
         ensures stays { OnFalse result (self.new.faults ≡ self.old.faults) }
     {
-        let due = self.is_due(direction);
+        let due = is_due(&self.entries, self.count, direction);
         move_on(&mut self.entries, self.count, direction);
         if due {
             self.faults = self.faults.saturating_add(1);

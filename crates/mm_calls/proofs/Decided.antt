@@ -1,97 +1,117 @@
--- What the definitions of calls come to on tables of private memory.
-use Rattle.std.proofs.Common.{zero, suc, option_map, unwrap_or, not, nat_lt, ◌&&◌, ◌≡◌, ◌≤◌, ◌<◌, ◌+◌, ℕ, true, false, Option, Some, None, List, ◌∙◌, ap, arith}
-use Rattle.std.specs.Prelude.{◌==◌}
-use Rattle.std.proofs.lemmas.List.Sums.{count_by-le-length}
+-- What the definitions of calls come to.
+use Rattle.std.proofs.Common.{◌≡◌, ◌≤◌, ◌<◌, ◌+◌, ◌-◌, ℕ, true, false, Option, Some, None, is_some, is_none, refl, ◌∙◌, ap, arith}
 use Rattle.mm_types.specs.declared.answers.Answer.TheVariants as answer
 use Rattle.mm_types.specs.declared.codes.Code.TheVariants as code
-use Rattle.mm_types.specs.declared.views.Kind.{Kind}
 use Rattle.mm_types.specs.declared.views.Kind.TheVariants as kind
-use Rattle.mm_types.specs.Address.{Range, range_of, address_of}
-use Rattle.mm_world.specs.World.{ProcessOf, RegionOf, RowOf}
-use Rattle.mm_world.specs.Find.{Found, process_of, region_around, set_region, is_private}
-use Rattle.mm_world.specs.Alloc.{commit_pages, commit_in}
+use Rattle.mm_types.specs.declared.views.View.{View}
+use Rattle.mm_types.specs.Address.{Range, address_of}
+use Rattle.mm_world.specs.World.{ProcessOf, RegionOf}
+use Rattle.mm_world.specs.Find.{Found, process_of, region_around, set_region, set_area, area_at}
+use Rattle.mm_world.specs.Alloc.{commit_pages, commit_in, commit_shared}
 use Rattle.mm_world.specs.Charge.{charge, limit}
 use Rattle.mm_world.specs.Contents.{Tables, blank}
-use Rattle.mm_world.specs.Outcome.{done, refused, within_limit}
-use Rattle.mm_types.specs.Protection.{base_of}
-use Rattle.mm_world.specs.Protect.{protect, are_protect_parameters, protection_at}
-use Rattle.mm_world.specs.Rows.{is_one_of, protections_of, is_protection_among, private_protections, all_protections, row_at, accepts, is_committed_at, every_page, protected, commit, change_rows}
-use Rattle.mm_world.proofs.Each.{every_page-at}
+use Rattle.mm_world.specs.Outcome.{OutcomeOf, done, refused, need, find_or, within_limit}
+use Rattle.mm_world.specs.Protect.{protection_at}
+use Rattle.mm_world.specs.Rows.{is_protection_among, private_protections, accepts, is_committed_at, every_page, protected, commit, change_rows}
+use Rattle.mm_world.specs.WellFormed.{WellFormed}
+use Rattle.mm_sections.specs.Pages.{uncommitted_in}
 use Rattle.mm_spaces.specs.Tables.{owned_in}
-use Rattle.mm_calls.specs.Private.{IsPrivate}
-use Rattle.mm_calls.proofs.Lists.{all_at, both}
-use Rattle.mm_world.proofs.LaidOut.{and-true}
-use Rattle.mm_calls.proofs.Outcomes.{at_alive, at_met, at_found, at_room, at_limit}
-use Rattle.mm_calls.proofs.Ready.{around, IsAround}
-use Rattle.mm_calls.proofs.Rows.{has_own, in_range, length_in}
-use Rattle.mm_calls.proofs.Regional.{commit_charge, protect_charge, kind_is}
+use Rattle.mm_tables.specs.Fits.{new_marks}
+use Rattle.mm_calls.proofs.Areas.{in_section, range_in_section}
+use Rattle.mm_calls.proofs.Around.{around}
+use Rattle.mm_calls.proofs.Counts.{commit_charge, protect_charge, area_charge_more, no_marks}
+use Rattle.mm_calls.proofs.Outcomes.{at_met, at_unmet, at_found, at_room, at_limit}
 
-module _ (t : Tables) (pid : ℕ) (p : ProcessOf (Unit {0})) (range : Range) (prot n : ℕ) (lives : process_of t pid ≡ Some p) (h : IsPrivate t) (r : Found (RegionOf (Unit {0}))) (found : region_around p.regions range ≡ Some r) (counted : n + owned_in p.regions range ≡ range.count) where
-  a : IsAround p.regions range r
-  a = around p.regions range r found
+module _ (t : Tables) (pid : ℕ) (p : ProcessOf (Unit {0})) (range : Range) (prot n : ℕ) (lives : process_of t pid ≡ Some p) (r : Found (RegionOf (Unit {0}))) (found : region_around p.regions range ≡ Some r) where
+  -- ---- commit in a private region
 
-  private : r.thing.kind ≡ kind.Private
-  private = kind_is r.thing.kind (all_at (λ (r : RegionOf (Unit {0})). is_private r.kind) p.regions r.place r.thing (h.regions pid p lives) a.at)
+  module _ (private : r.thing.kind ≡ kind.Private) (counted : n + owned_in p.regions range ≡ range.count) where
+    abbrev made : OutcomeOf (Unit {0})
+    made = done (answer.At (address_of range.first)) (set_region t pid p r.place (change_rows (commit tt prot) range r.thing))
 
-  made : Tables
-  made = set_region t pid p r.place (change_rows (commit tt prot) range r.thing)
+    total : charge (set_region t pid p r.place (change_rows (commit tt prot) range r.thing)) ≡ charge t + n
+    total = omega (arith, commit_charge t pid p range r lives found prot private, counted)
 
-  total : charge (set_region t pid p r.place (change_rows (commit tt prot) range r.thing)) ≡ charge t + n
-  total = omega (arith, commit_charge t pid p r.place r.thing range lives h a.at a.inside prot, counted, a.owned)
+    reached : commit_pages blank t pid p range prot ≡ within_limit t made
+    reached = at_found t code.InvalidAddress (region_around p.regions range) r (λ r. commit_in blank t pid p r r.thing.kind range prot) found ∙ ap (λ k. commit_in blank t pid p r k range prot) private
 
-  reached : commit_pages blank t pid p range prot ≡ within_limit t (done (answer.At (address_of range.first)) (set_region t pid p r.place (change_rows (commit tt prot) range r.thing)))
-  reached = at_found t code.InvalidAddress (region_around p.regions range) r (λ r. commit_in blank t pid p r r.thing.kind range prot) found ∙ ap (λ k. commit_in blank t pid p r k range prot) private
+    pub commit_refused : limit t < charge t + n → commit_pages blank t pid p range prot ≡ refused t code.CommitmentLimit
+    commit_refused past = reached ∙ at_limit t made (omega (arith, total, past))
 
-  pub commit_refused : limit t < charge t + n → commit_pages blank t pid p range prot ≡ refused t code.CommitmentLimit
-  commit_refused past = reached ∙ at_limit t (done (answer.At (address_of range.first)) (set_region t pid p r.place (change_rows (commit tt prot) range r.thing))) (omega (arith, total, past))
+    pub commit_made : charge t + n ≤ limit t → commit_pages blank t pid p range prot ≡ done (answer.At (address_of range.first)) (set_region t pid p r.place (change_rows (commit tt prot) range r.thing))
+    commit_made room = reached ∙ at_room t made (omega (arith, total, room))
 
-  pub commit_made : charge t + n ≤ limit t → commit_pages blank t pid p range prot ≡ done (answer.At (address_of range.first)) (set_region t pid p r.place (change_rows (commit tt prot) range r.thing))
-  commit_made room = reached ∙ at_room t (done (answer.At (address_of range.first)) (set_region t pid p r.place (change_rows (commit tt prot) range r.thing))) (omega (arith, total, room))
+  -- ---- commit in a view
 
-pub owned_few : (rs : List (RegionOf (Unit {0}))) (range : Range) (r : Found (RegionOf (Unit {0}))) → region_around rs range ≡ Some r → owned_in rs range ≤ range.count
-owned_few rs range r found =
-    let a = around rs range r found in
-    omega (arith, a.owned, count_by-le-length has_own (in_range range r.thing), length_in range r.thing a.inside)
+  module _ (v : View) (view : r.thing.kind ≡ kind.View v) where
+    abbrev first : ℕ
+    first = v.first + (range.first - r.thing.base)
+
+    abbrev committed : OutcomeOf (Unit {0})
+    committed = done (answer.At (address_of range.first)) (set_area (set_region t pid p r.place (change_rows (protected r.thing.kind prot) range r.thing)) v.area.0 (commit_shared blank first range.count (area_at t v.area.0)))
+
+    in_view : commit_pages blank t pid p range prot ≡ need t code.InvalidAddress (is_none (area_at t v.area.0).file_block) (need t code.InvalidParameter (every_page (accepts r.thing prot) range) (within_limit t committed))
+    in_view = at_found t code.InvalidAddress (region_around p.regions range) r (λ r. commit_in blank t pid p r r.thing.kind range prot) found ∙ ap (λ k. commit_in blank t pid p r k range prot) view
+
+    pub view_of_file : is_some (area_at t v.area.0).file_block ≡ true → commit_pages blank t pid p range prot ≡ refused t code.InvalidAddress
+    view_of_file file = in_view ∙ at_unmet t code.InvalidAddress (is_none (area_at t v.area.0).file_block) _ (file_is (area_at t v.area.0).file_block file)
+      where
+        file_is : (o : Option ℕ) → is_some o ≡ true → is_none o ≡ false
+        file_is None e = cc
+        file_is (Some x) e = refl
+
+    module _ (none : (area_at t v.area.0).file_block ≡ None) where
+      in_paging : commit_pages blank t pid p range prot ≡ need t code.InvalidParameter (every_page (accepts r.thing prot) range) (within_limit t committed)
+      in_paging = in_view ∙ at_met t code.InvalidAddress (is_none (area_at t v.area.0).file_block) _ (ap is_none none)
+
+      pub view_unaccepted : every_page (accepts r.thing prot) range ≡ false → commit_pages blank t pid p range prot ≡ refused t code.InvalidParameter
+      view_unaccepted refuses = in_paging ∙ at_unmet t code.InvalidParameter (every_page (accepts r.thing prot) range) _ refuses
+
+      module _ (h : WellFormed t) (allowed : is_protection_among private_protections prot ≡ true) (takes : every_page (accepts r.thing prot) range ≡ true) (counted : n ≡ uncommitted_in (area_at t v.area.0) first range.count) where
+        in_limit : commit_pages blank t pid p range prot ≡ within_limit t committed
+        in_limit = in_paging ∙ at_met t code.InvalidParameter (every_page (accepts r.thing prot) range) _ takes
+
+        view_total : charge committed.world ≡ charge t + n
+        view_total =
+            let s = in_section t pid p r.place r.thing v lives h (around p.regions range r found).at view in
+            omega (
+              arith,
+              area_charge_more (set_region t pid p r.place (change_rows (protected r.thing.kind prot) range r.thing)) v.area.0 first range.count s.there (range_in_section t pid p range r v lives h found view).within none,
+              protect_charge t pid p range r lives found prot,
+              no_marks p.regions range prot allowed,
+              counted,
+            )
+
+        pub view_refused : limit t < charge t + n → commit_pages blank t pid p range prot ≡ refused t code.CommitmentLimit
+        view_refused past = in_limit ∙ at_limit t committed (omega (arith, view_total, past))
+
+        pub view_made : charge t + n ≤ limit t → commit_pages blank t pid p range prot ≡ done (answer.At (address_of range.first)) (set_area (set_region t pid p r.place (change_rows (protected r.thing.kind prot) range r.thing)) v.area.0 (commit_shared blank (v.first + (range.first - r.thing.base)) range.count (area_at t v.area.0)))
+        view_made room = in_limit ∙ at_room t committed (omega (arith, view_total, room))
 
 -- ---- protect
 
--- a protection that private pages accept is one of theirs
-pub accepted_private : (t : Tables) (pid : ℕ) (p : ProcessOf (Unit {0})) (range : Range) (size prot : ℕ) (r : Found (RegionOf (Unit {0}))) → process_of t pid ≡ Some p → IsPrivate t → region_around p.regions range ≡ Some r → 1 ≤ range.count → are_protect_parameters size prot ≡ true → every_page (accepts r.thing prot) range ≡ true → is_protection_among private_protections prot ≡ true
-accepted_private t pid p range size prot r lives h found some parameters takes =
-    let a = around p.regions range r found in
-    let k = kind_is r.thing.kind (all_at (λ (r : RegionOf (Unit {0})). is_private r.kind) p.regions r.place r.thing (h.regions pid p lives) a.at) in
-    let one = every_page-at (accepts r.thing prot) range.first range.count range.first takes (omega arith) (omega (arith, some)) in
-    let base : is_one_of private_protections (base_of prot) ≡ true = by_row r.thing.kind (row_at r.thing range.first) k one in
-    let among = (and-true (not (size == 0)) (is_protection_among all_protections prot) parameters).1 in
-    let outer = and-true (is_one_of all_protections (base_of prot) && nat_lt prot 0x200) (not (prot == 0x101)) among in
-    let inner = and-true (is_one_of all_protections (base_of prot)) (nat_lt prot 0x200) outer.0 in
-    both (is_one_of private_protections (base_of prot) && nat_lt prot 0x200) (not (prot == 0x101)) (both (is_one_of private_protections (base_of prot)) (nat_lt prot 0x200) base inner.1) outer.1
-  where
-    by_kind : (k : Kind) (row : RowOf (Unit {0})) → k ≡ kind.Private → is_one_of (protections_of k row) (base_of prot) ≡ true → is_one_of private_protections (base_of prot) ≡ true
-    by_kind kind.Private row is e = e
-    by_kind (kind.View v) row is e = let bad : false ≡ true = ap is_private is in cc
+module _ (t : Tables) (pid : ℕ) (p : ProcessOf (Unit {0})) (range : Range) (prot n : ℕ) (lives : process_of t pid ≡ Some p) where
+  abbrev after : Found (RegionOf (Unit {0})) → OutcomeOf (Unit {0})
+  after r = done (answer.OldProt (protection_at r.thing range.first)) (set_region t pid p r.place (change_rows (protected r.thing.kind prot) range r.thing))
 
-    by_row : (k : Kind) (o : Option (RowOf (Unit {0}))) → k ≡ kind.Private → unwrap_or (option_map (λ row. is_one_of (protections_of k row) (base_of prot)) o) false ≡ true → is_one_of private_protections (base_of prot) ≡ true
-    by_row k None is e = cc
-    by_row k (Some row) is e = by_kind k row is e
+  -- what is left of a `protect` once its parameters were found right
+  abbrev pub protect_pages : OutcomeOf (Unit {0})
+  protect_pages =
+      find_or t code.InvalidAddress (region_around p.regions range) (λ r.
+      need t code.InvalidAddress (every_page (is_committed_at t r.thing) range) (
+      need t code.InvalidParameter (every_page (accepts r.thing prot) range) (
+      within_limit t (done (answer.OldProt (protection_at r.thing range.first))
+      (set_region t pid p r.place (change_rows (protected r.thing.kind prot) range r.thing))))))
 
-pub protect_made : (t : Tables) (pid : ℕ) (p : ProcessOf (Unit {0})) (addr size prot : ℕ) (r : Found (RegionOf (Unit {0}))) → process_of t pid ≡ Some p → IsPrivate t → are_protect_parameters size prot ≡ true → region_around p.regions (range_of addr size) ≡ Some r → every_page (is_committed_at t r.thing) (range_of addr size) ≡ true → every_page (accepts r.thing prot) (range_of addr size) ≡ true → protect t pid addr size prot ≡ done (answer.OldProt (protection_at r.thing (range_of addr size).first)) (set_region t pid p r.place (change_rows (protected r.thing.kind prot) (range_of addr size) r.thing))
-protect_made t pid p addr size prot r lives h parameters found there takes =
-    let range = range_of addr size in
-    let a = around p.regions (range_of addr size) r found in
-    let after = done (answer.OldProt (protection_at r.thing (range_of addr size).first)) (set_region t pid p r.place (change_rows (protected r.thing.kind prot) (range_of addr size) r.thing)) in
-    let room : charge after.world ≤ limit after.world = omega (arith, protect_charge t pid p r.place r.thing (range_of addr size) lives h a.at a.inside prot, h.sound.charged) in
-    at_alive t pid p _ lives
-    ∙ at_met t code.InvalidParameter (are_protect_parameters size prot) _ parameters
-    ∙ at_found t code.InvalidAddress (region_around p.regions (range_of addr size)) r _ found
-    ∙ at_met t code.InvalidAddress (every_page (is_committed_at t r.thing) (range_of addr size)) _ there
-    ∙ at_met t code.InvalidParameter (every_page (accepts r.thing prot) (range_of addr size)) _ takes
-    ∙ at_room t after room
+  module _ (r : Found (RegionOf (Unit {0}))) (found : region_around p.regions range ≡ Some r) (there : every_page (is_committed_at t r.thing) range ≡ true) (takes : every_page (accepts r.thing prot) range ≡ true) (counted : n ≡ new_marks p.regions range prot) where
+    protect_reached : protect_pages ≡ within_limit t (after r)
+    protect_reached =
+        at_found t code.InvalidAddress (region_around p.regions range) r _ found
+        ∙ at_met t code.InvalidAddress (every_page (is_committed_at t r.thing) range) _ there
+        ∙ at_met t code.InvalidParameter (every_page (accepts r.thing prot) range) _ takes
 
--- some bytes take a page
-pub range_some : (addr size prot : ℕ) → are_protect_parameters size prot ≡ true → 1 ≤ (range_of addr size).count
-range_some addr size prot e = by_size size (and-true (not (size == 0)) (is_protection_among all_protections prot) e).0
-  where
-    by_size : (size : ℕ) → not (size == 0) ≡ true → 1 ≤ (range_of addr size).count
-    by_size zero e = cc
-    by_size (suc n) e = omega arith
+    pub protect_refused : limit t < charge t + n → protect_pages ≡ refused t code.CommitmentLimit
+    protect_refused past = protect_reached ∙ at_limit t (after r) (omega (arith, protect_charge t pid p range r lives found prot, counted, past))
+
+    pub protect_made : charge t + n ≤ limit t → protect_pages ≡ done (answer.OldProt (protection_at r.thing range.first)) (set_region t pid p r.place (change_rows (protected r.thing.kind prot) range r.thing))
+    protect_made room = protect_reached ∙ at_room t (after r) (omega (arith, protect_charge t pid p range r lives found prot, counted, room))

@@ -1,18 +1,7 @@
-pub mod Lists
-pub mod Regions
-pub mod Rows
-pub mod Stores
-pub mod Kept
-pub mod Changes
-pub mod OnePage
-pub mod PageByPage
-pub mod Plain
-pub mod Spaces
-pub mod Guards
-pub mod Outcomes
-pub mod Stored
-pub mod Regional
-pub mod Ready
-pub mod Settled
-pub mod Decided
-pub mod Processes
+mod Tests
+mod Outcomes
+mod Around
+mod Counts
+mod Decided
+mod Areas
+mod Pages

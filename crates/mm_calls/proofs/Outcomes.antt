@@ -1,5 +1,5 @@
 -- Outcomes that are decided step by step.
-use Rattle.std.proofs.Common.{◌≡◌, ◌≤◌, ◌<◌, ℕ, Bool, true, false, Option, Some, None, refl, ap, is_some, nat_le, arith}
+use Rattle.std.proofs.Common.{◌≡◌, ◌≤◌, ◌<◌, ℕ, Bool, true, false, Option, Some, ap, is_some, nat_le, arith}
 use Rattle.std.proofs.lemmas.Bool.{leb-true, le-leb}
 use Rattle.mm_types.specs.declared.codes.Code.{Code}
 use Rattle.mm_types.specs.declared.codes.Code.TheVariants as code
@@ -7,18 +7,11 @@ use Rattle.mm_world.specs.World.{ProcessOf, WorldOf}
 use Rattle.mm_world.specs.Find.{process_of}
 use Rattle.mm_world.specs.Charge.{charge, limit}
 use Rattle.mm_world.specs.Outcome.{OutcomeOf, refused, need, find_or, with_process, within_limit}
-use Rattle.mm_calls.proofs.Lists.{not_true}
-
-none_of : {A : Type 0} (o : Option A) → is_some o ≡ false → o ≡ None
-none_of None e = refl
-none_of (Some x) e = cc
+use Rattle.mm_calls.proofs.Tests.{not_true, none_of}
 
 module _ {B : Type 0} (w : WorldOf B) where
   pub at_alive : (pid : ℕ) (p : ProcessOf B) (f : ProcessOf B → OutcomeOf B) → process_of w pid ≡ Some p → with_process w pid f ≡ f p
   at_alive pid p f e = ap (λ o. find_or w code.InvalidHandle o f) e
-
-  pub at_dead : (pid : ℕ) (f : ProcessOf B → OutcomeOf B) → is_some (process_of w pid) ≡ false → with_process w pid f ≡ refused w code.InvalidHandle
-  at_dead pid f e = ap (λ o. find_or w code.InvalidHandle o f) (none_of (process_of w pid) e)
 
   pub at_met : (why : Code) (b : Bool) (o : OutcomeOf B) → b ≡ true → need w why b o ≡ o
   at_met why b o e = ap (λ b. need w why b o) e
@@ -37,8 +30,3 @@ module _ {B : Type 0} (w : WorldOf B) where
 
   pub at_limit : (o : OutcomeOf B) → limit o.world < charge o.world → within_limit w o ≡ refused w code.CommitmentLimit
   at_limit o h = at_unmet code.CommitmentLimit (nat_le (charge o.world) (limit o.world)) o (not_true (nat_le (charge o.world) (limit o.world)) (λ e. absurd (omega (arith, leb-true _ _ e, h))))
-
--- what was looked for, where it is there
-pub some_found : {A : Type 0} (o : Option A) → is_some o ≡ true → (a : A) × (o ≡ Some a)
-some_found None e = cc
-some_found (Some a) e = (a, refl)

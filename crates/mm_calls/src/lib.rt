@@ -1,19 +1,15 @@
-//! The calls on private memory, over any store of pages: VirtualAlloc, VirtualFree, VirtualProtect, VirtualQuery, new
-//! processes and a paging file that grows. The tables that they go by hold no page's bytes.
+//! Calls on the memory of processes, over any store of pages: VirtualAlloc, VirtualFree, VirtualProtect, VirtualQuery, new processes and
+//! a paging file that grows. Each decides by the tables, and changes them by one call of `mm_tables`.
 #![tactic(auto)]
 
-mod keys;
+mod allocations;
+mod frees;
 mod machine_calls;
 mod memory_calls;
 mod parameters;
-mod private_pages;
+mod protections;
 mod queries;
-mod steps;
-mod tables;
-#[cfg(test)]
-mod tests;
 
 pub use machine_calls::{grow_paging, new_process};
 pub use memory_calls::{protect, valloc, vfree};
 pub use queries::query;
-pub use tables::Tables;

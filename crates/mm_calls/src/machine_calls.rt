@@ -5,11 +5,11 @@ ghost use Rattle.mm_types.specs.Outside.{Rose};
 ghost use Rattle.mm_world.specs.Processes.{new_process, most_processes};
 ghost use Rattle.mm_world.specs.Step.{is_failed_extension};
 ghost use Rattle.mm_pages.specs.Reports.{begun};
-ghost use Rattle.mm_calls.specs.Fits.{Fits, Called, beside, before_process, extended, grown};
+ghost use Rattle.mm_tables.specs.Fits.{Fits, Called, beside, before_process, extended, grown};
 
-use crate::Tables;
 use mm_pages::Pages;
-use mm_types::{Answer, GrowFault, LineKind, NoMemory, Pid};
+use mm_tables::Tables;
+use mm_types::{Answer, GrowFault, LineKind, NoMemory};
 use std::alloc::Global;
 
 /// The most page-file slots of a machine.

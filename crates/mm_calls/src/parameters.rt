@@ -4,12 +4,20 @@ ghost use Rattle.mm_world.specs.Alloc.{are_alloc_parameters, is_reserving};
 ghost use Rattle.mm_world.specs.Free.{are_free_parameters};
 ghost use Rattle.mm_world.specs.Protect.{are_protect_parameters};
 ghost use Rattle.mm_world.specs.Rows.{is_protection_among, private_protections, all_protections};
+ghost use Rattle.mm_tables.specs.Fits.{new_pages};
+
+use mm_spaces::PageRange;
+
+pub(crate) const PAGE_SIZE: u32 = 4096;
+
+/// PAGE_WRITECOPY.
+pub(crate) const WRITECOPY: u32 = 0x08;
 
 /// MEM_COMMIT.
 const COMMIT_TYPE: u32 = 0x1000;
 
 /// MEM_RESERVE.
-pub(crate) const RESERVE_TYPE: u32 = 0x2000;
+const RESERVE_TYPE: u32 = 0x2000;
 
 /// MEM_DECOMMIT.
 const DECOMMIT_TYPE: u32 = 0x4000;
@@ -75,4 +83,11 @@ pub(crate) fn is_user_page(page: u32) -> bool
     ensures { result ≡ is_user_page page }
 {
     0x10 <= page && page < 0x7FFF0
+}
+
+/// How many pages of a new region are committed.
+pub(crate) fn new_pages(kind: u32, range: PageRange) -> u32
+    ensures { result ≡ new_pages kind range }
+{
+    if kind == RESERVE_TYPE { 0 } else { range.count }
 }

@@ -1,9 +1,12 @@
-ghost use Rattle.std.specs.Prelude.{◌≡◌};
-ghost use Rattle.mm_world.specs.Query.{query};
+ghost use Rattle.std.specs.Prelude.{◌≡◌, true, is_some, Some};
+ghost use Rattle.mm_types.specs.Address.{is_user_page};
+ghost use Rattle.mm_world.specs.World.{ProcessOf};
+ghost use Rattle.mm_world.specs.Find.{process_of, region_with};
+ghost use Rattle.mm_world.specs.Query.{query, page_info};
 
-use crate::Tables;
-use crate::parameters::is_user_page;
-use mm_types::{Answer, Code, Pid};
+use crate::parameters::{PAGE_SIZE, is_user_page};
+use mm_tables::Tables;
+use mm_types::{Answer, Code, Kind, Pid, QueryInfo};
 
 /// `query` (VirtualQuery): what is told of the pages that are alike from the one of the address on. Nothing changes.
 ///
@@ -14,9 +17,26 @@ pub fn query(t: &Tables, pid: Pid, addr: u32) -> Answer
     if !t.has(pid) {
         return Answer::Error(Code::InvalidHandle);
     }
-    let page = addr / 4096;
+    let page = addr / PAGE_SIZE;
     if !is_user_page(page) {
         return Answer::Error(Code::InvalidParameter);
     }
-    Answer::Info(t.space(pid).info(page))
+    Answer::Info(page_info(t, pid, page))
+}
+
+/// What is told of a user page of a living process.
+fn page_info(t: &Tables, pid: Pid, page: u32) -> QueryInfo
+    requires lives { is_some (process_of t.now pid.0) ≡ true }
+    requires user { is_user_page page ≡ true }
+    ensures { (p : ProcessOf (Unit {0})) → process_of t.now pid.0 ≡ Some p → result ≡ page_info t.now p.regions page (region_with p.regions page) }
+{
+    t.sound();
+    let space = t.space(pid);
+    match space.row(page) {
+        None => space.info(page),
+        Some(row) => match row.kind {
+            Kind::Private => space.info(page),
+            Kind::View(view) => space.view_info(page, t.area(view.area)),
+        },
+    }
 }

@@ -1,103 +1,161 @@
 -- The lines `read`, `write` and `exec`, by what the tables have and by how the store answered.
-use Rattle.std.proofs.Common.{◌≡◌, ℕ, ◌%◌, Bool, true, false, Option, Some, List, refl, sym, ap, subst, cond, take, drop, unwrap_or}
-use Rattle.std.specs.Prelude.{Result, Ok, Err}
+use Rattle.std.proofs.Common.{◌≡◌, ℕ, ◌+◌, Bool, true, false, Option, Some, None, refl, sym, ◌∙◌, ap, subst, cond, unwrap_or, arith, ◌||◌}
+use Rattle.std.specs.Prelude.{Result, Ok, Err, IsOk, OnOk, OnErr}
 use Rattle.mm_types.specs.declared.answers.Answer.{Answer}
 use Rattle.mm_types.specs.declared.answers.Answer.TheVariants as answer
+use Rattle.mm_types.specs.declared.codes.Code.{Code}
 use Rattle.mm_types.specs.declared.codes.Raise.TheVariants as raise
-use Rattle.mm_types.specs.declared.events.Event.TheVariants as line
+use Rattle.mm_types.specs.declared.events.Event.{Event}
 use Rattle.mm_types.specs.declared.faults.PageFault.{PageFault}
+use Rattle.mm_types.specs.declared.faults.PageFault.TheVariants as fault
 use Rattle.mm_types.specs.declared.numbers.Key.{Key}
-use Rattle.mm_types.specs.declared.numbers.Pid.{Pid}
-use Rattle.mm_types.specs.declared.protections.Access.TheVariants as access_kind
-use Rattle.mm_types.specs.Address.{page_of, page_size}
-use Rattle.mm_world.specs.World.{Page, World, filled}
-use Rattle.mm_world.specs.Access.{ReadOf, WriteOf, Execute, written}
-use Rattle.mm_world.specs.Failure.{same_key}
-use Rattle.mm_world.specs.Keys.{private_key}
+use Rattle.mm_world.specs.World.{Page, World, ProcessOf, filled}
+use Rattle.mm_world.specs.Access.{Attempt, ReadOf, WriteOf, Execute, access, access_at, perform}
+use Rattle.mm_world.specs.Failure.{Need, access_fails, read_failed, search_failed, same_key}
+use Rattle.mm_world.specs.Keys.{Committed}
+use Rattle.mm_world.specs.Outcome.{OutcomeOf, done, refused}
 use Rattle.mm_world.specs.Report.{Report}
+use Rattle.mm_world.specs.Step.{stepped, unpaged, told, failing, need_at, when, world_told}
 use Rattle.mm_world.specs.Contents.{Tables, world_with}
-use Rattle.mm_world.specs.WellFormed.{Spaces}
-use Rattle.mm_pages.specs.Store.{changed}
-use Rattle.mm_pages.specs.Reports.{Ends}
-use Rattle.mm_pages.specs.Conditions.{touch}
-use Rattle.mm_calls.specs.Fits.{bytes_of}
-use Rattle.mm_core.specs.Accessing.{Refuses, Admits}
+use Rattle.mm_world.proofs.Tables.{Holds, tables}
+use Rattle.mm_pages.specs.Store.{StoreOf, changed}
+use Rattle.mm_pages.specs.Reports.{Ends, Served, SomeRose}
+use Rattle.mm_tables.specs.Fits.{Fits, bytes_of}
+use Rattle.mm_core.specs.Serving.{IsFailure, Named, Flushed}
+use Rattle.mm_core.specs.Accessing.{Refuses, Accessed}
 use Rattle.mm_core.specs.Stepping.{Stepped}
-use Rattle.mm_core.proofs.Accesses.{need_is, reads, executes, writes}
-use Rattle.mm_core.proofs.Lines.{stepped-refused, stepped-had, stepped-failed}
-use Rattle.mm_core.proofs.Writing.{key_itself}
+use Rattle.mm_core.specs.Deciding.{Keeps, Begins, Decided}
+use Rattle.mm_core.proofs.Serving.{devices-served, served-quiet, quiet-same}
+use Rattle.mm_core.proofs.Lines.{stepped-plain, never-fails}
 
-module _ (u : Bool) (before after : Report) (pid : Pid) (addr : ℕ) where
-  -- ---- refused
+-- ---- an access of unpaged memory tells no failed device
 
-  module _ (w v : World) (a : Answer) where
-    pub read-refused : (len : ℕ) → Refuses w pid.0 addr (ReadOf len) a v → Stepped u w (line.Read pid addr len) before after a v
-    read-refused len h = stepped-refused u w (line.Read pid addr len) before after a v pid.0 addr (ReadOf len) refl refl h
+record Fine (o : OutcomeOf Page) : Type 0 where
+  fine : IsFailure o.answer → ⊥
 
-    pub write-refused : (bytes : List ℕ) → Refuses w pid.0 addr (WriteOf bytes) a v → Stepped u w (line.Write pid addr bytes) before after a v
-    write-refused bytes h = stepped-refused u w (line.Write pid addr bytes) before after a v pid.0 addr (WriteOf bytes) refl refl h
+fine_refused : (w : World) (why : Code) → Holds Fine (refused w why)
+fine_refused w why = record { it = record { fine = λ f. f } }
 
-    pub exec-refused : Refuses w pid.0 addr Execute a v → Stepped u w (line.Exec pid addr) before after a v
-    exec-refused h = stepped-refused u w (line.Exec pid addr) before after a v pid.0 addr Execute refl refl h
+fine_done : (a : Answer) (w : World) → (IsFailure a → ⊥) → Holds Fine (done a w)
+fine_done a w fine = record { it = record { fine = fine } }
 
-  -- ---- permitted
+fine_perform : (w : World) (pid : ℕ) (p : ProcessOf Page) (c : Committed Page) (page offset : ℕ) (what : Attempt) → Holds Fine (perform w pid p c page offset what)
+fine_perform w pid p c page offset (ReadOf len) = fine_done _ w (λ f. f)
+fine_perform w pid p c page offset (WriteOf bytes) = fine_done answer.Ok _ (λ f. f)
+fine_perform w pid p c page offset Execute = fine_done answer.Ok w (λ f. f)
 
-  module _ (t : Tables) (old : Key → Option Page) {T : Type 0} (result : Result T PageFault) where
-    abbrev key : Key
-    key = private_key pid.0 (page_of addr)
+fine_at : (w : World) (pid : ℕ) (p : ProcessOf Page) (page offset : ℕ) (what : Attempt) (c : Option (Committed Page)) → Holds Fine (access_at w pid p page offset what c)
+fine_at w pid p page offset what None = fine_done _ w (λ f. f)
+fine_at w pid p page offset what (Some c) = search (tables, fine_done, fine_perform) depth 12
 
-    abbrev bytes : Key → Page
-    bytes = bytes_of old
+fine_access : (w : World) (pid addr : ℕ) (what : Attempt) → Holds Fine (access w pid addr what)
+fine_access w pid addr what = search (tables, fine_refused, fine_at) depth 12
 
-    abbrev w : World
-    w = world_with t bytes
+-- ---- how a permitted access ended
 
-    module _ (h : Admits t pid.0 addr access_kind.Read) (len : ℕ) (ends : Ends (touch key) after result) where
-      pub read-had : (x : T) → result ≡ Ok x → Stepped u w (line.Read pid addr len) before after (answer.Bytes (take len (drop (addr % page_size) (bytes key)))) w
-      read-had x is =
-          stepped-had u w (line.Read pid addr len) before after pid.0 addr (ReadOf len) (touch key) refl refl
-          (need_is t bytes pid.0 addr (ReadOf len) h.process h.lives h.row h.committed h.unguarded h.permitted h.own)
-          (answer.Bytes (take len (drop (addr % page_size) (bytes key)))) w result x is ends
-          (reads t bytes pid.0 addr h.process h.lives h.row h.committed h.unguarded h.own len h.permitted)
+or_right : (a b : Bool) → a ≡ false → b ≡ true → (a || b) ≡ true
+or_right a b e f = (λ i. e i || f i)
 
-      pub read-failed : (x : PageFault) → result ≡ Err x → (u ≡ true → ⊥) → Stepped u w (line.Read pid addr len) before after (answer.Raised raise.InPageError) w
-      read-failed x is paged =
-          stepped-failed u w (line.Read pid addr len) before after pid.0 addr (ReadOf len) (touch key) refl refl
-          (need_is t bytes pid.0 addr (ReadOf len) h.process h.lives h.row h.committed h.unguarded h.permitted h.own)
-          result x is ends refl paged
+or_left : (a b : Bool) → a ≡ true → (a || b) ≡ true
+or_left a b e = ap (λ a. a || b) e
 
-    module _ (h : Admits t pid.0 addr access_kind.Execute) (ends : Ends (touch key) after result) where
-      pub exec-had : (x : T) → result ≡ Ok x → Stepped u w (line.Exec pid addr) before after answer.Ok w
-      exec-had x is =
-          stepped-had u w (line.Exec pid addr) before after pid.0 addr Execute (touch key) refl refl
-          (need_is t bytes pid.0 addr Execute h.process h.lives h.row h.committed h.unguarded h.permitted h.own)
-          answer.Ok w result x is ends
-          (executes t bytes pid.0 addr h.process h.lives h.row h.committed h.unguarded h.own h.permitted)
+fails : {T : Type 0} (n : Need) (later : Report) (result : Result T PageFault) (x : PageFault) → result ≡ Err x → Ends n later result → access_fails n later ≡ true
+fails n later result fault.Read is ends = or_left (read_failed n later) (search_failed n later) (ends.read is)
+fails n later result fault.NoFrame is ends = let h = ends.no_frame is in or_right (read_failed n later) (search_failed n later) h.0 h.1
 
-      pub exec-failed : (x : PageFault) → result ≡ Err x → (u ≡ true → ⊥) → Stepped u w (line.Exec pid addr) before after (answer.Raised raise.InPageError) w
-      exec-failed x is paged =
-          stepped-failed u w (line.Exec pid addr) before after pid.0 addr Execute (touch key) refl refl
-          (need_is t bytes pid.0 addr Execute h.process h.lives h.row h.committed h.unguarded h.permitted h.own)
-          result x is ends refl paged
+never : {A : Type 0} (b : Bool) → b ≡ true → b ≡ false → A
+never true e f = cc
+never false e f = cc
 
-    module _ (h : Admits t pid.0 addr access_kind.Write) (stored : List ℕ) (ends : Ends (touch key) after result) where
-      changed-others : (x : Page) (k : Key) → same_key k key ≡ false → bytes_of (changed same_key old key (Some x)) k ≡ bytes k
-      changed-others x k other = ap (λ b. unwrap_or (cond b (Some x) (old k)) (filled 0)) other
+module _ (u : Bool) (w : World) (pid addr : ℕ) (what : Attempt) (m z : StoreOf) (n : Need) (needs : need_at w pid addr what ≡ Some n) {T : Type 0} (result : Result T PageFault) (ends : Ends n z.report result) (served : Served m z) where
+  pub accessed-had : (a : Answer) (v : World) (x : T) → result ≡ Ok x → access w pid addr what ≡ done a v → Accessed u w pid addr what m z a v
+  accessed-had a v x is outcome =
+      let fine : access_fails n z.report ≡ false = subst (λ r. OnOk r (access_fails n z.report ≡ false)) is ends.ok in
+      record { need = n; needs = needs; had = λ e. outcome; lost = λ e. never (access_fails n z.report) e fine; served = served }
 
-      changed-at : (x : Page) → bytes_of (changed same_key old key (Some x)) key ≡ x
-      changed-at x = ap (λ b. unwrap_or (cond b (Some x) (old key)) (filled 0)) (key_itself pid.0 (page_of addr))
+  pub accessed-lost : (v : World) (x : PageFault) → result ≡ Err x → v ≡ w → OnErr result (SomeRose m z) → (u ≡ true → IsOk result) → Accessed u w pid addr what m z (answer.Raised raise.InPageError) v
+  accessed-lost v x is same blamed paged =
+      let failed : access_fails n z.report ≡ true = fails n z.report result x is ends in
+      record {
+        need = n;
+        needs = needs;
+        had = λ e. never (access_fails n z.report) failed e;
+        lost = λ e. record { raised = refl; same = same; blamed = subst (λ r. OnErr r (SomeRose m z)) is blamed; paged = never-fails u result x is paged };
+        served = served;
+      }
 
-      pub write-had : (x : T) → result ≡ Ok x → Spaces t → (new : Key → Option Page) → new ≡ changed same_key old key (Some (written (bytes key) (addr % page_size) stored)) → Stepped u w (line.Write pid addr stored) before after answer.Ok (world_with t (bytes_of new))
-      write-had x is spaces new e =
-          let page : Page = written (bytes key) (addr % page_size) stored in
-          subst (λ new. Stepped u w (line.Write pid addr stored) before after answer.Ok (world_with t (bytes_of new))) (sym e)
-          (stepped-had u w (line.Write pid addr stored) before after pid.0 addr (WriteOf stored) (touch key) refl refl
-          (need_is t bytes pid.0 addr (WriteOf stored) h.process h.lives h.row h.committed h.unguarded h.permitted h.own)
-          answer.Ok (world_with t (bytes_of (changed same_key old key (Some page)))) result x is ends
-          (writes t bytes pid.0 addr h.process h.lives h.row h.committed h.unguarded h.own stored (bytes_of (changed same_key old key (Some page))) h.permitted spaces (changed-others page) (changed-at page)))
+-- ---- the lines
 
-      pub write-failed : (x : PageFault) → result ≡ Err x → (u ≡ true → ⊥) → Stepped u w (line.Write pid addr stored) before after (answer.Raised raise.InPageError) w
-      write-failed x is paged =
-          stepped-failed u w (line.Write pid addr stored) before after pid.0 addr (WriteOf stored) (touch key) refl refl
-          (need_is t bytes pid.0 addr (WriteOf stored) h.process h.lives h.row h.committed h.unguarded h.permitted h.own)
-          result x is ends refl paged
+pub keeps-begun : (n : ℕ) (t : Tables) (old mid : Key → Option Page) (s m : StoreOf) → Keeps t old s → n ≡ s.line + 1 → Begins n s m → Fits t mid m → Keeps t mid m
+keeps-begun n t old mid s m keeps next b fits =
+    let is : m.line ≡ s.line + 1 = b.line_is ∙ next in
+    record {
+      fits = fits;
+      few = record {
+        sections = omega (arith, is, keeps.few.sections);
+        areas = omega (arith, is, keeps.few.areas);
+        handles = λ pid p lives. omega (arith, is, keeps.few.handles pid p lives);
+      };
+    }
+
+module _ (u : Bool) (e : Event) (n : ℕ) (t : Tables) (old mid : Key → Option Page) (s m : StoreOf) (a : Answer) (after : Tables) (new : Key → Option Page) (z : StoreOf) (pid addr : ℕ) (what : Attempt) (same : mid ≡ old) (b : Begins n s m) where
+  abbrev w : World
+  w = world_with t (bytes_of mid)
+
+  abbrev v : World
+  v = world_with after (bytes_of new)
+
+  module _ (keeps : Keeps after new z) (line_is : z.line ≡ m.line) (is_told : told w e s.report z.report ≡ failing (need_at w pid addr what) z.report) (is_unpaged : unpaged w e ≡ access w pid addr what) (named : Named u e a s.paging_device z.paging_device s.file_device z.file_device) (flushed : Flushed v z.file_blocks e a) where
+    decided-by : Stepped u w e s.report z.report a v → Served m z → (IsFailure a → SomeRose m z) → Decided u e n t old s a after new z
+    decided-by step served failed =
+        record {
+          stepped = subst (λ (c : Key → Option Page). Stepped u (world_with t (bytes_of c)) e s.report z.report a v) same step;
+          devices = devices-served u e n s m z a b served named failed;
+          flushed = flushed;
+          keeps = keeps;
+          line_is = line_is ∙ b.line_is;
+        }
+
+    answers-fine : access w pid addr what ≡ done a v → IsFailure a → ⊥
+    answers-fine outcome f = (fine_access w pid addr what).it.fine (subst (λ (o : OutcomeOf Page). IsFailure o.answer) (sym outcome) f)
+
+    pub decided-refused : z ≡ m → Refuses w pid addr what a v → Decided u e n t old s a after new z
+    decided-refused is h =
+        decided-by
+        (stepped-plain u w e s.report z.report a v (is_told ∙ ap (λ n. failing n z.report) h.needless) (is_unpaged ∙ h.outcome))
+        (served-quiet m z (quiet-same m z is)) (λ f. absurd (answers-fine h.outcome f))
+
+    module _ (raises : world_told w e (answer.Raised raise.InPageError) ≡ w) (h : Accessed u w pid addr what m z a v) where
+      by-test : (b : Bool) → access_fails h.need z.report ≡ b → Decided u e n t old s a after new z
+      by-test false fine =
+          decided-by
+          (stepped-plain u w e s.report z.report a v
+          (is_told ∙ ap (λ n. failing n z.report) h.needs ∙ ap (λ b. when b (answer.Raised raise.InPageError)) fine)
+          (is_unpaged ∙ h.had fine)) h.served (λ f. absurd (answers-fine (h.had fine) f))
+      by-test true failed =
+          let l = h.lost failed in
+          decided-by (record {
+            decided =
+                ap (stepped w e) (is_told ∙ ap (λ n. failing n z.report) h.needs ∙ ap (λ b. when b (answer.Raised raise.InPageError)) failed)
+                ∙ ap (λ (v : World). done (answer.Raised raise.InPageError) v) (raises ∙ sym l.same)
+                ∙ ap (λ (a : Answer). done a v) (sym l.raised);
+            told = λ never fine. absurd (l.paged never);
+          }) h.served (λ f. l.blamed)
+
+      pub decided-access : Decided u e n t old s a after new z
+      decided-access = by-test (access_fails h.need z.report) refl
+
+-- ---- bytes, changed
+
+module _ (c : Key → Option Page) (key : Key) where
+  pub changed-others : (x : Page) (k : Key) → same_key k key ≡ false → bytes_of (changed same_key c key (Some x)) k ≡ bytes_of c k
+  changed-others x k other = ap (λ b. unwrap_or (cond b (Some x) (c k)) (filled 0)) other
+
+  pub changed-at : (x : Page) → same_key key key ≡ true → bytes_of (changed same_key c key (Some x)) key ≡ x
+  changed-at x same = ap (λ b. unwrap_or (cond b (Some x) (c key)) (filled 0)) same
+
+  pub twice-others : (y : Option Page) (x : Page) (k : Key) → same_key k key ≡ false → bytes_of (changed same_key (changed same_key c key y) key (Some x)) k ≡ bytes_of c k
+  twice-others y x k other = ap (λ b. unwrap_or (cond b (Some x) (cond b y (c k))) (filled 0)) other
+
+  pub twice-at : (y : Option Page) (x : Page) → same_key key key ≡ true → bytes_of (changed same_key (changed same_key c key y) key (Some x)) key ≡ x
+  twice-at y x same = ap (λ b. unwrap_or (cond b (Some x) (cond b y (c key))) (filled 0)) same

@@ -1,32 +1,57 @@
 -- An access to the world of some tables with bytes, by what the tables have at its page.
-use Rattle.std.proofs.Common.{◌≡◌, ℕ, ◌+◌, ◌-◌, ◌≤◌, ◌%◌, Bool, true, false, Option, Some, None, List, refl, sym, ◌∙◌, ap, cond, take, drop, option_map, not, ◌&&◌, nat_le, nat_lt}
+use Rattle.std.proofs.Common.{◌≡◌, ℕ, ◌+◌, ◌-◌, ◌≤◌, ◌%◌, Bool, true, false, Option, Some, None, List, refl, sym, ◌∙◌, ap, cond, take, drop, option_map, unwrap_or, not, ◌&&◌, nat_le, nat_lt}
 use Rattle.std.specs.Prelude.{option_and_then}
 use Rattle.std.proofs.lemmas.Bool.{leb-true}
 use Rattle.mm_types.specs.declared.answers.Answer.TheVariants as answer
 use Rattle.mm_types.specs.declared.codes.Code.TheVariants as code
 use Rattle.mm_types.specs.declared.codes.Raise.TheVariants as raise
 use Rattle.mm_types.specs.declared.numbers.Key.{Key}
+use Rattle.mm_types.specs.declared.views.View.{View}
+use Rattle.mm_types.specs.declared.views.Kind.TheVariants as kind
 use Rattle.mm_types.specs.Address.{page_of, page_size, end_of}
 use Rattle.mm_types.specs.Protection.{permits}
-use Rattle.mm_world.specs.World.{Page, World, RowOf, ProcessOf, pages_of}
-use Rattle.mm_world.specs.Find.{process_of}
-use Rattle.mm_world.specs.Keys.{Home, Own, InSection, Committed, committed_at, key_of, private_key, set_row, guard_off}
+use Rattle.mm_world.specs.World.{Page, World, RowOf, ProcessOf, pages_of, filled}
+use Rattle.mm_world.specs.Find.{process_of, shared_page}
+use Rattle.mm_world.specs.Keys.{Home, Own, InSection, Committed, committed_at, key_of, private_key, shared_key, set_row, set_shared, guard_off}
 use Rattle.mm_world.specs.Access.{Attempt, ReadOf, WriteOf, Execute, access, access_at, access_of, is_permitted, perform, write_to, written, bytes_of}
 use Rattle.mm_world.specs.Failure.{Need, need_of, copies, same_key}
 use Rattle.mm_world.specs.Outcome.{OutcomeOf, done, find_or}
-use Rattle.mm_world.specs.Step.{need_at}
+use Rattle.mm_world.specs.Step.{need_at, store_line}
 use Rattle.mm_world.specs.Contents.{Tables, row_with, process_with, world_with}
 use Rattle.mm_world.specs.WellFormed.{Spaces}
 use Rattle.mm_pages.specs.Conditions.{touch}
-use Rattle.mm_core.specs.Accessing.{Refuses}
-use Rattle.mm_world.proofs.Finding.{found_stands, committed_is, HomeCases, IsOwn, IsShared, home_cases}
+use Rattle.mm_tables.specs.declared.looks.CommittedRow.{CommittedRow}
+use Rattle.mm_tables.specs.Looks.{is_own}
+use Rattle.mm_core.specs.Accessing.{Refuses, Admits}
+use Rattle.mm_world.proofs.Finding.{found_stands, IsCommitted, committed_is, HomeCases, IsOwn, IsShared, home_cases}
 use Rattle.mm_world.proofs.LaidOut.{and-true}
-use Rattle.mm_core.proofs.With.{committed_with, home_with, process-with, committed-with, guard_off-with}
-use Rattle.mm_core.proofs.Writing.{written-with}
+use Rattle.mm_core.proofs.Rows.{Lives}
+use Rattle.mm_core.proofs.With.{committed_with, home_with, process-with, committed-with, guard_off-with, shared-with}
+use Rattle.mm_core.proofs.Writing.{written-with, copied-with, shared-written}
+
+-- ---- a line for the store alone
+
+pub store-gone : (t : Tables) (b : Key → Page) (pid : ℕ) → process_of t pid ≡ None → store_line (world_with t b) pid ≡ done (answer.Error code.InvalidHandle) (world_with t b)
+store-gone t b pid gone =
+    ap (λ p. find_or (world_with t b) code.InvalidHandle p (λ (p : ProcessOf Page). done answer.Ok (world_with t b))) (process-with b t pid ∙ ap (option_map (process_with b pid)) gone)
+
+pub store-lives : (t : Tables) (b : Key → Page) (pid : ℕ) → Lives t pid → store_line (world_with t b) pid ≡ done answer.Ok (world_with t b)
+store-lives t b pid l =
+    ap (λ p. find_or (world_with t b) code.InvalidHandle p (λ (p : ProcessOf Page). done answer.Ok (world_with t b))) (process-with b t pid ∙ ap (option_map (process_with b pid)) l.lives)
+
+-- ---- an access
 
 -- what an access needs, by the process and by its committed row
 abbrev needed : ℕ → ℕ → Attempt → Committed Page → Option Need
 needed pid addr what c = cond (is_permitted what c) (Some (need_of pid (page_of addr) c what)) None
+
+and_false : (a : Bool) → (a && false) ≡ false
+and_false true = refl
+and_false false = refl
+
+and_true : (a : Bool) → (a && true) ≡ a
+and_true true = refl
+and_true false = refl
 
 module _ (t : Tables) (b : Key → Page) (pid addr : ℕ) (what : Attempt) where
   abbrev world : World
@@ -105,25 +130,16 @@ module _ (t : Tables) (b : Key → Page) (pid addr : ℕ) (what : Attempt) where
               outcome = access-by (Some c) committed ∙ ap by_guard off ∙ ap by_permission denied;
             }
 
-        module _ (permitted : permits c.row.prot (access_of what) ≡ true) (own : c.home ≡ Own tt) where
-          home_is : d.home ≡ Own (b (private_key pid (page_of addr)))
-          home_is = ap (home_with b pid (page_of addr)) own
+        module _ (permitted : permits c.row.prot (access_of what) ≡ true) where
+          same_home_key : (home : Home (Unit {0})) → key_of pid (page_of addr) (home_with b pid (page_of addr) home) ≡ key_of pid (page_of addr) home
+          same_home_key (Own u) = refl
+          same_home_key (InSection area i) = refl
 
-          copies_none : (what : Attempt) → copies d what (Own (b (private_key pid (page_of addr)))) ≡ false
-          copies_none (ReadOf len) = refl
-          copies_none (WriteOf bytes) = refl
-          copies_none Execute = refl
-
-          abbrev need_of_home : Home Page → Need
-          need_of_home home =
-              record { key = key_of pid (page_of addr) home; copy = cond (copies d what home) (Some (private_key pid (page_of addr))) None }
-
-          pub need_is : need_at world pid addr what ≡ Some (touch (private_key pid (page_of addr)))
+          pub need_is : need_at world pid addr what ≡ Some (record { key = key_of pid (page_of addr) c.home; copy = cond (copies d what d.home) (Some (private_key pid (page_of addr))) None })
           need_is =
               need-by (Some c) committed
               ∙ (λ i. need_if (not (off i) && permitted i))
-              ∙ ap (λ home. Some (need_of_home home)) home_is
-              ∙ ap (λ b. let n : Need = record { key = private_key pid (page_of addr); copy = cond b (Some (private_key pid (page_of addr))) None } in Some n) (copies_none what)
+              ∙ ap (λ (k : Key). let n : Need = record { key = k; copy = cond (copies d what d.home) (Some (private_key pid (page_of addr))) None } in Some n) (same_home_key c.home)
 
           pub performs : access world pid addr what ≡ perform world pid q d (page_of addr) (addr % page_size) what
           performs = access-by (Some c) committed ∙ ap by_guard off ∙ ap by_permission permitted
@@ -134,33 +150,155 @@ module _ (t : Tables) (b : Key → Page) (pid addr : ℕ) where
   abbrev page : ℕ
   page = page_of addr
 
-  module _ (p : ProcessOf (Unit {0})) (lives : process_of t pid ≡ Some p) (c : Committed (Unit {0})) (committed : committed_at t p.regions page ≡ Some c) (off : c.row.guard ≡ false) (own : c.home ≡ Own tt) where
-    pub reads : (len : ℕ) → permits c.row.prot (access_of (ReadOf len)) ≡ true → access (world_with t b) pid addr (ReadOf len) ≡ done (answer.Bytes (take len (drop (addr % page_size) (b (private_key pid page))))) (world_with t b)
-    reads len permitted =
-        performs t b pid addr (ReadOf len) p lives c committed off permitted own
-        ∙ ap (λ home. done (answer.Bytes (take len (drop (addr % page_size) (bytes_of (world_with t b) home)))) (world_with t b)) (ap (home_with b pid page) own)
+  abbrev w : World
+  w = world_with t b
 
-    pub executes : permits c.row.prot (access_of Execute) ≡ true → access (world_with t b) pid addr Execute ≡ done answer.Ok (world_with t b)
-    executes permitted = performs t b pid addr Execute p lives c committed off permitted own
+  -- the bytes of a committed row
+  home-bytes : (i : ℕ) (c : Committed (Unit {0})) (home : Home (Unit {0})) → HomeCases t i c.region.thing.kind c.row.own home → bytes_of w (home_with b pid page home) ≡ b (key_of pid page home)
+  home-bytes i c home (IsOwn u own at_home) =
+      ap (λ home. bytes_of w (home_with b pid page home)) at_home ∙ sym (ap (λ home. b (key_of pid page home)) at_home)
+  home-bytes i c home (IsShared v u is none there at_home) =
+      ap (λ home. bytes_of w (home_with b pid page home)) at_home
+      ∙ ap (λ o. unwrap_or o (filled 0)) (shared-with b t v.area.0 (v.first + i) ∙ ap (option_map (λ u. b (shared_key v.area.0 (v.first + i)))) there)
+      ∙ sym (ap (λ home. b (key_of pid page home)) at_home)
 
-    private_own : c.row.own ≡ Some tt
-    private_own =
-        let h = committed_is t p.regions page c committed in
-        by_home (home_cases t (page - c.region.thing.base) c.region.thing.kind c.row.own c.home h.home_there)
-      where
-        by_home : HomeCases t (page - c.region.thing.base) c.region.thing.kind c.row.own c.home → c.row.own ≡ Some tt
-        by_home (IsOwn u there home) = there
-        by_home (IsShared v u is none there home) = let bad : Own tt ≡ InSection v.area.0 (v.first + (page - c.region.thing.base)) = sym own ∙ home in cc
+  copies-told : (c : Committed (Unit {0})) (bytes : List ℕ) (home : Home (Unit {0})) → copies (committed_with b pid page c) (WriteOf bytes) (home_with b pid page home) ≡ (c.row.marked && not (is_own home))
+  copies-told c bytes (Own u) = sym (and_false c.row.marked)
+  copies-told c bytes (InSection area i) = sym (and_true c.row.marked)
 
-    -- the bytes of the page's own key are changed in the write, and no others
-    pub writes : (bytes : List ℕ) (new : Key → Page) → permits c.row.prot (access_of (WriteOf bytes)) ≡ true → Spaces t → ((k : Key) → same_key k (private_key pid page) ≡ false → new k ≡ b k) → new (private_key pid page) ≡ written (b (private_key pid page)) (addr % page_size) bytes → access (world_with t b) pid addr (WriteOf bytes) ≡ done answer.Ok (world_with t new)
-    writes bytes new permitted spaces others at =
-        let w = world_with t b in
-        let d = committed_with b pid page c in
-        let q = process_with b pid p in
-        let row : RowOf Page = record d.row { own = Some (written (b (private_key pid page)) (addr % page_size) bytes) } in
-        let row_is : row_with new pid page c.row ≡ row = λ i. record { prot = c.row.prot; guard = c.row.guard; marked = c.row.marked; own = (ap (option_map (λ u. new (private_key pid page))) private_own ∙ ap (λ (x : Page). Some x) at) i } in
-        performs t b pid addr (WriteOf bytes) p lives c committed off permitted own
-        ∙ ap (λ home. done answer.Ok (write_to w pid q d page (addr % page_size) bytes home)) (ap (home_with b pid page) own)
-        ∙ ap (λ (row : RowOf Page). done answer.Ok (set_row w pid q d.region page row)) (sym row_is)
-        ∙ ap (λ (v : World). done answer.Ok v) (sym (written-with b new pid page others t p c spaces lives committed))
+  module _ (what : Attempt) (told : CommittedRow) (h : Admits t pid addr (access_of what) told) where
+    key-told : key_of pid page h.row.home ≡ told.key
+    key-told = ap (λ (r : CommittedRow). r.key) h.is_told
+
+    needs-by : (b' : Bool) → copies (committed_with b pid page h.row) what (home_with b pid page h.row.home) ≡ b' → need_at w pid addr what ≡ Some (record { key = told.key; copy = cond b' (Some (private_key pid page)) None })
+    needs-by b' e =
+        need_is t b pid addr what h.process h.lives h.row h.committed h.unguarded h.permitted
+        ∙ (λ i. Some (record { key = key-told i; copy = cond (e i) (Some (private_key pid page)) None }))
+
+    does : access w pid addr what ≡ perform w pid (process_with b pid h.process) (committed_with b pid page h.row) page (addr % page_size) what
+    does = performs t b pid addr what h.process h.lives h.row h.committed h.unguarded h.permitted
+
+    committed-is : IsCommitted t h.process.regions page h.row
+    committed-is = committed_is t h.process.regions page h.row h.committed
+
+    cases : HomeCases t (page - h.row.region.thing.base) h.row.region.thing.kind h.row.row.own h.row.home
+    cases = home_cases t (page - h.row.region.thing.base) h.row.region.thing.kind h.row.row.own h.row.home committed-is.home_there
+
+    bytes-told : bytes_of w (home_with b pid page h.row.home) ≡ b told.key
+    bytes-told = home-bytes (page - h.row.region.thing.base) h.row h.row.home cases ∙ ap b key-told
+
+  -- ---- a read, an execution
+
+  pub read-needs : (len : ℕ) (told : CommittedRow) (h : Admits t pid addr (access_of (ReadOf len)) told) → need_at w pid addr (ReadOf len) ≡ Some (touch told.key)
+  read-needs len told h = needs-by (ReadOf len) told h false refl
+
+  pub reads : (len : ℕ) (told : CommittedRow) (h : Admits t pid addr (access_of (ReadOf len)) told) → access w pid addr (ReadOf len) ≡ done (answer.Bytes (take len (drop (addr % page_size) (b told.key)))) w
+  reads len told h =
+      does (ReadOf len) told h ∙ ap (λ (x : Page). done (answer.Bytes (take len (drop (addr % page_size) x))) w) (bytes-told (ReadOf len) told h)
+
+  pub execute-needs : (told : CommittedRow) (h : Admits t pid addr (access_of Execute) told) → need_at w pid addr Execute ≡ Some (touch told.key)
+  execute-needs told h = needs-by Execute told h false refl
+
+  pub executes : (told : CommittedRow) (h : Admits t pid addr (access_of Execute) told) → access w pid addr Execute ≡ done answer.Ok w
+  executes told h = does Execute told h
+
+  -- ---- a write
+
+  module _ (bytes : List ℕ) (told : CommittedRow) (h : Admits t pid addr (access_of (WriteOf bytes)) told) where
+    abbrev c : Committed (Unit {0})
+    c = h.row
+
+    abbrev at_page : Committed Page
+    at_page = committed_with b pid page h.row
+
+    abbrev holder : ProcessOf Page
+    holder = process_with b pid h.process
+
+    copies-is : copies at_page (WriteOf bytes) (home_with b pid page c.home) ≡ told.copies
+    copies-is = copies-told c bytes c.home ∙ ap (λ (r : CommittedRow). r.copies) h.is_told
+
+    marked-told : (c.row.marked && not (is_own c.home)) ≡ told.copies
+    marked-told = ap (λ (r : CommittedRow). r.copies) h.is_told
+
+    pub write-needs : told.copies ≡ false → need_at w pid addr (WriteOf bytes) ≡ Some (touch told.key)
+    write-needs stays = needs-by (WriteOf bytes) told h false (copies-is ∙ stays)
+
+    pub copy-needs : told.copies ≡ true → need_at w pid addr (WriteOf bytes) ≡ Some (record { key = told.key; copy = Some (private_key pid page) })
+    copy-needs makes = needs-by (WriteOf bytes) told h true (copies-is ∙ makes)
+
+    abbrev stored : Page
+    stored = written (b told.key) (addr % page_size) bytes
+
+    -- the bytes of the row's key are changed in the write, and no others
+    module _ (new : Key → Page) (spaces : Spaces t) (others : (k : Key) → same_key k told.key ≡ false → new k ≡ b k) (at : new told.key ≡ stored) where
+      in-own : (u : Unit {0}) → c.row.own ≡ Some u → c.home ≡ Own u → write_to w pid holder at_page page (addr % page_size) bytes (home_with b pid page c.home) ≡ world_with t new
+      in-own u own at_home =
+          let key-is : private_key pid page ≡ told.key = sym (ap (key_of pid page) at_home) ∙ key-told (WriteOf bytes) told h in
+          let row : RowOf Page = record at_page.row { own = Some (written (b (private_key pid page)) (addr % page_size) bytes) } in
+          let new_at : new (private_key pid page) ≡ written (b (private_key pid page)) (addr % page_size) bytes = ap new key-is ∙ at ∙ sym (ap (λ (k : Key). written (b k) (addr % page_size) bytes) key-is) in
+          let row_is : row_with new pid page c.row ≡ row = λ i. record { prot = c.row.prot; guard = c.row.guard; marked = c.row.marked; own = (ap (option_map (λ u. new (private_key pid page))) own ∙ ap (λ (x : Page). Some x) new_at) i } in
+          ap (λ home. write_to w pid holder at_page page (addr % page_size) bytes (home_with b pid page home)) at_home
+          ∙ ap (λ (row : RowOf Page). set_row w pid holder at_page.region page row) (sym row_is)
+          ∙ sym (written-with b new pid page (λ k other. others k (ap (same_key k) (sym key-is) ∙ other)) t h.process c spaces h.lives h.committed)
+
+      in-section : (area i : ℕ) (u : Unit {0}) → told.copies ≡ false → shared_page t area i ≡ Some u → c.home ≡ InSection area i → write_to w pid holder at_page page (addr % page_size) bytes (home_with b pid page c.home) ≡ world_with t new
+      in-section area i u stays there at_home =
+          let key-is : shared_key area i ≡ told.key = sym (ap (key_of pid page) at_home) ∙ key-told (WriteOf bytes) told h in
+          let unmarked : c.row.marked ≡ false = sym (and_true c.row.marked) ∙ sym (ap (λ home. c.row.marked && not (is_own home)) at_home) ∙ marked-told ∙ stays in
+          let held : bytes_of w (InSection area i) ≡ b told.key = ap (λ home. bytes_of w (home_with b pid page home)) (sym at_home) ∙ bytes-told (WriteOf bytes) told h in
+          let new_at : new (shared_key area i) ≡ written (bytes_of w (InSection area i)) (addr % page_size) bytes = ap new key-is ∙ at ∙ sym (ap (λ (x : Page). written x (addr % page_size) bytes) held) in
+          ap (λ home. write_to w pid holder at_page page (addr % page_size) bytes (home_with b pid page home)) at_home
+          ∙ ap (λ (m : Bool). cond m (set_row w pid holder at_page.region page (record at_page.row { own = Some (written (bytes_of w (InSection area i)) (addr % page_size) bytes); prot = 0x04 })) (set_shared w area i (written (bytes_of w (InSection area i)) (addr % page_size) bytes))) unmarked
+          ∙ ap (λ (x : Page). set_shared w area i x) (sym new_at)
+          ∙ sym (shared-written b new area i (λ k other. others k (ap (same_key k) (sym key-is) ∙ other)) t u there)
+
+      in-place : told.copies ≡ false → HomeCases t (page - c.region.thing.base) c.region.thing.kind c.row.own c.home → write_to w pid holder at_page page (addr % page_size) bytes (home_with b pid page c.home) ≡ world_with t new
+      in-place stays (IsOwn u own at_home) = in-own u own at_home
+      in-place stays (IsShared v u is none there at_home) = in-section v.area.0 (v.first + (page - c.region.thing.base)) u stays there at_home
+
+      pub writes : told.copies ≡ false → access w pid addr (WriteOf bytes) ≡ done answer.Ok (world_with t new)
+      writes stays = does (WriteOf bytes) told h ∙ ap (λ (v : World). done answer.Ok v) (in-place stays (cases (WriteOf bytes) told h))
+
+    -- the row has bytes of its own from now on, and no others change
+    module _ (new : Key → Page) (spaces : Spaces t) (others : (k : Key) → same_key k (private_key pid page) ≡ false → new k ≡ b k) (at : new (private_key pid page) ≡ stored) where
+      abbrev own_row : RowOf (Unit {0})
+      own_row = record c.row { own = Some tt; prot = 0x04 }
+
+      abbrev after : Tables
+      after = set_row t pid h.process c.region page own_row
+
+      to-copy : (area i : ℕ) → told.copies ≡ true → c.home ≡ InSection area i → write_to w pid holder at_page page (addr % page_size) bytes (home_with b pid page c.home) ≡ world_with after new
+      to-copy area i makes at_home =
+          let marked : c.row.marked ≡ true = sym (and_true c.row.marked) ∙ sym (ap (λ home. c.row.marked && not (is_own home)) at_home) ∙ marked-told ∙ makes in
+          let held : bytes_of w (InSection area i) ≡ b told.key = ap (λ home. bytes_of w (home_with b pid page home)) (sym at_home) ∙ bytes-told (WriteOf bytes) told h in
+          let row : RowOf Page = record at_page.row { own = Some (written (bytes_of w (InSection area i)) (addr % page_size) bytes); prot = 0x04 } in
+          let row_is : row_with new pid page own_row ≡ row = λ j. record { prot = 0x04; guard = c.row.guard; marked = c.row.marked; own = Some ((at ∙ sym (ap (λ (x : Page). written x (addr % page_size) bytes) held)) j) } in
+          ap (λ home. write_to w pid holder at_page page (addr % page_size) bytes (home_with b pid page home)) at_home
+          ∙ ap (λ (m : Bool). cond m (set_row w pid holder at_page.region page (record at_page.row { own = Some (written (bytes_of w (InSection area i)) (addr % page_size) bytes); prot = 0x04 })) (set_shared w area i (written (bytes_of w (InSection area i)) (addr % page_size) bytes))) marked
+          ∙ ap (λ (row : RowOf Page). set_row w pid holder at_page.region page row) (sym row_is)
+          ∙ sym (copied-with b new pid page others t h.process c own_row spaces h.lives h.committed)
+
+      copied : told.copies ≡ true → HomeCases t (page - c.region.thing.base) c.region.thing.kind c.row.own c.home → write_to w pid holder at_page page (addr % page_size) bytes (home_with b pid page c.home) ≡ world_with after new
+      copied makes (IsShared v u is none there at_home) = to-copy v.area.0 (v.first + (page - c.region.thing.base)) makes at_home
+      copied makes (IsOwn u own at_home) =
+          let never : false ≡ true = sym (and_false c.row.marked) ∙ sym (ap (λ home. c.row.marked && not (is_own home)) at_home) ∙ marked-told ∙ makes in cc
+
+      pub copies-write : told.copies ≡ true → access w pid addr (WriteOf bytes) ≡ done answer.Ok (world_with after new)
+      copies-write makes = does (WriteOf bytes) told h ∙ ap (λ (v : World). done answer.Ok v) (copied makes (cases (WriteOf bytes) told h))
+
+-- a page that a write copies: its row is marked, and its bytes stand in a section
+pub record IsCopying (c : Committed (Unit {0})) : Type 0 where
+  pub view : View
+  pub is : c.region.thing.kind ≡ kind.View view
+  pub none : c.row.own ≡ None
+  pub marked : c.row.marked ≡ true
+
+pub is-copying : (t : Tables) (pid page : ℕ) (p : ProcessOf (Unit {0})) (c : Committed (Unit {0})) → committed_at t p.regions page ≡ Some c → (c.row.marked && not (is_own c.home)) ≡ true → IsCopying c
+is-copying t pid page p c committed e =
+    let h = committed_is t p.regions page c committed in
+    by_home (home_cases t (page - c.region.thing.base) c.region.thing.kind c.row.own c.home h.home_there)
+  where
+    by_home : HomeCases t (page - c.region.thing.base) c.region.thing.kind c.row.own c.home → IsCopying c
+    by_home (IsShared v u is none there at_home) = record { view = v; is = is; none = none; marked = (and-true c.row.marked (not (is_own c.home)) e).0 }
+    by_home (IsOwn u own at_home) =
+        let never : false ≡ true = sym (and_false c.row.marked) ∙ sym (ap (λ home. c.row.marked && not (is_own home)) at_home) ∙ e in cc

@@ -1,27 +1,31 @@
 -- From what a call did to the tables and to the bytes to what its line did to the world.
-use Rattle.std.proofs.Common.{◌≡◌, ℕ, Bool, true, false, Option, Some, None, Result, Ok, Err, refl, sym, ◌∙◌, ap, subst, cond, is_some, unwrap_or, ◌&&◌, ◌||◌}
-use Rattle.std.specs.Prelude.{IsOk, OnOk}
+use Rattle.std.proofs.Common.{◌≡◌, ℕ, ◌+◌, Bool, true, false, Option, Some, None, Result, Ok, Err, refl, sym, ◌∙◌, ap, subst, cond, is_some, unwrap_or, ◌&&◌, nat_le, length, [], ◌∷◌, ◌++◌, arith}
+use Rattle.std.specs.Prelude.{IsOk, IfOk, OnOk, OnErr}
 use Rattle.mm_types.specs.declared.answers.Answer.{Answer}
 use Rattle.mm_types.specs.declared.answers.Answer.TheVariants as answer
-use Rattle.mm_types.specs.declared.codes.Raise.TheVariants as raise
 use Rattle.mm_types.specs.declared.events.Event.{Event}
-use Rattle.mm_types.specs.declared.faults.PageFault.{PageFault}
-use Rattle.mm_types.specs.declared.faults.PageFault.TheVariants as fault
 use Rattle.mm_types.specs.declared.numbers.Key.{Key}
+use Rattle.mm_types.specs.declared.moves.LineKind.{LineKind}
+use Rattle.mm_world.specs.Processes.{new_process, no_regions, most_processes}
+use Rattle.mm_pages.specs.Conditions.{pid_after}
 use Rattle.mm_world.specs.World.{Page, World, filled}
 use Rattle.mm_world.specs.Keys.{content_of}
-use Rattle.mm_world.specs.Access.{Attempt, access}
-use Rattle.mm_world.specs.Failure.{Need, access_fails, read_failed, search_failed}
 use Rattle.mm_world.specs.Outcome.{OutcomeOf, done}
 use Rattle.mm_world.specs.Laws.{LineLeaves}
-use Rattle.mm_world.proofs.LineLeaves.{in_step}
 use Rattle.mm_world.specs.Report.{Report}
-use Rattle.mm_world.specs.Step.{stepped, unpaged, told, failing, need_at, when, world_told}
+use Rattle.mm_world.specs.Step.{step, stepped, unpaged, told, when, world_told}
 use Rattle.mm_world.specs.Contents.{Tables, BytesAfter, AcrossBytes, world_with}
-use Rattle.mm_pages.specs.Reports.{Ends}
-use Rattle.mm_calls.specs.Fits.{bytes_of, Called}
-use Rattle.mm_core.specs.Accessing.{Refuses}
+use Rattle.mm_world.proofs.LineLeaves.{in_step}
+use Rattle.mm_world.proofs.Tables.{Holds}
+use Rattle.mm_pages.specs.Store.{StoreOf}
+use Rattle.mm_pages.specs.Reports.{Served, SomeRose, begun}
+use Rattle.mm_tables.specs.Fits.{Fits, bytes_of, Called}
+use Rattle.mm_tables.specs.References.{MadeAtMost}
+use Rattle.mm_core.specs.Serving.{IsFailure, Named, Flushed}
 use Rattle.mm_core.specs.Stepping.{Stepped}
+use Rattle.mm_core.specs.Deciding.{Keeps, Begins, Decided}
+use Rattle.mm_core.proofs.Serving.{Quiet, devices-served, devices-quiet}
+use Rattle.mm_core.proofs.Making.{Makes}
 
 -- ---- calls
 
@@ -48,51 +52,127 @@ pub bytes-kept : (t after : Tables) (c : Key → Option Page) → ((k : Key) →
 bytes-kept t after c old new k = bytes_at (c k) _ _ (old k) (new k)
 
 -- a line of which the store tells nothing
-pub stepped-plain : (u : Bool) (w : World) (e : Event) (before after : Report) (a : Answer) (v : World) → told w e before after ≡ None → unpaged w e ≡ done a v → Stepped u w e before after a v
-stepped-plain u w e before after a v none outcome =
-    record { decided = ap (stepped w e) none ∙ outcome; told = λ never. outcome }
+pub stepped-plain : (u : Bool) (w : World) (e : Event) (before later : Report) (a : Answer) (v : World) → told w e before later ≡ None → unpaged w e ≡ done a v → Stepped u w e before later a v
+stepped-plain u w e before later a v none outcome =
+    record { decided = ap (stepped w e) none ∙ outcome; told = λ never fine. outcome }
 
--- ---- accesses
+module _ (u : Bool) (e : Event) (n : ℕ) (t : Tables) (old : Key → Option Page) (s m : StoreOf) (a : Answer) (after : Tables) (new : Key → Option Page) (z : StoreOf) where
+  abbrev w : World
+  w = world_with t (bytes_of old)
 
--- an access that needs no page
-pub stepped-refused : (u : Bool) (w : World) (e : Event) (before after : Report) (a : Answer) (v : World) (pid addr : ℕ) (what : Attempt) → told w e before after ≡ failing (need_at w pid addr what) after → unpaged w e ≡ access w pid addr what → Refuses w pid addr what a v → Stepped u w e before after a v
-stepped-refused u w e before after a v pid addr what is_told is_unpaged h =
-    stepped-plain u w e before after a v (is_told ∙ ap (λ n. failing n after) h.needless) (is_unpaged ∙ h.outcome)
+  abbrev v : World
+  v = world_with after (bytes_of new)
 
-module _ (u : Bool) (w : World) (e : Event) (before after : Report) (pid addr : ℕ) (what : Attempt) (n : Need) (is_told : told w e before after ≡ failing (need_at w pid addr what) after) (is_unpaged : unpaged w e ≡ access w pid addr what) (needs : need_at w pid addr what ≡ Some n) where
-  -- a page that was had
-  pub stepped-had : (a : Answer) (v : World) {T : Type 0} (result : Result T PageFault) (x : T) → result ≡ Ok x → Ends n after result → access w pid addr what ≡ done a v → Stepped u w e before after a v
-  stepped-had a v result x is ends outcome =
-      let fine : access_fails n after ≡ false = subst (λ r. OnOk r (access_fails n after ≡ false)) is ends.ok in
-      stepped-plain u w e before after a v (is_told ∙ ap (λ n. failing n after) needs ∙ ap (λ b. when b (answer.Raised raise.InPageError)) fine) (is_unpaged ∙ outcome)
+  abbrev NamedHere : Type 0
+  NamedHere = Named u e a s.paging_device z.paging_device s.file_device z.file_device
 
-  or_right : (a b : Bool) → a ≡ false → b ≡ true → (a || b) ≡ true
-  or_right a b e f = (λ i. e i || f i)
+  pub keeps-made : n ≡ s.line + 1 → z.line ≡ n → MadeAtMost (s.line + 1) after → Fits after new z → Keeps after new z
+  keeps-made next is few fits =
+      record { fits = fits; few = subst (λ (k : ℕ). MadeAtMost k after) (sym (is ∙ next)) few }
 
-  or_left : (a b : Bool) → a ≡ true → (a || b) ≡ true
-  or_left a b e = ap (λ a. a || b) e
-
-  fails : {T : Type 0} (result : Result T PageFault) (x : PageFault) → result ≡ Err x → Ends n after result → access_fails n after ≡ true
-  fails result fault.Read is ends = or_left (read_failed n after) (search_failed n after) (ends.read is)
-  fails result fault.NoFrame is ends = let h = ends.no_frame is in or_right (read_failed n after) (search_failed n after) h.0 h.1
-
-  -- a page that was not to be had: the world stays
-  pub stepped-failed : {T : Type 0} (result : Result T PageFault) (x : PageFault) → result ≡ Err x → Ends n after result → world_told w e (answer.Raised raise.InPageError) ≡ w → (u ≡ true → ⊥) → Stepped u w e before after (answer.Raised raise.InPageError) w
-  stepped-failed result x is ends kept paged =
+  -- a line that called no device
+  pub decided-quiet : n ≡ s.line + 1 → Begins n s m → Quiet m z → told w e s.report z.report ≡ None → unpaged w e ≡ done a v → (IsFailure a → ⊥) → NamedHere → Flushed v z.file_blocks e a → MadeAtMost (s.line + 1) after → Fits after new z → Decided u e n t old s a after new z
+  decided-quiet next b quiet none outcome fine named flushed few fits =
       record {
-        decided =
-            ap (stepped w e) (is_told ∙ ap (λ n. failing n after) needs ∙ ap (λ b. when b (answer.Raised raise.InPageError)) (fails result x is ends))
-            ∙ ap (λ (v : World). done (answer.Raised raise.InPageError) v) kept;
-        told = λ never. absurd (paged never);
+        stepped = stepped-plain u w e s.report z.report a v none outcome;
+        devices = devices-quiet u e n s m z a b quiet named fine;
+        flushed = flushed;
+        keeps = keeps-made next (quiet.line_is ∙ b.line_is) few fits;
+        line_is = quiet.line_is ∙ b.line_is;
       }
 
--- ---- the same answer and world, in other terms
+  pub decided-call : (q : OutcomeOf (Unit {0})) → Keeps t old s → n ≡ s.line + 1 → Begins n s m → Quiet m z → AcrossBytes t (bytes_of old) q (unpaged w e) → Holds (Makes t) q → told w e s.report z.report ≡ None → NamedHere → Flushed v z.file_blocks e a → Called q t old a after new → Fits after new z → Decided u e n t old s a after new z
+  decided-call q keeps next b quiet across makes none named flushed called fits =
+      let answers : q.answer ≡ a = ap (λ (q : OutcomeOf (Unit {0})). q.answer) called.outcome in
+      let tables : q.world ≡ after = ap (λ (q : OutcomeOf (Unit {0})). q.world) called.outcome in
+      decided-quiet next b quiet none (called-across q (unpaged w e) t old a after new across called)
+      (subst (λ (a : Answer). IsFailure a → ⊥) answers makes.it.fine) named flushed
+      (subst (λ (t : Tables). MadeAtMost (s.line + 1) t) tables (makes.it.made s.line keeps.few)) fits
 
-pub same-end : (u : Bool) (w : World) (e : Event) (before after : Report) (a a' : Answer) (t t' : Tables) (c c' : Key → Option Page) → a' ≡ a → t' ≡ t → c' ≡ c → Stepped u w e before after a (world_with t (bytes_of c)) → Stepped u w e before after a' (world_with t' (bytes_of c'))
-same-end u w e before after a a' t t' c c' answers tables contents h =
-    subst (λ (a : Answer). Stepped u w e before after a (world_with t' (bytes_of c'))) (sym answers)
-    (subst (λ (t : Tables). Stepped u w e before after a (world_with t (bytes_of c'))) (sym tables)
-    (subst (λ (c : Key → Option Page). Stepped u w e before after a (world_with t (bytes_of c))) (sym contents) h))
+  -- a line of which the store may tell that a device failed
+  pub stepped-faulted : (b : Bool) (q : OutcomeOf (Unit {0})) → cond b (done answer.Fault t) q ≡ done a after → told w e s.report z.report ≡ when b answer.Fault → world_told w e answer.Fault ≡ w → (after ≡ t → v ≡ w) → (q ≡ done a after → unpaged w e ≡ done a v) → Stepped u w e s.report z.report a v
+  stepped-faulted true q outcome is_told kept same across =
+      let answers : answer.Fault ≡ a = ap (λ (o : OutcomeOf (Unit {0})). o.answer) outcome in
+      let tables : t ≡ after = ap (λ (o : OutcomeOf (Unit {0})). o.world) outcome in
+      record {
+        decided = ap (stepped w e) is_told ∙ ap (λ (w : World). done answer.Fault w) (kept ∙ sym (same (sym tables))) ∙ ap (λ (a : Answer). done a v) answers;
+        told = λ never fine. absurd (fine (sym answers));
+      }
+  stepped-faulted false q outcome is_told kept same across = stepped-plain u w e s.report z.report a v is_told (across outcome)
+
+  pub faulted-answer : (b : Bool) (q : OutcomeOf (Unit {0})) → (IsFailure q.answer → ⊥) → cond b (done answer.Fault t) q ≡ done a after → IsFailure a → a ≡ answer.Fault
+  faulted-answer true q fine outcome f = sym (ap (λ (o : OutcomeOf (Unit {0})). o.answer) outcome)
+  faulted-answer false q fine outcome f = absurd (fine (subst (λ (a : Answer). IsFailure a) (sym (ap (λ (o : OutcomeOf (Unit {0})). o.answer) outcome)) f))
+
+  pub faulted-made : (b : Bool) (q : OutcomeOf (Unit {0})) (k : ℕ) → MadeAtMost k t → MadeAtMost k q.world → cond b (done answer.Fault t) q ≡ done a after → MadeAtMost k after
+  faulted-made true q k h h' outcome = subst (λ (t : Tables). MadeAtMost k t) (ap (λ (o : OutcomeOf (Unit {0})). o.world) outcome) h
+  faulted-made false q k h h' outcome = subst (λ (t : Tables). MadeAtMost k t) (ap (λ (o : OutcomeOf (Unit {0})). o.world) outcome) h'
+
+  -- a line that called devices
+  pub decided-served : n ≡ s.line + 1 → Begins n s m → z.line ≡ m.line → Served m z → Stepped u w e s.report z.report a v → (IsFailure a → SomeRose m z) → NamedHere → Flushed v z.file_blocks e a → MadeAtMost (s.line + 1) after → Fits after new z → Decided u e n t old s a after new z
+  decided-served next b line_is served step failed named flushed few fits =
+      record {
+        stepped = step;
+        devices = devices-served u e n s m z a b served named failed;
+        flushed = flushed;
+        keeps = keeps-made next (line_is ∙ b.line_is) few fits;
+        line_is = line_is ∙ b.line_is;
+      }
+
+pub one-later : (t : Tables) (n : ℕ) → MadeAtMost n t → MadeAtMost (n + 1) t
+one-later t n h = record { sections = omega (arith, h.sections); areas = omega (arith, h.areas); handles = λ pid p lives. omega (arith, h.handles pid p lives) }
+
+-- a line after which tables and bytes are those before
+pub decided-same : (u : Bool) (e : Event) (n : ℕ) (t : Tables) (old : Key → Option Page) (s m : StoreOf) (a : Answer) (after : Tables) (new : Key → Option Page) (z : StoreOf) → Keeps t old s → n ≡ s.line + 1 → Begins n s m → Quiet m z → after ≡ t → new ≡ old → told (world_with t (bytes_of old)) e s.report z.report ≡ None → unpaged (world_with t (bytes_of old)) e ≡ done a (world_with t (bytes_of old)) → (IsFailure a → ⊥) → Named u e a s.paging_device z.paging_device s.file_device z.file_device → Flushed (world_with after (bytes_of new)) z.file_blocks e a → Fits after new z → Decided u e n t old s a after new z
+decided-same u e n t old s m a after new z keeps next b quiet tables contents none outcome fine named flushed fits =
+    decided-quiet u e n t old s m a after new z next b quiet none
+    (outcome ∙ (λ i. done a (world_with (sym tables i) (bytes_of (sym contents i))))) fine named flushed
+    (subst (λ (t : Tables). MadeAtMost (s.line + 1) t) (sym tables) (one-later t s.line keeps.few)) fits
+
+-- a line that the store began by itself
+pub begins-line : (n : ℕ) (k : LineKind) (s m : StoreOf) → m ≡ record s { line = n; kind = k; last_pid = pid_after s.last_pid k; ready = None; report = begun s.report } → Begins n s m
+begins-line n k s m e =
+    record {
+      line_is = ap (λ (s : StoreOf). s.line) e;
+      report_is = ap (λ (s : StoreOf). s.report) e;
+      paging = ap (λ (s : StoreOf). s.paging_device) e;
+      files = ap (λ (s : StoreOf). s.file_device) e;
+      blocks = ap (λ (s : StoreOf). s.file_blocks) e;
+    }
+
+pub full-process : (t : Tables) → nat_le (length t.processes) most_processes ≡ false → new_process t ≡ done answer.Full t
+full-process t full =
+    ap (λ b. cond b (done (answer.NewProcess (record { 0 = length t.processes })) (record t { processes = t.processes ++ Some no_regions ∷ [] })) (done answer.Full t)) full
+
+-- ---- results
+
+pub on-ok : {T E : Type 0} (P : Type 0) (r : Result T E) → OnOk r P → IfOk r (λ (x : T). P)
+on-ok P (Ok x) h = h
+on-ok P (Err e) h = tt
+
+pub if-ok : {T E : Type 0} {P Q : T → Type 0} (r : Result T E) → IfOk r P → ((x : T) → P x → Q x) → IfOk r Q
+if-ok (Ok x) h f = f x h
+if-ok (Err e) h f = tt
+
+pub if-err : {T E : Type 0} {P Q : Type 0} (r : Result T E) → OnErr r P → (P → Q) → OnErr r Q
+if-err (Ok x) h f = tt
+if-err (Err e) h f = f h
+
+pub record Both {T : Type 0} (P Q : T → Type 0) (x : T) : Type 0 where
+  pub first : P x
+  pub second : Q x
+
+pub if-and : {T E : Type 0} (P Q : T → Type 0) (r : Result T E) → IfOk r P → IfOk r Q → IfOk r (λ x. Both P Q x)
+if-and P Q (Ok x) h k = record { first = h; second = k }
+if-and P Q (Err e) h k = tt
+
+pub if-both : {T E : Type 0} {P Q R : T → Type 0} (r : Result T E) → IfOk r P → IfOk r Q → ((x : T) → P x → Q x → R x) → IfOk r R
+if-both (Ok x) h k f = f x h k
+if-both (Err e) h k f = tt
+
+pub none-if : {X : Type 0} (b : Bool) (x : X) (o : Option X) → o ≡ None → o ≡ cond b (Some x) None → b ≡ false
+none-if true x o e f = let bad : None ≡ Some x = sym e ∙ f in cc
+none-if false x o e f = refl
 
 -- a store that never fails gave no error
 not-ok : {T E : Type 0} (r : Result T E) (x : E) → r ≡ Err x → IsOk r → ⊥
@@ -104,5 +184,5 @@ never-fails u r x is fine e = not-ok r x is (fine e)
 
 -- ---- what an answer other than `ok` leaves
 
-pub step-leaves : (u : Bool) (w : World) (e : Event) (before after : Report) (a : Answer) (v : World) → Stepped u w e before after a v → LineLeaves w e (done a v)
-step-leaves u w e before after a v h = subst (λ (o : OutcomeOf Page). LineLeaves w e o) h.decided (in_step w e before after)
+pub step-leaves : (u : Bool) (w : World) (e : Event) (before later : Report) (a : Answer) (v : World) → Stepped u w e before later a v → LineLeaves w e (done a v)
+step-leaves u w e before later a v h = subst (λ (o : OutcomeOf Page). LineLeaves w e o) h.decided (in_step w e before later)

@@ -1,9 +1,11 @@
--- What the tables tell of a page's row.
+-- What the tables tell of a process and of a page's row.
 use Rattle.std.proofs.Common.{◌≡◌, ℕ, true, false, Option, Some, None, refl, sym, ◌∙◌, ap, is_some, option_map}
-use Rattle.mm_spaces.specs.declared.CommittedRow.{CommittedRow}
+use Rattle.std.specs.Prelude.{option_and_then}
+use Rattle.mm_tables.specs.declared.looks.CommittedRow.{CommittedRow}
+use Rattle.mm_tables.specs.Looks.{told_row, committed_row}
 use Rattle.mm_world.specs.World.{ProcessOf}
 use Rattle.mm_world.specs.Find.{process_of}
-use Rattle.mm_world.specs.Keys.{Committed}
+use Rattle.mm_world.specs.Keys.{Committed, committed_at}
 use Rattle.mm_world.specs.Contents.{Tables}
 
 -- a living process
@@ -25,22 +27,25 @@ gone-by t pid e = by_process (process_of t pid) e
     by_process None e = refl
     by_process (Some p) e = cc
 
-abbrev pub told_row : Committed (Unit {0}) → CommittedRow
-told_row c = record { prot = record { 0 = c.row.prot }; guard = c.row.guard }
-
 -- a row that was told
-pub record IsTold (o : Option (Committed (Unit {0}))) (row : CommittedRow) : Type 0 where
+pub record IsTold (o : Option (Committed (Unit {0}))) (pid page : ℕ) (row : CommittedRow) : Type 0 where
   pub committed : Committed (Unit {0})
   pub there : o ≡ Some committed
-  pub prot : committed.row.prot ≡ row.prot.0
-  pub guard : committed.row.guard ≡ row.guard
+  pub is : told_row pid page committed ≡ row
 
-pub row-told : (o : Option (Committed (Unit {0}))) (row : CommittedRow) (result : Option CommittedRow) → result ≡ Some row → result ≡ option_map told_row o → IsTold o row
-row-told None row result e f = let bad : Some row ≡ None = sym e ∙ f in cc
-row-told (Some c) row result e f =
-    let same : told_row c ≡ row = (let both : Some (told_row c) ≡ Some row = sym f ∙ e in cc) in
-    record { committed = c; there = refl; prot = ap (λ (r : CommittedRow). r.prot.0) same; guard = ap (λ (r : CommittedRow). r.guard) same }
+row-in : (t : Tables) (pid page : ℕ) (p : ProcessOf (Unit {0})) → process_of t pid ≡ Some p → committed_row t pid page ≡ option_map (told_row pid page) (committed_at t p.regions page)
+row-in t pid page p lives = ap (λ p. option_and_then (λ (p : ProcessOf (Unit {0})). option_map (told_row pid page) (committed_at t p.regions page)) p) lives
 
-pub no-row : (o : Option (Committed (Unit {0}))) (result : Option CommittedRow) → result ≡ None → result ≡ option_map told_row o → o ≡ None
-no-row None result e f = refl
-no-row (Some c) result e f = let bad : None ≡ Some (told_row c) = sym e ∙ f in cc
+told-by : (pid page : ℕ) (o : Option (Committed (Unit {0}))) (row : CommittedRow) → option_map (told_row pid page) o ≡ Some row → IsTold o pid page row
+told-by pid page None row e = cc
+told-by pid page (Some c) row e = record { committed = c; there = refl; is = cc }
+
+none-by : (pid page : ℕ) (o : Option (Committed (Unit {0}))) → option_map (told_row pid page) o ≡ None → o ≡ None
+none-by pid page None e = refl
+none-by pid page (Some c) e = cc
+
+pub row-told : (t : Tables) (pid page : ℕ) (p : ProcessOf (Unit {0})) (row : CommittedRow) (result : Option CommittedRow) → process_of t pid ≡ Some p → result ≡ Some row → result ≡ committed_row t pid page → IsTold (committed_at t p.regions page) pid page row
+row-told t pid page p row result lives e f = told-by pid page (committed_at t p.regions page) row (sym (row-in t pid page p lives) ∙ sym f ∙ e)
+
+pub no-row : (t : Tables) (pid page : ℕ) (p : ProcessOf (Unit {0})) (result : Option CommittedRow) → process_of t pid ≡ Some p → result ≡ None → result ≡ committed_row t pid page → committed_at t p.regions page ≡ None
+no-row t pid page p result lives e f = none-by pid page (committed_at t p.regions page) (sym (row-in t pid page p lives) ∙ sym f ∙ e)

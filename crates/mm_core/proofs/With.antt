@@ -71,7 +71,7 @@ module _ (b : Key → Page) where
   get-pages area n (suc i) (o ∷ pages) =
       get-pages area (n + 1) i pages ∙ ap (λ (k : ℕ). option_map (λ u. b (shared_key area k)) (get_or pages i None)) (let k : n + 1 + i ≡ n + suc i = omega arith in k)
 
-  get-areas : (n m : ℕ) (areas : List (AreaOf (Unit {0}))) → slice_get (areas_with b n areas) m ≡ option_map (area_with b (n + m)) (slice_get areas m)
+  pub get-areas : (n m : ℕ) (areas : List (AreaOf (Unit {0}))) → slice_get (areas_with b n areas) m ≡ option_map (area_with b (n + m)) (slice_get areas m)
   get-areas n m [] = refl
   get-areas n zero (a ∷ rest) = ap (λ (k : ℕ). Some (area_with b k a)) (let k : n ≡ n + 0 = omega arith in k)
   get-areas n (suc m) (a ∷ rest) =

@@ -1,22 +1,30 @@
 -- A page of a world is written: the same tables, with other bytes at one key.
-use Rattle.std.proofs.Common.{◌≡◌, ◌≢◌, ◌⊎◌, inl, inr, ℕ, zero, suc, ◌+◌, ◌-◌, ◌≤◌, ◌<◌, Bool, true, false, Option, Some, None, List, [], ◌∷◌, refl, ◌∙◌, ap, arith, length, map, set, slice_get, option_map, ◌&&◌, nat_le, nat_lt, ◌==◌}
+use Rattle.std.proofs.Common.{◌≡◌, ◌≢◌, ◌⊎◌, inl, inr, ℕ, zero, suc, ◌+◌, ◌-◌, ◌≤◌, ◌<◌, Bool, true, false, Option, Some, None, List, [], ◌∷◌, refl, ◌∙◌, ap, arith, length, map, set, slice_get, option_map, ◌&&◌, nat_le, nat_lt, ◌==◌, get_or, unwrap_or, sym}
 use Rattle.std.proofs.lemmas.Bool.{leb-true}
 use Rattle.std.specs.Cmp.{unsigned_Decides}
 use Rattle.mm_types.proofs.Tables.{differ}
 use Rattle.mm_types.specs.declared.numbers.Key.{Key}
+use Rattle.mm_types.specs.declared.numbers.Key.TheVariants as key
 use Rattle.mm_types.specs.Address.{end_of, first_user_page}
 use Rattle.mm_world.specs.World.{Page, RowOf, RegionOf, ProcessOf, AreaOf, Numbered, pages_of}
-use Rattle.mm_world.specs.Find.{process_of}
+use Rattle.mm_world.specs.Find.{process_of, area_at, no_area, shared_page}
 use Rattle.mm_world.specs.Failure.{same_key}
-use Rattle.mm_world.specs.Keys.{Committed, committed_at, private_key, shared_key, set_row}
-use Rattle.mm_world.specs.Contents.{Tables, row_with, rows_with, region_with_bytes, process_with, processes_with, pages_with, areas_with, world_with}
+use Rattle.mm_world.specs.Keys.{Committed, committed_at, private_key, shared_key, set_row, set_shared}
+use Rattle.mm_world.specs.Contents.{Tables, row_with, rows_with, region_with_bytes, process_with, processes_with, pages_with, area_with, areas_with, world_with}
 use Rattle.mm_world.specs.WellFormed.{LaidOut, Spaces}
 use Rattle.mm_world.proofs.Finding.{found_stands, numbered_there, committed_is}
 use Rattle.mm_world.proofs.LaidOut.{laid_at, and-true, less}
-use Rattle.mm_core.proofs.With.{found_with}
+use Rattle.mm_core.proofs.With.{found_with, get-areas}
+
+pub shared_itself : (area index : ℕ) → same_key (shared_key area index) (shared_key area index) ≡ true
+shared_itself area index = λ i. (unsigned_Decides area area).1 refl i && (unsigned_Decides index index).1 refl i
 
 pub key_itself : (pid page : ℕ) → same_key (private_key pid page) (private_key pid page) ≡ true
 key_itself pid page = λ i. (unsigned_Decides pid pid).1 refl i && (unsigned_Decides page page).1 refl i
+
+pub keys-same : (k : Key) → same_key k k ≡ true
+keys-same (key.Private pid page) = key_itself pid.0 page.0
+keys-same (key.Shared area index) = shared_itself area.0 index
 
 other_page : (p q : ℕ) (a b : ℕ) → a ≢ b → same_key (private_key p a) (private_key q b) ≡ false
 other_page p q a b h = ap (λ t. (p == q) && t) (differ a b h) ∙ and_false (p == q)
@@ -52,6 +60,16 @@ module _ (b c : Key → Page) (pid page : ℕ) (others : (k : Key) → same_key 
       let here : n ≢ page = λ f. absurd (omega (arith, e, f)) in
       λ j. row-other pid n r (others (private_key pid n) (other_page pid pid n page here)) j ∷ rows-at (n + 1) i rows row (omega (arith, e)) there j
 
+  -- another row stands there
+  rows-new : (n i : ℕ) (rows : List (RowOf (Unit {0}))) (row new : RowOf (Unit {0})) → n + i ≡ page → slice_get rows i ≡ Some row → rows_with c pid n (set rows i new) ≡ set (rows_with b pid n rows) i (row_with c pid page new)
+  rows-new n i [] row new e there = cc
+  rows-new n zero (r ∷ rows) row new e there =
+      let at : n ≡ page = omega (arith, e) in
+      λ i. row_with c pid (at i) new ∷ rows-before (n + 1) rows (inl (omega (arith, at))) i
+  rows-new n (suc i) (r ∷ rows) row new e there =
+      let here : n ≢ page = λ f. absurd (omega (arith, e, f)) in
+      λ j. row-other pid n r (others (private_key pid n) (other_page pid pid n page here)) j ∷ rows-new (n + 1) i rows row new (omega (arith, e)) there j
+
   rows-process : (q n : ℕ) (rows : List (RowOf (Unit {0}))) → q ≢ pid → rows_with c q n rows ≡ rows_with b q n rows
   rows-process q n [] h = refl
   rows-process q n (row ∷ rows) h = λ i. row-other q n row (others (private_key q n) (other_process q pid n page h)) i ∷ rows-process q (n + 1) rows h i
@@ -80,6 +98,16 @@ module _ (b c : Key → Page) (pid page : ℕ) (others : (k : Key) → same_key 
       let later = (laid_at (end_of (pages_of x)) rs j r laid.1 there).later in
       λ i. region-before x (inr (omega (arith, later, low))) i ∷ regions-at (end_of (pages_of x)) j rs r laid.1 there low high i
 
+  regions-new : (from j : ℕ) (rs : List (RegionOf (Unit {0}))) (r new : RegionOf (Unit {0})) → LaidOut from rs → slice_get rs j ≡ Some r → r.base ≤ page → page < r.base + length r.rows → map (region_with_bytes c pid) (set rs j new) ≡ set (map (region_with_bytes b pid) rs) j (region_with_bytes c pid new)
+  regions-new from j [] r new laid there low high = cc
+  regions-new from zero (x ∷ rs) r new laid there low high =
+      let same : x ≡ r = cc in
+      let behind : page < end_of (pages_of x) = omega (arith, high, ap (λ (r : RegionOf (Unit {0})). r.base + length r.rows) same) in
+      λ i. region_with_bytes c pid new ∷ regions-behind (end_of (pages_of x)) rs laid.1 behind i
+  regions-new from (suc j) (x ∷ rs) r new laid there low high =
+      let later = (laid_at (end_of (pages_of x)) rs j r laid.1 there).later in
+      λ i. region-before x (inr (omega (arith, later, low))) i ∷ regions-new (end_of (pages_of x)) j rs r new laid.1 there low high i
+
   -- ---- processes
 
   process-other : (q : ℕ) (p : Option (ProcessOf (Unit {0}))) → q ≢ pid → option_map (process_with c q) p ≡ option_map (process_with b q) p
@@ -101,6 +129,15 @@ module _ (b c : Key → Page) (pid page : ℕ) (others : (k : Key) → same_key 
   processes-at n (suc m) (q ∷ ps) p e there =
       let other : n ≢ pid = λ f. absurd (omega (arith, e, f)) in
       λ i. process-other n q other i ∷ processes-at (n + 1) m ps p (omega (arith, e)) there i
+
+  processes-new : (n m : ℕ) (ps : Numbered (ProcessOf (Unit {0}))) (p new : Option (ProcessOf (Unit {0}))) → n + m ≡ pid → slice_get ps m ≡ Some p → processes_with c n (set ps m new) ≡ set (processes_with b n ps) m (option_map (process_with c pid) new)
+  processes-new n m [] p new e there = cc
+  processes-new n zero (q ∷ ps) p new e there =
+      let at : n ≡ pid = omega (arith, e) in
+      λ i. option_map (process_with c (at i)) new ∷ processes-behind (n + 1) ps (omega (arith, at)) i
+  processes-new n (suc m) (q ∷ ps) p new e there =
+      let other : n ≢ pid = λ f. absurd (omega (arith, e, f)) in
+      λ i. process-other n q other i ∷ processes-new (n + 1) m ps p new (omega (arith, e)) there i
 
   -- ---- areas
 
@@ -131,3 +168,113 @@ module _ (b c : Key → Page) (pid page : ℕ) (others : (k : Key) → same_key 
       processes-at 0 pid t.processes (Some p) (omega arith) (numbered_there t.processes pid p lives)
       ∙ ap (λ (rs : List (RegionOf Page)). set (processes_with b 0 t.processes) pid (Some (record { regions = rs; handles = p.handles }))) regions in
       λ i. record (world_with t b) { processes = processes i; areas = areas-same 0 t.areas i }
+
+  -- another row of the tables, and other bytes of its page
+  pub copied-with : (t : Tables) (p : ProcessOf (Unit {0})) (d : Committed (Unit {0})) (new : RowOf (Unit {0})) → Spaces t → process_of t pid ≡ Some p → committed_at t p.regions page ≡ Some d → world_with (set_row t pid p d.region page new) c ≡ set_row (world_with t b) pid (process_with b pid p) (found_with b pid d.region) page (row_with c pid page new)
+  copied-with t p d new spaces lives committed =
+      let h = committed_is t p.regions page d committed in
+      let r = d.region.thing in
+      let stands = found_stands _ p.regions d.region h.region in
+      let inside = and-true (nat_le r.base page) (nat_lt page (end_of (pages_of r))) stands.passes in
+      let low : r.base ≤ page = leb-true _ _ inside.0 in
+      let high : page < r.base + length r.rows = less _ _ inside.1 in
+      let changed : RegionOf (Unit {0}) = record r { rows = set r.rows (page - r.base) new } in
+      let q : ProcessOf (Unit {0}) = record p { regions = set p.regions d.region.place changed } in
+      let rows : rows_with c pid r.base changed.rows ≡ set (rows_with b pid r.base r.rows) (page - r.base) (row_with c pid page new) =
+      rows-new r.base (page - r.base) r.rows d.row new (omega (arith, low)) h.row_there in
+      let regions : map (region_with_bytes c pid) q.regions ≡ set (map (region_with_bytes b pid) p.regions) d.region.place (record { base = r.base; alloc_prot = r.alloc_prot; kind = r.kind; rows = set (rows_with b pid r.base r.rows) (page - r.base) (row_with c pid page new) }) =
+      regions-new first_user_page d.region.place p.regions r changed (spaces pid p lives).laid_out stands.there low high
+      ∙ ap (λ (rows : List (RowOf Page)). set (map (region_with_bytes b pid) p.regions) d.region.place (record { base = r.base; alloc_prot = r.alloc_prot; kind = r.kind; rows = rows })) rows in
+      let processes : processes_with c 0 (set t.processes pid (Some q)) ≡ set (processes_with b 0 t.processes) pid (Some (record { regions = set (map (region_with_bytes b pid) p.regions) d.region.place (record { base = r.base; alloc_prot = r.alloc_prot; kind = r.kind; rows = set (rows_with b pid r.base r.rows) (page - r.base) (row_with c pid page new) }); handles = p.handles })) =
+      processes-new 0 pid t.processes (Some p) (Some q) (omega arith) (numbered_there t.processes pid p lives)
+      ∙ ap (λ (rs : List (RegionOf Page)). set (processes_with b 0 t.processes) pid (Some (record { regions = rs; handles = p.handles }))) regions in
+      λ i. record (world_with t b) { processes = processes i; areas = areas-same 0 t.areas i }
+
+-- the bytes of one shared key are changed
+module _ (b c : Key → Page) (area index : ℕ) (others : (k : Key) → same_key k (shared_key area index) ≡ false → c k ≡ b k) where
+  other_index : (a i : ℕ) → i ≢ index → same_key (shared_key a i) (shared_key area index) ≡ false
+  other_index a i h = ap (λ t. (a == area) && t) (differ i index h) ∙ and_none (a == area)
+    where
+      and_none : (x : Bool) → (x && false) ≡ false
+      and_none true = refl
+      and_none false = refl
+
+  other_area : (a i : ℕ) → a ≢ area → same_key (shared_key a i) (shared_key area index) ≡ false
+  other_area a i h = ap (λ t. t && (i == index)) (differ a area h)
+
+  -- ---- the pages of the area
+
+  pages-behind : (n : ℕ) (pages : List (Option (Unit {0}))) → index < n → pages_with c area n pages ≡ pages_with b area n pages
+  pages-behind n [] h = refl
+  pages-behind n (o ∷ pages) h =
+      let here : n ≢ index = λ e. absurd (omega (arith, h, e)) in
+      λ i. option_map (λ u. others (shared_key area n) (other_index area n here) i) o ∷ pages-behind (n + 1) pages (omega (arith, h)) i
+
+  pages-at : (n i : ℕ) (pages : List (Option (Unit {0}))) (u : Unit {0}) → n + i ≡ index → slice_get pages i ≡ Some (Some u) → pages_with c area n pages ≡ set (pages_with b area n pages) i (Some (c (shared_key area index)))
+  pages-at n i [] u e there = cc
+  pages-at n zero (o ∷ pages) u e there =
+      let same : o ≡ Some u = cc in
+      let at : n ≡ index = omega (arith, e) in
+      λ i. option_map (λ u. c (shared_key area (at i))) (same i) ∷ pages-behind (n + 1) pages (omega (arith, at)) i
+  pages-at n (suc i) (o ∷ pages) u e there =
+      let here : n ≢ index = λ f. absurd (omega (arith, e, f)) in
+      λ j. option_map (λ u. others (shared_key area n) (other_index area n here) j) o ∷ pages-at (n + 1) i pages u (omega (arith, e)) there j
+
+  pages-other : (a n : ℕ) (pages : List (Option (Unit {0}))) → a ≢ area → pages_with c a n pages ≡ pages_with b a n pages
+  pages-other a n [] h = refl
+  pages-other a n (o ∷ pages) h = λ i. option_map (λ u. others (shared_key a n) (other_area a n h) i) o ∷ pages-other a (n + 1) pages h i
+
+  -- ---- the areas
+
+  areas-behind : (n : ℕ) (areas : List (AreaOf (Unit {0}))) → area < n → areas_with c n areas ≡ areas_with b n areas
+  areas-behind n [] h = refl
+  areas-behind n (a ∷ rest) h =
+      let other : n ≢ area = λ e. absurd (omega (arith, h, e)) in
+      λ i. record { file_block = a.file_block; pages = pages-other n 0 a.pages other i } ∷ areas-behind (n + 1) rest (omega (arith, h)) i
+
+  areas-at : (n m : ℕ) (areas : List (AreaOf (Unit {0}))) (a : AreaOf (Unit {0})) (u : Unit {0}) → n + m ≡ area → slice_get areas m ≡ Some a → slice_get a.pages index ≡ Some (Some u) → areas_with c n areas ≡ set (areas_with b n areas) m (record { file_block = a.file_block; pages = set (pages_with b area 0 a.pages) index (Some (c (shared_key area index))) })
+  areas-at n m [] a u e there page = cc
+  areas-at n zero (x ∷ rest) a u e there page =
+      let same : x ≡ a = cc in
+      let at : n ≡ area = omega (arith, e) in
+      let here : area_with c n x ≡ area_with c area a = λ i. area_with c (at i) (same i) in
+      λ i. (here ∙ ap (λ (pages : List (Option Page)). let made : AreaOf Page = record { file_block = a.file_block; pages = pages } in made) (pages-at 0 index a.pages u (omega arith) page)) i ∷ areas-behind (n + 1) rest (omega (arith, at)) i
+  areas-at n (suc m) (x ∷ rest) a u e there page =
+      let other : n ≢ area = λ f. absurd (omega (arith, e, f)) in
+      λ j. record { file_block = x.file_block; pages = pages-other n 0 x.pages other j } ∷ areas-at (n + 1) m rest a u (omega (arith, e)) there page j
+
+  -- ---- the processes
+
+  rows-shared : (q n : ℕ) (rows : List (RowOf (Unit {0}))) → rows_with c q n rows ≡ rows_with b q n rows
+  rows-shared q n [] = refl
+  rows-shared q n (row ∷ rows) =
+      λ i. record { prot = row.prot; guard = row.guard; marked = row.marked; own = option_map (λ u. others (private_key q n) refl i) row.own } ∷ rows-shared q (n + 1) rows i
+
+  regions-shared : (q : ℕ) (rs : List (RegionOf (Unit {0}))) → map (region_with_bytes c q) rs ≡ map (region_with_bytes b q) rs
+  regions-shared q [] = refl
+  regions-shared q (r ∷ rs) = λ i. record { base = r.base; alloc_prot = r.alloc_prot; kind = r.kind; rows = rows-shared q r.base r.rows i } ∷ regions-shared q rs i
+
+  process-shared : (q : ℕ) (p : Option (ProcessOf (Unit {0}))) → option_map (process_with c q) p ≡ option_map (process_with b q) p
+  process-shared q None = refl
+  process-shared q (Some p) = λ i. Some (record { regions = regions-shared q p.regions i; handles = p.handles })
+
+  processes-shared : (n : ℕ) (ps : Numbered (ProcessOf (Unit {0}))) → processes_with c n ps ≡ processes_with b n ps
+  processes-shared n [] = refl
+  processes-shared n (p ∷ ps) = λ i. process-shared n p i ∷ processes-shared (n + 1) ps i
+
+  -- ---- the world
+
+  known : (o : Option (AreaOf (Unit {0}))) (u : Unit {0}) → get_or (unwrap_or o no_area).pages index None ≡ Some u → o ≡ Some (unwrap_or o no_area)
+  known None u e = cc
+  known (Some a) u e = refl
+
+  pub shared-written : (t : Tables) (u : Unit {0}) → shared_page t area index ≡ Some u → world_with t c ≡ set_shared (world_with t b) area index (c (shared_key area index))
+  shared-written t u there =
+      let a = area_at t area in
+      let at : slice_get t.areas area ≡ Some a = known (slice_get t.areas area) u there in
+      let with : area_at (world_with t b) area ≡ area_with b area a =
+      ap (λ o. unwrap_or o no_area) (get-areas b 0 area t.areas ∙ ap (λ o. option_map (area_with b (0 + area)) o) at) ∙ ap (λ (k : ℕ). area_with b k a) (let k : 0 + area ≡ area = omega arith in k) in
+      let areas : areas_with c 0 t.areas ≡ set (areas_with b 0 t.areas) area (record { file_block = a.file_block; pages = set (pages_with b area 0 a.pages) index (Some (c (shared_key area index))) }) =
+      areas-at 0 area t.areas a u (omega arith) at (numbered_there a.pages index u there) in
+      (λ i. record (world_with t b) { processes = processes-shared 0 t.processes i; areas = areas i })
+      ∙ ap (λ (x : AreaOf Page). record (world_with t b) { areas = set (areas_with b 0 t.areas) area (record x { pages = set x.pages index (Some (c (shared_key area index))) }) }) (sym with)

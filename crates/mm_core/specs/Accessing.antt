@@ -1,27 +1,49 @@
 -- How an access of one line stands in the tables.
-use Rattle.std.specs.Prelude.{◌≡◌, ℕ, true, false, Some, None}
+use Rattle.std.specs.Prelude.{◌≡◌, ℕ, Bool, true, false, Some, None}
 use Rattle.mm_types.specs.declared.answers.Answer.{Answer}
+use Rattle.mm_types.specs.declared.answers.Answer.TheVariants as answer
+use Rattle.mm_types.specs.declared.codes.Raise.TheVariants as raise
 use Rattle.mm_types.specs.declared.protections.Access.{Access}
 use Rattle.mm_types.specs.Address.{page_of}
 use Rattle.mm_types.specs.Protection.{permits}
 use Rattle.mm_world.specs.World.{World, ProcessOf}
 use Rattle.mm_world.specs.Find.{process_of}
-use Rattle.mm_world.specs.Keys.{Own, Committed, committed_at}
+use Rattle.mm_world.specs.Keys.{Committed, committed_at}
 use Rattle.mm_world.specs.Access.{Attempt, access}
+use Rattle.mm_world.specs.Failure.{Need, access_fails}
 use Rattle.mm_world.specs.Step.{need_at}
 use Rattle.mm_world.specs.Contents.{Tables}
+use Rattle.mm_pages.specs.Store.{StoreOf}
+use Rattle.mm_pages.specs.Reports.{Served, SomeRose}
+use Rattle.mm_tables.specs.declared.looks.CommittedRow.{CommittedRow}
+use Rattle.mm_tables.specs.Looks.{told_row}
 
 -- an access that is refused, or that met a guard: it needs no page
 pub record Refuses (w : World) (pid addr : ℕ) (what : Attempt) (a : Answer) (v : World) : Type 0 where
   pub needless : need_at w pid addr what ≡ None
   pub outcome : access w pid addr what ≡ record { answer = a; world = v }
 
--- the page of the address has a committed row with bytes of its own, whose guard is off and whose protection permits this
-pub record Admits (t : Tables) (pid addr : ℕ) (kind : Access) : Type 0 where
+-- the page of the address has a committed row, whose guard is off and whose protection permits this
+pub record Admits (t : Tables) (pid addr : ℕ) (kind : Access) (told : CommittedRow) : Type 0 where
   pub process : ProcessOf (Unit {0})
   pub row : Committed (Unit {0})
   pub lives : process_of t pid ≡ Some process
   pub committed : committed_at t process.regions (page_of addr) ≡ Some row
-  pub own : row.home ≡ Own tt
   pub unguarded : row.row.guard ≡ false
   pub permitted : permits row.row.prot kind ≡ true
+  pub is_told : told_row pid (page_of addr) row ≡ told
+
+-- a permitted access failed: a device did, and the world is as before
+pub record Lost (never_fails : Bool) (w : World) (m z : StoreOf) (a : Answer) (v : World) : Type 0 where
+  pub raised : a ≡ answer.Raised raise.InPageError
+  pub same : v ≡ w
+  pub blamed : SomeRose m z
+  pub paged : never_fails ≡ true → ⊥
+
+-- a permitted access ended, and its line's report tells whether what it needs was had
+pub record Accessed (never_fails : Bool) (w : World) (pid addr : ℕ) (what : Attempt) (m z : StoreOf) (a : Answer) (v : World) : Type 0 where
+  pub need : Need
+  pub needs : need_at w pid addr what ≡ Some need
+  pub had : access_fails need z.report ≡ false → access w pid addr what ≡ record { answer = a; world = v }
+  pub lost : access_fails need z.report ≡ true → Lost never_fails w m z a v
+  pub served : Served m z

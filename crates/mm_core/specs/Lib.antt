@@ -1,4 +1,6 @@
 pub mod Accessing
 pub mod Stepping
+pub mod Deciding
 pub mod Built
 pub mod Shown
+pub mod Serving

@@ -1,11 +1,12 @@
 -- What a world over a store shows: the world of the definitions, and what its store shows beside.
-use Rattle.std.specs.Prelude.{ℕ}
+use Rattle.std.specs.Prelude.{ℕ, List}
 use Rattle.mm_types.specs.Outside.{Loans}
-use Rattle.mm_world.specs.World.{World}
+use Rattle.mm_world.specs.World.{Page, World}
 use Rattle.mm_world.specs.Contents.{world_with}
 use Rattle.mm_world.specs.Report.{Report}
 use Rattle.mm_pages.specs.declared.pages.Pages.{Ghosts as PagesGhosts}
-use Rattle.mm_calls.specs.Fits.{bytes_of}
+use Rattle.mm_pages.specs.Devices.{DeviceOf}
+use Rattle.mm_tables.specs.Fits.{bytes_of}
 use Rattle.mm_core.specs.declared.worlds.World.{World as Kept}
 
 module _ {G : Type 0} {g : PagesGhosts G} where
@@ -19,6 +20,16 @@ module _ {G : Type 0} {g : PagesGhosts G} where
   -- the number of the line that began last
   abbrev pub line_of : Kept G g → ℕ
   line_of w = (g.store w.pages).line
+
+  -- what the store keeps of its devices, and the blocks of the file device
+  abbrev pub paging_device : Kept G g → DeviceOf
+  paging_device w = (g.store w.pages).paging_device
+
+  abbrev pub file_device : Kept G g → DeviceOf
+  file_device w = (g.store w.pages).file_device
+
+  abbrev pub file_blocks : Kept G g → List Page
+  file_blocks w = (g.store w.pages).file_blocks
 
   abbrev pub loans : Kept G g → Loans
   loans w = g.loans w.pages

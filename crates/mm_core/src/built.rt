@@ -3,20 +3,33 @@ ghost use Rattle.mm_core.specs.Built.{is_built};
 
 use mm_types::Event;
 
-/// Whether `World::step` can decide a line of this form: all on private memory, but an `alloc` of a watched
-/// region (the types 0x202000 and 0x203000), and what no region is needed for.
+/// Whether the form of a line is built.
 pub fn is_built(event: &Event) -> bool
     ensures { result ≡ is_built event.now }
 {
     match event {
+        // Watched regions are not.
         Event::Alloc(_, _, _, kind, _) => *kind != 0x202000 && *kind != 0x203000,
         Event::Process(..)
+        | Event::Exit(..)
+        | Event::File(..)
         | Event::Free(..)
         | Event::Protect(..)
         | Event::Query(..)
+        | Event::Create(..)
+        | Event::CreateFile(..)
+        | Event::Open(..)
+        | Event::Close(..)
+        | Event::Map(..)
+        | Event::Unmap(..)
+        | Event::Flush(..)
         | Event::Read(..)
         | Event::Write(..)
         | Event::Exec(..)
+        | Event::Trim(..)
+        | Event::Age(..)
+        | Event::Zeroer(..)
+        | Event::Fail(..)
         | Event::Charge
         | Event::Grow(..) => true,
         _ => false,

@@ -1,19 +1,22 @@
-ghost use Rattle.std.specs.Prelude.{◌≡◌, ◌≤◌, ◌+◌, ◌%◌, true, Some, is_some, IsOk, IfOk, OnOk, OnErr, length, take, drop};
+ghost use Rattle.std.specs.Prelude.{◌≡◌, ◌≤◌, ◌+◌, ◌%◌, true, Some, None, IsOk, IfOk, OnOk, OnErr, length, take, drop};
 ghost use Rattle.mm_types.specs.declared.moves.LineKind.TheVariants as line_kind;
-ghost use Rattle.mm_types.specs.declared.numbers.Key.TheVariants as key;
+ghost use Rattle.mm_types.specs.declared.protections.Access.TheVariants as access_kind;
 ghost use Rattle.mm_types.specs.Address.{page_of, page_size};
+ghost use Rattle.mm_world.specs.World.{ProcessOf};
 ghost use Rattle.mm_world.specs.Find.{process_of};
 ghost use Rattle.mm_world.specs.Failure.{same_key};
-ghost use Rattle.mm_world.specs.Keys.{private_key};
+ghost use Rattle.mm_world.specs.Keys.{Committed, committed_at, private_key, set_row};
 ghost use Rattle.mm_world.specs.Access.{written};
+ghost use Rattle.mm_world.specs.WellFormed.{Spaces};
 ghost use Rattle.mm_pages.specs.Store.{changed};
-ghost use Rattle.mm_pages.specs.Reports.{IsBegun, Ends};
-ghost use Rattle.mm_pages.specs.Conditions.{place_at, touch};
-ghost use Rattle.mm_calls.specs.Fits.{Fits, bytes_of, key_at};
+ghost use Rattle.mm_pages.specs.Reports.{IsBegun, Ends, Served, SomeRose, eased};
+ghost use Rattle.mm_pages.specs.Conditions.{place_at, touch, copying, IsReady};
+ghost use Rattle.mm_tables.specs.Fits.{Fits, bytes_of, key_at};
+ghost use Rattle.mm_core.specs.Accessing.{Admits};
 
-use mm_calls::Tables;
 use mm_pages::Pages;
-use mm_types::{ByteBuf, Key, LineKind, PageFault, Pid, Place, Vpn};
+use mm_tables::{CommittedRow, Tables};
+use mm_types::{ByteBuf, Key, PageFault, Pid, Place, Vpn};
 
 /// The page of an address, as a place of a process.
 fn place_of(pid: Pid, addr: u32) -> Place
@@ -26,7 +29,7 @@ fn place_of(pid: Pid, addr: u32) -> Place
 }
 
 /// The key of the bytes that the page of an address has of its own.
-fn key_of(pid: Pid, addr: u32) -> Key
+fn own_key_of(pid: Pid, addr: u32) -> Key
     ensures { result ≡ private_key pid.0 (page_of addr) }
 {
     Key::Private(pid, Vpn(addr / 4096))
@@ -39,111 +42,164 @@ fn offset_of(addr: u32) -> u16
     (addr % 4096) as u16
 }
 
-/// Begins a line that accesses a process, and tells whether it lives.
-pub(crate) fn begin_access<G: Pages>(tables: &Tables, pages: &mut G, line: u32, pid: Pid) -> bool
-    requires fits { Fits tables.now (G.contents pages.old) (G.store pages.old) }
-    requires next { line ≡ (G.store pages.old).line + 1 }
-    ensures lives { result ≡ is_some (process_of tables.now pid.0) }
-    ensures fits { Fits tables.now (G.contents pages.new) (G.store pages.new) }
-    ensures kind { result ≡ true → (G.store pages.new).kind ≡ line_kind.Access pid }
-    ensures begun { IsBegun (G.store pages.new).report }
-    ensures line { (G.store pages.new).line ≡ line }
-    ensures contents { G.contents pages.new ≡ G.contents pages.old }
-    ensures loans { G.loans pages.new ≡ G.loans pages.old }
-{
-    let lives = tables.has(pid);
-    if lives {
-        pages.line(line, LineKind::Access(pid));
-    } else {
-        pages.line(line, LineKind::Call);
-    }
-    lives
-}
-
-/// Reads bytes from an address on, in the line that accesses its process.
+/// Reads bytes of a key from an address on, at its page.
 pub(crate) fn fetch<G: Pages>(
-    tables: &Tables,
-    pages: &mut G,
+    t: &Tables,
+    g: &mut G,
     pid: Pid,
     addr: u32,
+    key: Key,
     out: &mut [u8],
 ) -> Result<(), PageFault>
-    requires fits { Fits tables.now (G.contents pages.old) (G.store pages.old) }
-    requires at { key_at tables.now (place_at pid (page_of addr)) ≡ Some (private_key pid.0 (page_of addr)) }
-    requires kind { (G.store pages.old).kind ≡ line_kind.Access pid }
-    requires begun { IsBegun (G.store pages.old).report }
+    requires fits { Fits t.now (G.contents g.old) (G.store g.old) }
+    requires at { key_at t.now (place_at pid (page_of addr)) ≡ Some key }
+    requires form { (G.store g.old).kind ≡ line_kind.Access pid }
+    requires begun { IsBegun (G.store g.old).report }
     requires few { length out.old ≤ 64 }
     requires inside { addr % 4096 + length out.old ≤ 4096 }
     ensures length { length out.new ≡ length out.old }
-    ensures bytes { OnOk result (out.new ≡ take (length out.old) (drop (addr % page_size) (bytes_of (G.contents pages.old) (private_key pid.0 (page_of addr))))) }
-    ensures ends { Ends (touch (private_key pid.0 (page_of addr))) (G.store pages.new).report result }
-    ensures fits { Fits tables.now (G.contents pages.new) (G.store pages.new) }
-    ensures contents { G.contents pages.new ≡ G.contents pages.old }
-    ensures line { (G.store pages.new).line ≡ (G.store pages.old).line }
+    ensures bytes { OnOk result (out.new ≡ take (length out.old) (drop (addr % page_size) (bytes_of (G.contents g.old) key))) }
+    ensures ends { Ends (touch key) (G.store g.new).report result }
+    ensures fits { Fits t.now (G.contents g.new) (G.store g.new) }
+    ensures contents { G.contents g.new ≡ G.contents g.old }
+    ensures line { (G.store g.new).line ≡ (G.store g.old).line }
+    ensures served { Served (G.store g.old) (G.store g.new) }
+    ensures blamed { OnErr result (SomeRose (G.store g.old) (G.store g.new)) }
     ensures unpaged { G.unpaged ≡ true → IsOk result }
-    ensures loans { G.loans pages.new ≡ G.loans pages.old }
+    ensures loans { G.loans g.new ≡ G.loans g.old }
 {
-    pages.read(place_of(pid, addr), key_of(pid, addr), offset_of(addr), out)
+    g.read(place_of(pid, addr), key, offset_of(addr), out)
 }
 
-/// Reads 1 to 64 bytes from an address on, in the line that accesses its process.
+/// Reads 1 to 64 bytes of a key from an address on, at its page.
 pub(crate) fn read_bytes<G: Pages>(
-    tables: &Tables,
-    pages: &mut G,
+    t: &Tables,
+    g: &mut G,
     pid: Pid,
     addr: u32,
+    key: Key,
     len: u32,
 ) -> Result<ByteBuf, PageFault>
-    requires fits { Fits tables.now (G.contents pages.old) (G.store pages.old) }
-    requires at { key_at tables.now (place_at pid (page_of addr)) ≡ Some (private_key pid.0 (page_of addr)) }
-    requires kind { (G.store pages.old).kind ≡ line_kind.Access pid }
-    requires begun { IsBegun (G.store pages.old).report }
+    requires fits { Fits t.now (G.contents g.old) (G.store g.old) }
+    requires at { key_at t.now (place_at pid (page_of addr)) ≡ Some key }
+    requires form { (G.store g.old).kind ≡ line_kind.Access pid }
+    requires begun { IsBegun (G.store g.old).report }
     requires some { 1 ≤ len }
     requires few { len ≤ 64 }
     requires inside { addr % 4096 + len ≤ 4096 }
-    ensures bytes { IfOk result (λ b. b ≡ take len (drop (addr % page_size) (bytes_of (G.contents pages.old) (private_key pid.0 (page_of addr))))) }
-    ensures ends { Ends (touch (private_key pid.0 (page_of addr))) (G.store pages.new).report result }
-    ensures fits { Fits tables.now (G.contents pages.new) (G.store pages.new) }
-    ensures contents { G.contents pages.new ≡ G.contents pages.old }
-    ensures line { (G.store pages.new).line ≡ (G.store pages.old).line }
+    ensures bytes { IfOk result (λ b. b ≡ take len (drop (addr % page_size) (bytes_of (G.contents g.old) key))) }
+    ensures ends { Ends (touch key) (G.store g.new).report result }
+    ensures fits { Fits t.now (G.contents g.new) (G.store g.new) }
+    ensures contents { G.contents g.new ≡ G.contents g.old }
+    ensures line { (G.store g.new).line ≡ (G.store g.old).line }
+    ensures served { Served (G.store g.old) (G.store g.new) }
+    ensures blamed { OnErr result (SomeRose (G.store g.old) (G.store g.new)) }
     ensures unpaged { G.unpaged ≡ true → IsOk result }
-    ensures loans { G.loans pages.new ≡ G.loans pages.old }
+    ensures loans { G.loans g.new ≡ G.loans g.old }
 {
     let mut room = [0; 64];
     let out = &mut room[..len as usize];
-    fetch(tables, pages, pid, addr, out)?;
+    fetch(t, g, pid, addr, key, out)?;
     match ByteBuf::from_slice(out) {
         Some(bytes) => Ok(bytes),
         None => unreachable!(),
     }
 }
 
-/// Writes bytes from an address on, in the line that accesses its process.
+/// Writes bytes of a key from an address on, at its page.
 pub(crate) fn put<G: Pages>(
-    tables: &Tables,
-    pages: &mut G,
+    t: &Tables,
+    g: &mut G,
     pid: Pid,
     addr: u32,
+    key: Key,
     bytes: &[u8],
 ) -> Result<(), PageFault>
-    requires fits { Fits tables.now (G.contents pages.old) (G.store pages.old) }
-    requires at { key_at tables.now (place_at pid (page_of addr)) ≡ Some (private_key pid.0 (page_of addr)) }
-    requires kind { (G.store pages.old).kind ≡ line_kind.Access pid }
-    requires begun { IsBegun (G.store pages.old).report }
+    requires fits { Fits t.now (G.contents g.old) (G.store g.old) }
+    requires at { key_at t.now (place_at pid (page_of addr)) ≡ Some key }
+    requires form { (G.store g.old).kind ≡ line_kind.Access pid }
     requires few { length bytes.now ≤ 64 }
     requires inside { addr % 4096 + length bytes.now ≤ 4096 }
-    ensures written { OnOk result (G.contents pages.new ≡ changed same_key (G.contents pages.old) (private_key pid.0 (page_of addr)) (Some (written (bytes_of (G.contents pages.old) (private_key pid.0 (page_of addr))) (addr % page_size) bytes.now))) }
-    ensures kept { OnErr result (G.contents pages.new ≡ G.contents pages.old) }
-    ensures ends { Ends (touch (private_key pid.0 (page_of addr))) (G.store pages.new).report result }
-    ensures fits { Fits tables.now (G.contents pages.new) (G.store pages.new) }
-    ensures line { (G.store pages.new).line ≡ (G.store pages.old).line }
+    ensures written { OnOk result (G.contents g.new ≡ changed same_key (G.contents g.old) key (Some (written (bytes_of (G.contents g.old) key) (addr % page_size) bytes.now))) }
+    ensures kept { OnErr result (G.contents g.new ≡ G.contents g.old) }
+    ensures ends { IsBegun (G.store g.old).report → Ends (touch key) (G.store g.new).report result }
+    ensures fits { Fits t.now (G.contents g.new) (G.store g.new) }
+    ensures line { (G.store g.new).line ≡ (G.store g.old).line }
+    ensures served { Served (G.store g.old) (G.store g.new) }
+    ensures blamed { OnErr result (SomeRose (G.store g.old) (G.store g.new)) }
+    ensures ready { IsReady (G.store g.old) (place_at pid (page_of addr)) (touch key) → IsOk result }
+    ensures eased { IsReady (G.store g.old) (place_at pid (page_of addr)) (touch key) → (G.store g.new).report ≡ eased (G.store g.old).report (G.store g.new).report }
     ensures unpaged { G.unpaged ≡ true → IsOk result }
-    ensures loans { G.loans pages.new ≡ G.loans pages.old }
+    ensures loans { G.loans g.new ≡ G.loans g.old }
 {
-    pages.write(
-        place_of(pid, addr),
-        key_of(pid, addr),
-        offset_of(addr),
-        bytes,
-    )
+    g.write(place_of(pid, addr), key, offset_of(addr), bytes)
+}
+
+/// Gives the page of an address, which a write copies, a copy of its own, in tables and store.
+fn copy<G: Pages>(
+    t: &mut Tables,
+    g: &mut G,
+    pid: Pid,
+    addr: u32,
+    row: CommittedRow,
+) -> Result<(), PageFault>
+    requires fits { Fits t.old (G.contents g.old) (G.store g.old) }
+    requires spaces { Spaces t.old }
+    requires admitted { Admits t.old pid.0 addr access_kind.Write row }
+    requires copies { row.copies ≡ true }
+    requires form { (G.store g.old).kind ≡ line_kind.Access pid }
+    requires begun { IsBegun (G.store g.old).report }
+    ensures copied { OnOk result (G.contents g.new ≡ changed same_key (G.contents g.old) (private_key pid.0 (page_of addr)) (G.contents g.old row.key)) }
+    ensures row { OnOk result ((p : ProcessOf (Unit {0})) (c : Committed (Unit {0})) → process_of t.old pid.0 ≡ Some p → committed_at t.old p.regions (page_of addr) ≡ Some c → t.new ≡ set_row t.old pid.0 p c.region (page_of addr) (record c.row { own = Some tt; prot = 0x04 })) }
+    ensures kept { OnErr result ((t.new ≡ t.old) × (G.contents g.new ≡ G.contents g.old)) }
+    ensures at { OnOk result (key_at t.new (place_at pid (page_of addr)) ≡ Some (private_key pid.0 (page_of addr))) }
+    ensures ready { OnOk result (IsReady (G.store g.new) (place_at pid (page_of addr)) (touch (private_key pid.0 (page_of addr)))) }
+    ensures form { (G.store g.new).kind ≡ line_kind.Access pid }
+    ensures ends { Ends (copying row.key (place_at pid (page_of addr))) (G.store g.new).report result }
+    ensures fits { Fits t.new (G.contents g.new) (G.store g.new) }
+    ensures line { (G.store g.new).line ≡ (G.store g.old).line }
+    ensures served { Served (G.store g.old) (G.store g.new) }
+    ensures blamed { OnErr result (SomeRose (G.store g.old) (G.store g.new)) }
+    ensures unpaged { G.unpaged ≡ true → IsOk result }
+    ensures loans { G.loans g.new ≡ G.loans g.old }
+{
+    g.copy(place_of(pid, addr), row.key, own_key_of(pid, addr))?;
+    t.copy_page(pid, addr / 4096);
+    Ok(())
+}
+
+/// Writes bytes from an address on to a copy of its page, which is the page's own from then on.
+pub(crate) fn put_copy<G: Pages>(
+    t: &mut Tables,
+    g: &mut G,
+    pid: Pid,
+    addr: u32,
+    row: CommittedRow,
+    bytes: &[u8],
+) -> Result<(), PageFault>
+    requires fits { Fits t.old (G.contents g.old) (G.store g.old) }
+    requires spaces { Spaces t.old }
+    requires admitted { Admits t.old pid.0 addr access_kind.Write row }
+    requires copies { row.copies ≡ true }
+    requires form { (G.store g.old).kind ≡ line_kind.Access pid }
+    requires begun { IsBegun (G.store g.old).report }
+    requires few { length bytes.now ≤ 64 }
+    requires inside { addr % 4096 + length bytes.now ≤ 4096 }
+    ensures written { OnOk result (G.contents g.new ≡ changed same_key (changed same_key (G.contents g.old) (private_key pid.0 (page_of addr)) (G.contents g.old row.key)) (private_key pid.0 (page_of addr)) (Some (written (bytes_of (G.contents g.old) row.key) (addr % page_size) bytes.now))) }
+    ensures row { OnOk result ((p : ProcessOf (Unit {0})) (c : Committed (Unit {0})) → process_of t.old pid.0 ≡ Some p → committed_at t.old p.regions (page_of addr) ≡ Some c → t.new ≡ set_row t.old pid.0 p c.region (page_of addr) (record c.row { own = Some tt; prot = 0x04 })) }
+    ensures kept { OnErr result ((t.new ≡ t.old) × (G.contents g.new ≡ G.contents g.old)) }
+    ensures ends { Ends (copying row.key (place_at pid (page_of addr))) (G.store g.new).report result }
+    ensures fits { Fits t.new (G.contents g.new) (G.store g.new) }
+    ensures line { (G.store g.new).line ≡ (G.store g.old).line }
+    ensures served { Served (G.store g.old) (G.store g.new) }
+    ensures blamed { OnErr result (SomeRose (G.store g.old) (G.store g.new)) }
+    ensures unpaged { G.unpaged ≡ true → IsOk result }
+    ensures loans { G.loans g.new ≡ G.loans g.old }
+{
+    copy(t, g, pid, addr, row)?;
+    match put(t, g, pid, addr, own_key_of(pid, addr), bytes) {
+        Ok(()) => Ok(()),
+        // The copy is at hand.
+        Err(_) => unreachable!(),
+    }
 }

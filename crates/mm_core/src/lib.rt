@@ -1,12 +1,18 @@
-//! A world over any store of pages, and the lines that change it.
+//! A world over any store of pages: one line after another.
 //!
 //! The calls go by tables without bytes, and the bytes stand in the store. What the two are together is a world of
 //! the definitions; each line makes of it what the definitions say, whatever the store.
 #![tactic(auto)]
 
+mod access_lines;
+mod beginning;
 mod built;
+mod deciding;
 mod fetching;
+mod memory_lines;
+mod paging_lines;
 mod refusals;
+mod section_lines;
 mod worlds;
 
 pub use built::is_built;

@@ -1,5 +1,5 @@
 -- When a call of a store may be made: which lines make it, and what its keys and places must be.
-use Rattle.std.specs.Prelude.{◌≡◌, ◌≤◌, ◌<◌, ℕ, ◌+◌, Bool, true, false, ◌⊎◌, Option, None, Some, IsSome}
+use Rattle.std.specs.Prelude.{◌≡◌, ◌≤◌, ◌<◌, ℕ, ◌+◌, Bool, true, false, ◌⊎◌, length, [], Option, None, Some, IsSome}
 use Rattle.mm_types.specs.declared.numbers.Key.{Key}
 use Rattle.mm_types.specs.declared.numbers.Key.TheVariants as key
 use Rattle.mm_types.specs.declared.numbers.Pid.{Pid}
@@ -95,10 +95,25 @@ pub record IsAt (contents : Key → Option Page) (s : StoreOf) (place : Place) (
 abbrev pub touch : Key → Need
 touch k = record { key = k; copy = None }
 
+-- a copy of a page, which becomes a place's own
+abbrev pub copying : Key → Place → Need
+copying from place = record { key = from; copy = Some (own_key place) }
+
+-- the place and the need are ready
+abbrev pub IsReady : StoreOf → Place → Need → Type 0
+IsReady s place need = s.ready ≡ Some (record { place = place; need = need })
+
 -- the line is a plain access of the process, or a thread's whose access is ready
 abbrev pub MayAccess : StoreOf → Place → Need → Type 0
 MayAccess s place need =
-    (s.kind ≡ kind.Access place.pid) ⊎ ((s.kind ≡ kind.Thread place.pid) × (s.ready ≡ Some (record { place = place; need = need })))
+    (s.kind ≡ kind.Access place.pid) ⊎ ((s.kind ≡ kind.Thread place.pid) × IsReady s place need)
+
+-- ---- devices
+
+-- more calls can be named on each device
+pub record MayName (s : StoreOf) : Type 0 where
+  pub paging : length s.paging_device.named < 64
+  pub file : length s.file_device.named < 64
 
 -- ---- a new store of a machine
 
@@ -112,9 +127,12 @@ pub record IsNew (m : MachineOf) (contents : Key → Option Page) (s : StoreOf) 
   pub not_paging : (k : Key) → s.paging k ≡ false
   pub no_keys : s.paging_keys ≡ 0
   pub no_block : (k : Key) → s.block_of k ≡ None
-  pub unused : (block : ℕ) → s.used block ≡ false
+  pub unused : s.blocks_used ≡ 0
+  pub stored : length s.file_blocks ≡ m.blocks
   pub line : s.line ≡ 1
   pub kind : s.kind ≡ kind_of_machine m
   pub no_pid : s.last_pid ≡ 0
   pub not_ready : s.ready ≡ None
   pub begun : IsBegun s.report
+  pub none_named_paging : s.paging_device.named ≡ []
+  pub none_named_file : s.file_device.named ≡ []

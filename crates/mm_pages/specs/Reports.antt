@@ -1,11 +1,13 @@
 -- How a store's report and its devices change in a call.
-use Rattle.std.specs.Prelude.{◌≡◌, ◌≤◌, ◌<◌, ℕ, ◌+◌, true, false, None, Result, IsErrOf, OnOk}
+use Rattle.std.specs.Prelude.{◌≡◌, ◌⊎◌, Bool, true, false, ◌++◌, List, [], ◌∷◌, None, Result, IsErrOf, OnOk}
+use Rattle.mm_blocks.specs.declared.device_calls.NamedCalls.{NamedCalls}
+use Rattle.mm_types.specs.declared.devices.Direction.TheVariants as way
 use Rattle.mm_types.specs.declared.faults.PageFault.{PageFault}
 use Rattle.mm_types.specs.declared.faults.PageFault.TheVariants as fault
 use Rattle.mm_types.specs.Outside.{Rose}
 use Rattle.mm_world.specs.Report.{Report, Tally}
 use Rattle.mm_world.specs.Failure.{Need, access_fails, read_failed, search_failed}
-use Rattle.mm_pages.specs.Devices.{DeviceOf}
+use Rattle.mm_pages.specs.Devices.{DeviceOf, Call, AllServed, tallied}
 use Rattle.mm_pages.specs.Store.{StoreOf}
 
 abbrev pub no_calls : Tally
@@ -33,9 +35,21 @@ pub record IsBegun (r : Report) : Type 0 where
 abbrev pub rearranged : Report → Report → Report
 rearranged old new = record old { counts = new.counts; whereabouts = new.whereabouts }
 
--- calls were made of the device; what `fail` lines named stays
+-- a page at hand was used: a slot that held an older state of it may be free again
+abbrev pub eased : Report → Report → Report
+eased old new = record old { counts = record (old.counts) { free_slots = new.counts.free_slots } }
+
+-- the paging device was asked to grow
 abbrev pub called : DeviceOf → DeviceOf → DeviceOf
-called old new = record new { named = old.named }
+called old new = record old { faults = new.faults }
+
+-- of the store, the device with these calls named to fail too; an unpaged store keeps no paging device
+abbrev pub with_named : DeviceOf → NamedCalls → DeviceOf
+with_named d calls = record d { named = d.named ++ calls ∷ [] }
+
+abbrev pub with_named_paging : Bool → DeviceOf → NamedCalls → DeviceOf
+with_named_paging true d calls = d
+with_named_paging false d calls = with_named d calls
 
 -- devices were called for an access: all but the report, the devices and what is ready stays
 abbrev pub fetched : StoreOf → StoreOf → StoreOf
@@ -43,23 +57,34 @@ fetched old new =
     record old {
       file_blocks = new.file_blocks;
       ready = new.ready;
-      report = new.report;
-      paging_device = called old.paging_device new.paging_device;
-      file_device = called old.file_device new.file_device;
+      report = record (new.report) { wait = old.report.wait; extended = old.report.extended };
+      paging_device = new.paging_device;
+      file_device = new.file_device;
     }
 
-abbrev pub failed_on_paging : Report → ℕ
-failed_on_paging r = r.paging_reads.failed + r.paging_writes.failed
+-- the file device was called in writing
+abbrev pub wrote : StoreOf → StoreOf → StoreOf
+wrote old new =
+    record old {
+      file_blocks = new.file_blocks;
+      report = record (rearranged old.report new.report) { file_writes = new.report.file_writes; search_writes = new.report.search_writes };
+      file_device = new.file_device;
+    }
 
-abbrev pub failed_on_files : Report → ℕ
-failed_on_files r = r.file_reads.failed + r.file_writes.failed
+-- the calls that were made of both devices: each stands in its device's log, or was named, and the report counts it
+pub record Served (old new : StoreOf) : Type 0 where
+  pub paging_calls : List Call
+  pub file_calls : List Call
+  pub paging : AllServed paging_calls old.paging_device new.paging_device
+  pub files : AllServed file_calls old.file_device new.file_device
+  pub paging_reads : new.report.paging_reads ≡ tallied way.Read paging_calls old.report.paging_reads
+  pub paging_writes : new.report.paging_writes ≡ tallied way.Write paging_calls old.report.paging_writes
+  pub file_reads : new.report.file_reads ≡ tallied way.Read file_calls old.report.file_reads
+  pub file_writes : new.report.file_writes ≡ tallied way.Write file_calls old.report.file_writes
 
--- the counts of faults never fall, and a failed device call is added to the report only where that device's rose
-pub record IsCaused (old new : StoreOf) : Type 0 where
-  pub paging_later : old.paging_device.faults ≤ new.paging_device.faults
-  pub file_later : old.file_device.faults ≤ new.file_device.faults
-  pub paging : failed_on_paging old.report < failed_on_paging new.report → Rose old.paging_device.faults new.paging_device.faults
-  pub file : failed_on_files old.report < failed_on_files new.report → Rose old.file_device.faults new.file_device.faults
+-- a device failed: its count of faults rose
+abbrev pub SomeRose : StoreOf → StoreOf → Type 0
+SomeRose old new = Rose old.paging_device.faults new.paging_device.faults ⊎ Rose old.file_device.faults new.file_device.faults
 
 -- how an access that is a line's first call of devices ends: it is refused exactly where the definition of worlds says
 -- that it fails, `Read` for a read of the very key that failed, else `NoFrame` for a search that found none

@@ -1,8 +1,10 @@
-ghost use Rattle.std.specs.Prelude.{◌≡◌, ◌≢◌, ◌≤◌, ◌<◌, ◌+◌, ◌-◌, ◌^◌, ◌==◌, ℕ, Bool, true, false, Option, Some, None, List, IsSome, IsErrOf, IsOk, OnOk, OnErr, IfOk, length, take, drop, unwrap_or};
+ghost use Rattle.std.specs.Prelude.{◌≡◌, ◌≢◌, ◌≤◌, ◌<◌, ◌+◌, ◌-◌, ◌%◌, ◌^◌, ◌==◌, ◌⊎◌, ℕ, Bool, true, false, Option, Some, None, List, IsSome, IsErrOf, IsOk, OnOk, OnErr, IfOk, length, slice_get, take, drop, unwrap_or};
 ghost use Rattle.mm_types.specs.declared.faults.GrowFault.TheVariants as grow_fault;
+ghost use Rattle.mm_types.specs.declared.faults.MakeFault.TheVariants as make_fault;
+ghost use Rattle.mm_types.specs.declared.devices.Device.TheVariants as device_of;
 ghost use Rattle.mm_types.specs.declared.moves.LineKind.TheVariants as kind;
 ghost use Rattle.mm_types.specs.declared.numbers.Key.{Key};
-ghost use Rattle.mm_types.specs.declared.numbers.Key.TheVariants.{Private};
+ghost use Rattle.mm_types.specs.declared.numbers.Key.TheVariants.{Private, Shared};
 ghost use Rattle.mm_types.specs.Address.{are_user_pages};
 ghost use Rattle.mm_types.specs.Machine.{limit_of};
 ghost use Rattle.mm_types.specs.Outside.{Loans, Rose};
@@ -11,11 +13,14 @@ ghost use Rattle.mm_world.specs.Access.{written};
 ghost use Rattle.mm_world.specs.Failure.{same_key};
 ghost use Rattle.mm_world.specs.Processes.{with_slots, most_slots};
 ghost use Rattle.mm_world.specs.Step.{is_failed_extension};
-ghost use Rattle.mm_pages.specs.Store.{StoreOf, changed, changed_in, same_place, unnamed};
-ghost use Rattle.mm_pages.specs.Reports.{begun, rearranged, called, fetched, IsBegun, IsCaused, Ends};
-ghost use Rattle.mm_pages.specs.Conditions.{IsLineKind, pid_after, AllBound, MayUnbind, HasHome, MayRemove, IsAt, MayAccess, touch, place_at};
+ghost use Rattle.mm_pages.specs.Store.{StoreOf, changed, changed_in, same_place, unnamed, own_key, with_file, with_blocks};
+ghost use Rattle.mm_pages.specs.Reports.{begun, rearranged, eased, called, with_named, with_named_paging, fetched, wrote, IsBegun, Served, SomeRose, Ends};
+ghost use Rattle.mm_pages.specs.Conditions.{IsLineKind, pid_after, AllBound, MayUnbind, HasHome, MayRemove, IsAt, MayAccess, IsReady, MayName, touch, copying, place_at};
 
-use mm_types::{GrowFault, Key, LineKind, NoMemory, PageFault, Pid, Place, Vpn};
+use mm_types::{
+    Area, Block, Device, Direction, GrowFault, Key, LineKind, MakeFault, NoMemory, PageFault, Pid,
+    Place, Vpn, WriteFault,
+};
 
 /// A store of pages by key, each of 4,096 bytes.
 ///
@@ -89,6 +94,53 @@ pub trait Pages {
         ensures contents { contents self.new ≡ contents self.old }
         ensures loans { loans self.new ≡ loans self.old };
 
+    /// Opens an area of `n` pages, at least one, of which none is live. An area number is below 2^28, and used once.
+    /// After `NoMemory` nothing has changed.
+    fn open_area(&mut self, area: Area, n: u32) -> Result<(), NoMemory>
+        requires new { (store self.old).areas area.0 ≡ None }
+        requires few { area.0 < 2 ^ 28 }
+        requires some { 1 ≤ n }
+        ensures ok { OnOk result (store self.new ≡ record (store self.old) { areas = changed ◌==◌ (store self.old).areas area.0 (Some n) }) }
+        ensures err { OnErr result (store self.new ≡ store self.old) }
+        ensures contents { contents self.new ≡ contents self.old }
+        ensures loans { loans self.new ≡ loans self.old };
+
+    /// Closes an open area, none of whose keys is live.
+    fn close_area(&mut self, area: Area)
+        requires open { IsSome ((store self.old).areas area.0) }
+        requires dead { (index : ℕ) → contents self.old (Shared area index) ≡ None }
+        ensures store { store self.new ≡ record (store self.old) { areas = changed ◌==◌ (store self.old).areas area.0 None } }
+        ensures contents { contents self.new ≡ contents self.old }
+        ensures loans { loans self.new ≡ loans self.old };
+
+    /// Makes a file of `n` pages, at least one, in the blocks from `first` on, the first that no file uses: page i holds
+    /// the byte `byte + i` throughout. The blocks are written in order, up to the first write that fails: then there is
+    /// no file, and no block is used. After `Memory` no device was called.
+    fn make_file(&mut self, area: Area, first: Block, n: u32, byte: u8) -> Result<(), MakeFault>
+        requires new { (store self.old).areas area.0 ≡ None }
+        requires few { area.0 < 2 ^ 28 }
+        requires next { first.0 ≡ (store self.old).blocks_used }
+        requires some { 1 ≤ n }
+        requires room { first.0 + n ≤ (store self.old).machine.blocks }
+        requires kind { (store self.old).kind ≡ kind.Call }
+        ensures made { OnOk result (contents self.new ≡ with_file area.0 n byte (contents self.old)) }
+        ensures kept { OnErr result (contents self.new ≡ contents self.old) }
+        ensures ok { OnOk result (store self.new ≡ record (wrote (store self.old) (store self.new)) {
+          areas = changed ◌==◌ (store self.old).areas area.0 (Some n);
+          block_of = with_blocks area.0 n first.0 (store self.old).block_of;
+          blocks_used = (store self.old).blocks_used + n;
+        }) }
+        ensures err { OnErr result (store self.new ≡ wrote (store self.old) (store self.new)) }
+        ensures memory { IsErrOf result make_fault.Memory → store self.new ≡ store self.old }
+        ensures written { OnOk result ((i : ℕ) → i < n → slice_get (store self.new).file_blocks (first.0 + i) ≡ Some (filled ((byte + i) % 256))) }
+        ensures others { (block : ℕ) → (block < first.0) ⊎ (first.0 + n ≤ block) → slice_get (store self.new).file_blocks block ≡ slice_get (store self.old).file_blocks block }
+        ensures served { Served (store self.old) (store self.new) }
+        ensures stored { length (store self.new).file_blocks ≡ length (store self.old).file_blocks }
+        ensures quiet { OnOk result ((store self.new).report.file_writes.failed ≡ (store self.old).report.file_writes.failed) }
+        ensures failed { IsErrOf result make_fault.Write → 0 < (store self.new).report.file_writes.failed }
+        ensures blamed { IsErrOf result make_fault.Write → Rose (store self.old).file_device.faults (store self.new).file_device.faults }
+        ensures loans { loans self.new ≡ loans self.old };
+
     /// A page-file key comes to be, and reads as zero. There is room for it.
     fn add(&mut self, key: Key)
         requires dead { contents self.old key ≡ None }
@@ -128,8 +180,12 @@ pub trait Pages {
         ensures contents { contents self.new ≡ contents self.old }
         ensures ok { OnOk result (store self.new ≡ record (fetched (store self.old) (store self.new)) { names = changed same_place (store self.old).names place (Some key) }) }
         ensures err { OnErr result (store self.new ≡ fetched (store self.old) (store self.new)) }
-        ensures caused { IsCaused (store self.old) (store self.new) }
+        ensures served { Served (store self.old) (store self.new) }
+        ensures stored { length (store self.new).file_blocks ≡ length (store self.old).file_blocks }
         ensures fault { IsBegun (store self.old).report → Ends (touch key) (store self.new).report result }
+        ensures blamed { OnErr result (SomeRose (store self.old) (store self.new)) }
+        ensures ready { IsReady (store self.old) place (touch key) → IsOk result }
+        ensures eased { IsReady (store self.old) place (touch key) → (store self.new).report ≡ eased (store self.old).report (store self.new).report }
         ensures unpaged { unpaged ≡ true → IsOk result }
         ensures loans { loans self.new ≡ loans self.old };
 
@@ -143,9 +199,88 @@ pub trait Pages {
         ensures kept { OnErr result (contents self.new ≡ contents self.old) }
         ensures ok { OnOk result (store self.new ≡ record (fetched (store self.old) (store self.new)) { names = changed same_place (store self.old).names place (Some key) }) }
         ensures err { OnErr result (store self.new ≡ fetched (store self.old) (store self.new)) }
-        ensures caused { IsCaused (store self.old) (store self.new) }
+        ensures served { Served (store self.old) (store self.new) }
+        ensures stored { length (store self.new).file_blocks ≡ length (store self.old).file_blocks }
         ensures fault { IsBegun (store self.old).report → Ends (touch key) (store self.new).report result }
+        ensures blamed { OnErr result (SomeRose (store self.old) (store self.new)) }
+        ensures ready { IsReady (store self.old) place (touch key) → IsOk result }
+        ensures eased { IsReady (store self.old) place (touch key) → (store self.new).report ≡ eased (store self.old).report (store self.new).report }
         ensures unpaged { unpaged ≡ true → IsOk result }
+        ensures loans { loans self.new ≡ loans self.old };
+
+    /// Copies a page to the key that is the place's own, which comes to be; the place then names it, and it is ready.
+    /// There is room for it. It fails as a read of `from` does, or for want of a frame; the place may then name `from`.
+    fn copy(&mut self, place: Place, from: Key, to: Key) -> Result<(), PageFault>
+        requires at { IsAt (contents self.old) (store self.old) place from }
+        requires own { to ≡ own_key place }
+        requires dead { contents self.old to ≡ None }
+        requires room { (store self.old).paging_keys < (store self.old).room }
+        requires kind { MayAccess (store self.old) place (copying from place) }
+        ensures copied { OnOk result (contents self.new ≡ changed same_key (contents self.old) to (contents self.old from)) }
+        ensures kept { OnErr result (contents self.new ≡ contents self.old) }
+        ensures ok { OnOk result (store self.new ≡ record (fetched (store self.old) (store self.new)) {
+          names = changed same_place (store self.old).names place (Some to);
+          paging = changed same_key (store self.old).paging to true;
+          paging_keys = (store self.old).paging_keys + 1;
+        }) }
+        ensures err { OnErr result (store self.new ≡ record (fetched (store self.old) (store self.new)) { names = (store self.new).names }) }
+        ensures names { OnErr result (((store self.new).names ≡ (store self.old).names) ⊎ ((store self.new).names ≡ changed same_place (store self.old).names place (Some from))) }
+        ensures served { Served (store self.old) (store self.new) }
+        ensures stored { length (store self.new).file_blocks ≡ length (store self.old).file_blocks }
+        ensures fault { IsBegun (store self.old).report → Ends (copying from place) (store self.new).report result }
+        ensures blamed { OnErr result (SomeRose (store self.old) (store self.new)) }
+        ensures was_ready { IsReady (store self.old) place (copying from place) → IsOk result }
+        ensures ready { OnOk result (IsReady (store self.new) place (touch to)) }
+        ensures unpaged { unpaged ≡ true → IsOk result }
+        ensures loans { loans self.new ≡ loans self.old };
+
+    /// Sees that the block of a live file key holds its bytes: writes it where it does not. No other block changes.
+    /// It fails exactly where a write of it failed in this call.
+    fn flush(&mut self, key: Key) -> Result<(), WriteFault>
+        requires live { IsSome ((store self.old).block_of key) }
+        requires kind { (store self.old).kind ≡ kind.Call }
+        ensures store { store self.new ≡ wrote (store self.old) (store self.new) }
+        ensures ok { OnOk result ((block : ℕ) → (store self.old).block_of key ≡ Some block → slice_get (store self.new).file_blocks block ≡ contents self.old key) }
+        ensures others { (block other : ℕ) → (store self.old).block_of key ≡ Some block → other ≢ block → slice_get (store self.new).file_blocks other ≡ slice_get (store self.old).file_blocks other }
+        ensures served { Served (store self.old) (store self.new) }
+        ensures stored { length (store self.new).file_blocks ≡ length (store self.old).file_blocks }
+        ensures quiet { OnOk result ((store self.new).report.file_writes.failed ≡ (store self.old).report.file_writes.failed) }
+        ensures failed { OnErr result (0 < (store self.new).report.file_writes.failed) }
+        ensures blamed { OnErr result (Rose (store self.old).file_device.faults (store self.new).file_device.faults) }
+        ensures contents { contents self.new ≡ contents self.old }
+        ensures loans { loans self.new ≡ loans self.old };
+
+    /// Unmaps at most `n` places of an open process, the oldest first, and leaves the least number of its working set.
+    fn trim(&mut self, pid: Pid, n: u32)
+        requires open { (store self.old).is_open pid.0 ≡ true }
+        requires kind { (store self.old).kind ≡ kind.Trim pid }
+        ensures store { store self.new ≡ record (store self.old) { report = rearranged (store self.old).report (store self.new).report } }
+        ensures contents { contents self.new ≡ contents self.old }
+        ensures loans { loans self.new ≡ loans self.old };
+
+    /// Each valid place of an open process is one older, up to 7.
+    fn age(&mut self, pid: Pid)
+        requires open { (store self.old).is_open pid.0 ≡ true }
+        ensures store { store self.new ≡ store self.old }
+        ensures contents { contents self.new ≡ contents self.old }
+        ensures loans { loans self.new ≡ loans self.old };
+
+    /// Clears at most `n` free frames, from the front of their list.
+    fn zero(&mut self, n: u32)
+        requires kind { (store self.old).kind ≡ kind.Zeroer }
+        ensures store { store self.new ≡ record (store self.old) { report = rearranged (store self.old).report (store self.new).report } }
+        ensures contents { contents self.new ≡ contents self.old }
+        ensures loans { loans self.new ≡ loans self.old };
+
+    /// Of the calls of that device and direction from now on, the `k`-th, counted from 1, is the first of `n` that fail.
+    /// An unpaged store calls no paging device.
+    fn fail(&mut self, device: Device, direction: Direction, k: u32, n: u32)
+        requires room { MayName (store self.old) }
+        requires first { 1 ≤ k }
+        requires some { 1 ≤ n }
+        ensures files { device ≡ device_of.File → store self.new ≡ record (store self.old) { file_device = with_named (store self.old).file_device (record { direction = direction; passes = k - 1; fails = n }) } }
+        ensures paging { device ≡ device_of.Paging → store self.new ≡ record (store self.old) { paging_device = with_named_paging unpaged (store self.old).paging_device (record { direction = direction; passes = k - 1; fails = n }) } }
+        ensures contents { contents self.new ≡ contents self.old }
         ensures loans { loans self.new ≡ loans self.old };
 
     /// A line begins: its number is one more than the last one's, and its kind is neither `machine` nor `grow`.

@@ -1,26 +1,40 @@
--- What a change of the places and of the boxes leaves true of them.
-use Rattle.std.proofs.Common.{◌≡◌, ◌+◌, ◌<◌, ℕ, Bool, true, false, Result, Ok, Err, refl, sym, ap, ◌∙◌, arith}
-use Rattle.std.specs.Prelude.{◌==◌, nat_le, nat_lt, if◌then◌else◌, OnOk, OnErr}
+-- What changes of the parts of a store leave true of them.
+use Rattle.std.proofs.Common.{◌≡◌, ◌⊎◌, ◌+◌, ◌<◌, ◌≤◌, ◌^◌, ℕ, Bool, true, false, List, [], length, Option, Some, None, Result, Ok, Err, refl, sym, ap, ◌∙◌, subst, inl, inr, arith}
+use Rattle.std.specs.Prelude.{◌==◌, nat_le, nat_lt, if◌then◌else◌, OnOk, OnErr, slice_get, slice_set}
+use Rattle.std.proofs.Math.ListN.{length-set}
 use Rattle.std.proofs.lemmas.Bool.{and_parts, leb-true, ltb-true}
 use Rattle.mm_types.specs.declared.numbers.Pid.{Pid}
 use Rattle.mm_types.specs.declared.numbers.Place.{Place}
 use Rattle.mm_types.specs.Address.{Range, are_user_pages, holds_page, end_of, end_of_user_pages, first_user_page}
+use Rattle.mm_types.proofs.Cells.{same_or_not, get_set_same, get_set_other, get_within}
+use Rattle.mm_types.specs.Machine.{MachineOf, IsMachine}
+use Rattle.mm_world.specs.World.{Page}
 use Rattle.mm_pages.specs.Store.{changed_in, is_place_in}
+use Rattle.mm_plain.specs.declared.areas.AreaPages.{AreaPages}
+use Rattle.mm_plain.specs.declared.areas.Areas.{Areas}
+use Rattle.mm_plain.specs.declared.file_pages.FilePage.{FilePage}
 use Rattle.mm_plain.specs.declared.places.Places.{Places}
-use Rattle.mm_plain.specs.Fitting.{Fits}
+use Rattle.mm_plain.specs.Areas.{block_at, count_in, no_area}
+use Rattle.mm_plain.specs.Files.{page_of}
+use Rattle.mm_plain.specs.Fitting.{Fits, FilesFit}
 use Rattle.mm_plain.specs.Places.{bound_in, pages_in, no_place}
 use Rattle.mm_plain.specs.Stocks.{StockOf}
 
+-- ---- places, areas and boxes
+
 -- places below the end stay below it
-pub fits_then : (a b : Places) (s t : StockOf) → Fits a s → bound_in b ≡ bound_in a → pages_in b + t.boxes ≡ t.room → Fits b t
-fits_then a b s t fits bound boxes = record { boxes = boxes; low = λ p e. fits.low p (sym (ap (λ f. f p) bound) ∙ e) }
+pub fits_then : (a b : Places) (x y : Areas) (s t : StockOf) → Fits a x s → bound_in b ≡ bound_in a → (pages_in b + count_in y) + t.boxes ≡ t.room → Fits b y t
+fits_then a b x y s t fits bound boxes = record { boxes = boxes; low = λ p e. fits.low p (sym (ap (λ f. f p) bound) ∙ e) }
 
-pub fits_kept : (a b : Places) (s : StockOf) → Fits a s → bound_in b ≡ bound_in a → pages_in b ≡ pages_in a → Fits b s
-fits_kept a b s fits bound count = fits_then a b s s fits bound (ap (λ n. n + s.boxes) count ∙ fits.boxes)
+pub fits_kept : (a b : Places) (x : Areas) (s : StockOf) → Fits a x s → bound_in b ≡ bound_in a → pages_in b ≡ pages_in a → Fits b x s
+fits_kept a b x s fits bound count = fits_then a b x x s s fits bound (omega (arith, count, fits.boxes))
 
-pub fits_new : (a : Places) (s : StockOf) → bound_in a ≡ no_place → pages_in a ≡ 0 → s ≡ record { boxes = 0; room = 0 } → Fits a s
-fits_new a s bound count stock = record {
-  boxes = omega (arith, count, ap (λ (t : StockOf). t.boxes) stock, ap (λ (t : StockOf). t.room) stock);
+pub fits_areas : (a : Places) (x y : Areas) (s : StockOf) → Fits a x s → count_in y ≡ count_in x → Fits a y s
+fits_areas a x y s fits count = fits_then a a x y s s fits refl (omega (arith, count, fits.boxes))
+
+pub fits_new : (a : Places) (x : Areas) (s : StockOf) → bound_in a ≡ no_place → pages_in a ≡ 0 → count_in x ≡ 0 → s ≡ record { boxes = 0; room = 0 } → Fits a x s
+fits_new a x s bound count none stock = record {
+  boxes = omega (arith, count, none, ap (λ (t : StockOf). t.boxes) stock, ap (λ (t : StockOf). t.room) stock);
   low = λ p e. (let bad : false ≡ true = sym (ap (λ f. f p) bound) ∙ e in cc);
 }
 
@@ -30,10 +44,10 @@ in_range range page user held =
     let h = ltb-true page (end_of range) (and_parts (nat_le range.first page) (nat_lt page (end_of range)) held).1 in
     omega (arith, u, h)
 
-module _ (a b : Places) (s : StockOf) (pid : Pid) (range : Range) where
-  bound_more : are_user_pages range ≡ true → Fits a s → bound_in b ≡ changed_in pid range (bound_in a) true → pages_in b ≡ pages_in a → Fits b s
+module _ (a b : Places) (x : Areas) (s : StockOf) (pid : Pid) (range : Range) where
+  bound_more : are_user_pages range ≡ true → Fits a x s → bound_in b ≡ changed_in pid range (bound_in a) true → pages_in b ≡ pages_in a → Fits b x s
   bound_more user fits bound count = record {
-    boxes = ap (λ n. n + s.boxes) count ∙ fits.boxes;
+    boxes = omega (arith, count, fits.boxes);
     low = λ p e. at p (is_place_in pid range p) refl (sym (ap (λ f. f p) bound) ∙ e);
   }
     where
@@ -41,16 +55,116 @@ module _ (a b : Places) (s : StockOf) (pid : Pid) (range : Range) where
       at p true e h = in_range range p.vpn.0 user (and_parts (p.pid.0 == pid.0) (holds_page range p.vpn.0) e).1
       at p false e h = fits.low p h
 
-  pub fits_bound : {T E : Type 0} (result : Result T E) → are_user_pages range ≡ true → Fits a s → OnOk result (bound_in b ≡ changed_in pid range (bound_in a) true) → OnErr result (bound_in b ≡ bound_in a) → pages_in b ≡ pages_in a → Fits b s
-  fits_bound (Ok x) user fits ok err count = bound_more user fits ok count
-  fits_bound (Err x) user fits ok err count = fits_kept a b s fits err count
+  pub fits_bound : {T E : Type 0} (result : Result T E) → are_user_pages range ≡ true → Fits a x s → OnOk result (bound_in b ≡ changed_in pid range (bound_in a) true) → OnErr result (bound_in b ≡ bound_in a) → pages_in b ≡ pages_in a → Fits b x s
+  fits_bound (Ok r) user fits ok err count = bound_more user fits ok count
+  fits_bound (Err e) user fits ok err count = fits_kept a b x s fits err count
 
-  pub fits_unbound : Fits a s → bound_in b ≡ changed_in pid range (bound_in a) false → pages_in b ≡ pages_in a → Fits b s
+  pub fits_unbound : Fits a x s → bound_in b ≡ changed_in pid range (bound_in a) false → pages_in b ≡ pages_in a → Fits b x s
   fits_unbound fits bound count = record {
-    boxes = ap (λ n. n + s.boxes) count ∙ fits.boxes;
+    boxes = omega (arith, count, fits.boxes);
     low = λ p e. at p (is_place_in pid range p) (sym (ap (λ f. f p) bound) ∙ e);
   }
     where
       at : (p : Place) (t : Bool) → (if t then false else bound_in a p) ≡ true → p.vpn.0 < end_of_user_pages
       at p true h = cc
       at p false h = fits.low p h
+
+-- ---- files
+
+module _ (areas : ℕ → Option AreaPages) (pages : List FilePage) (blocks : List Page) (count : ℕ) (fit : FilesFit areas pages blocks count) where
+  -- no page of a file has another block
+  pub files_fit_areas : (after : ℕ → Option AreaPages) → ((a i : ℕ) → block_at (after a) i ≡ block_at (areas a) i) → FilesFit after pages blocks count
+  files_fit_areas after same = record {
+    near = λ a i block e. fit.near a i block (sym (same a i) ∙ e);
+    alone = λ a i b j block e f. fit.alone a i b j block (sym (same a i) ∙ e) (sym (same b j) ∙ f);
+    kept = fit.kept;
+    device = fit.device;
+    used = fit.used;
+    few = fit.few;
+  }
+
+  -- a page was changed
+  pub files_fit_written : (after : List FilePage) (block : ℕ) (page : Page) → block < length pages → after ≡ slice_set pages block (record { page = page; changed = true }) → FilesFit areas after blocks count
+  files_fit_written after block page near is =
+      let new : FilePage = record { page = page; changed = true } in
+      let long : length after ≡ length pages = ap length is ∙ length-set pages block new in
+      record {
+        near = λ a i b e. (let n = fit.near a i b e in omega (arith, n, long));
+        alone = fit.alone;
+        kept = λ b p e clean. elim (same_or_not b block) [
+          | inl same ↦
+              let here : Some new ≡ Some p = sym (ap (λ ps. slice_get ps b) is ∙ ap (λ (n : ℕ). slice_get (slice_set pages block new) n) same ∙ get_set_same pages block new near) ∙ e in
+              let bad : Some true ≡ Some false = ap (λ o. flag o) here ∙ ap Some clean in
+              cc
+          | inr other ↦ fit.kept b p (sym (ap (λ ps. slice_get ps b) is ∙ get_set_other pages block b new other) ∙ e) clean
+        ];
+        device = fit.device;
+        used = omega (arith, fit.used, long);
+        few = fit.few;
+      }
+    where
+      flag : Option FilePage → Option Bool
+      flag None = None
+      flag (Some p) = Some p.changed
+
+  -- the block of a page holds it now
+  pub files_fit_settled : (after : List FilePage) (stored : List Page) (block : ℕ) (page : Page) → block < length pages → after ≡ slice_set pages block (record { page = page; changed = false }) → stored ≡ slice_set blocks block page → FilesFit areas after stored count
+  files_fit_settled after stored block page near is put =
+      let new : FilePage = record { page = page; changed = false } in
+      let long : length after ≡ length pages = ap length is ∙ length-set pages block new in
+      let wide : length stored ≡ length blocks = ap length put ∙ length-set blocks block page in
+      record {
+        near = λ a i b e. (let n = fit.near a i b e in omega (arith, n, long));
+        alone = fit.alone;
+        kept = λ b p e clean. elim (same_or_not b block) [
+          | inl same ↦
+              let here : Some new ≡ Some p = sym (ap (λ ps. slice_get ps b) is ∙ ap (λ (n : ℕ). slice_get (slice_set pages block new) n) same ∙ get_set_same pages block new near) ∙ e in
+              ap (λ ps. slice_get ps b) put ∙ ap (λ (n : ℕ). slice_get (slice_set blocks block page) n) same
+              ∙ get_set_same blocks block page (omega (arith, near, fit.used, fit.device)) ∙ ap page_of here
+          | inr other ↦
+              ap (λ ps. slice_get ps b) put ∙ get_set_other blocks block b page other
+              ∙ fit.kept b p (sym (ap (λ ps. slice_get ps b) is ∙ get_set_other pages block b new other) ∙ e) clean
+        ];
+        device = wide ∙ fit.device;
+        used = omega (arith, fit.used, long);
+        few = fit.few;
+      }
+
+  -- blocks that no file has hold other bytes
+  pub files_fit_unused : (stored : List Page) (n : ℕ) → length stored ≡ length blocks → ((block : ℕ) → (block < length pages) ⊎ (n ≤ block) → slice_get stored block ≡ slice_get blocks block) → FilesFit areas pages stored count
+  files_fit_unused stored n long same = record {
+    near = fit.near;
+    alone = fit.alone;
+    kept = λ b p e clean. same b (inl (get_within pages b p e)) ∙ fit.kept b p e clean;
+    device = long ∙ fit.device;
+    used = fit.used;
+    few = fit.few;
+  }
+
+-- no file, no area
+pub files_fit_new : (areas : ℕ → Option AreaPages) (pages : List FilePage) (blocks : List Page) (count : ℕ) → areas ≡ no_area → pages ≡ [] → length blocks ≡ count → count < 2 ^ 32 → FilesFit areas pages blocks count
+files_fit_new areas pages blocks count none empty long few = record {
+  near = λ a i b e. (let bad : None ≡ Some b = sym (ap (λ f. block_at (f a) i) none) ∙ e in cc);
+  alone = λ a i b j block e f. (let bad : None ≡ Some block = sym (ap (λ g. block_at (g a) i) none) ∙ e in cc);
+  kept = λ b p e clean. (let bad : None ≡ Some p = sym (ap (λ ps. slice_get ps b) empty) ∙ e in cc);
+  device = long;
+  used = let n = ap length empty in omega (arith, n);
+  few = few;
+}
+
+pub files_fit_same : (areas after : ℕ → Option AreaPages) (pages late : List FilePage) (blocks : List Page) (count : ℕ) → after ≡ areas → late ≡ pages → FilesFit areas pages blocks count → FilesFit after late blocks count
+files_fit_same areas after pages late blocks count same alike fit =
+    subst (λ ps. FilesFit after ps blocks count) (sym alike) (subst (λ f. FilesFit f pages blocks count) (sym same) fit)
+
+-- ---- the machine
+
+pub more_slots : (m : MachineOf) (f s d b n : ℕ) → IsMachine m → f ≡ m.frames → s ≡ m.slots → d ≡ m.depth → b ≡ m.blocks → m.slots + n ≤ 262144 → IsMachine (record { frames = f; slots = s + n; depth = d; blocks = b })
+more_slots m f s d b n is ef es ed eb most = record {
+  least_frames = omega (arith, is.least_frames, ef);
+  most_frames = omega (arith, is.most_frames, ef);
+  most_slots = omega (arith, most, es);
+  least_depth = omega (arith, is.least_depth, ed);
+  most_depth = omega (arith, is.most_depth, ed);
+  most_blocks = omega (arith, is.most_blocks, eb);
+  enough_frames = omega (arith, is.enough_frames, ed, ef);
+}

@@ -1,17 +1,39 @@
 -- What an unpaged store shows, out of what it holds.
-use Rattle.std.specs.Prelude.{Option}
+use Rattle.std.specs.Prelude.{◌+◌, length, Option}
 use Rattle.mm_types.specs.declared.numbers.Key.{Key}
+use Rattle.mm_blocks.specs.declared.Blocks.{Ghosts as DeviceGhosts}
 use Rattle.mm_world.specs.World.{Page}
+use Rattle.mm_pages.specs.Devices.{no_device}
 use Rattle.mm_pages.specs.Store.{StoreOf}
 use Rattle.mm_plain.specs.declared.plain.Plain.{Plain}
+use Rattle.mm_plain.specs.Areas.{area_in, count_in}
+use Rattle.mm_plain.specs.Files.{device_with}
 use Rattle.mm_plain.specs.Places.{bound_in, names_in, pages_at, pages_in}
 use Rattle.mm_plain.specs.Processes.{is_open_in}
-use Rattle.mm_plain.specs.Shown.{contents_of, unpaged_store}
+use Rattle.mm_plain.specs.Shown.{contents_of, paging_of, blocks_of, sizes_of, ready_at, unpaged_report}
 
-abbrev pub contents_in : Plain → Key → Option Page
-contents_in s = contents_of (pages_at s.places)
+module _ {F : Type 0} {d : DeviceGhosts F} where
+  abbrev pub contents_in : Plain F d → Key → Option Page
+  contents_in s = contents_of (pages_at s.places) (area_in s.areas) s.file_pages.pages.items
 
-abbrev pub store_in : Plain → StoreOf
-store_in s =
-    unpaged_store (record s.machine { slots = s.slots }) (is_open_in s.processes) (bound_in s.places) (names_in s.places)
-    (contents_in s) (pages_in s.places) s.stock.room s.line s.kind s.last_pid
+  abbrev pub store_in : Plain F d → StoreOf
+  store_in s = record {
+    machine = s.machine;
+    is_open = is_open_in s.processes;
+    areas = sizes_of (area_in s.areas);
+    bound = bound_in s.places;
+    names = names_in s.places;
+    paging = paging_of (pages_at s.places) (area_in s.areas);
+    paging_keys = pages_in s.places + count_in s.areas;
+    room = s.stock.room;
+    block_of = blocks_of (area_in s.areas);
+    blocks_used = length s.file_pages.pages.items;
+    file_blocks = d.blocks s.files;
+    line = s.line;
+    kind = s.kind;
+    last_pid = s.last_pid;
+    ready = ready_at s.ready;
+    report = unpaged_report s.writes (contents_in s);
+    paging_device = no_device;
+    file_device = device_with (d.log s.files) (d.named s.files) (d.faults s.files);
+  }

@@ -1,63 +1,64 @@
 -- The parts of what an unpaged store shows.
-use Rattle.std.specs.Prelude.{ℕ, Bool, false, is_some, [], Option, None, option_map}
+use Rattle.std.specs.Prelude.{ℕ, Bool, is_some, List, Option, None, Some, slice_get, option_map}
 use Rattle.mm_types.specs.declared.answers.Counts.{Counts}
 use Rattle.mm_types.specs.declared.answers.Wait.TheVariants as wait
-use Rattle.mm_types.specs.declared.moves.LineKind.{LineKind}
 use Rattle.mm_types.specs.declared.numbers.Key.{Key}
 use Rattle.mm_types.specs.declared.numbers.Key.TheVariants as key
 use Rattle.mm_types.specs.declared.numbers.Place.{Place}
-use Rattle.mm_types.specs.Machine.{MachineOf}
 use Rattle.mm_world.specs.World.{Page}
-use Rattle.mm_world.specs.Report.{Report, InFrame}
-use Rattle.mm_pages.specs.Devices.{no_device}
+use Rattle.mm_world.specs.Report.{Report, Tally, Whereabouts, InFrame}
+use Rattle.mm_pages.specs.Conditions.{touch}
 use Rattle.mm_pages.specs.Reports.{no_calls}
-use Rattle.mm_pages.specs.Store.{StoreOf}
+use Rattle.mm_pages.specs.Store.{Ready, own_key}
+use Rattle.mm_plain.specs.declared.areas.AreaPages.{AreaPages}
+use Rattle.mm_plain.specs.declared.file_pages.FilePage.{FilePage}
+use Rattle.mm_plain.specs.Areas.{size_of, page_at, block_at}
+use Rattle.mm_plain.specs.Files.{page_of}
 
--- the page of a private key stands at its own place; there are no shared keys
-abbrev pub contents_of : (Place → Option Page) → Key → Option Page
-contents_of pages (key.Private pid vpn) = pages (record { pid = pid; vpn = vpn })
-contents_of pages (key.Shared area index) = None
+-- the page of a file stands by its block, any other page of an area with the area
+abbrev pub shared_page : List FilePage → Option ℕ → Option Page → Option Page
+shared_page files None page = page
+shared_page files (Some block) page = page_of (slice_get files block)
 
-abbrev pub live_keys : (Key → Option Page) → Key → Bool
-live_keys contents k = is_some (contents k)
+-- the page of a private key stands at its own place
+abbrev pub contents_of : (Place → Option Page) → (ℕ → Option AreaPages) → List FilePage → Key → Option Page
+contents_of places areas files (key.Private pid vpn) = places (record { pid = pid; vpn = vpn })
+contents_of places areas files (key.Shared area index) = shared_page files (block_at (areas area.0) index) (page_at (areas area.0) index)
+
+-- the live keys that no file has
+abbrev pub paging_of : (Place → Option Page) → (ℕ → Option AreaPages) → Key → Bool
+paging_of places areas (key.Private pid vpn) = is_some (places (record { pid = pid; vpn = vpn }))
+paging_of places areas (key.Shared area index) = is_some (page_at (areas area.0) index)
+
+abbrev pub blocks_of : (ℕ → Option AreaPages) → Key → Option ℕ
+blocks_of areas (key.Private pid vpn) = None
+blocks_of areas (key.Shared area index) = block_at (areas area.0) index
+
+abbrev pub sizes_of : (ℕ → Option AreaPages) → ℕ → Option ℕ
+sizes_of areas area = size_of (areas area)
+
+-- what is ready is the place's own key
+abbrev pub ready_at : Option Place → Option Ready
+ready_at None = None
+ready_at (Some place) = Some (record { place = place; need = touch (own_key place) })
 
 abbrev pub no_counts : Counts
 no_counts = record { zeroed = 0; free = 0; standby = 0; modified = 0; active = 0; transition = 0; free_slots = 0; requests = 0 }
 
--- no device was called, nothing is counted, each live key has its page at hand, and no thread waits
-abbrev pub unpaged_report : (Key → Option Page) → Report
-unpaged_report contents = record {
+abbrev pub whereabouts_of : (Key → Option Page) → Key → Option Whereabouts
+whereabouts_of contents k = option_map (λ _. InFrame) (contents k)
+
+-- the file device was called in writing alone; nothing is counted, each live key has its page at hand, and no thread waits
+abbrev pub unpaged_report : Tally → (Key → Option Page) → Report
+unpaged_report writes contents = record {
   paging_reads = no_calls;
   paging_writes = no_calls;
   file_reads = no_calls;
-  file_writes = no_calls;
+  file_writes = writes;
   last_failed_read = None;
-  search_writes = no_calls;
+  search_writes = writes;
   counts = no_counts;
-  whereabouts = λ k. option_map (λ _. InFrame) (contents k);
+  whereabouts = whereabouts_of contents;
   wait = λ _. wait.None;
   extended = None;
-}
-
--- a store without areas, files and devices
-abbrev pub unpaged_store : MachineOf → (ℕ → Bool) → (Place → Bool) → (Place → Option Key) → (Key → Option Page) → ℕ → ℕ → ℕ → LineKind → ℕ → StoreOf
-unpaged_store machine is_open bound names contents keys room line kind last_pid = record {
-  machine = machine;
-  is_open = is_open;
-  areas = λ _. None;
-  bound = bound;
-  names = names;
-  paging = live_keys contents;
-  paging_keys = keys;
-  room = room;
-  block_of = λ _. None;
-  used = λ _. false;
-  file_blocks = [];
-  line = line;
-  kind = kind;
-  last_pid = last_pid;
-  ready = None;
-  report = unpaged_report contents;
-  paging_device = no_device;
-  file_device = no_device;
 }

@@ -39,12 +39,12 @@ fn get_bytes(bytes: &[u8], at: usize, out: &mut [u8])
 }
 
 impl PageBox {
-    /// A page of zeros.
+    /// A page of which each byte is this one.
     #[tactic(auto, unfolding(mm_world::specs::World::filled))]
-    pub(crate) fn zeroed(alloc: Global) -> Result<PageBox, NoMemory>
-        ensures { IfOk result (λ page. page ≡ filled 0) }
+    pub(crate) fn filled(alloc: Global, byte: u8) -> Result<PageBox, NoMemory>
+        ensures { IfOk result (λ page. page ≡ filled byte) }
     {
-        let bytes = Box::new(alloc, [0; 4096])?;
+        let bytes = Box::new(alloc, [byte; 4096])?;
         Ok(PageBox { bytes })
     }
 
@@ -54,6 +54,20 @@ impl PageBox {
         ensures { self.new ≡ filled 0 }
     {
         *self.bytes = [0; 4096];
+    }
+
+    /// The page holds the bytes of another from now on.
+    pub(crate) fn copy_from(&mut self, from: &PageBox)
+        ensures { self.new ≡ from.now }
+    {
+        *self.bytes = *from.bytes;
+    }
+
+    /// All its bytes.
+    pub(crate) fn bytes(&self) -> &[u8; 4096]
+        ensures { result.now ≡ self.now }
+    {
+        &*self.bytes
     }
 
     /// Reads bytes from `off` on.

@@ -1,4 +1,4 @@
-ghost use Rattle.std.specs.Prelude.{◌≡◌, ◌+◌, ◌<◌, ◌≤◌, ◌^◌, ℕ, Option, Some, None, true, false, IsSome, OnOk, OnErr, length, take, drop, unwrap_or};
+ghost use Rattle.std.specs.Prelude.{◌≡◌, ◌+◌, ◌<◌, ◌≤◌, ◌^◌, ℕ, Option, Some, None, true, false, IsSome, OnOk, OnErr, length, unwrap_or};
 ghost use Rattle.std.specs.HashMap.{spare};
 ghost use Rattle.mm_world.specs.World.{filled};
 ghost use Rattle.mm_world.specs.Access.{written};
@@ -188,11 +188,10 @@ impl Places {
         page
     }
 
-    /// Reads bytes of the page of a place from `off` on.
-    pub(crate) fn read(&self, place: Place, off: u16, out: &mut [u8])
-        requires live { IsSome (pages_at self.now place) }
-        requires inside { off + length out.old ≤ 4096 }
-        ensures { out.new ≡ take (length out.old) (drop off (unwrap_or (pages_at self.now place) (filled 0))) }
+    /// The page of a place.
+    pub(crate) fn page(&self, place: Place) -> &PageBox
+        requires { IsSome (pages_at self.now place) }
+        ensures { pages_at self.now place ≡ Some result.now }
     {
         let Some(here) = self.map.get(&place) else {
             unreachable!()
@@ -200,7 +199,7 @@ impl Places {
         let Some(page) = &here.page else {
             unreachable!()
         };
-        page.read(off, out);
+        page
     }
 
     /// Writes bytes of the page of a place from `off` on.

@@ -1,31 +1,56 @@
-ghost use Rattle.std.specs.Prelude.{◌≡◌, [], true, IsOk, IfOk};
-ghost use Rattle.mm_types.specs.Outside.{NoLoan};
+ghost use Rattle.std.specs.Prelude.{◌≡◌, ◌+◌, ◌≤◌, ◌<◌, ◌^◌, ℕ, [], true, false, None, Some, IsOk, IsSome, IfOk, IfErr, OnOk, length, unwrap_or, vec_len, vec_capacity};
+ghost use Rattle.mm_types.specs.declared.numbers.Key.TheVariants.{Private, Shared};
+ghost use Rattle.mm_types.specs.Machine.{IsMachine};
+ghost use Rattle.mm_world.specs.World.{filled};
+ghost use Rattle.mm_world.specs.Access.{written};
+ghost use Rattle.mm_world.specs.Failure.{same_key};
 ghost use Rattle.mm_pages.specs.Conditions.{IsNew, pid_after};
 ghost use Rattle.mm_pages.specs.Devices.{no_device};
-ghost use Rattle.mm_plain.specs.Fitting.{Fits};
+ghost use Rattle.mm_pages.specs.Reports.{begun};
+ghost use Rattle.mm_pages.specs.Store.{changed, same_place};
+ghost use Rattle.mm_plain.specs.Areas.{area_in, block_at, page_at, count_in};
+ghost use Rattle.mm_plain.specs.Files.{IsMade};
+ghost use Rattle.mm_plain.specs.Fitting.{Fits, FilesFit};
+ghost use Rattle.mm_plain.specs.Shown.{shared_page};
 
+use crate::areas::Areas;
+use crate::boxes::PageBox;
+use crate::file_pages::FilePages;
 use crate::places::Places;
 use crate::processes::Processes;
 use crate::stock::Stock;
+use crate::writes::{Writes, write_block, write_file};
+use mm_blocks::Inject;
 use mm_pages::Pages;
-use mm_types::{GrowFault, Key, LineKind, Machine, NoMemory, PageFault, Pid, Place, Vpn};
+use mm_types::{
+    Area, Block, Device, Direction, GrowFault, Key, LineKind, Machine, MakeFault, NoMemory,
+    PageFault, Pid, Place, Unmade, Vpn, WriteFault,
+};
 use std::alloc::Global;
 
 /// A store that pages nothing: the page of each live key is in a box of its own.
 ///
-/// It calls no device, never waits, and its counts are all 0. It has no areas yet, so its keys are private ones.
+/// It never waits, and its counts are all 0. It calls a device of blocks for files alone, and only in writing: when a file
+/// is made, and when a page that was changed is flushed.
 #[derive(Drop)]
-pub struct Plain {
+pub struct Plain<F: Inject> {
+    alloc: Global,
     places: Places,
+    areas: Areas,
+    file_pages: FilePages,
     stock: Stock,
     processes: Processes,
-    // As it was given; the slots that there are now stand beside it.
+    files: F,
+    writes: Writes,
+    ready: Option<Place>,
+    // With the slots that there are now.
     machine: Machine,
-    slots: u32,
     line: u32,
     kind: LineKind,
     last_pid: u8,
-    ghost fits: { Fits places stock },
+    ghost fits: { Fits places areas stock },
+    ghost files_fit: { FilesFit (area_in areas) file_pages.pages.items (F.Blocks.blocks files) machine.blocks },
+    ghost numbers: { IsMachine machine },
 }
 
 /// The last pid that a `process` line had, after a line of this kind.
@@ -38,44 +63,164 @@ fn pid_after(last: u8, kind: LineKind) -> u8
     }
 }
 
-impl Plain {
-    ghost use Rattle.mm_plain.specs.Plain.{contents_in, store_in};
-
-    /// A new store of this machine, in line 1, with no process, no bound place and no key. It takes no memory yet.
-    pub fn new(alloc: Global, machine: Machine) -> Result<Plain, NoMemory>
-        ensures new { IfOk result (λ s. IsNew machine (contents_in s) (store_in s)) }
-        ensures no_room { IfOk result (λ s. (store_in s).room ≡ 0) }
-        ensures no_block { IfOk result (λ s. (store_in s).file_blocks ≡ []) }
-        ensures no_paging_device { IfOk result (λ s. (store_in s).paging_device ≡ no_device) }
-        ensures no_file_device { IfOk result (λ s. (store_in s).file_device ≡ no_device) }
-        ensures ok { IsOk result }
-    {
-        Ok(Plain {
-            places: Places::new(alloc),
-            stock: Stock::new(alloc),
-            processes: Processes::new(),
-            machine,
-            slots: machine.slots(),
-            line: 1,
-            kind: LineKind::Machine(
-                machine.frames(),
-                machine.slots(),
-                machine.depth(),
-                machine.blocks(),
-            ),
-            last_pid: 0,
-        })
+/// The page of a live key of an area.
+fn shared_page<'a>(areas: &'a Areas, files: &'a FilePages, area: Area, index: u32) -> &'a PageBox
+    requires near { (block : ℕ) → block_at (area_in areas.now area.0) index ≡ Some block → block < length files.now.pages.items }
+    requires few { length files.now.pages.items < 2 ^ 32 }
+    requires live { IsSome (shared_page files.now.pages.items (block_at (area_in areas.now area.0) index) (page_at (area_in areas.now area.0) index)) }
+    ensures { shared_page files.now.pages.items (block_at (area_in areas.now area.0) index) (page_at (area_in areas.now area.0) index) ≡ Some result.now }
+{
+    match areas.block(area, index) {
+        Some(block) => files.page(block),
+        None => areas.page(area, index),
     }
 }
 
-impl Pages for Plain {
+/// Takes all memory that a new file of `n` pages wants: its pages, room for them, and a place for its area.
+fn prepare_file(
+    alloc: Global,
+    areas: &mut Areas,
+    files: &mut FilePages,
+    area: Area,
+    n: u32,
+    byte: u8,
+) -> Result<FilePages, NoMemory>
+    requires { area.0 < 2 ^ 28 }
+    ensures areas { area_in areas.new ≡ area_in areas.old }
+    ensures count { count_in areas.new ≡ count_in areas.old }
+    ensures files { files.new.pages.items ≡ files.old.pages.items }
+    ensures place { OnOk result (area.0 < vec_len areas.new.areas) }
+    ensures room { OnOk result (length files.new.pages.items + n ≤ vec_capacity files.new.pages) }
+    ensures made { IfOk result (λ made. IsMade made.pages.items n byte) }
+{
+    let made = FilePages::made(alloc, n, byte)?;
+    areas.make_place(area)?;
+    files.reserve(n)?;
+    Ok(made)
+}
+
+impl<F: Inject> Plain<F> {
+    ghost use Rattle.mm_plain.specs.Plain.{contents_in, store_in};
+
+    /// A new store of this machine, in line 1, with no process, no bound place, no key and no file, over a file device that
+    /// was opened with the machine's blocks and names no call. It takes no memory yet.
+    pub fn new(alloc: Global, machine: Machine, files: F) -> Result<Plain<F>, Unmade<F>>
+        requires opened { length (F.Blocks.blocks files) ≡ machine.blocks }
+        requires plain { F.Blocks.named files ≡ [] }
+        ensures new { IfOk result (λ s. IsNew machine (contents_in s) (store_in s)) }
+        ensures no_room { IfOk result (λ s. (store_in s).room ≡ 0) }
+        ensures device { IfOk result (λ s. s.files ≡ files) }
+        ensures no_paging_device { IfOk result (λ s. (store_in s).paging_device ≡ no_device) }
+        ensures err { IfErr result (λ e. e.back ≡ files) }
+        ensures ok { IsOk result }
+    {
+        let blocks = machine.blocks();
+        Ok(Plain {
+            alloc,
+            places: Places::new(alloc),
+            areas: Areas::new(alloc),
+            file_pages: FilePages::new(alloc),
+            stock: Stock::new(alloc),
+            processes: Processes::new(),
+            files,
+            writes: Writes::none(),
+            ready: None,
+            machine,
+            line: 1,
+            kind: LineKind::Machine(machine.frames(), machine.slots(), machine.depth(), blocks),
+            last_pid: 0,
+        })
+    }
+
+    /// Gives the device back as it stands.
+    pub fn finish(self) -> F
+        ensures { result ≡ self.files }
+    {
+        let Plain { files, .. } = self;
+        files
+    }
+
+    /// A line begins: nothing is ready, and no device call of it was made.
+    fn begin(&mut self, line: u32, kind: LineKind)
+        ensures contents { contents_in self.new ≡ contents_in self.old }
+        ensures store { store_in self.new ≡ record (store_in self.old) { line = line; kind = kind; ready = None; report = begun (store_in self.old).report } }
+        ensures files { self.new.files ≡ self.old.files }
+    {
+        self.line = line;
+        self.kind = kind;
+        self.ready = None;
+        self.writes = Writes::none();
+    }
+
+    /// The page of a live key.
+    fn page(&self, key: Key) -> &PageBox
+        requires { IsSome (contents_in self.now key) }
+        ensures { contents_in self.now key ≡ Some result.now }
+    {
+        match key {
+            Key::Private(pid, vpn) => self.places.page(Place { pid, vpn }),
+            Key::Shared(area, index) => shared_page(&self.areas, &self.file_pages, area, index),
+        }
+    }
+
+    /// Writes bytes from `off` on into the page of a live key of an area.
+    fn write_shared(&mut self, area: Area, index: u32, off: u16, bytes: &[u8])
+        requires live { IsSome (contents_in self.old (Shared area index)) }
+        requires inside { off + length bytes.now ≤ 4096 }
+        ensures contents { contents_in self.new ≡ changed same_key (contents_in self.old) (Shared area index) (Some (written (unwrap_or (contents_in self.old (Shared area index)) (filled 0)) off bytes.now)) }
+        ensures store { store_in self.new ≡ store_in self.old }
+        ensures files { self.new.files ≡ self.old.files }
+    {
+        match self.areas.block(area, index) {
+            Some(block) => self.file_pages.write(block, off, bytes),
+            None => self.areas.write(area, index, off, bytes),
+        }
+    }
+
+    /// Writes bytes from `off` on into the page of a live key.
+    fn write_page(&mut self, key: Key, off: u16, bytes: &[u8])
+        requires live { IsSome (contents_in self.old key) }
+        requires inside { off + length bytes.now ≤ 4096 }
+        ensures contents { contents_in self.new ≡ changed same_key (contents_in self.old) key (Some (written (unwrap_or (contents_in self.old key) (filled 0)) off bytes.now)) }
+        ensures store { store_in self.new ≡ store_in self.old }
+        ensures files { self.new.files ≡ self.old.files }
+    {
+        match key {
+            Key::Private(pid, vpn) => self.write_private(pid, vpn, off, bytes),
+            Key::Shared(area, index) => self.write_shared(area, index, off, bytes),
+        }
+    }
+
+    /// A bound place names this key from now on.
+    fn name_place(&mut self, place: Place, key: Key)
+        requires { (store_in self.old).bound place ≡ true }
+        ensures contents { contents_in self.new ≡ contents_in self.old }
+        ensures store { store_in self.new ≡ record (store_in self.old) { names = changed same_place (store_in self.old).names place (Some key) } }
+        ensures files { self.new.files ≡ self.old.files }
+    {
+        self.places.name(place, key);
+    }
+
+    /// Writes bytes from `off` on into the page of a live private key.
+    fn write_private(&mut self, pid: Pid, vpn: Vpn, off: u16, bytes: &[u8])
+        requires live { IsSome (contents_in self.old (Private pid vpn)) }
+        requires inside { off + length bytes.now ≤ 4096 }
+        ensures contents { contents_in self.new ≡ changed same_key (contents_in self.old) (Private pid vpn) (Some (written (unwrap_or (contents_in self.old (Private pid vpn)) (filled 0)) off bytes.now)) }
+        ensures store { store_in self.new ≡ store_in self.old }
+        ensures files { self.new.files ≡ self.old.files }
+    {
+        self.places.write(Place { pid, vpn }, off, bytes);
+    }
+}
+
+impl<F: Inject> Pages for Plain<F> {
     ghost use Rattle.mm_plain.specs.Plain.{contents_in, store_in};
 
     ghost contents = { λ s. contents_in s };
 
     ghost store = { λ s. store_in s };
 
-    ghost loans = { λ _. NoLoan };
+    ghost loans = { λ s. F.Blocks.loans s.files };
 
     ghost unpaged = { true };
 
@@ -100,50 +245,127 @@ impl Pages for Plain {
         self.stock.reserve(total)
     }
 
-    fn add(&mut self, key: Key) {
-        let Key::Private(pid, vpn) = key else {
-            unreachable!()
+    fn open_area(&mut self, area: Area, n: u32) -> Result<(), NoMemory> {
+        self.areas.open(self.alloc, area, n)
+    }
+
+    fn close_area(&mut self, area: Area) {
+        self.areas.close(area);
+    }
+
+    fn make_file(&mut self, area: Area, first: Block, n: u32, byte: u8) -> Result<(), MakeFault> {
+        let Ok(made) = prepare_file(
+            self.alloc,
+            &mut self.areas,
+            &mut self.file_pages,
+            area,
+            n,
+            byte,
+        ) else {
+            return Err(MakeFault::Memory);
         };
+        let Ok(()) = write_file(&mut self.files, &mut self.writes, first.0, n, &made) else {
+            return Err(MakeFault::Write);
+        };
+        self.file_pages.append(made);
+        self.areas.open_file(area, first.0, n);
+        Ok(())
+    }
+
+    fn add(&mut self, key: Key) {
         let page = self.stock.take();
-        self.places.put(Place { pid, vpn }, page);
+        match key {
+            Key::Private(pid, vpn) => self.places.put(Place { pid, vpn }, page),
+            Key::Shared(area, index) => self.areas.put(area, index, page),
+        }
     }
 
     fn remove(&mut self, key: Key) {
-        let Key::Private(pid, vpn) = key else {
-            unreachable!()
-        };
-        let page = self.places.take(Place { pid, vpn });
-        self.stock.put(page);
+        match key {
+            Key::Private(pid, vpn) => {
+                let page = self.places.take(Place { pid, vpn });
+                self.stock.put(page);
+            }
+            Key::Shared(area, index) => {
+                let page = self.areas.take(area, index);
+                self.stock.put(page);
+            }
+        }
     }
 
     fn read(&mut self, place: Place, key: Key, off: u16, out: &mut [u8]) -> Result<(), PageFault> {
-        let Key::Private(pid, vpn) = key else {
-            unreachable!()
-        };
-        self.places.read(Place { pid, vpn }, off, out);
-        self.places.name(place, key);
+        self.page(key).read(off, out);
+        self.name_place(place, key);
         Ok(())
     }
 
     fn write(&mut self, place: Place, key: Key, off: u16, bytes: &[u8]) -> Result<(), PageFault> {
-        let Key::Private(pid, vpn) = key else {
-            unreachable!()
-        };
-        self.places.write(Place { pid, vpn }, off, bytes);
-        self.places.name(place, key);
+        self.write_page(key, off, bytes);
+        self.name_place(place, key);
         Ok(())
     }
 
+    fn copy(&mut self, place: Place, from: Key, to: Key) -> Result<(), PageFault> {
+        let Key::Shared(area, index) = from else {
+            unreachable!()
+        };
+        let mut page = self.stock.take();
+        page.copy_from(shared_page(&self.areas, &self.file_pages, area, index));
+        self.places.put(place, page);
+        self.places.name(place, to);
+        self.ready = Some(place);
+        Ok(())
+    }
+
+    fn flush(&mut self, key: Key) -> Result<(), WriteFault> {
+        let Key::Shared(area, index) = key else {
+            unreachable!()
+        };
+        let Some(block) = self.areas.block(area, index) else {
+            unreachable!()
+        };
+        if !self.file_pages.is_changed(block) {
+            return Ok(());
+        }
+        let Ok(()) = write_block(
+            &mut self.files,
+            &mut self.writes,
+            block,
+            self.file_pages.page(block),
+        ) else {
+            return Err(WriteFault);
+        };
+        self.file_pages.settle(block);
+        Ok(())
+    }
+
+    fn trim(&mut self, _pid: Pid, _n: u32) {}
+
+    fn age(&mut self, _pid: Pid) {}
+
+    fn zero(&mut self, _n: u32) {}
+
+    fn fail(&mut self, device: Device, direction: Direction, k: u32, n: u32) {
+        match device {
+            Device::File => self.files.name_calls(direction, k, n),
+            Device::Paging => {}
+        }
+    }
+
     fn line(&mut self, line: u32, kind: LineKind) {
-        self.line = line;
-        self.kind = kind;
         self.last_pid = pid_after(self.last_pid, kind);
+        self.begin(line, kind);
     }
 
     fn grow(&mut self, line: u32, n: u32) -> Result<(), GrowFault> {
-        self.slots += n;
-        self.line = line;
-        self.kind = LineKind::Grow(n);
+        let machine = self.machine;
+        self.machine = Machine::new(
+            machine.frames(),
+            machine.slots() + n,
+            machine.depth(),
+            machine.blocks(),
+        );
+        self.begin(line, LineKind::Grow(n));
         Ok(())
     }
 }

@@ -53,7 +53,7 @@ impl Stock {
         let missing = total as usize - self.boxes.len();
         self.boxes.reserve(missing)?;
         while self.room < total {
-            let page = PageBox::zeroed(self.alloc)?;
+            let page = PageBox::filled(self.alloc, 0)?;
             self.boxes.push(page)?;
             self.room += 1;
         }

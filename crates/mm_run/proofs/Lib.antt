@@ -3,4 +3,6 @@ pub mod Scripts
 pub mod Stops
 pub mod Stories
 pub mod Words
-pub mod Worlds
+pub mod Failures
+pub mod Firsts
+pub mod Devices

@@ -10,6 +10,7 @@ use Rattle.mm_run.specs.declared.endings.Ending.{Ending}
 use Rattle.mm_run.specs.declared.endings.Ending.TheVariants as ending
 use Rattle.mm_run.specs.Built.{is_built}
 use Rattle.mm_run.specs.Reading.{reading}
+use Rattle.mm_run.specs.Scenes.{Stage}
 use Rattle.mm_run.specs.Texts.{status_of, last_text}
 use Rattle.mm_run.specs.Story.{Each, Settles, IsBad, IsOpen, IsUnbuilt, Ran, outside}
 use Rattle.mm_run.specs.Script.{IsVerdict, IsScript, IsFault, IsComplete}
@@ -72,6 +73,7 @@ goes_on n l r front more ending.NoMemory event few line p b v s q = v
 goes_on n l r front more ending.Usage event few line p b v s q = v
 goes_on n l r front more ending.ReadFault event few line p b v s q = v
 goes_on n l r front more ending.OutFault event few line p b v s q = v
+goes_on n l r front more ending.SetupFault event few line p b v s q = v
 
 bad_and_long : (n : ℕ) (front more front' more' : Text) (column : ℕ) → front ++ more ≡ front' ++ more' → n < 1000000 → IsBad n front column ⊎ IsOpen n front more (Some []) column
     → ((length front' ≡ 257) × NoFeed front') ⊎ ((n ≡ 1000000) × (length front' ≡ 1)) → ⊥
@@ -156,10 +158,12 @@ one_ending n x y x' y' ending.NoMemory f q v w s t = absurd v
 one_ending n x y x' y' ending.Usage f q v w s t = absurd v
 one_ending n x y x' y' ending.ReadFault f q v w s t = absurd v
 one_ending n x y x' y' ending.OutFault f q v w s t = absurd v
+one_ending n x y x' y' ending.SetupFault f q v w s t = absurd v
 one_ending n x y x' y' e ending.NoMemory q v w s t = absurd w
 one_ending n x y x' y' e ending.Usage q v w s t = absurd w
 one_ending n x y x' y' e ending.ReadFault q v w s t = absurd w
 one_ending n x y x' y' e ending.OutFault q v w s t = absurd w
+one_ending n x y x' y' e ending.SetupFault q v w s t = absurd w
 
 -- From n decided lines on there is one reading.
 one_from : (n : ℕ) (ls ks : List Text) (es gs : List Event) (x y x' y' : Text) (e f : Ending)
@@ -206,10 +210,11 @@ settles_all n x y rest ending.NoMemory v s = absurd v
 settles_all n x y rest ending.Usage v s = absurd v
 settles_all n x y rest ending.ReadFault v s = absurd v
 settles_all n x y rest ending.OutFault v s = absurd v
+settles_all n x y rest ending.SetupFault v s = absurd v
 
 -- a run that is a verdict is over the script
-module _ (text : Text) (t t' : Option Text) (form : Type 0) (status : ℕ) where
-  script_of : (left' : Option Text) (ran : Ran (outside (Some text) t) (outside left' t') form status) → IsVerdict ran.e → IsScript text 0 ran.decided.lines ran.e
+module _ (text : Text) (t t' : Option Text) (begun : Stage) (At : Stage → Type 0) (rose form : Type 0) (status : ℕ) where
+  script_of : (left' : Option Text) (ran : Ran (outside (Some text) t) (outside left' t') begun At rose form status) → IsVerdict ran.e → IsScript text 0 ran.decided.lines ran.e
   script_of None ran v = absurd ran.decided.read
   script_of (Some rest) ran v =
       let d = ran.decided in
@@ -232,11 +237,12 @@ module _ (text : Text) (t t' : Option Text) (form : Type 0) (status : ℕ) where
   verdict_or ending.NoMemory u = inr (inl refl)
   verdict_or ending.Usage u = absurd (u refl)
   verdict_or ending.ReadFault u = inr (inr (inl refl))
-  verdict_or ending.OutFault u = inr (inr (inr refl))
+  verdict_or ending.OutFault u = inr (inr (inr (inl refl)))
+  verdict_or ending.SetupFault u = inr (inr (inr (inr refl)))
 
-  pub exact : (left' : Option Text) → Ran (outside (Some text) t) (outside left' t') form status → form → (lines : List Text) (e : Ending) → IsScript text 0 lines e → IsComplete t t' lines e status ⊎ IsFault status
+  pub exact : (left' : Option Text) → Ran (outside (Some text) t) (outside left' t') begun At rose form status → form → (lines : List Text) (e : Ending) → IsScript text 0 lines e → IsComplete t t' begun rose lines e status ⊎ IsFault status
   exact left' ran words lines e script = elim ran.ends [
-    | inr torn ↦ inr (inr (inr torn.0))
+    | inr torn ↦ inr (inr (inr (inl torn.0)))
     | inl whole ↦ elim (verdict_or ran.e (ran.is_form words)) [
       | inr fault ↦ inr (subst IsFault (sym whole.0) fault)
       | inl verdict ↦ (
@@ -248,14 +254,15 @@ module _ (text : Text) (t t' : Option Text) (form : Type 0) (status : ℕ) where
             status_is = whole.0 ∙ ap status_of one.1;
             each = subst (λ (ls : List Text). Each 0 ls ran.decided.events) one.0 ran.decided.each;
             answered = ran.decided.answered;
+            faultless = ran.faultless;
             wrote = subst (λ (ws : Text). Appended t t' ws) (whole.2 ∙ ap (λ (f : Ending). spelled ran.answers ++ last_text f) one.1) ran.wrote;
           }))
     ]
   ]
 
-  pub usage : (left left' : Option Text) → Ran (outside left t) (outside left' t') form status → (form → ⊥) → (status ≡ 2) ⊎ IsFault status
+  pub usage : (left left' : Option Text) → Ran (outside left t) (outside left' t') begun At rose form status → (form → ⊥) → (status ≡ 2) ⊎ IsFault status
   usage left left' ran no_words = elim ran.ends [
-    | inr torn ↦ inr (inr (inr torn.0))
+    | inr torn ↦ inr (inr (inr (inl torn.0)))
     | inl whole ↦ inl (whole.0 ∙ ap status_of (ran.no_form no_words))
   ]
 
@@ -268,8 +275,9 @@ module _ (text : Text) (t t' : Option Text) (form : Type 0) (status : ℕ) where
   usage_only ending.NoMemory q = absurd (omega arith)
   usage_only ending.ReadFault q = absurd (omega arith)
   usage_only ending.OutFault q = absurd (omega arith)
+  usage_only ending.SetupFault q = absurd (omega arith)
 
-  pub not_usage : (left left' : Option Text) → Ran (outside left t) (outside left' t') form status → form → status ≢ 2
+  pub not_usage : (left left' : Option Text) → Ran (outside left t) (outside left' t') begun At rose form status → form → status ≢ 2
   not_usage left left' ran words two = elim ran.ends [
     | inr torn ↦ (let five = torn.0 in omega arith)
     | inl whole ↦ ran.is_form words (usage_only ran.e (sym whole.0 ∙ two))

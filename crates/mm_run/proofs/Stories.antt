@@ -9,7 +9,7 @@ use Rattle.mm_lines.specs.Lines.{ended, joined}
 use Rattle.mm_lines.specs.Filling.{Filled}
 use Rattle.mm_types.specs.declared.events.Event.{Event}
 use Rattle.mm_types.specs.declared.answers.Answer.{Answer}
-use Rattle.mm_world.specs.World.{World}
+use Rattle.mm_run.specs.Scenes.{Stage}
 use Rattle.mm_run.specs.declared.endings.Ending.{Ending}
 use Rattle.mm_run.specs.declared.endings.Ending.TheVariants as ending
 use Rattle.mm_run.specs.Steps.{Run}
@@ -44,8 +44,8 @@ each_then n (l ∷ ls) ks (e ∷ es) fs u v =
     let next : n + suc (length ls) ≡ suc n + length ls = omega arith in
     (u.0, u.1, u.2, u.3, each_then (suc n) ls ks es fs u.4 (subst (λ (m : ℕ). Each m ks fs) next v))
 
-pub run_then : (es fs : List Event) (xs ys : List Answer) (i j k : Option World) → Run i es xs j → Run j fs ys k → Run i (es ++ fs) (xs ++ ys) k
-run_then [] fs [] ys i j k u v = subst (λ (m : Option World). Run m fs ys k) u v
+pub run_then : (es fs : List Event) (xs ys : List Answer) (i j k : Stage) → Run i es xs j → Run j fs ys k → Run i (es ++ fs) (xs ++ ys) k
+run_then [] fs [] ys i j k u v = subst (λ (m : Stage). Run m fs ys k) u v
 run_then [] fs (x ∷ xs) ys i j k u v = absurd u
 run_then (e ∷ es) fs [] ys i j k u v = absurd u
 run_then (e ∷ es) fs (x ∷ xs) ys i j k u v = (u.0, (u.1.0, run_then es fs xs ys u.0 j k u.1.1 v))
@@ -75,6 +75,7 @@ stands_more ending.Usage xs ys written s = whole_more xs ys written s
 stands_more (ending.Script l c) xs ys written s = whole_more xs ys written s
 stands_more ending.ReadFault xs ys written s = whole_more xs ys written s
 stands_more (ending.TooLong l) xs ys written s = whole_more xs ys written s
+stands_more ending.SetupFault xs ys written s = whole_more xs ys written s
 stands_more ending.Unbuilt xs ys written s = whole_more xs ys written s
 
 -- the text of some lines, and then of others
@@ -93,13 +94,13 @@ module _ (a b c : Outside) (x y z : Stand) where
     read = took_then a.left b.left c.left _ _ g.read h.read;
     whole = chain x.held g.taken h.taken y.held z.held g.lines h.lines g.whole h.whole;
     each = each_then x.n g.lines h.lines g.events h.events g.each (subst (λ (m : ℕ). Each m h.lines h.events) g.count h.each);
-    answered = run_then g.events h.events g.answers h.answers x.world y.world z.world g.answered h.answered;
+    answered = run_then g.events h.events g.answers h.answers x.stage y.stage z.stage g.answered h.answered;
     count = let i = g.count in let j = h.count in omega (arith, length-append g.lines h.lines);
     wrote = subst (λ xs. Appended a.took c.took xs) (sym (spelled-append g.answers h.answers)) (appended_then a.took b.took c.took _ _ g.wrote h.wrote);
   }
 
-module _ (a b c : Outside) (x y : Stand) where
-  pub went_came : (e : Ending) → Went a b x y → Came b c y e → Came a c x e
+module _ (a b c : Outside) (x y : Stand) (At : Stage → Type 0) where
+  pub went_came : (e : Ending) → Went a b x y → Came b c y e At → Came a c x e At
   went_came e g h =
       let d = h.decided in
       let i : x.n + length (g.lines ++ d.lines) ≡ y.n + length d.lines = let j = g.count in omega (arith, length-append g.lines d.lines) in
@@ -116,10 +117,11 @@ module _ (a b c : Outside) (x y : Stand) where
           read = took_then a.left b.left c.left _ _ g.read d.read;
           whole = chain x.held g.taken d.taken y.held (d.front ++ d.more) g.lines d.lines g.whole d.whole;
           each = each_then x.n g.lines d.lines g.events d.events g.each (subst (λ (m : ℕ). Each m d.lines d.events) g.count d.each);
-          answered = run_then g.events d.events g.answers h.answers x.world y.world d.last g.answered d.answered;
+          answered = run_then g.events d.events g.answers h.answers x.stage y.stage d.last g.answered d.answered;
           limit = let l = d.limit in omega arith;
           settled = subst (λ (k : ℕ). Settles k d.front d.more c.left e) (sym i) d.settled;
           few = d.few;
+          at = d.at;
         };
         wrote = appended_then a.took b.took c.took _ _ g.wrote h.wrote;
         stands = stands_more e g.answers h.answers h.written h.stands;
@@ -144,8 +146,8 @@ module _ (a b : Outside) (x y : Stand) (left : Option Text) (held : Text) (f : F
     wrote = g.wrote;
   }
 
-  pub filled_came : (e : Ending) → Came a b x e → Came (record a { left = left }) b (record x { held = held }) e
-  filled_came e h =
+  pub filled_came : (At : Stage → Type 0) (e : Ending) → Came a b x e At → Came (record a { left = left }) b (record x { held = held }) e At
+  filled_came At e h =
       let d = h.decided in
       record {
         answers = h.answers;
@@ -164,15 +166,16 @@ module _ (a b : Outside) (x y : Stand) (left : Option Text) (held : Text) (f : F
           limit = d.limit;
           settled = d.settled;
           few = d.few;
+          at = d.at;
         };
         wrote = h.wrote;
         stands = h.stands;
       }
 
-  pub filled_either : (r : Option Ending) → MatchOption r (Went a b x y) (λ e. Came a b x e)
-      → MatchOption r (Went (record a { left = left }) b (record x { held = held }) y) (λ e. Came (record a { left = left }) b (record x { held = held }) e)
-  filled_either None h = filled_went h
-  filled_either (Some e) h = filled_came e h
+  pub filled_either : (At : Stage → Type 0) (r : Option Ending) → MatchOption r (Went a b x y) (λ e. Came a b x e At)
+      → MatchOption r (Went (record a { left = left }) b (record x { held = held }) y) (λ e. Came (record a { left = left }) b (record x { held = held }) e At)
+  filled_either At None h = filled_went h
+  filled_either At (Some e) h = filled_came At e h
 
 pub went_none : (a : Outside) (x y : Stand) → y ≡ x → Went a a x y
 went_none a x y e = subst (λ (z : Stand). Went a a x z) (sym e) (record {
@@ -187,3 +190,30 @@ went_none a x y e = subst (λ (z : Stand). Went a a x z) (sym e) (record {
   count = sym (add-zero x.n);
   wrote = appended_none a.took;
 })
+
+-- Where a run stands by what holds of it.
+pub came_at : (a b : Outside) (x : Stand) (e : Ending) (At Bt : Stage → Type 0) → ((s : Stage) → At s → Bt s) → Came a b x e At → Came a b x e Bt
+came_at a b x e At Bt f h =
+    let d = h.decided in
+    record {
+      answers = h.answers;
+      written = h.written;
+      decided = record {
+        lines = d.lines;
+        events = d.events;
+        last = d.last;
+        taken = d.taken;
+        front = d.front;
+        more = d.more;
+        read = d.read;
+        whole = d.whole;
+        each = d.each;
+        answered = d.answered;
+        limit = d.limit;
+        settled = d.settled;
+        few = d.few;
+        at = f d.last d.at;
+      };
+      wrote = h.wrote;
+      stands = h.stands;
+    }

@@ -1,9 +1,8 @@
 pub mod Built
-pub mod Deciding
-pub mod Kept
 pub mod Reading
-pub mod Script
-pub mod Simulated
+pub mod Scenes
 pub mod Steps
-pub mod Story
 pub mod Texts
+pub mod Story
+pub mod Ends
+pub mod Script

@@ -6,10 +6,10 @@ use Rattle.mm_types.specs.AnswerText.{spelled}
 use Rattle.mm_lines.specs.Lines.{joined}
 use Rattle.mm_types.specs.declared.events.Event.{Event}
 use Rattle.mm_types.specs.declared.answers.Answer.{Answer}
-use Rattle.mm_world.specs.World.{World}
 use Rattle.mm_run.specs.declared.endings.Ending.{Ending}
 use Rattle.mm_run.specs.declared.endings.Ending.TheVariants as ending
-use Rattle.mm_run.specs.Steps.{Run}
+use Rattle.mm_run.specs.Scenes.{Stage}
+use Rattle.mm_run.specs.Steps.{Run, NoneNames, NoneFails}
 use Rattle.mm_run.specs.Texts.{status_of, last_text}
 use Rattle.mm_run.specs.Story.{Each, Settles, most_lines}
 
@@ -35,14 +35,16 @@ pub record IsScript (text : Text) (n : ℕ) (lines : List Text) (e : Ending) : T
 
 -- Memory or the outside failed.
 abbrev pub IsFault : ℕ → Type 0
-IsFault status = (status ≡ 1) ⊎ ((status ≡ 4) ⊎ (status ≡ 5))
+IsFault status = (status ≡ 1) ⊎ ((status ≡ 4) ⊎ ((status ≡ 5) ⊎ (status ≡ 7)))
 
--- All these lines were decided and answered, and the last text stands.
-pub record IsComplete (took took' : Option Text) (lines : List Text) (e : Ending) (status : ℕ) : Type 0 where
+-- All these lines were decided and answered, from this stage on, and the last text stands. If no `fail` line was answered `ok`, an
+-- answer tells of a failure only where this rose.
+pub record IsComplete (took took' : Option Text) (begun : Stage) (rose : Type 0) (lines : List Text) (e : Ending) (status : ℕ) : Type 0 where
   pub events : List Event
   pub answers : List Answer
-  pub last : Option World
+  pub last : Stage
   pub status_is : status ≡ status_of e
   pub each : Each 0 lines events
-  pub answered : Run None events answers last
+  pub answered : Run begun events answers last
+  pub faultless : (rose → ⊥) → NoneNames events answers → NoneFails answers
   pub wrote : Appended took took' (spelled answers ++ last_text e)

@@ -8,12 +8,12 @@ use Rattle.mm_lines.specs.Lines.{IsLine, NoFeed, ended, joined}
 use Rattle.mm_script.specs.Grammar.{IsLine as IsLineFor}
 use Rattle.mm_types.specs.declared.events.Event.{Event}
 use Rattle.mm_types.specs.declared.answers.Answer.{Answer}
-use Rattle.mm_world.specs.World.{World}
 use Rattle.mm_run.specs.declared.endings.Ending.{Ending}
 use Rattle.mm_run.specs.declared.endings.Ending.TheVariants as ending
 use Rattle.mm_run.specs.Reading.{reading, is_machine}
 use Rattle.mm_run.specs.Built.{is_built}
-use Rattle.mm_run.specs.Steps.{Run}
+use Rattle.mm_run.specs.Scenes.{Stage}
+use Rattle.mm_run.specs.Steps.{Run, NoneNames, NoneFails}
 use Rattle.mm_run.specs.Texts.{status_of, last_text, texts, IsTorn, StandsAt}
 
 -- the most lines of a script
@@ -25,17 +25,17 @@ pub record Outside : Type 0 where
   pub left : Option Text
   pub took : Option Text
 
--- Where a run stands: the bytes that were taken and not used yet, how many lines were decided, and the world.
+-- Where a run stands: the bytes that were taken and not used yet, how many lines were decided, and its stage.
 pub record Stand : Type 0 where
   pub held : Text
   pub n : ℕ
-  pub world : Option World
+  pub stage : Stage
 
 abbrev pub outside : Option Text → Option Text → Outside
 outside left took = record { left = left; took = took }
 
-abbrev pub stand : Text → ℕ → Option World → Stand
-stand held n world = record { held = held; n = n; world = world }
+abbrev pub stand : Text → ℕ → Stage → Stand
+stand held n stage = record { held = held; n = n; stage = stage }
 
 -- A `machine` line that is not the first, or another line that is.
 abbrev pub IsMisplaced : ℕ → Event → Type 0
@@ -74,6 +74,15 @@ pub record IsUnbuilt (n : ℕ) (front : Text) : Type 0 where
   pub grammar : IsLineFor line event
   pub unbuilt : is_built event ≡ false
 
+-- The first line, a `machine` line.
+pub record IsMachineLine (n : ℕ) (front : Text) : Type 0 where
+  pub first : n ≡ 0
+  pub line : Text
+  pub event : Event
+  pub whole : front ≡ ended line
+  pub says : reading 0 line ≡ Ok event
+  pub machine : is_machine event ≡ true
+
 -- Behind n decided lines these bytes, and none before the last of them, make a run come to this. More were
 -- taken behind them, and others are left.
 abbrev pub Settles : ℕ → Text → Text → Option Text → Ending → Type 0
@@ -83,6 +92,7 @@ Settles n front more left ending.Usage = (n ≡ 0) × (front ≡ []) × (more �
 Settles n front more left (ending.Script line column) = (line ≡ n + 1) × (n < most_lines) × (IsBad n front column ⊎ IsOpen n front more left column)
 Settles n front more left ending.ReadFault = IsLine front × (more ≡ [])
 Settles n front more left ending.OutFault = front ≡ []
+Settles n front more left ending.SetupFault = IsMachineLine n front
 Settles n front more left (ending.TooLong line) = (line ≡ n + 1) × (((length front ≡ 257) × NoFeed front) ⊎ ((n ≡ most_lines) × (length front ≡ 1)))
 Settles n front more left ending.Unbuilt = (n < most_lines) × IsUnbuilt n front
 
@@ -95,40 +105,42 @@ pub record Went (a b : Outside) (x y : Stand) : Type 0 where
   pub read : Took a.left b.left taken
   pub whole : x.held ++ taken ≡ joined lines ++ y.held
   pub each : Each x.n lines events
-  pub answered : Run x.world events answers y.world
+  pub answered : Run x.stage events answers y.stage
   pub count : y.n ≡ x.n + length lines
   pub wrote : Appended a.took b.took (spelled answers)
 
--- The lines that were decided, and what the run then came to. Fewer than 4,096 bytes were taken behind the byte
--- that decided it.
-pub record Decided (left left' : Option Text) (x : Stand) (e : Ending) (answers : List Answer) : Type 0 where
+-- The lines that were decided, and what the run then came to, at a stage of which this holds. Fewer than 4,096 bytes
+-- were taken behind the byte that decided it.
+pub record Decided (left left' : Option Text) (x : Stand) (e : Ending) (answers : List Answer) (At : Stage → Type 0) : Type 0 where
   pub lines : List Text
   pub events : List Event
-  pub last : Option World
+  pub last : Stage
   pub taken : Text
   pub front : Text
   pub more : Text
   pub read : Took left left' taken
   pub whole : x.held ++ taken ≡ joined lines ++ (front ++ more)
   pub each : Each x.n lines events
-  pub answered : Run x.world events answers last
+  pub answered : Run x.stage events answers last
   pub limit : x.n + length lines ≤ most_lines
   pub settled : Settles (x.n + length lines) front more left' e
   pub few : length more < 4096
+  pub at : At last
 
 -- The same, with the answers' text.
-pub record Came (a b : Outside) (x : Stand) (e : Ending) : Type 0 where
+pub record Came (a b : Outside) (x : Stand) (e : Ending) (At : Stage → Type 0) : Type 0 where
   pub answers : List Answer
   pub written : Text
-  pub decided : Decided a.left b.left x e answers
+  pub decided : Decided a.left b.left x e answers At
   pub wrote : Appended a.took b.took written
   pub stands : StandsAt e answers written
 
--- The faults that an ending is to blame on: of the source, of the sink.
-abbrev pub IsBlamed : Ending → ℕ → ℕ → ℕ → ℕ → Type 0
-IsBlamed ending.ReadFault s s' o o' = Rose s s'
-IsBlamed ending.OutFault s s' o o' = Rose o o'
-IsBlamed _ s s' o o' = Unit {0}
+-- The faults that an ending is to blame on: of the source, of the sink, of a device that was opened.
+abbrev pub IsBlamed : Ending → Type 0 → ℕ → ℕ → ℕ → ℕ → Type 0
+IsBlamed ending.ReadFault opening s s' o o' = Rose s s'
+IsBlamed ending.OutFault opening s s' o o' = Rose o o'
+IsBlamed ending.SetupFault opening s s' o o' = opening
+IsBlamed _ opening s s' o o' = Unit {0}
 
 -- What the input's end is, behind n lines and so many bytes.
 abbrev pub EndsAt : ℕ → ℕ → Ending → Type 0
@@ -144,19 +156,21 @@ Ends status e answers written =
     ((status ≡ status_of e) × (e ≢ ending.OutFault) × (written ≡ spelled answers ++ last_text e))
     ⊎ ((status ≡ 5) × (IsTorn (texts answers) written ⊎ IsTorn (texts answers ++ last_text e ∷ []) written))
 
--- What a run did: the lines that it decided, what it came to, and what it wrote.
-pub record Ran (a b : Outside) (form : Type 0) (status : ℕ) : Type 0 where
+-- What a run did: the lines that it decided, what it came to, and what it wrote. It began with this stage, its last one is as
+-- told, and if no `fail` line was answered `ok`, an answer tells of a failure only where this rose.
+pub record Ran (a b : Outside) (begun : Stage) (At : Stage → Type 0) (rose : Type 0) (form : Type 0) (status : ℕ) : Type 0 where
   pub e : Ending
   pub answers : List Answer
   pub written : Text
-  pub decided : Decided a.left b.left (stand [] 0 None) e answers
+  pub decided : Decided a.left b.left (stand [] 0 begun) e answers At
+  pub faultless : (rose → ⊥) → NoneNames decided.events answers → NoneFails answers
   pub wrote : Appended a.took b.took written
   pub ends : Ends status e answers written
   pub is_form : form → e ≢ ending.Usage
   pub no_form : (form → ⊥) → e ≡ ending.Usage
 
--- Of a last text a front was written.
-pub record TornLast (took took' : Option Text) (text : Text) : Type 0 where
+-- Of a text a front was written.
+pub record TornText (took took' : Option Text) (text : Text) : Type 0 where
   pub front : Text
   pub back : Text
   pub whole : text ≡ front ++ back
@@ -165,4 +179,4 @@ pub record TornLast (took took' : Option Text) (text : Text) : Type 0 where
 -- How the writing of the last text went: whole, or torn where the sink failed.
 abbrev pub WroteLast : Option Text → Option Text → Ending → Bool → Type 0
 WroteLast took took' e false = Appended took took' (last_text e)
-WroteLast took took' e true = TornLast took took' (last_text e)
+WroteLast took took' e true = TornText took took' (last_text e)

@@ -15,6 +15,7 @@ status_of ending.Usage = 2
 status_of (ending.Script line column) = 3
 status_of ending.ReadFault = 4
 status_of ending.OutFault = 5
+status_of ending.SetupFault = 7
 status_of (ending.TooLong line) = 8
 status_of ending.Unbuilt = 9
 
@@ -26,6 +27,7 @@ last_text ending.Usage = codes "usage: mmsim run\n"
 last_text (ending.Script line column) = codes "bad line " ++ (decimal line ++ (codes " column " ++ (decimal column ++ 10 ∷ [])))
 last_text ending.ReadFault = []
 last_text ending.OutFault = []
+last_text ending.SetupFault = []
 last_text (ending.TooLong line) = codes "too long line " ++ (decimal line ++ 10 ∷ [])
 last_text ending.Unbuilt = []
 

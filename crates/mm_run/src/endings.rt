@@ -16,6 +16,8 @@ pub enum Ending {
     ReadFault,
     /// The sink of the answers failed.
     OutFault,
+    /// A device failed where it was opened.
+    SetupFault,
     /// A line has more than 256 bytes, or is one too many: its number, from 1.
     TooLong(u32),
     /// A line is in the grammar, and its form is not built yet.
@@ -34,6 +36,7 @@ impl Ending {
             Ending::Script(..) => 3,
             Ending::ReadFault => 4,
             Ending::OutFault => 5,
+            Ending::SetupFault => 7,
             Ending::TooLong(_) => 8,
             Ending::Unbuilt => 9,
         }

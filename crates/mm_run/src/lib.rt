@@ -3,8 +3,8 @@
 
 mod decisions;
 mod endings;
+mod machines;
 mod readings;
-mod simulators;
 mod top;
 
 pub use endings::Ending;

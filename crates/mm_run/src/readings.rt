@@ -39,7 +39,7 @@ fn is_machine(event: &Event) -> bool
 
 /// The event of the first line, or the column of its fault.
 fn read_first(line: &[u8]) -> Result<Event, u32>
-    requires { length line.now ≤ 256 }
+    requires given { length line.now ≤ 256 }
     ensures reads { result ≡ reading 0 line.now }
     ensures well_formed { IfOk result (λ e. IsWellFormed e) }
     ensures grammar { IfOk result (λ e. IsLine line.now e) }
@@ -65,7 +65,7 @@ fn read_first(line: &[u8]) -> Result<Event, u32>
 
 /// The event of a later line, or the column of its fault.
 fn read_later(line: &[u8]) -> Result<Event, u32>
-    requires { length line.now ≤ 256 }
+    requires given { length line.now ≤ 256 }
     ensures reads { result ≡ reading 1 line.now }
     ensures well_formed { IfOk result (λ e. IsWellFormed e) }
     ensures grammar { IfOk result (λ e. IsLine line.now e) }
@@ -91,7 +91,7 @@ fn read_later(line: &[u8]) -> Result<Event, u32>
 
 /// The event of a line behind n others, or the column of its fault.
 pub(crate) fn read_event(line: &[u8], n: u32) -> Result<Event, u32>
-    requires { length line.now ≤ 256 }
+    requires given { length line.now ≤ 256 }
     ensures reads { result ≡ reading n line.now }
     ensures well_formed { IfOk result (λ e. IsWellFormed e) }
     ensures grammar { IfOk result (λ e. IsLine line.now e) }

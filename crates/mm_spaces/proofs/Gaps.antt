@@ -4,7 +4,7 @@ use Rattle.std.specs.Prelude.{IfSome}
 use Rattle.std.specs.List.{list_any}
 use Rattle.std.proofs.lemmas.Bool.{ne_eqb}
 use Rattle.mm_types.specs.declared.numbers.Vpn.{Vpn}
-use Rattle.mm_types.specs.Address.{Range, meets, is_free, are_user_pages, granule_range_of, pages_for, lowest_gap}
+use Rattle.mm_types.specs.Address.{Range, meets, is_free, are_user_pages, lowest_gap}
 use Rattle.mm_gaps.specs.Ranges.{page_number}
 use Rattle.mm_vad.specs.declared.regions.Region.{Region}
 use Rattle.mm_vad.specs.Regions as vad
@@ -19,14 +19,14 @@ free_by taken r user free = ap (λ a. a && not (list_any (meets r) taken)) user 
 abbrev pub IsGap : List Range → Range → Type 0
 IsGap taken r = (are_user_pages r ≡ true) × (1 ≤ r.count) × (r.first % 16 ≡ 0) × (is_free taken r ≡ true)
 
-gap_is : (taken : List Range) (addr size : ℕ) (r : Range) → 1 ≤ size → placed taken addr (granule_range_of addr size) (pages_for size) ≡ Some r → IsGap taken r
-gap_is taken addr size r some e =
-    let at = placed_is taken addr (granule_range_of addr size) (pages_for size) r (omega arith) e in
-    (at.placed.user, elim at.size [ inl k ↦ omega (arith, k, some) | inr k ↦ omega (arith, k, some) ], at.placed.on_granule, free_by taken r at.placed.user at.placed.free)
+gap_is : (taken : List Range) (addr : ℕ) (wanted : Range) (count : ℕ) (r : Range) → 1 ≤ count → 1 ≤ wanted.count → wanted.first % 16 ≡ 0 → placed taken addr wanted count ≡ Some r → IsGap taken r
+gap_is taken addr wanted count r some any granule e =
+    let at = placed_is taken addr wanted count r granule e in
+    (at.placed.user, elim at.size [ inl k ↦ omega (arith, k, some) | inr k ↦ omega (arith, k, any) ], at.placed.on_granule, free_by taken r at.placed.user at.placed.free)
 
-pub placed_gap : (taken : List Range) (addr size : ℕ) (o : Option Range) → 1 ≤ size → o ≡ placed taken addr (granule_range_of addr size) (pages_for size) → IfSome o (IsGap taken)
-placed_gap taken addr size None some e = tt
-placed_gap taken addr size (Some r) some e = gap_is taken addr size r some (sym e)
+pub placed_gap : (taken : List Range) (addr : ℕ) (wanted : Range) (count : ℕ) (o : Option Range) → 1 ≤ count → 1 ≤ wanted.count → wanted.first % 16 ≡ 0 → o ≡ placed taken addr wanted count → IfSome o (IsGap taken)
+placed_gap taken addr wanted count None some any granule e = tt
+placed_gap taken addr wanted count (Some r) some any granule e = gap_is taken addr wanted count r some any granule (sym e)
 
 -- ---- read off the regions that are kept
 

@@ -10,3 +10,4 @@ pub mod Gaps
 pub mod Told
 pub mod Made
 pub mod Written
+pub mod Viewed

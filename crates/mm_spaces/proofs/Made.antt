@@ -1,31 +1,35 @@
 -- What a change makes of the regions that are kept.
-use Rattle.std.proofs.Common.{◌≡◌, ℕ, zero, suc, ◌%◌, ◌≤◌, Bool, true, false, cond, List, [], ◌∷◌, ◌++◌, length, map, take, drop, replicate, Option, Some, None, option_map, refl, sym, ap, ◌∙◌, subst, arith, nat_lt, ◌&&◌, not}
-use Rattle.std.specs.Prelude.{find, insert, remove, ◌==◌}
+use Rattle.std.proofs.Common.{◌≡◌, ℕ, ◌+◌, ◌%◌, ◌≤◌, Bool, true, false, cond, List, [], ◌∷◌, length, map, replicate, Option, Some, None, option_map, refl, sym, ap, ◌∙◌, subst, arith, nat_lt, nat_le, ◌&&◌, not, slice_get}
+use Rattle.std.specs.Prelude.{find, remove, ◌==◌}
 use Rattle.std.specs.List.{list_any, position_or_len}
 use Rattle.std.specs.Cmp.{unsigned_Decides}
-use Rattle.std.proofs.lemmas.Bool.{eqb-true, ne_eqb, eqb-false}
+use Rattle.std.proofs.lemmas.Bool.{eqb-true, ne_eqb, eqb-false, le-leb}
+use Rattle.std.proofs.lemmas.Option.{slice_get-map}
+use Rattle.mm_types.specs.declared.views.View.{View}
+use Rattle.mm_types.specs.declared.views.ViewAccess.{ViewAccess}
 use Rattle.mm_types.specs.declared.views.Kind.TheVariants as kind
 use Rattle.mm_types.specs.Address.{Range, is_free, meets, are_user_pages, page_of, address_of, granule_pages, first_user_page}
 use Rattle.mm_types.specs.Protection.{base_of}
 use Rattle.mm_vad.specs.declared.pages.Row.{Row}
 use Rattle.mm_vad.specs.declared.regions.Region.{Region}
 use Rattle.mm_vad.specs.Regions as vad
-use Rattle.mm_world.specs.World.{RegionOf, RowOf, pages_of}
-use Rattle.mm_world.specs.Find.{Found, first_where, one_later, is_private, add_region, ranges_of}
-use Rattle.mm_world.specs.Free.{private_at}
+use Rattle.mm_world.specs.World.{RegionOf, RowOf, SectionOf, pages_of}
+use Rattle.mm_world.specs.Find.{Found, first_where, region_with, add_region, ranges_of}
 use Rattle.mm_world.specs.Alloc.{new_row, private_region, reserve_type}
 use Rattle.mm_world.specs.Contents.{blank}
 use Rattle.mm_world.specs.Rows.{is_one_of, is_protection_among, private_protections, reserved_row, commit}
-use Rattle.mm_world.specs.WellFormed.{IsSpace, RowsFit, RowFits, PrivateRowFits}
+use Rattle.mm_world.specs.Views.{view_region, first_protection, is_copy}
+use Rattle.mm_world.specs.WellFormed.{Each, IsSpace, RowsFit, RowFits, PrivateRowFits, ViewRowFits}
 use Rattle.mm_world.proofs.Natural.{map-replicate}
-use Rattle.mm_world.proofs.Finding.{found_stands}
 use Rattle.mm_world.proofs.Each.{each-remove, each-replicate}
 use Rattle.mm_world.proofs.LaidOut.{and-true, laid_remove, IsPlaced}
-use Rattle.mm_world.proofs.RowsFit.{reserved_fits, commit_fits}
+use Rattle.mm_world.proofs.RowsFit.{reserved_fits, commit_fits, new_view_fits}
 use Rattle.mm_world.proofs.Spaces.{space_add}
-use Rattle.mm_spaces.specs.Shown.{row_of, region_of, shown, all_private}
+use Rattle.mm_spaces.specs.Shown.{row_of, region_of, shown}
 use Rattle.mm_spaces.specs.Finds.{IsKept, IsWhole}
+use Rattle.mm_spaces.specs.Kept.{both_where, is_based}
 use Rattle.mm_spaces.proofs.Shows.{shown_pages}
+use Rattle.mm_spaces.proofs.OfPage.{kept_if, both_based, based_of_page}
 use Rattle.mm_spaces.proofs.Carried.{Whole, place_of, first_shown, ranges_shown, add_shown, remove_shown}
 
 -- ---- a new private region
@@ -60,33 +64,6 @@ module _ (alloc_type prot : ℕ) (range : Range) (rows : List Row) (row : Row) (
       subst (λ (r : RegionOf (Unit {0})). RowsFit r) (sym region_made)
       (each-replicate (RowFits kind.Private) range.count _ (new_row_fits alloc_type prot (allowed prot e)))
 
--- ---- all regions stay private
-
-private_append : {B : Type 0} (xs ys : List (RegionOf B)) → all_private xs ≡ true → all_private ys ≡ true → all_private (xs ++ ys) ≡ true
-private_append [] ys e f = f
-private_append (x ∷ xs) ys e f =
-    let h = and-true (is_private x.kind) (all_private xs) e in
-    ap (λ b. b && all_private (xs ++ ys)) h.0 ∙ private_append xs ys h.1 f
-
-private_take : {B : Type 0} (n : ℕ) (xs : List (RegionOf B)) → all_private xs ≡ true → all_private (take n xs) ≡ true
-private_take zero xs e = refl
-private_take (suc n) [] e = refl
-private_take (suc n) (x ∷ xs) e =
-    let h = and-true (is_private x.kind) (all_private xs) e in
-    ap (λ b. b && all_private (take n xs)) h.0 ∙ private_take n xs h.1
-
-private_drop : {B : Type 0} (n : ℕ) (xs : List (RegionOf B)) → all_private xs ≡ true → all_private (drop n xs) ≡ true
-private_drop zero xs e = e
-private_drop (suc n) [] e = refl
-private_drop (suc n) (x ∷ xs) e = private_drop n xs (and-true (is_private x.kind) (all_private xs) e).1
-
-private_insert : {B : Type 0} (xs : List (RegionOf B)) (n : ℕ) (x : RegionOf B) → all_private xs ≡ true → is_private x.kind ≡ true → all_private (insert xs n x) ≡ true
-private_insert xs n x e is =
-    private_append (take n xs) (x ∷ drop n xs) (private_take n xs e) (ap (λ b. b && all_private (drop n xs)) is ∙ private_drop n xs e)
-
-private_remove : {B : Type 0} (xs : List (RegionOf B)) (n : ℕ) → all_private xs ≡ true → all_private (remove xs n) ≡ true
-private_remove xs n e = private_append (take n xs) (drop (suc n) xs) (private_take n xs e) (private_drop (suc n) xs e)
-
 -- ---- one region more
 
 pub free_among : (vs : List Region) (r : Region) → Whole vs → IsWhole r → is_free (ranges_of (shown vs)) (pages_of (region_of r)) ≡ true → is_free (vad.ranges_of vs) (vad.pages_of r) ≡ true
@@ -107,7 +84,6 @@ pub record CanAdd (new : RegionOf (Unit {0})) (rs : List (RegionOf (Unit {0}))) 
   pub granule : new.base % granule_pages ≡ 0
   pub some : 1 ≤ length new.rows
   pub fit : RowsFit new
-  pub private : is_private new.kind ≡ true
 
 pub can_add : (vs : List Region) (r : Region) (rs : List (RegionOf (Unit {0}))) (new : RegionOf (Unit {0})) → shown vs ≡ rs → region_of r ≡ new → CanAdd new rs → CanAdd (region_of r) (shown vs)
 can_add vs r rs new same is can =
@@ -120,7 +96,6 @@ kept_add vs after r k can e whole =
     let is : shown after ≡ add_region new rs = ap shown e ∙ add_shown vs r in
     record {
       sound = subst IsSpace (sym is) (space_add new rs (pages_of new) (free_parts (ranges_of rs) (pages_of new) can.granule can.free) refl refl can.some can.fit k.sound);
-      private = ap all_private is ∙ private_insert rs _ new k.private can.private;
       whole = whole;
     }
 
@@ -133,16 +108,8 @@ kept_remove vs after base k e whole =
     let is : shown after ≡ remove rs i = ap shown e ∙ remove_shown vs base in
     record {
       sound = subst IsSpace (sym is) (record { laid_out = laid_remove first_user_page rs i k.sound.laid_out; rows = each-remove RowsFit rs i k.sound.rows });
-      private = ap all_private is ∙ private_remove rs i k.private;
       whole = whole;
     }
-
-first_private : {B : Type 0} (t : RegionOf B → Bool) (rs : List (RegionOf B)) → all_private rs ≡ true → first_where (λ r. is_private r.kind && t r) rs ≡ first_where t rs
-first_private t [] e = refl
-first_private t (x ∷ xs) e =
-    let h = and-true (is_private x.kind) (all_private xs) e in
-    ap (λ b. cond (b && t x) (Some (let made : Found (RegionOf _) = record { place = 0; thing = x } in made)) (option_map one_later (first_where (λ r. is_private r.kind && t r) xs))) h.0
-    ∙ ap (λ o. cond (t x) (Some (let made : Found (RegionOf _) = record { place = 0; thing = x } in made)) (option_map one_later o)) (first_private t xs h.1)
 
 same_page : (a b addr : ℕ) → addr ≡ address_of b → (address_of a == addr) ≡ (a == b)
 same_page a b addr at =
@@ -159,16 +126,84 @@ place_is t vs (Some g) r e =
     let same : place_of t vs g ≡ r = cc in
     ap (λ (f : Found (RegionOf (Unit {0}))). f.place) same
 
--- the private region with the base is the one that goes
-pub removed_place : (vs : List Region) (addr : ℕ) (r : Found (RegionOf (Unit {0}))) → IsKept vs → private_at (shown vs) addr ≡ Some r → position_or_len (vad.begins_at (page_of addr)) vs ≡ r.place
-removed_place vs addr r k e =
-    let stands = found_stands (λ (x : RegionOf (Unit {0})). is_private x.kind && (address_of x.base == addr)) (shown vs) r e in
-    let base : address_of r.thing.base ≡ addr = eqb-true (address_of r.thing.base) addr (and-true (is_private r.thing.kind) (address_of r.thing.base == addr) stands.passes).1 in
-    let whole : addr ≡ address_of (page_of addr) = omega (arith, base) in
-    let is = first_private (λ x. address_of x.base == addr) (shown vs) k.private in
-    let found = first_shown (λ x. address_of x.base == addr) (vad.begins_at (page_of addr)) vs k.whole.whole (λ x w. same_page x.base.0 (page_of addr) addr whole) in
-    place_is (vad.begins_at (page_of addr)) vs (find (vad.begins_at (page_of addr)) vs) r (sym found ∙ sym is ∙ e)
+-- what passes one more test was found
+was_found : (t : RegionOf (Unit {0}) → Bool) (o : Option (Found (RegionOf (Unit {0})))) (r : Found (RegionOf (Unit {0}))) → kept_if t o ≡ Some r → (o ≡ Some r) × (t r.thing ≡ true)
+was_found t None r e = cc
+was_found t (Some f) r e =
+    elim (t f.thing) as (λ b. t f.thing ≡ b → cond b (Some f) None ≡ Some r → (Some f ≡ Some r) × (t r.thing ≡ true)) [
+      | true ↦ λ p k. (let same : f ≡ r = cc in (k, ap (λ (g : Found (RegionOf (Unit {0}))). t g.thing) (sym same) ∙ p))
+      | false ↦ λ p k. (cc)
+    ] refl e
 
-pub removed : (vs after : List Region) (addr : ℕ) (r : Found (RegionOf (Unit {0}))) → IsKept vs → after ≡ vad.remove_region vs (page_of addr) → private_at (shown vs) addr ≡ Some r → shown after ≡ remove (shown vs) r.place
-removed vs after addr r k e at =
-    ap shown e ∙ remove_shown vs (page_of addr) ∙ ap (remove (shown vs)) (removed_place vs addr r k at)
+-- the region with the base is the one that goes, whatever else is asked of it
+pub removed_place : (t : RegionOf (Unit {0}) → Bool) (vs : List Region) (addr : ℕ) (r : Found (RegionOf (Unit {0}))) → IsKept vs → both_where t (is_based addr) (shown vs) ≡ Some r → position_or_len (vad.begins_at (page_of addr)) vs ≡ r.place
+removed_place t vs addr r k e =
+    let w = was_found (λ x. t x && is_based addr x) (region_with (shown vs) (page_of addr)) r (sym (both_based t first_user_page (shown vs) addr k.sound.laid_out) ∙ e) in
+    let passes : is_based addr r.thing ≡ true = (and-true (t r.thing) (is_based addr r.thing) w.1).1 in
+    let base : address_of r.thing.base ≡ addr = eqb-true (address_of r.thing.base) addr passes in
+    let whole : addr ≡ address_of (page_of addr) = omega (arith, base) in
+    let is : first_where (is_based addr) (shown vs) ≡ Some r = based_of_page first_user_page (shown vs) addr k.sound.laid_out ∙ ap (kept_if (is_based addr)) w.0 ∙ ap (λ b. cond b (Some r) None) passes in
+    let found = first_shown (is_based addr) (vad.begins_at (page_of addr)) vs k.whole.whole (λ x w. same_page x.base.0 (page_of addr) addr whole) in
+    place_is (vad.begins_at (page_of addr)) vs (find (vad.begins_at (page_of addr)) vs) r (sym found ∙ is)
+
+pub removed : (t : RegionOf (Unit {0}) → Bool) (vs after : List Region) (addr : ℕ) (r : Found (RegionOf (Unit {0}))) → IsKept vs → after ≡ vad.remove_region vs (page_of addr) → both_where t (is_based addr) (shown vs) ≡ Some r → shown after ≡ remove (shown vs) r.place
+removed t vs after addr r k e at =
+    ap shown e ∙ remove_shown vs (page_of addr) ∙ ap (remove (shown vs)) (removed_place t vs addr r k at)
+
+-- ---- the lowest region
+
+always : (vs : List Region) → vad.region_from vs 0 ≡ slice_get vs 0
+always [] = refl
+always (x ∷ vs) = ap (λ b. cond b (Some x) (find (λ (r : Region). nat_le 0 r.base.0) vs)) (le-leb 0 x.base.0 (omega arith))
+
+pub lowest_shown : (vs : List Region) (o : Option Region) → o ≡ vad.region_from vs 0 → slice_get (shown vs) 0 ≡ option_map region_of o
+lowest_shown vs o e = slice_get-map region_of vs 0 ∙ ap (option_map region_of) (sym (e ∙ always vs))
+
+pub some_lowest : (vs : List Region) (rs : List (RegionOf (Unit {0}))) → shown vs ≡ rs → 1 ≤ length rs → None ≡ vad.region_from vs 0 → ⊥
+some_lowest [] rs same some e = absurd (omega (arith, some, ap (λ (xs : List (RegionOf (Unit {0}))). length xs) same))
+some_lowest (x ∷ vs) rs same some e = let bad : None ≡ Some x = e ∙ always (x ∷ vs) in cc
+
+pub lowest_place : (vs : List Region) (r : Region) → Some r ≡ vad.region_from vs 0 → position_or_len (vad.begins_at r.base.0) vs ≡ 0
+lowest_place [] r e = cc
+lowest_place (x ∷ vs) r e =
+    let both : Some r ≡ Some x = e ∙ always (x ∷ vs) in
+    let same : x ≡ r = cc in
+    ap (λ b. cond (not b) (1 + position_or_len (vad.begins_at r.base.0) vs) 0) ((unsigned_Decides x.base.0 r.base.0).1 (ap (λ (g : Region). g.base.0) same))
+
+pub removed_lowest : (vs after : List Region) (r : Region) → Some r ≡ vad.region_from vs 0 → after ≡ vad.remove_region vs r.base.0 → shown after ≡ remove (shown vs) 0
+removed_lowest vs after r first e = ap shown e ∙ remove_shown vs r.base.0 ∙ ap (remove (shown vs)) (lowest_place vs r first)
+
+-- ---- a new view
+
+abbrev view_by : ℕ → ℕ → ℕ → View → List Row → Region
+view_by first count prot v rows = record { base = record { 0 = first }; pages = count; alloc_prot = record { 0 = prot }; kind = kind.View v; rows = rows }
+
+abbrev pub new_view_row : ViewAccess → RowOf (Unit {0})
+new_view_row access = record { prot = first_protection access; guard = false; marked = is_copy access; own = None }
+
+-- a row of a new view
+pub record IsViewRow (access : ViewAccess) (row : Row) : Type 0 where
+  pub prot : row.prot.0 ≡ first_protection access
+  pub guard : row.guard ≡ false
+  pub marked : row.marked ≡ is_copy access
+  pub copied : row.copied ≡ false
+
+module _ (v : View) (prot : ℕ) (range : Range) (rows : List Row) (row : Row) (is : IsViewRow v.access row) (first : prot ≡ first_protection v.access) (all : rows ≡ replicate range.count row) where
+  same_row : row_of (kind.View v) row ≡ new_view_row v.access
+  same_row = λ i. record { prot = is.prot i; guard = is.guard i; marked = is.marked i; own = cond (is.copied i) (Some tt) None }
+
+  view_rows : map (row_of (kind.View v)) rows ≡ replicate range.count (new_view_row v.access)
+  view_rows =
+      ap (map (row_of (kind.View v))) all
+      ∙ map-replicate (row_of (kind.View v)) range.count row
+      ∙ ap (replicate range.count) same_row
+
+  abbrev with_view : ℕ → View → List (RowOf (Unit {0})) → RegionOf (Unit {0})
+  with_view p x xs = record { base = range.first; alloc_prot = p; kind = kind.View x; rows = xs }
+
+  pub view_made : (s : Found SectionOf) → s.place ≡ v.section.0 → s.thing.area ≡ v.area.0 → region_of (view_by range.first range.count prot v rows) ≡ view_region s v.access v.first range
+  view_made s place area = λ i. with_view (first i) (record { section = record { 0 = sym place i }; area = record { 0 = sym area i }; first = v.first; access = v.access }) (view_rows i)
+
+  pub view_fits : RowsFit (region_of (view_by range.first range.count prot v rows))
+  view_fits =
+      subst (λ xs. Each (ViewRowFits v.access) xs) (sym view_rows) (each-replicate (ViewRowFits v.access) range.count (new_view_row v.access) (new_view_fits v.access))

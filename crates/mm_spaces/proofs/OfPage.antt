@@ -1,13 +1,12 @@
 -- Searches in regions that are laid out: a test that only the region with one page can pass.
 use Rattle.std.proofs.Common.{◌≡◌, ℕ, ◌<◌, ◌≤◌, Bool, true, false, cond, List, [], ◌∷◌, length, Option, Some, None, option_map, refl, sym, ap, ◌∙◌, arith, nat_lt, nat_le, ◌&&◌}
-use Rattle.std.specs.Prelude.{◌==◌}
 use Rattle.std.proofs.lemmas.Bool.{leb-true, le-leb, eqb-true}
 use Rattle.mm_types.specs.Address.{Range, holds_page, lies_within, end_of, page_of, address_of}
 use Rattle.mm_world.specs.World.{RegionOf, pages_of}
-use Rattle.mm_world.specs.Find.{Found, first_where, one_later, region_with, region_around, is_private}
-use Rattle.mm_world.specs.Free.{private_at}
+use Rattle.mm_world.specs.Find.{Found, first_where, one_later, region_with, region_around}
 use Rattle.mm_world.specs.WellFormed.{LaidOut}
 use Rattle.mm_world.proofs.LaidOut.{and-true, less}
+use Rattle.mm_spaces.specs.Kept.{both_where, surrounds, is_based}
 
 -- what was found, where it passes one more test
 abbrev pub kept_if : {A : Type 0} → (A → Bool) → Option (Found A) → Option (Found A)
@@ -71,10 +70,29 @@ module _ {B : Type 0} where
       holds_by (pages_of r) range.first (leb-true _ _ k.0) (omega (arith, leb-true _ _ k.1, some)))
       h
 
-  pub private_of_page : (from : ℕ) (rs : List (RegionOf B)) (addr : ℕ) → LaidOut from rs → private_at rs addr ≡ kept_if (λ r. is_private r.kind && (address_of r.base == addr)) (region_with rs (page_of addr))
-  private_of_page from rs addr h =
-      first_of_page (λ r. is_private r.kind && (address_of r.base == addr)) (page_of addr) from rs
+-- ---- a second test beside
+
+module _ (t : RegionOf (Unit {0}) → Bool) where
+  pub both_around : (from : ℕ) (rs : List (RegionOf (Unit {0}))) (range : Range) → LaidOut from rs → 1 ≤ range.count → both_where t (surrounds range) rs ≡ kept_if (λ x. t x && surrounds range x) (region_with rs range.first)
+  both_around from rs range h some =
+      first_of_page (λ x. t x && surrounds range x) range.first from rs
       (λ r has e.
-      let k = eqb-true (address_of r.base) addr (and-true (is_private r.kind) (address_of r.base == addr) e).1 in
+      let k = and-true (nat_le r.base range.first) (nat_le (end_of range) (end_of (pages_of r))) (and-true (t r) (surrounds range r) e).1 in
+      holds_by (pages_of r) range.first (leb-true _ _ k.0) (omega (arith, leb-true _ _ k.1, some)))
+      h
+
+  pub both_based : (from : ℕ) (rs : List (RegionOf (Unit {0}))) (addr : ℕ) → LaidOut from rs → both_where t (is_based addr) rs ≡ kept_if (λ x. t x && is_based addr x) (region_with rs (page_of addr))
+  both_based from rs addr h =
+      first_of_page (λ x. t x && is_based addr x) (page_of addr) from rs
+      (λ r has e.
+      let k = eqb-true (address_of r.base) addr (and-true (t r) (is_based addr r) e).1 in
       holds_by (pages_of r) (page_of addr) (omega (arith, k)) (omega (arith, k, has)))
       h
+
+pub based_of_page : (from : ℕ) (rs : List (RegionOf (Unit {0}))) (addr : ℕ) → LaidOut from rs → first_where (is_based addr) rs ≡ kept_if (is_based addr) (region_with rs (page_of addr))
+based_of_page from rs addr h =
+    first_of_page (is_based addr) (page_of addr) from rs
+    (λ r has e.
+    let k = eqb-true (address_of r.base) addr e in
+    holds_by (pages_of r) (page_of addr) (omega (arith, k)) (omega (arith, k, has)))
+    h

@@ -1,6 +1,6 @@
 -- The rows of a range, changed one page after the other.
 use Rattle.std.proofs.Common.{◌≡◌, ℕ, zero, suc, ◌+◌, ◌-◌, ◌<◌, Bool, true, false, cond, List, [], ◌∷◌, ◌++◌, length, get_or, map, take, drop, Option, Some, None, refl, sym, ap, ◌∙◌, subst, arith, slice_get, slice_set, is_some, option_map}
-use Rattle.std.specs.Prelude.{All, IsSomeAnd}
+use Rattle.std.specs.Prelude.{All}
 use Rattle.std.proofs.lemmas.List.Elements.{All-head, All-tail}
 use Rattle.std.proofs.lemmas.Option.{slice_get-get_or}
 use Rattle.mm_types.specs.Address.{Range, end_of, holds_page, first_user_page, end_of_user_pages}
@@ -9,13 +9,13 @@ use Rattle.mm_vad.specs.declared.regions.Region.{Region}
 use Rattle.mm_vad.specs.Regions.{SpaceOf}
 use Rattle.mm_vad.specs.Regions.{IsSpace as IsVad, pages_of as kept_pages, ranges_of as kept_ranges}
 use Rattle.mm_world.specs.World.{RowOf, RegionOf, pages_of}
-use Rattle.mm_world.specs.Find.{Found, one_later, change_range, region_with, region_around, is_private}
+use Rattle.mm_world.specs.Find.{Found, one_later, change_range, region_with, region_around}
 use Rattle.mm_world.specs.Rows.{reserved_row, change_rows}
 use Rattle.mm_world.proofs.Finding.{found_stands}
 use Rattle.mm_world.proofs.RowsFit.{length-change_range}
 use Rattle.mm_spaces.specs.declared.rows.RowChange.{RowChange}
 use Rattle.mm_spaces.specs.Shown.{region_of, shown}
-use Rattle.mm_spaces.specs.RowChanges.{changed, RowChanged, IsInPrivate, is_in_private, range_at}
+use Rattle.mm_spaces.specs.RowChanges.{changed, RowChanged, IsInRegion, range_at}
 use Rattle.mm_spaces.proofs.Shows.{shown_pages}
 use Rattle.mm_spaces.proofs.Around.{among, is_around, some_with, with_around, around_set, rising_shown}
 
@@ -75,9 +75,6 @@ changing_none change range s = record {
 }
 
 -- what the region around the range is after some of its rows are changed
-pub in_private : (rs : List (RegionOf (Unit {0}))) (range : Range) (r : Found (RegionOf (Unit {0}))) → IsInPrivate rs range → region_around rs range ≡ Some r → is_private r.thing.kind ≡ true
-in_private rs range r h e = subst (λ o. IsSomeAnd o is_in_private) e h
-
 module _ (change : RowChange) (range : Range) (done : ℕ) (old now : SpaceOf) (h : Changing change range done old now) (r : Found (RegionOf (Unit {0}))) (e : region_around (shown old.regions) range ≡ Some r) where
   abbrev so_far : RegionOf (Unit {0})
   so_far = change_rows (changed change r.thing.kind) (range_at range.first done) r.thing
@@ -87,17 +84,17 @@ module _ (change : RowChange) (range : Range) (done : ℕ) (old now : SpaceOf) (
       ap (λ rs. region_around rs range) (h.after r e)
       ∙ around_set (shown old.regions) range r so_far e refl (length-change_range (changed change r.thing.kind) (range.first - r.thing.base) done r.thing.rows)
 
-pub some_now : (change : RowChange) (range : Range) (done : ℕ) (old now : SpaceOf) → IsInPrivate (shown old.regions) range → Changing change range done old now → done < range.count → is_some (region_with (shown now.regions) (range.first + done)) ≡ true
-some_now change range done old now private h more =
-    by_around (region_around (shown old.regions) range) refl private
+pub some_now : (change : RowChange) (range : Range) (done : ℕ) (old now : SpaceOf) → IsInRegion (shown old.regions) range → Changing change range done old now → done < range.count → is_some (region_with (shown now.regions) (range.first + done)) ≡ true
+some_now change range done old now inside h more =
+    by_around (region_around (shown old.regions) range) refl inside
   where
-    by_around : (o : Option (Found (RegionOf (Unit {0})))) → region_around (shown old.regions) range ≡ o → IsSomeAnd o is_in_private → is_some (region_with (shown now.regions) (range.first + done)) ≡ true
-    by_around None e p = absurd p
+    by_around : (o : Option (Found (RegionOf (Unit {0})))) → region_around (shown old.regions) range ≡ o → is_some o ≡ true → is_some (region_with (shown now.regions) (range.first + done)) ≡ true
+    by_around None e p = cc
     by_around (Some r) e p = some_with (shown now.regions) range (range.first + done) _ (around_now change range done old now h r e) (record { low = omega arith; high = omega (arith, more) })
 
-pub changing_more : (change : RowChange) (range : Range) (done : ℕ) (old now new : SpaceOf) → IsInPrivate (shown old.regions) range → Changing change range done old now → done < range.count → IsVad now.regions → RowChanged change (range.first + done) (shown now.regions) (shown new.regions) → new.spare ≡ now.spare → IsVad new.regions → Changing change range (done + 1) old new
+pub changing_more : (change : RowChange) (range : Range) (done : ℕ) (old now new : SpaceOf) → Changing change range done old now → done < range.count → IsVad now.regions → RowChanged change (range.first + done) (shown now.regions) (shown new.regions) → new.spare ≡ now.spare → IsVad new.regions → Changing change range (done + 1) old new
 unfolding with_rows
-changing_more change range done old now new private h more sound step spare kept = record {
+changing_more change range done old now new h more sound step spare kept = record {
   after = λ r e.
       let f = changed change r.thing.kind in
       let rs = shown old.regions in
@@ -112,7 +109,7 @@ changing_more change range done old now new private h more sound step spare kept
       let row = get_or part.rows k reserved_row in
       let at : slice_get part.rows k ≡ Some row = slice_get-get_or part.rows k reserved_row (omega (arith, i.low, i.high, size, more)) in
       let made : change_range f first (done + 1) r.thing.rows ≡ slice_set part.rows k (f row) = ap (λ (n : ℕ). change_range f first n r.thing.rows) (let n : done + 1 ≡ suc done = omega arith in n) ∙ change_more f first done r.thing.rows k row (omega (arith, i.low)) at in
-      step (record { place = r.place; thing = part }) row with_page (in_private rs range r private e) at
+      step (record { place = r.place; thing = part }) row with_page at
       ∙ ap (λ (xs : List (RegionOf (Unit {0}))). slice_set xs r.place (with_rows r.thing (slice_set part.rows k (f row)))) (h.after r e)
       ∙ set_set rs r.place part (with_rows r.thing (slice_set part.rows k (f row)))
       ∙ ap (λ rows. slice_set rs r.place (with_rows r.thing rows)) (sym made);

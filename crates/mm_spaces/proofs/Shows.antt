@@ -87,25 +87,22 @@ here (x ∷ xs) page r a e =
 abbrev pub with_changed : RowChange → ℕ → RowOf (Unit {0}) → RegionOf (Unit {0}) → RegionOf (Unit {0})
 with_changed change page row r = record r { rows = slice_set r.rows (page - r.base) (changed change r.kind row) }
 
-changed_in : (change : RowChange) (k : Kind) (old new : Row) → is_private k ≡ true → row_of kind.Private new ≡ changed change kind.Private (row_of kind.Private old) → row_of k new ≡ changed change k (row_of k old)
-changed_in change k old new private is = subst (λ (k : Kind). row_of k new ≡ changed change k (row_of k old)) (sym (private_kind k private)) is
-
 with_rows : Region → List (RowOf (Unit {0})) → RegionOf (Unit {0})
 with_rows g rows = record { base = g.base.0; alloc_prot = g.alloc_prot.0; kind = g.kind; rows = rows }
 
-region_changed : (g : Region) (page : ℕ) (change : RowChange) (old new : Row) (row : RowOf (Unit {0})) → slice_get g.rows (page - g.base.0) ≡ Some old → is_private g.kind ≡ true → row_at (region_of g) page ≡ Some row → row_of kind.Private new ≡ changed change kind.Private (row_of kind.Private old) → region_of (with_row page new g) ≡ with_changed change page row (region_of g)
+region_changed : (g : Region) (page : ℕ) (change : RowChange) (old new : Row) (row : RowOf (Unit {0})) → slice_get g.rows (page - g.base.0) ≡ Some old → row_at (region_of g) page ≡ Some row → row_of g.kind new ≡ changed change g.kind (row_of g.kind old) → region_of (with_row page new g) ≡ with_changed change page row (region_of g)
 unfolding with_rows
-region_changed g page change old new row at private there is =
+region_changed g page change old new row at there is =
     let i = page - g.base.0 in
     let both : Some (row_of g.kind old) ≡ Some row = sym (ap (option_map (row_of g.kind)) at) ∙ sym (slice_get-map (row_of g.kind) g.rows i) ∙ there in
     let same : row_of g.kind old ≡ row = cc in
     ap (with_rows g)
     (map-set (row_of g.kind) g.rows i new
-    ∙ ap (slice_set (map (row_of g.kind) g.rows) i) (changed_in change g.kind old new private is ∙ ap (changed change g.kind) same))
+    ∙ ap (slice_set (map (row_of g.kind) g.rows) i) (is ∙ ap (changed change g.kind) same))
 
-pub row_changed : (gs : List Region) (page : ℕ) (r : Found (RegionOf (Unit {0}))) (h : Here gs page r) (change : RowChange) (old new : Row) (row : RowOf (Unit {0})) → slice_get h.region.rows (page - h.region.base.0) ≡ Some old → is_private r.thing.kind ≡ true → row_at r.thing page ≡ Some row → row_of kind.Private new ≡ changed change kind.Private (row_of kind.Private old) → shown (set_row gs page new) ≡ slice_set (shown gs) r.place (with_changed change page row r.thing)
-row_changed gs page r h change old new row at private there is =
+pub row_changed : (gs : List Region) (page : ℕ) (r : Found (RegionOf (Unit {0}))) (h : Here gs page r) (change : RowChange) (old new : Row) (row : RowOf (Unit {0})) → slice_get h.region.rows (page - h.region.base.0) ≡ Some old → row_at r.thing page ≡ Some row → row_of h.region.kind new ≡ changed change h.region.kind (row_of h.region.kind old) → shown (set_row gs page new) ≡ slice_set (shown gs) r.place (with_changed change page row r.thing)
+row_changed gs page r h change old new row at there is =
     h.written new
     ∙ ap (slice_set (shown gs) r.place)
-    (subst (λ (t : RegionOf (Unit {0})). is_private t.kind ≡ true → row_at t page ≡ Some row → region_of (with_row page new h.region) ≡ with_changed change page row t) h.is
-    (λ p q. region_changed h.region page change old new row at p q is) private there)
+    (subst (λ (t : RegionOf (Unit {0})). row_at t page ≡ Some row → region_of (with_row page new h.region) ≡ with_changed change page row t) h.is
+    (λ q. region_changed h.region page change old new row at q is) there)

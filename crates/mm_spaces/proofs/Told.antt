@@ -1,5 +1,5 @@
 -- What VirtualQuery tells of a page, read off the regions that are kept.
-use Rattle.std.proofs.Common.{◌≡◌, ℕ, zero, suc, ◌+◌, ◌-◌, ◌<◌, ◌≤◌, Bool, true, false, cond, List, [], ◌∷◌, length, map, drop, Option, Some, None, option_map, unwrap_or, is_some, refl, sym, ap, ◌∙◌, subst, arith, slice_get, nat_lt, nat_le, ◌&&◌, ◌||◌}
+use Rattle.std.proofs.Common.{◌≡◌, ℕ, zero, suc, ◌+◌, ◌-◌, ◌<◌, ◌≤◌, Bool, true, false, cond, List, [], ◌∷◌, length, map, drop, Option, Some, None, option_map, unwrap_or, is_some, refl, sym, ap, ◌∙◌, subst, arith, slice_get, nat_lt, nat_le, ◌&&◌}
 use Rattle.std.specs.Prelude.{find, ◌==◌, IsSome, take_while}
 use Rattle.std.specs.Cmp.{unsigned_Decides}
 use Rattle.std.proofs.lemmas.Bool.{leb-true, eqb-true, eqb-false, ne_eqb}
@@ -16,14 +16,16 @@ use Rattle.mm_vad.specs.Looks as looks
 use Rattle.mm_vad.specs.Looks.{Look, are_alike, same_look, same_flag, run_from}
 use Rattle.mm_vad.proofs.Places.{each_region}
 use Rattle.mm_world.specs.World.{RegionOf, WorldOf}
-use Rattle.mm_world.specs.Find.{Found, region_with}
-use Rattle.mm_world.specs.Rows.{is_one_of, is_committed, private_protections}
+use Rattle.mm_world.specs.Find.{Found, region_with, is_private}
+use Rattle.mm_world.specs.Rows.{is_committed}
 use Rattle.mm_world.specs.Query.{PageState, same_state, first_run, row_state, page_states, region_info, next_base, type_of}
 use Rattle.mm_world.specs.WellFormed.{Each, RowFits, PrivateRowFits}
 use Rattle.mm_spaces.specs.Shown.{row_of, region_of, shown}
-use Rattle.mm_spaces.specs.Finds.{IsKept, IsAt}
+use Rattle.mm_spaces.specs.Finds.{IsKept}
 use Rattle.mm_spaces.proofs.Carried.{Whole, place_of, with_shown, map_drop}
-use Rattle.mm_spaces.proofs.Kept.{found_has, is_at}
+use Rattle.mm_spaces.specs.Kept.{IsAt}
+use Rattle.mm_spaces.proofs.Shows.{private_kind}
+use Rattle.mm_spaces.proofs.Kept.{found_has, is_at, private_low}
 
 -- ---- the next region
 
@@ -75,34 +77,7 @@ run_shorter : (rows : List Row) → looks.first_run rows ≤ length rows
 run_shorter [] = omega arith
 run_shorter (row ∷ rows) = shorter (are_alike row) (row ∷ rows)
 
-pub run_within : (vs : List Region) (page : ℕ) → IsKept vs → IsSome (vad.region_at vs page) → page + vad.run_of_equal vs page ≤ end_of_user_pages
-run_within vs page k some = by_found (vad.region_at vs page) refl some
-  where
-    by_found : (o : Option Region) → vad.region_at vs page ≡ o → IsSome o → page + unwrap_or (option_map (λ (r : Region). run_from r.rows (page - r.base.0)) o) 0 ≤ end_of_user_pages
-    by_found None e s = cc
-    by_found (Some g) e s =
-        let h = found_has (λ r. FollowsFrom first_user_page (vad.pages_of r)) (vad.holds page) vs g (each_region vs k.whole) e in
-        let at = is_at vs page g k e in
-        omega (arith, at.low, at.high, at.rows, h.1.within, run_shorter (drop (page - g.base.0) g.rows), length-drop (page - g.base.0) g.rows)
-
 -- ---- the states of the rows
-
-member : (a : ℕ) (rest : List ℕ) (n : ℕ) → a < 0x100 → (is_one_of rest n ≡ true → n < 0x100) → is_one_of (a ∷ rest) n ≡ true → n < 0x100
-member a rest n low later e =
-    elim (a == n) as (λ b. (a == n) ≡ b → (b || is_one_of rest n) ≡ true → n < 0x100) [
-      | true ↦ λ is k. omega (arith, low, eqb-true a n is)
-      | false ↦ λ is k. later k
-    ] refl e
-
-below_guard : (n : ℕ) → is_one_of private_protections n ≡ true → n < 0x100
-below_guard n e =
-    member 0x01 (0x02 ∷ 0x04 ∷ 0x10 ∷ 0x20 ∷ 0x40 ∷ []) n (omega arith)
-    (member 0x02 (0x04 ∷ 0x10 ∷ 0x20 ∷ 0x40 ∷ []) n (omega arith)
-    (member 0x04 (0x10 ∷ 0x20 ∷ 0x40 ∷ []) n (omega arith)
-    (member 0x10 (0x20 ∷ 0x40 ∷ []) n (omega arith)
-    (member 0x20 (0x40 ∷ []) n (omega arith)
-    (member 0x40 [] n (omega arith) (λ k. (cc)))))))
-    e
 
 abbrev own_by : Bool → Option (Unit {0})
 own_by committed = cond committed (Some tt) None
@@ -145,7 +120,7 @@ alike_by false true ga gb pa pb la lb = refl
 alike_by false false ga gb pa pb la lb = refl
 
 low_prot : (row : Row) → PrivateRowFits (row_of kind.Private row) → row.committed ≡ true → row.prot.0 < 0x100
-low_prot row h e = below_guard row.prot.0 (h.committed (ap (λ b. is_some (own_by b)) e))
+low_prot row h e = private_low row.prot.0 (h.committed (ap (λ b. is_some (own_by b)) e))
 
 alike : (a b : Row) → PrivateRowFits (row_of kind.Private a) → PrivateRowFits (row_of kind.Private b) → same_state (state_of a) (state_of b) ≡ are_alike a b
 alike a b ha hb =
@@ -208,46 +183,65 @@ module _ (rs : List (RegionOf (Unit {0}))) (page : ℕ) (g : Region) (at : IsAt 
   abbrev pub states : WorldOf (Unit {0}) → RegionOf (Unit {0}) → List PageState
   states w r = drop (page - r.base) (page_states w r.kind 0 r.rows)
 
-  thing_is : (r : Found (RegionOf (Unit {0}))) → region_with rs page ≡ Some r → r.thing ≡ region_of g
-  thing_is r e =
+  pub thing_at : (r : Found (RegionOf (Unit {0}))) → region_with rs page ≡ Some r → r.thing ≡ region_of g
+  thing_at r e =
       let both : Some at.found ≡ Some r = sym at.there ∙ e in
       let same : at.found ≡ r = cc in
       ap (λ (f : Found (RegionOf (Unit {0}))). f.thing) (sym same) ∙ at.is_shown
 
-  private_states : (w : WorldOf (Unit {0})) → states w (region_of g) ≡ drop (page - g.base.0) (map state_of g.rows)
-  private_states w =
-      ap (λ k. drop (page - g.base.0) (page_states w k 0 (map (row_of k) g.rows))) at.private
-      ∙ ap (drop (page - g.base.0)) (states_are w 0 g.rows)
-
-  private_fit : Fit g.rows
-  private_fit = subst (λ k. Each (RowFits k) (map (row_of k) g.rows)) at.private at.fit
-
-  pub run_told : (w : WorldOf (Unit {0})) (r : Found (RegionOf (Unit {0}))) → region_with rs page ≡ Some r → (first_run (states w r.thing)).1 ≡ run_from g.rows (page - g.base.0)
-  run_told w r e =
-      ap (λ x. (first_run (states w x)).1) (thing_is r e)
-      ∙ ap (λ ss. (first_run ss).1) (private_states w ∙ sym (map_drop state_of (page - g.base.0) g.rows))
-      ∙ run_states (drop (page - g.base.0) g.rows) (fit_drop (page - g.base.0) g.rows private_fit)
+  -- the kind of the region that is kept is that of the one that is shown
+  pub kind_at : (b : Bool) → ((r : Found (RegionOf (Unit {0}))) → region_with rs page ≡ Some r → is_private r.thing.kind ≡ b) → is_private g.kind ≡ b
+  kind_at b known = ap (λ (x : RegionOf (Unit {0})). is_private x.kind) (sym at.is_shown) ∙ known at.found at.there
 
   abbrev pub info_by : ℕ → PageState → ℕ → QueryInfo
   info_by size s kind = record { base = address_of page; alloc_base = address_of g.base.0; alloc_prot = g.alloc_prot.0; size = size; state = s.state; prot = s.prot; kind = kind }
 
-  pub region_told : (w : WorldOf (Unit {0})) (r : Found (RegionOf (Unit {0}))) (row : Row) (n : ℕ) → region_with rs page ≡ Some r → slice_get g.rows (page - g.base.0) ≡ Some row → n ≡ (first_run (states w r.thing)).1 → info_by (address_of n) (state_of row) 0x20000 ≡ region_info w r.thing page
-  region_told w r row n e there run =
-      let same = thing_is r e in
-      let size : n ≡ (first_run (states w (region_of g))).1 = run ∙ ap (λ x. (first_run (states w x)).1) same in
-      let state : (first_run (states w (region_of g))).0 ≡ state_of row = ap (λ ss. (first_run ss).0) (private_states w) ∙ first_state (page - g.base.0) g.rows row there in
-      ap (λ m. info_by (address_of m) (state_of row) 0x20000) size
-      ∙ ap (λ s. info_by (address_of (first_run (states w (region_of g))).1) s 0x20000) (sym state)
-      ∙ ap (λ k. info_by (address_of (first_run (states w (region_of g))).1) (first_run (states w (region_of g))).0 (type_of k)) (sym at.private)
-      ∙ ap (λ x. region_info w x page) (sym same)
+  -- what is told of a page in a region
+  pub region_told : (w : WorldOf (Unit {0})) (r : Found (RegionOf (Unit {0}))) (s : PageState) (n type : ℕ) → region_with rs page ≡ Some r → (first_run (states w (region_of g))).0 ≡ s → n ≡ (first_run (states w (region_of g))).1 → type ≡ type_of g.kind → info_by (address_of n) s type ≡ region_info w r.thing page
+  region_told w r s n type e state run same_type =
+      ap (λ m. info_by (address_of m) s type) run
+      ∙ ap (λ x. info_by (address_of (first_run (states w (region_of g))).1) x type) (sym state)
+      ∙ ap (λ t. info_by (address_of (first_run (states w (region_of g))).1) (first_run (states w (region_of g))).0 t) same_type
+      ∙ ap (λ x. region_info w x page) (sym (thing_at r e))
+
+  module _ (private : g.kind ≡ kind.Private) where
+    private_states : (w : WorldOf (Unit {0})) → states w (region_of g) ≡ drop (page - g.base.0) (map state_of g.rows)
+    private_states w =
+        ap (λ k. drop (page - g.base.0) (page_states w k 0 (map (row_of k) g.rows))) private
+        ∙ ap (drop (page - g.base.0)) (states_are w 0 g.rows)
+
+    private_fit : Fit g.rows
+    private_fit = subst (λ k. Each (RowFits k) (map (row_of k) g.rows)) private at.fit
+
+    pub private_run : (w : WorldOf (Unit {0})) → (first_run (states w (region_of g))).1 ≡ run_from g.rows (page - g.base.0)
+    private_run w =
+        ap (λ ss. (first_run ss).1) (private_states w ∙ sym (map_drop state_of (page - g.base.0) g.rows))
+        ∙ run_states (drop (page - g.base.0) g.rows) (fit_drop (page - g.base.0) g.rows private_fit)
+
+    pub private_state : (w : WorldOf (Unit {0})) (row : Row) → slice_get g.rows (page - g.base.0) ≡ Some row → (first_run (states w (region_of g))).0 ≡ state_of row
+    private_state w row there = ap (λ ss. (first_run ss).0) (private_states w) ∙ first_state (page - g.base.0) g.rows row there
+
+    pub run_told : (w : WorldOf (Unit {0})) (r : Found (RegionOf (Unit {0}))) → region_with rs page ≡ Some r → (first_run (states w r.thing)).1 ≡ run_from g.rows (page - g.base.0)
+    run_told w r e = ap (λ x. (first_run (states w x)).1) (thing_at r e) ∙ private_run w
+
+pub run_within : (vs : List Region) (page : ℕ) → IsKept vs → IsSome (vad.region_at vs page) → page + vad.run_of_equal vs page ≤ end_of_user_pages
+run_within vs page k some = by_found (vad.region_at vs page) refl some
+  where
+    by_found : (o : Option Region) → vad.region_at vs page ≡ o → IsSome o → page + unwrap_or (option_map (λ (r : Region). run_from r.rows (page - r.base.0)) o) 0 ≤ end_of_user_pages
+    by_found None e s = cc
+    by_found (Some g) e s =
+        let at = is_at vs page g k e in
+        omega (arith, at.low, at.high, at.rows, at.within, run_shorter (drop (page - g.base.0) g.rows), length-drop (page - g.base.0) g.rows)
 
 -- how many pages are alike, as the regions that are kept tell
-pub run_kept : (vs : List Region) (page n : ℕ) (w : WorldOf (Unit {0})) (r : Found (RegionOf (Unit {0}))) → IsKept vs → n ≡ vad.run_of_equal vs page → region_with (shown vs) page ≡ Some r → n ≡ (first_run (drop (page - r.thing.base) (page_states w r.thing.kind 0 r.thing.rows))).1
-run_kept vs page n w r k is e = by_found (vad.region_at vs page) refl
+pub run_kept : (vs : List Region) (page n : ℕ) (w : WorldOf (Unit {0})) (r : Found (RegionOf (Unit {0}))) → IsKept vs → n ≡ vad.run_of_equal vs page → region_with (shown vs) page ≡ Some r → is_private r.thing.kind ≡ true → n ≡ (first_run (drop (page - r.thing.base) (page_states w r.thing.kind 0 r.thing.rows))).1
+run_kept vs page n w r k is e private = by_found (vad.region_at vs page) refl
   where
     by_found : (o : Option Region) → vad.region_at vs page ≡ o → n ≡ (first_run (drop (page - r.thing.base) (page_states w r.thing.kind 0 r.thing.rows))).1
     by_found None f = (let bad : None ≡ Some r = sym (with_shown vs page k.whole.whole ∙ ap (option_map (place_of (vad.holds page) vs)) f) ∙ e in cc)
     by_found (Some g) f =
+        let at = is_at vs page g k f in
+        let kind_is : is_private g.kind ≡ true = ap (λ (x : RegionOf (Unit {0})). is_private x.kind) (sym (thing_at (shown vs) page g at r e)) ∙ private in
         is
         ∙ ap (λ o. unwrap_or (option_map (λ (x : Region). run_from x.rows (page - x.base.0)) o) 0) f
-        ∙ sym (run_told (shown vs) page g (is_at vs page g k f) w r e)
+        ∙ sym (run_told (shown vs) page g at (private_kind g.kind kind_is) w r e)

@@ -1,21 +1,25 @@
 -- The regions that are kept stay so when rows of them are written.
-use Rattle.std.proofs.Common.{◌≡◌, ℕ, zero, suc, ◌+◌, ◌≤◌, Bool, true, false, cond, List, [], ◌∷◌, take, drop, ◌-◌, Option, Some, None, is_some, slice_set, refl, sym, ap, ◌∙◌, arith, ◌&&◌, count_by}
-use Rattle.std.specs.Prelude.{option_and_then}
+use Rattle.std.proofs.Common.{◌≡◌, ℕ, zero, suc, ◌+◌, ◌≤◌, ◌<◌, Bool, true, false, cond, List, [], ◌∷◌, take, drop, ◌-◌, Option, Some, None, is_some, refl, sym, ap, ◌∙◌, subst, arith, ◌&&◌, count_by}
+use Rattle.std.specs.Prelude.{option_map, option_and_then}
 use Rattle.std.specs.List.{list_all}
 use Rattle.std.proofs.lemmas.List.Sums.{sum_by-cons}
-use Rattle.mm_types.specs.Address.{Range}
+use Rattle.mm_types.specs.Address.{Range, end_of, holds_page}
 use Rattle.mm_vad.specs.declared.regions.Region.{Region}
 use Rattle.mm_vad.specs.Regions.{IsSpace as IsVad}
-use Rattle.mm_world.specs.World.{RowOf, RegionOf}
+use Rattle.mm_world.specs.World.{RowOf, RegionOf, pages_of}
 use Rattle.mm_world.specs.Find.{Found, region_with, region_around}
-use Rattle.mm_world.specs.Rows.{row_at}
+use Rattle.mm_world.specs.Rows.{row_at, accepts, every_page}
+use Rattle.mm_world.specs.WellFormed.{IsSpace}
+use Rattle.mm_world.proofs.Finding.{found_stands}
 use Rattle.mm_spaces.specs.Shown.{shown}
 use Rattle.mm_spaces.specs.Finds.{IsKept}
-use Rattle.mm_spaces.specs.Tables.{own_row, where_owned, owned_in, rows_in, rows_of}
+use Rattle.mm_spaces.specs.Tables.{owned_in, rows_in, rows_of, page_row, told_row}
 use Rattle.mm_spaces.specs.declared.rows.RowChange.{RowChange}
-use Rattle.mm_spaces.specs.declared.rows.RowChange.TheVariants as change
-use Rattle.mm_spaces.specs.RowChanges.{IsInPrivate, RowChanged, RowsChanged, owns}
-use Rattle.mm_spaces.proofs.RowsKept.{Regions, CanChange, all_around, private_with, stay_any, stay_guard_off}
+use Rattle.mm_spaces.specs.RowChanges.{RowChanged, RowsChanged, owns}
+use Rattle.mm_spaces.proofs.Shows.{there}
+use Rattle.mm_spaces.proofs.Around.{among}
+use Rattle.mm_spaces.proofs.Kept.{has_row}
+use Rattle.mm_spaces.proofs.RowsKept.{Regions, CanChange, sound_rows, sound_row}
 
 -- ---- a range
 
@@ -28,17 +32,26 @@ module _ (vs : List Region) (inner : Range) (rs : Regions) (range : Range) (same
   pub inside : is_some (region_around rs range) ≡ true → is_some (region_around (shown vs) inner) ≡ true
   inside e = ap (λ (x : Regions). is_some (region_around x inner)) same.regions ∙ ap (λ (x : Range). is_some (region_around rs x)) same.range_is ∙ e
 
-  pub in_private : IsKept vs → is_some (region_around rs range) ≡ true → IsInPrivate (shown vs) inner
-  in_private k e = all_around (shown vs) inner k.private (inside e)
-
   pub owned : owned_in rs range ≡ range.count → owned_in (shown vs) inner ≡ inner.count
   owned e =
       ap (λ (x : Regions). owned_in x inner) same.regions ∙ ap (λ (x : Range). owned_in rs x) same.range_is ∙ e ∙ sym (ap (λ (x : Range). x.count) same.range_is)
 
-pub kept_rows : (vs after : List Region) (c : RowChange) (range : Range) → IsKept vs → is_some (region_around (shown vs) range) ≡ true → CanChange c (shown vs) range → RowsChanged c range (shown vs) (shown after) → IsVad after → IsKept after
+  -- what is known of the region around the range, said in the other way
+  pub around : {P : Found (RegionOf (Unit {0})) → Type 0} → ((r : Found (RegionOf (Unit {0}))) → region_around rs range ≡ Some r → P r) → (r : Found (RegionOf (Unit {0}))) → region_around (shown vs) inner ≡ Some r → P r
+  around known r e = known r (sym (ap (λ (x : Regions). region_around x inner) same.regions ∙ ap (λ (x : Range). region_around rs x) same.range_is) ∙ e)
+
+  pub taken : (r : Found (RegionOf (Unit {0}))) (prot : ℕ) → every_page (accepts r.thing prot) range ≡ true → every_page (accepts r.thing prot) inner ≡ true
+  taken r prot e = ap (λ (x : Range). every_page (accepts r.thing prot) x) same.range_is ∙ e
+
+-- what has to be known of the rows of a range
+abbrev pub CanChangeRows : RowChange → Regions → Range → Type 0
+CanChangeRows c rs range =
+    (r : Found (RegionOf (Unit {0}))) → region_around rs range ≡ Some r → (page : ℕ) (row : RowOf (Unit {0})) → range.first ≤ page → page < end_of range → row_at r.thing page ≡ Some row → CanChange c r.thing.kind row
+
+pub kept_rows : (vs after : List Region) (c : RowChange) (range : Range) → IsKept vs → is_some (region_around (shown vs) range) ≡ true → CanChangeRows c (shown vs) range → RowsChanged c range (shown vs) (shown after) → IsVad after → IsKept after
 kept_rows vs after c range k some can changed whole =
-    let stay = stay_any c (shown vs) (shown after) range (record { sound = k.sound; private = k.private }) some can changed in
-    record { sound = stay.sound; private = stay.private; whole = whole }
+    let r = there (region_around (shown vs) range) some in
+    record { sound = subst IsSpace (sym (changed r.thing r.is)) (sound_rows c (shown vs) range r.thing r.is (can r.thing r.is) k.sound); whole = whole }
 
 -- ---- all rows of a range are counted
 
@@ -72,29 +85,34 @@ all_owned rs range e = by_found (region_around rs range) e
 
 -- ---- one page
 
--- a page with a row of its own
-pub record OwnRow (rs : Regions) (page : ℕ) : Type 0 where
+-- the row of a page that lies in a region
+pub record RowThere (rs : Regions) (page : ℕ) : Type 0 where
   pub found : Found (RegionOf (Unit {0}))
   pub row : RowOf (Unit {0})
   pub there : region_with rs page ≡ Some found
   pub row_there : row_at found.thing page ≡ Some row
 
-pub own_parts : (rs : Regions) (page : ℕ) → is_some (own_row rs page) ≡ true → OwnRow rs page
-own_parts rs page e = by_region (region_with rs page) refl e
-  where
-    by_row : (r : Found (RegionOf (Unit {0}))) (o : Option (RowOf (Unit {0}))) → region_with rs page ≡ Some r → row_at r.thing page ≡ o → is_some (option_and_then where_owned o) ≡ true → OwnRow rs page
-    by_row r None e at k = cc
-    by_row r (Some row) e at k = record { found = r; row = row; there = e; row_there = at }
+pub row_of_page : (rs : Regions) (page : ℕ) → is_some (region_with rs page) ≡ true → RowThere rs page
+row_of_page rs page some =
+    let r = there (region_with rs page) some in
+    let a = among (pages_of r.thing.thing) page (found_stands (λ (x : RegionOf (Unit {0})). holds_page (pages_of x) page) rs r.thing r.is).passes in
+    let row = has_row r.thing.thing.rows (page - r.thing.thing.base) (omega (arith, a.low, a.high)) in
+    record { found = r.thing; row = row.0; there = r.is; row_there = row.1 }
 
-    by_region : (o : Option (Found (RegionOf (Unit {0})))) → region_with rs page ≡ o → is_some (option_and_then (λ (r : Found (RegionOf (Unit {0}))). option_and_then where_owned (row_at r.thing page)) o) ≡ true → OwnRow rs page
-    by_region None e k = cc
-    by_region (Some r) e k = by_row r (row_at r.thing page) e refl k
+-- a page without a row lies in no region
+pub no_region : (rs : Regions) (page : ℕ) (r : Found (RegionOf (Unit {0}))) → None ≡ page_row rs page → region_with rs page ≡ Some r → ⊥
+no_region rs page r none e =
+    let o = row_of_page rs page (ap is_some e) in
+    let bad : None ≡ Some (told_row o.found.thing page o.row) =
+    none
+    ∙ ap (option_and_then (λ (f : Found (RegionOf (Unit {0}))). option_map (told_row f.thing page) (row_at f.thing page))) o.there
+    ∙ ap (option_map (told_row o.found.thing page)) o.row_there in
+    cc
 
-pub kept_guard_off : (vs after : List Region) (page : ℕ) → IsKept vs → is_some (own_row (shown vs) page) ≡ true → RowChanged change.GuardOff page (shown vs) (shown after) → IsVad after → IsKept after
-kept_guard_off vs after page k own changed whole =
-    let o = own_parts (shown vs) page own in
-    let stay = stay_guard_off (shown vs) (shown after) page o.found o.row (record { sound = k.sound; private = k.private }) o.there o.row_there changed in
-    record { sound = stay.sound; private = stay.private; whole = whole }
+abbrev pub CanChangeRow : RowChange → Regions → ℕ → Type 0
+CanChangeRow c rs page = (r : Found (RegionOf (Unit {0}))) (row : RowOf (Unit {0})) → region_with rs page ≡ Some r → row_at r.thing page ≡ Some row → CanChange c r.thing.kind row
 
-pub guard_is_off : (vs after : List Region) (page : ℕ) (r : Found (RegionOf (Unit {0}))) (row : RowOf (Unit {0})) → IsKept vs → RowChanged change.GuardOff page (shown vs) (shown after) → region_with (shown vs) page ≡ Some r → row_at r.thing page ≡ Some row → shown after ≡ slice_set (shown vs) r.place (record r.thing { rows = slice_set r.thing.rows (page - r.thing.base) (record row { guard = false }) })
-guard_is_off vs after page r row k changed e at = changed r row e (private_with (shown vs) page r k.private e) at
+pub kept_row : (vs after : List Region) (c : RowChange) (page : ℕ) → IsKept vs → is_some (region_with (shown vs) page) ≡ true → CanChangeRow c (shown vs) page → RowChanged c page (shown vs) (shown after) → IsVad after → IsKept after
+kept_row vs after c page k some can changed whole =
+    let o = row_of_page (shown vs) page some in
+    record { sound = subst IsSpace (sym (changed o.found o.row o.there o.row_there)) (sound_row c (shown vs) page o.found o.row o.there o.row_there (can o.found o.row o.there o.row_there) k.sound); whole = whole }

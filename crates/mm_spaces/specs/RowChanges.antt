@@ -1,9 +1,9 @@
--- What calls make of the rows of a range that lies in a private region.
-use Rattle.std.specs.Prelude.{◌≡◌, ℕ, ◌-◌, Bool, false, true, is_some, List, Some, IsSomeAnd, slice_set}
+-- What calls make of the rows of a range that lies in a region.
+use Rattle.std.specs.Prelude.{◌≡◌, ℕ, ◌-◌, Bool, false, true, is_some, List, Some, slice_set}
 use Rattle.mm_types.specs.declared.views.Kind.{Kind}
 use Rattle.mm_types.specs.Address.{Range}
 use Rattle.mm_world.specs.World.{RowOf, RegionOf}
-use Rattle.mm_world.specs.Find.{Found, region_with, region_around, is_private}
+use Rattle.mm_world.specs.Find.{Found, region_with, region_around}
 use Rattle.mm_world.specs.Rows.{row_at, reserved_row, commit, protected, change_rows}
 use Rattle.mm_spaces.specs.declared.rows.RowChange.{RowChange}
 use Rattle.mm_spaces.specs.declared.rows.RowChange.TheVariants as change
@@ -14,13 +14,11 @@ changed (change.Commit prot) kind = commit tt prot
 changed change.Decommit kind = λ row. reserved_row
 changed (change.Protect prot) kind = protected kind prot
 changed change.GuardOff kind = λ row. record row { guard = false }
+changed change.Copy kind = λ row. record row { own = Some tt; prot = 0x04 }
 
-abbrev pub is_in_private : Found (RegionOf (Unit {0})) → Type 0
-is_in_private r = is_private r.thing.kind ≡ true
-
--- all pages of the range lie in one region, a private one
-abbrev pub IsInPrivate : List (RegionOf (Unit {0})) → Range → Type 0
-IsInPrivate regions range = IsSomeAnd (region_around regions range) is_in_private
+-- all pages of the range lie in one region
+abbrev pub IsInRegion : List (RegionOf (Unit {0})) → Range → Type 0
+IsInRegion regions range = is_some (region_around regions range) ≡ true
 
 -- whether a page has bytes of its own; a private page has exactly where it is committed
 abbrev pub owns : RowOf (Unit {0}) → Bool
@@ -29,10 +27,10 @@ owns row = is_some row.own
 abbrev pub range_at : ℕ → ℕ → Range
 range_at first count = record { first = first; count = count }
 
--- the row of the page, which lies in a private region, was changed, and nothing else
+-- the row of the page was changed, and nothing else
 abbrev pub RowChanged : RowChange → ℕ → List (RegionOf (Unit {0})) → List (RegionOf (Unit {0})) → Type 0
 RowChanged change page old new =
-    (r : Found (RegionOf (Unit {0}))) (row : RowOf (Unit {0})) → region_with old page ≡ Some r → is_private r.thing.kind ≡ true → row_at r.thing page ≡ Some row →
+    (r : Found (RegionOf (Unit {0}))) (row : RowOf (Unit {0})) → region_with old page ≡ Some r → row_at r.thing page ≡ Some row →
     new ≡ slice_set old r.place (record r.thing { rows = slice_set r.thing.rows (page - r.thing.base) (changed change r.thing.kind row) })
 
 -- the rows of the range, which lies in one region, were changed, and nothing else

@@ -1,12 +1,10 @@
 -- The regions of an address space as the definitions of worlds have them, read off those that `mm_vad` keeps.
 use Rattle.std.specs.Prelude.{Bool, if◌then◌else◌, List, map, Some, None}
-use Rattle.std.specs.List.{list_all}
 use Rattle.mm_types.specs.declared.views.Kind.{Kind}
 use Rattle.mm_types.specs.declared.views.Kind.TheVariants as kind
 use Rattle.mm_vad.specs.declared.pages.Row.{Row}
 use Rattle.mm_vad.specs.declared.regions.Region.{Region}
 use Rattle.mm_world.specs.World.{RowOf, RegionOf}
-use Rattle.mm_world.specs.Find.{is_private}
 
 -- whether the page has bytes of its own: a private row where it is committed, a view's where it was copied
 abbrev pub has_own : Kind → Row → Bool
@@ -27,7 +25,3 @@ region_of r = record { base = r.base.0; alloc_prot = r.alloc_prot.0; kind = r.ki
 
 abbrev pub shown : List Region → List (RegionOf (Unit {0}))
 shown regions = map region_of regions
-
--- no region is a view
-abbrev pub all_private : {B : Type 0} → List (RegionOf B) → Bool
-all_private regions = list_all (λ r. is_private r.kind) regions

@@ -1,17 +1,21 @@
-ghost use Rattle.std.specs.Prelude.{◌≡◌, ◌+◌, ◌-◌, ◌%◌, ◌≤◌, true, false, length, is_some, OnOk, OnErr, Some, remove, slice_set};
+ghost use Rattle.std.specs.Prelude.{◌≡◌, ◌⊎◌, ◌-◌, ◌%◌, ◌+◌, ◌≤◌, true, false, length, is_some, OnOk, OnErr, Some, remove, slice_set};
 ghost use Rattle.mm_types.specs.Address.{is_free, granule_pages};
-ghost use Rattle.mm_world.specs.World.{RowOf, RegionOf, WorldOf, pages_of};
+ghost use Rattle.mm_world.specs.World.{RowOf, RegionOf, pages_of};
 ghost use Rattle.mm_world.specs.Find.{Found, ranges_of, region_with, region_around, add_region, is_private};
 ghost use Rattle.mm_world.specs.Free.{private_at};
-ghost use Rattle.mm_world.specs.Rows.{row_at, is_protection_among, private_protections, every_page, is_committed_at, reserved_row, commit, protected, change_rows};
+ghost use Rattle.mm_world.specs.Views.{view_at};
+ghost use Rattle.mm_world.specs.Rows.{row_at, is_protection_among, private_protections, all_protections, every_page, accepts, reserved_row, commit, protected, change_rows};
 ghost use Rattle.mm_world.specs.WellFormed.{RowsFit};
-ghost use Rattle.mm_spaces.specs.Tables.{own_row, owned_in};
+ghost use Rattle.mm_spaces.specs.Tables.{owned_in};
 
-use crate::rows::{RowChange, are_committed, change_row, change_rows, committed_in};
+use crate::rows::{RowChange, change_row, change_rows};
 use crate::{AddressSpace, NewRegion, PageRange};
 use mm_types::{NoMemory, Vpn};
 
 const PAGE_SIZE: u32 = 4096;
+
+// Below every region.
+const LOWEST: Vpn = Vpn(0);
 
 impl AddressSpace {
     // ---- regions
@@ -27,13 +31,12 @@ impl AddressSpace {
         self.space.reserve()
     }
 
-    /// Adds a private region of free user pages that begins on a granule.
+    /// Adds a region of free user pages that begins on a granule.
     pub fn add(&mut self, region: NewRegion)
         requires free { is_free (ranges_of self.old.regions) (pages_of region) ≡ true }
         requires granule { region.base % granule_pages ≡ 0 }
         requires some { 1 ≤ length region.rows }
         requires rows { RowsFit region }
-        requires private { is_private region.kind ≡ true }
         requires room { 1 ≤ self.old.spare }
         ensures added { self.new.regions ≡ add_region region self.old.regions }
         ensures room { self.old.spare ≤ self.new.spare + 1 }
@@ -41,39 +44,38 @@ impl AddressSpace {
         self.space.add(region.region);
     }
 
-    /// Takes the private region out whose base is the address, to the byte.
+    /// Takes the region out whose base is the address, to the byte.
     pub fn remove(&mut self, addr: u32)
-        requires there { is_some (private_at self.old.regions addr) ≡ true }
-        ensures removed { (r : Found (RegionOf (Unit {0}))) → private_at self.old.regions addr ≡ Some r
+        requires there { (is_some (private_at self.old.regions addr) ≡ true) ⊎ (is_some (view_at self.old.regions addr) ≡ true) }
+        ensures private { (r : Found (RegionOf (Unit {0}))) → private_at self.old.regions addr ≡ Some r
+            → self.new.regions ≡ remove self.old.regions r.place }
+        ensures view { (r : Found (RegionOf (Unit {0}))) → view_at self.old.regions addr ≡ Some r
             → self.new.regions ≡ remove self.old.regions r.place }
         ensures room { self.old.spare ≤ self.new.spare }
     {
         let _ = self.space.remove(Vpn(addr / PAGE_SIZE));
     }
 
+    /// Takes the lowest region out; there is one.
+    pub fn remove_lowest(&mut self)
+        requires { 1 ≤ length self.old.regions }
+        ensures removed { self.new.regions ≡ remove self.old.regions 0 }
+        ensures room { self.old.spare ≤ self.new.spare }
+    {
+        let Some(region) = self.space.next_region(LOWEST) else {
+            unreachable!()
+        };
+        let base = region.base;
+        let _ = self.space.remove(base);
+    }
+
     // ---- rows
 
-    /// How many pages of the range, which lies in one region, are committed.
-    pub fn committed(&self, range: PageRange) -> u32
-        requires inside { is_some (region_around self.now.regions range) ≡ true }
-        ensures { result ≡ owned_in self.now.regions range }
-    {
-        committed_in(&self.space, range.first, range.count)
-    }
-
-    /// Whether all pages of the range, which lies in one region, are committed.
-    pub fn are_committed(&self, range: PageRange) -> bool
-        requires inside { is_some (region_around self.now.regions range) ≡ true }
-        ensures { (w : WorldOf (Unit {0})) (r : Found (RegionOf (Unit {0}))) → region_around self.now.regions range ≡ Some r
-            → result ≡ every_page (is_committed_at w r.thing) range }
-    {
-        are_committed(&self.space, range.first, range.count)
-    }
-
-    /// Commits the pages of the range, which lies in one region, with the protection `prot`, guard (0x100) included
+    /// Commits the pages of the range, which lies in one private region, with the protection `prot`, guard (0x100) included
     /// (VirtualAlloc with MEM_COMMIT). A page that is committed gets the protection too.
     pub fn commit(&mut self, range: PageRange, prot: u32)
         requires inside { is_some (region_around self.old.regions range) ≡ true }
+        requires private { (r : Found (RegionOf (Unit {0}))) → region_around self.old.regions range ≡ Some r → is_private r.thing.kind ≡ true }
         requires prot { is_protection_among private_protections prot ≡ true }
         ensures changed { (r : Found (RegionOf (Unit {0}))) → region_around self.old.regions range ≡ Some r
             → self.new.regions ≡ slice_set self.old.regions r.place (change_rows (commit tt prot) range r.thing) }
@@ -87,10 +89,11 @@ impl AddressSpace {
         );
     }
 
-    /// Makes the pages of the range, which lies in one region, reserved alone (VirtualFree with MEM_DECOMMIT). Pages
+    /// Makes the pages of the range, which lies in one private region, reserved alone (VirtualFree with MEM_DECOMMIT). Pages
     /// that are not committed are no failure.
     pub fn decommit(&mut self, range: PageRange)
         requires inside { is_some (region_around self.old.regions range) ≡ true }
+        requires private { (r : Found (RegionOf (Unit {0}))) → region_around self.old.regions range ≡ Some r → is_private r.thing.kind ≡ true }
         ensures changed { (r : Found (RegionOf (Unit {0}))) → region_around self.old.regions range ≡ Some r
             → self.new.regions ≡ slice_set self.old.regions r.place (change_rows (λ row. reserved_row) range r.thing) }
         ensures room { self.new.spare ≡ self.old.spare }
@@ -103,12 +106,13 @@ impl AddressSpace {
         );
     }
 
-    /// Gives the pages of the range, all of them committed and in one region, the protection `prot`, guard (0x100)
-    /// included (VirtualProtect).
+    /// Gives the pages of the range, which lies in one region, the protection `prot`, guard (0x100) included, which each of them
+    /// accepts (VirtualProtect); the pages of a private region are committed. In a view WRITECOPY marks the pages.
     pub fn protect(&mut self, range: PageRange, prot: u32)
         requires inside { is_some (region_around self.old.regions range) ≡ true }
-        requires prot { is_protection_among private_protections prot ≡ true }
-        requires committed { owned_in self.old.regions range ≡ range.count }
+        requires prot { is_protection_among all_protections prot ≡ true }
+        requires accepted { (r : Found (RegionOf (Unit {0}))) → region_around self.old.regions range ≡ Some r → every_page (accepts r.thing prot) range ≡ true }
+        requires committed { (r : Found (RegionOf (Unit {0}))) → region_around self.old.regions range ≡ Some r → is_private r.thing.kind ≡ true → owned_in self.old.regions range ≡ range.count }
         ensures changed { (r : Found (RegionOf (Unit {0}))) → region_around self.old.regions range ≡ Some r
             → self.new.regions ≡ slice_set self.old.regions r.place (change_rows (protected r.thing.kind prot) range r.thing) }
         ensures room { self.new.spare ≡ self.old.spare }
@@ -121,14 +125,27 @@ impl AddressSpace {
         );
     }
 
-    /// Takes the guard off a committed page.
+    /// Takes the guard off a page that lies in a region.
     pub fn take_guard_off(&mut self, page: u32)
-        requires there { is_some (own_row self.old.regions page) ≡ true }
+        requires there { is_some (region_with self.old.regions page) ≡ true }
         ensures changed { (r : Found (RegionOf (Unit {0}))) (row : RowOf (Unit {0})) → region_with self.old.regions page ≡ Some r
             → row_at r.thing page ≡ Some row
             → self.new.regions ≡ slice_set self.old.regions r.place (record r.thing { rows = slice_set r.thing.rows (page - r.thing.base) (record row { guard = false }) }) }
         ensures room { self.new.spare ≡ self.old.spare }
     {
         change_row(&mut self.space, page, RowChange::GuardOff);
+    }
+
+    /// The page of a view, which has a mark and was not copied, has bytes of its own from now on, and the protection READWRITE.
+    pub fn copy_page(&mut self, page: u32)
+        requires there { is_some (region_with self.old.regions page) ≡ true }
+        requires marked { (r : Found (RegionOf (Unit {0}))) (row : RowOf (Unit {0})) → region_with self.old.regions page ≡ Some r → row_at r.thing page ≡ Some row
+            → (is_private r.thing.kind ≡ false) × (row.marked ≡ true) }
+        ensures changed { (r : Found (RegionOf (Unit {0}))) (row : RowOf (Unit {0})) → region_with self.old.regions page ≡ Some r
+            → row_at r.thing page ≡ Some row
+            → self.new.regions ≡ slice_set self.old.regions r.place (record r.thing { rows = slice_set r.thing.rows (page - r.thing.base) (record row { own = Some tt; prot = 0x04 }) }) }
+        ensures room { self.new.spare ≡ self.old.spare }
+    {
+        change_row(&mut self.space, page, RowChange::Copy);
     }
 }

@@ -1,15 +1,18 @@
-//! The regions of one process's address space (its VADs and the rows of their pages), every region private.
+//! The regions of one process, private ones and views of sections, as the definitions of worlds have them; no page's bytes are here.
 #![tactic(auto)]
 
 mod changes;
+mod look_ups;
 mod new_regions;
 mod queries;
 mod ranges;
+mod row_tests;
 mod rows;
 mod spaces;
 #[cfg(test)]
 mod tests;
+mod view_states;
 
 pub use new_regions::NewRegion;
 pub use ranges::PageRange;
-pub use spaces::{AddressSpace, CommittedRow};
+pub use spaces::{AddressSpace, PageRow, RegionInfo};

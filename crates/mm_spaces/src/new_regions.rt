@@ -1,15 +1,16 @@
-ghost use Rattle.std.specs.Prelude.{◌≡◌, ◌≤◌, true, IfOk};
+ghost use Rattle.std.specs.Prelude.{◌≡◌, ◌≤◌, true, false, IfOk};
 ghost use Rattle.mm_world.specs.Contents.{blank};
 ghost use Rattle.mm_world.specs.Alloc.{private_region, new_row};
 ghost use Rattle.mm_world.specs.Rows.{is_protection_among, private_protections};
 ghost use Rattle.mm_world.specs.WellFormed.{RowsFit};
-ghost use Rattle.mm_world.specs.World.{pages_of};
-ghost use Rattle.mm_world.specs.Find.{is_private};
+ghost use Rattle.mm_world.specs.World.{SectionOf, pages_of};
+ghost use Rattle.mm_world.specs.Find.{Found};
+ghost use Rattle.mm_world.specs.Views.{view_region, first_protection, is_copy};
 ghost use Rattle.mm_spaces.specs.Shown.{row_of};
 ghost use Rattle.mm_types.specs.declared.views.Kind.TheVariants as kind;
 
 use crate::PageRange;
-use mm_types::{Kind, NoMemory, Prot, Vpn};
+use mm_types::{Kind, NoMemory, Prot, View, ViewAccess, Vpn};
 use mm_vad::{Region, Row, Rows};
 use std::alloc::Global;
 use std::marker::Model;
@@ -58,6 +59,33 @@ fn new_row(alloc_type: u32, prot: u32) -> Row
     }
 }
 
+// The first protection of a view's pages.
+fn first_prot(access: ViewAccess) -> u32
+    ensures { result ≡ first_protection access }
+{
+    match access {
+        ViewAccess::Read => 0x02,
+        ViewAccess::Write => 0x04,
+        ViewAccess::Copy => 0x08,
+    }
+}
+
+// The row of each page of a new view.
+fn view_row(access: ViewAccess) -> Row
+    ensures prot { result.prot.0 ≡ first_protection access }
+    ensures guard { result.guard ≡ false }
+    ensures marked { result.marked ≡ is_copy access }
+    ensures copied { result.copied ≡ false }
+{
+    Row {
+        committed: false,
+        prot: Prot(first_prot(access)),
+        guard: false,
+        copied: false,
+        marked: matches!(access, ViewAccess::Copy),
+    }
+}
+
 impl NewRegion {
     /// A private region: its pages are reserved where `alloc_type` is MEM_RESERVE (0x2000) alone, and committed
     /// otherwise, with the protection `prot`, guard (0x100) included. `NoMemory` where a request for memory was refused.
@@ -70,7 +98,6 @@ impl NewRegion {
         requires prot { is_protection_among private_protections prot ≡ true }
         ensures ok { IfOk result (λ r. r ≡ private_region blank alloc_type prot range) }
         ensures pages { IfOk result (λ r. pages_of r ≡ range) }
-        ensures private { IfOk result (λ r. is_private r.kind ≡ true) }
         ensures fit { IfOk result (λ r. RowsFit r) }
     {
         let rows = Rows::new(alloc, range.count, new_row(alloc_type, prot))?;
@@ -80,6 +107,26 @@ impl NewRegion {
                 pages: range.count,
                 alloc_prot: Prot(prot),
                 kind: Kind::Private,
+                rows,
+            },
+        })
+    }
+
+    /// A view of a section, each of whose pages has the first protection of the view's access and, in a copy view, a mark.
+    /// `NoMemory` where a request for memory was refused.
+    pub fn view(alloc: Global, view: View, range: PageRange) -> Result<NewRegion, NoMemory>
+        ensures ok { IfOk result (λ r. (s : Found SectionOf) → s.place ≡ view.section.0 → s.thing.area ≡ view.area.0 → r ≡ view_region s view.access view.first range) }
+        ensures kind { IfOk result (λ r. r.kind ≡ kind.View view) }
+        ensures pages { IfOk result (λ r. pages_of r ≡ range) }
+        ensures fit { IfOk result (λ r. RowsFit r) }
+    {
+        let rows = Rows::new(alloc, range.count, view_row(view.access))?;
+        Ok(NewRegion {
+            region: Region {
+                base: Vpn(range.first),
+                pages: range.count,
+                alloc_prot: Prot(first_prot(view.access)),
+                kind: Kind::View(view),
                 rows,
             },
         })

@@ -1,56 +1,36 @@
-ghost use Rattle.std.specs.Prelude.{◌≡◌, ◌+◌, ◌-◌, ◌≤◌, true, Some, drop, is_some};
-ghost use Rattle.mm_types.specs.Address.{is_user_page, end_of_user_pages};
+ghost use Rattle.std.specs.Prelude.{◌≡◌, ◌+◌, ◌-◌, ◌≤◌, true, false, is_some, Some, drop};
+ghost use Rattle.mm_types.specs.declared.views.View.{View};
 ghost use Rattle.mm_types.specs.declared.views.Kind.TheVariants as kind;
+ghost use Rattle.mm_types.specs.Address.{is_user_page, end_of_user_pages};
 ghost use Rattle.mm_world.specs.World.{RegionOf, WorldOf};
-ghost use Rattle.mm_world.specs.Find.{Found, region_with};
-ghost use Rattle.mm_world.specs.Query.{page_info, region_info, free_info, page_states, first_run, next_base, row_state};
-ghost use Rattle.mm_world.specs.WellFormed.{PrivateRowFits};
-ghost use Rattle.mm_spaces.specs.Shown.{row_of};
-ghost use Rattle.mm_spaces.specs.Finds.{IsAt};
+ghost use Rattle.mm_world.specs.Find.{Found, region_with, area_at, is_private};
+ghost use Rattle.mm_world.specs.Query.{page_info, region_info, free_info, page_states, first_run, next_base};
+ghost use Rattle.mm_spaces.specs.Kept.{IsAt};
 
 use crate::AddressSpace;
-use crate::spaces::protection_of_row;
-use mm_types::{QueryInfo, Vpn};
-use mm_vad::{Region, Row};
+use crate::view_states::{run_in_view, state_in_view, told_of_row};
+use mm_sections::SectionPages;
+use mm_types::{Kind, QueryInfo, Vpn};
+use mm_vad::Region;
 
 const PAGE_SIZE: u32 = 4096;
 
 const END_OF_USER_PAGES: u32 = 0x7FFF0;
 
-const COMMITTED: u32 = 0x1000;
-
-const RESERVED: u32 = 0x2000;
-
 const FREE: u32 = 0x10000;
 
 const PRIVATE: u32 = 0x20000;
 
+const MAPPED: u32 = 0x40000;
+
 const NO_ACCESS: u32 = 0x01;
 
-// The state of a private page: MEM_COMMIT or MEM_RESERVE.
-fn state_of(row: Row) -> u32
-    ensures { result ≡ (row_state row.committed (row_of kind.Private row)).state }
-{
-    if row.committed { COMMITTED } else { RESERVED }
-}
-
-// What is told of its protection, guard included: 0 where it is not committed.
-fn told_protection(row: Row) -> u32
-    requires { PrivateRowFits (row_of kind.Private row) }
-    ensures { result ≡ (row_state row.committed (row_of kind.Private row)).prot }
-{
-    if row.committed {
-        protection_of_row(row)
-    } else {
-        0
-    }
-}
-
 impl AddressSpace {
-    /// What VirtualQuery tells of a user page: of a page in a region the longest run of pages from it on, in its
-    /// region, that are alike in state and protection; of a free page where the next region begins.
+    /// What VirtualQuery tells of a user page that is free or lies in a private region: of a page in a region the longest run of
+    /// pages from it on, in its region, that are alike in state and protection; of a free page where the next region begins.
     pub fn info(&self, page: u32) -> QueryInfo
         requires user { is_user_page page ≡ true }
+        requires private { (r : Found (RegionOf (Unit {0}))) → region_with self.now.regions page ≡ Some r → is_private r.thing.kind ≡ true }
         ensures { (w : WorldOf (Unit {0})) → result ≡ page_info w self.now.regions page (region_with self.now.regions page) }
     {
         match self.region_at(page) {
@@ -59,27 +39,57 @@ impl AddressSpace {
         }
     }
 
+    /// What VirtualQuery tells of a page of a view, whose control area has these pages.
+    pub fn view_info(&self, page: u32, pages: &SectionPages) -> QueryInfo
+        requires user { is_user_page page ≡ true }
+        requires inside { is_some (region_with self.now.regions page) ≡ true }
+        requires view { (r : Found (RegionOf (Unit {0}))) → region_with self.now.regions page ≡ Some r → is_private r.thing.kind ≡ false }
+        ensures { (w : WorldOf (Unit {0})) (r : Found (RegionOf (Unit {0}))) (v : View) → region_with self.now.regions page ≡ Some r → r.thing.kind ≡ kind.View v
+            → area_at w v.area.0 ≡ pages.now → result ≡ page_info w self.now.regions page (region_with self.now.regions page) }
+    {
+        let Some(region) = self.region_at(page) else {
+            unreachable!()
+        };
+        let Kind::View(view) = region.kind else {
+            unreachable!()
+        };
+        let index = page - region.base.0;
+        let told = state_in_view(&region.rows, view, index, pages);
+        QueryInfo {
+            base: page * PAGE_SIZE,
+            alloc_base: region.base.0 * PAGE_SIZE,
+            alloc_prot: region.alloc_prot.0,
+            size: run_in_view(&region.rows, view, index, pages) * PAGE_SIZE,
+            state: told.state,
+            prot: told.prot,
+            kind: MAPPED,
+        }
+    }
+
     fn region_info(&self, page: u32, region: &Region) -> QueryInfo
         requires user { is_user_page page ≡ true }
         requires at { IsAt self.now.regions page region.now }
+        requires private { region.now.kind ≡ kind.Private }
         ensures { (w : WorldOf (Unit {0})) (r : Found (RegionOf (Unit {0}))) → region_with self.now.regions page ≡ Some r
             → result ≡ region_info w r.thing page }
     {
         let row = region.rows.get(page - region.base.0);
+        let told = told_of_row(row, row.committed);
         QueryInfo {
             base: page * PAGE_SIZE,
             alloc_base: region.base.0 * PAGE_SIZE,
             alloc_prot: region.alloc_prot.0,
             size: self.run_of_alike(page) * PAGE_SIZE,
-            state: state_of(row),
-            prot: told_protection(row),
+            state: told.state,
+            prot: told.prot,
             kind: PRIVATE,
         }
     }
 
     // How many pages from this one on, in its region, are alike in state and protection.
     fn run_of_alike(&self, page: u32) -> u32
-        requires { is_some (region_with self.now.regions page) ≡ true }
+        requires there { is_some (region_with self.now.regions page) ≡ true }
+        requires private { (r : Found (RegionOf (Unit {0}))) → region_with self.now.regions page ≡ Some r → is_private r.thing.kind ≡ true }
         ensures run { (w : WorldOf (Unit {0})) (r : Found (RegionOf (Unit {0}))) → region_with self.now.regions page ≡ Some r
             → result ≡ (first_run (drop (page - r.thing.base) (page_states w r.thing.kind 0 r.thing.rows))).1 }
         ensures within { page + result ≤ end_of_user_pages }

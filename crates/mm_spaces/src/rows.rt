@@ -1,30 +1,34 @@
-ghost use Rattle.std.specs.Prelude.{◌≡◌, ◌+◌, ◌≤◌, ◌<◌, ◌^◌, Some, IsSome, length, map, take, drop, count_by};
-ghost use Rattle.std.specs.List.{list_all};
-ghost use Rattle.mm_types.specs.declared.views.Kind.TheVariants as kind;
+ghost use Rattle.std.specs.Prelude.{◌≡◌, IsSome, true, is_some, Some};
 ghost use Rattle.mm_types.specs.Protection.{base_of};
 ghost use Rattle.mm_vad.specs.Regions.{IsSpace as IsVad};
-ghost use Rattle.mm_world.specs.World.{RegionOf, WorldOf};
-ghost use Rattle.mm_world.specs.Find.{Found, region_with, region_around};
-ghost use Rattle.mm_world.specs.Rows.{has_guard, is_committed_at, every_page};
+ghost use Rattle.mm_world.specs.World.{RowOf};
+ghost use Rattle.mm_world.specs.Find.{region_with};
+ghost use Rattle.mm_types.specs.declared.views.Kind.TheVariants as kind;
+ghost use Rattle.mm_world.specs.Rows.{has_guard, marked_prot, protected};
 ghost use Rattle.mm_spaces.specs.Shown.{row_of, shown};
-ghost use Rattle.mm_spaces.specs.Tables.{rows_in, owned_in};
-ghost use Rattle.mm_spaces.specs.RowChanges.{changed, RowChanged, RowsChanged, IsInPrivate, owns, range_at};
+ghost use Rattle.mm_spaces.specs.RowChanges.{changed, RowChanged, RowsChanged, IsInRegion, range_at};
 
-use mm_types::{Prot, Vpn};
-use mm_vad::{Row, Rows, Space};
+use mm_types::{Kind, Prot, View, Vpn};
+use mm_vad::{Row, Space};
 
-/// What a call makes of the row of a private page. Protections are as callers give them: a base protection, with
+const READ_WRITE: u32 = 0x04;
+
+const WRITE_COPY: u32 = 0x08;
+
+/// What a call makes of the row of a page. Protections are as callers give them: a base protection, with
 /// PAGE_GUARD (0x100) or without.
 #[derive(Clone, Copy)]
 pub(crate) enum RowChange {
-    /// The page is committed with this protection (VirtualAlloc with MEM_COMMIT).
+    /// The page has bytes of its own and this protection (VirtualAlloc with MEM_COMMIT).
     Commit(u32),
     /// The page is reserved alone (VirtualFree with MEM_DECOMMIT).
     Decommit,
-    /// The committed page gets this protection (VirtualProtect).
+    /// The page gets this protection (VirtualProtect). In a view WRITECOPY marks it.
     Protect(u32),
     /// The page's guard is taken off, as by the first access.
     GuardOff,
+    /// A marked page of a view was written to: it has bytes of its own.
+    Copy,
 }
 
 fn base_protection(prot: u32) -> Prot
@@ -39,19 +43,81 @@ fn is_guarded(prot: u32) -> bool
     prot / 0x100 == 1
 }
 
+// The row, with bytes of its own.
+fn with_bytes(region_kind: Kind, row: Row) -> Row
+    ensures { row_of region_kind result ≡ record (row_of region_kind row) { own = Some tt } }
+{
+    match region_kind {
+        Kind::Private => Row {
+            committed: true,
+            ..row
+        },
+        Kind::View(_) => Row {
+            copied: true,
+            ..row
+        },
+    }
+}
+
+// Of a marked page READWRITE and WRITECOPY are one request.
+fn marked_protection(copied: bool, base: u32) -> u32
+    ensures { result ≡ marked_prot copied base }
+{
+    if base == READ_WRITE || base == WRITE_COPY {
+        if copied { READ_WRITE } else { WRITE_COPY }
+    } else {
+        base
+    }
+}
+
+// The row of a page of a view, with the protection.
+fn protected_in_view(view: View, row: Row, prot: u32) -> Row
+    ensures { row_of (kind.View view) result ≡ protected (kind.View view) prot (row_of (kind.View view) row) }
+{
+    let base = prot % 0x100;
+    let marked = row.marked || base == WRITE_COPY;
+    Row {
+        prot: Prot(if marked {
+            marked_protection(row.copied, base)
+        } else {
+            base
+        }),
+        guard: is_guarded(prot),
+        marked,
+        ..row
+    }
+}
+
+// The row with the protection, in a region of this kind.
+fn protected_row(region_kind: Kind, row: Row, prot: u32) -> Row
+    ensures { row_of region_kind result ≡ protected region_kind prot (row_of region_kind row) }
+{
+    match region_kind {
+        Kind::Private => Row {
+            prot: base_protection(prot),
+            guard: is_guarded(prot),
+            ..row
+        },
+        Kind::View(view) => protected_in_view(view, row, prot),
+    }
+}
+
 impl RowChange {
-    /// The row after the change.
-    fn of(self, row: Row) -> Row
-        ensures { row_of kind.Private result ≡ changed self kind.Private (row_of kind.Private row) }
+    /// The row after the change, in a region of this kind.
+    fn of(self, region_kind: Kind, row: Row) -> Row
+        ensures { row_of region_kind result ≡ changed self region_kind (row_of region_kind row) }
     {
         match self {
-            RowChange::Commit(prot) => Row {
-                committed: true,
-                prot: base_protection(prot),
-                guard: is_guarded(prot),
-                copied: false,
-                marked: false,
-            },
+            RowChange::Commit(prot) => with_bytes(
+                region_kind,
+                Row {
+                    committed: false,
+                    prot: base_protection(prot),
+                    guard: is_guarded(prot),
+                    copied: false,
+                    marked: false,
+                },
+            ),
             RowChange::Decommit => Row {
                 committed: false,
                 prot: Prot(0),
@@ -59,20 +125,23 @@ impl RowChange {
                 copied: false,
                 marked: false,
             },
-            RowChange::Protect(prot) => Row {
-                prot: base_protection(prot),
-                guard: is_guarded(prot),
-                ..row
-            },
+            RowChange::Protect(prot) => protected_row(region_kind, row, prot),
             RowChange::GuardOff => Row {
                 guard: false,
                 ..row
             },
+            RowChange::Copy => with_bytes(
+                region_kind,
+                Row {
+                    prot: Prot(READ_WRITE),
+                    ..row
+                },
+            ),
         }
     }
 }
 
-/// Changes the row of a page that lies in a private region.
+/// Changes the row of a page that lies in a region.
 pub(crate) fn change_row(space: &mut Space, page: u32, change: RowChange)
     requires { IsSome (region_with (shown space.old.regions) page) }
     ensures after { RowChanged change page (shown space.old.regions) (shown space.new.regions) }
@@ -83,13 +152,13 @@ pub(crate) fn change_row(space: &mut Space, page: u32, change: RowChange)
     let Some(region) = space.find(Vpn(page)) else {
         unreachable!()
     };
-    let row = region.rows.get(page - region.base.0);
-    space.set_row(Vpn(page), change.of(row));
+    let row = change.of(region.kind, region.rows.get(page - region.base.0));
+    space.set_row(Vpn(page), row);
 }
 
-/// Changes the rows of `count` pages from `first` on, all of them in one private region.
+/// Changes the rows of `count` pages from `first` on, all of them in one region.
 pub(crate) fn change_rows(space: &mut Space, first: u32, count: u32, change: RowChange)
-    requires { IsInPrivate (shown space.old.regions) (range_at first count) }
+    requires { IsInRegion (shown space.old.regions) (range_at first count) }
     ensures after { RowsChanged change (range_at first count) (shown space.old.regions) (shown space.new.regions) }
     ensures spare { space.new.spare ≡ space.old.spare }
     ensures kept { IsVad space.old.regions → IsVad space.new.regions }
@@ -97,58 +166,4 @@ pub(crate) fn change_rows(space: &mut Space, first: u32, count: u32, change: Row
     for i in 0..count {
         change_row(space, first + i, change);
     }
-}
-
-// How many of `count` rows of private pages, from row `first` on, are committed.
-fn committed_rows(rows: &Rows, first: u32, count: u32) -> u32
-    requires inside { first + count ≤ length rows.now }
-    requires fits { first + count < 2 ^ 32 }
-    ensures { result ≡ count_by owns (take count (drop first (map (row_of kind.Private) rows.now))) }
-{
-    let mut committed = 0;
-    for i in 0..count {
-        if rows.get(first + i).committed {
-            committed += 1;
-        }
-    }
-    committed
-}
-
-// Whether all of `count` rows of private pages, from row `first` on, are committed.
-fn are_rows_committed(rows: &Rows, first: u32, count: u32) -> bool
-    requires inside { first + count ≤ length rows.now }
-    requires fits { first + count < 2 ^ 32 }
-    ensures { result ≡ list_all owns (take count (drop first (map (row_of kind.Private) rows.now))) }
-{
-    for i in 0..count {
-        if !rows.get(first + i).committed {
-            return false;
-        }
-    }
-    true
-}
-
-/// How many of `count` pages from `first` on, all of them in one private region, are committed.
-pub(crate) fn committed_in(space: &Space, first: u32, count: u32) -> u32
-    requires inside { IsInPrivate (shown space.now.regions) (range_at first count) }
-    requires some { 1 ≤ count }
-    ensures { result ≡ owned_in (shown space.now.regions) (range_at first count) }
-{
-    let Some(region) = space.find(Vpn(first)) else {
-        unreachable!()
-    };
-    committed_rows(&region.rows, first - region.base.0, count)
-}
-
-/// Whether `count` pages from `first` on, all of them in one private region, are committed.
-pub(crate) fn are_committed(space: &Space, first: u32, count: u32) -> bool
-    requires inside { IsInPrivate (shown space.now.regions) (range_at first count) }
-    requires some { 1 ≤ count }
-    ensures all { result ≡ list_all owns (rows_in (shown space.now.regions) (range_at first count)) }
-    ensures every { (w : WorldOf (Unit {0})) (r : Found (RegionOf (Unit {0}))) → region_around (shown space.now.regions) (range_at first count) ≡ Some r → result ≡ every_page (is_committed_at w r.thing) (range_at first count) }
-{
-    let Some(region) = space.find(Vpn(first)) else {
-        unreachable!()
-    };
-    are_rows_committed(&region.rows, first - region.base.0, count)
 }

@@ -1,39 +1,62 @@
-ghost use Rattle.std.specs.Prelude.{◌≡◌, ◌+◌, ◌-◌, ◌%◌, ◌<◌, ◌≤◌, true, [], is_some, IfSome, IfNone, None, Some, option_map, option_and_then};
-ghost use Rattle.mm_types.specs.Address.{pages_for, granule_range_of, are_user_pages, is_free};
+ghost use Rattle.std.specs.Prelude.{◌≡◌, ◌≤◌, ◌%◌, true, false, [], is_some, IfSome, Some, option_map, slice_get, count_by};
+ghost use Rattle.std.specs.List.{list_all};
+ghost use Rattle.mm_types.specs.Address.{Range, pages_for, page_of, granule_range_of, are_user_pages, is_free, is_granule_address};
+ghost use Rattle.mm_types.specs.declared.views.View.{View};
 ghost use Rattle.mm_types.specs.declared.views.Kind.TheVariants as kind;
-ghost use Rattle.mm_world.specs.World.{RegionOf, pages_of};
-ghost use Rattle.mm_world.specs.Find.{Found, ranges_of, region_with, region_around, placed};
-ghost use Rattle.mm_world.specs.Free.{private_at};
+ghost use Rattle.mm_world.specs.World.{RegionOf, WorldOf, pages_of};
+ghost use Rattle.mm_world.specs.Find.{Found, ranges_of, region_around, placed, area_at, is_private};
+ghost use Rattle.mm_world.specs.Free.{private_at, private_around};
+ghost use Rattle.mm_world.specs.Views.{view_at, view_around};
 ghost use Rattle.mm_world.specs.Keys.{own_page};
-ghost use Rattle.mm_world.specs.Rows.{row_at, every_page, accepts, is_one_of, private_protections};
-ghost use Rattle.mm_types.specs.Protection.{base_of};
-ghost use Rattle.mm_world.specs.Protect.{protection_at, protection_of};
-ghost use Rattle.mm_world.specs.WellFormed.{IsSpace, PrivateRowFits};
-ghost use Rattle.mm_spaces.specs.Shown.{row_of, all_private};
-ghost use Rattle.mm_spaces.specs.Tables.{own_row};
-ghost use Rattle.mm_spaces.specs.Finds.{IsAt};
+ghost use Rattle.mm_world.specs.Rows.{every_page, accepts, is_committed_at};
+ghost use Rattle.mm_world.specs.Protect.{protection_at};
+ghost use Rattle.mm_world.specs.WellFormed.{IsSpace};
+ghost use Rattle.mm_spaces.specs.Tables.{info_of, found_info, page_row, owned_in, unmarked_in, marked_in, rows_in};
+ghost use Rattle.mm_spaces.specs.RowTests.{passes};
 
 use crate::PageRange;
+use crate::look_ups::{info_of_region, is_private};
 use crate::ranges::pages_for_bytes;
-use mm_types::{Prot, Vpn};
-use mm_vad::{Region, Row, Space};
+use crate::row_tests::{RowTest, count_rows, do_rows_pass, has_own};
+use crate::view_states::{are_pages_committed, protection_of_row};
+use mm_sections::SectionPages;
+use mm_types::{Kind, Prot, Vpn};
+use mm_vad::Space;
 use std::alloc::Global;
 use std::marker::Model;
 
 const PAGE_SIZE: u32 = 4096;
 
-const GUARD: u32 = 0x100;
+// Below every region.
+const LOWEST: Vpn = Vpn(0);
 
-/// What an access asks of a committed page.
+/// What is told of a region: its pages, and what it is.
 #[derive(Clone, Copy, PartialEq, Eq, Debug)]
-pub struct CommittedRow {
+pub struct RegionInfo {
+    /// Its pages.
+    pub pages: PageRange,
+    /// Private memory, or a view with its section.
+    pub kind: Kind,
+}
+
+/// What is told of a page that lies in a region.
+#[derive(Clone, Copy, PartialEq, Eq, Debug)]
+pub struct PageRow {
+    /// What its region is.
+    pub kind: Kind,
+    /// How many pages of the region stand before it.
+    pub index: u32,
     /// The base protection.
     pub prot: Prot,
     /// The first access raises an alarm and takes the guard off (PAGE_GUARD).
     pub guard: bool,
+    /// A write to a page of a view makes a copy.
+    pub marked: bool,
+    /// It has bytes of its own: a private page where it is committed, one of a view where it was copied.
+    pub owned: bool,
 }
 
-/// The regions of one process, each of them private: no page lies in two, and each begins on a granule.
+/// The regions of one process: no page lies in two, and each begins on a granule.
 #[derive(Drop)]
 pub struct AddressSpace {
     pub(crate) space: Space,
@@ -51,32 +74,6 @@ impl Model for AddressSpace {
     ghost invariant = { λ s. IsKept s.space.regions };
 }
 
-// The page behind the last of a region.
-fn end_of_region(region: &Region) -> u64
-    ensures { result ≡ region.now.base.0 + region.now.pages }
-{
-    u64::from(region.base.0) + u64::from(region.pages)
-}
-
-// The protection of a row, guard included.
-pub(crate) fn protection_of_row(row: Row) -> u32
-    requires { PrivateRowFits (row_of kind.Private row) }
-    ensures { result ≡ protection_of (row_of kind.Private row) }
-{
-    if row.guard {
-        row.prot.0 + GUARD
-    } else {
-        row.prot.0
-    }
-}
-
-// Whether a private page can have the protection, guard aside.
-fn is_private_protection(prot: u32) -> bool
-    ensures { result ≡ is_one_of private_protections (base_of prot) }
-{
-    matches!(prot % 0x100, 0x01 | 0x02 | 0x04 | 0x10 | 0x20 | 0x40)
-}
-
 impl AddressSpace {
     /// No region, and no spare room.
     pub fn new(alloc: Global) -> AddressSpace
@@ -87,26 +84,14 @@ impl AddressSpace {
         }
     }
 
-    // The region in which a page lies.
-    pub(crate) fn region_at(&self, page: u32) -> Option<&Region>
-        ensures some { IfSome result (λ r. IsAt self.now.regions page r.now) }
-        ensures none { IfNone result (region_with self.now.regions page ≡ None) }
-        ensures sound { IsSpace self.now.regions }
-        ensures private { all_private self.now.regions ≡ true }
+    /// Does nothing: the regions are always sound.
+    pub fn sound(&self)
+        ensures { IsSpace self.now.regions }
     {
-        self.space.find(Vpn(page))
+        let _ = &self.space;
     }
 
-    // The row of a page that lies in a region.
-    pub(crate) fn row(&self, page: u32) -> Option<Row>
-        ensures row { option_map (row_of kind.Private) result ≡ option_and_then (λ r. row_at r.thing page) (region_with self.now.regions page) }
-        ensures fits { IfSome result (λ row. PrivateRowFits (row_of kind.Private row)) }
-        ensures sound { IsSpace self.now.regions }
-        ensures private { all_private self.now.regions ≡ true }
-    {
-        let region = self.region_at(page)?;
-        Some(region.rows.get(page - region.base.0))
-    }
+    // ---- regions
 
     /// Where `size` bytes are to lie, at least one: for address 0 from the lowest granule whose pages are free, else
     /// from the granule of `addr` to the page of the last byte. None exactly where those pages are not all free.
@@ -115,38 +100,57 @@ impl AddressSpace {
         ensures found { result ≡ placed (ranges_of self.now.regions) addr (granule_range_of addr size) (pages_for size) }
         ensures free { IfSome result (λ r. (are_user_pages r ≡ true) × (1 ≤ r.count) × (r.first % 16 ≡ 0) × (is_free (ranges_of self.now.regions) r ≡ true)) }
     {
-        self.free_pages(addr, size)
+        self.placed(
+            addr,
+            PageRange::from_granule(addr, size),
+            pages_for_bytes(size),
+        )
     }
 
-    fn free_pages(&self, addr: u32, size: u32) -> Option<PageRange>
-        requires some { 1 ≤ size }
-        ensures { result ≡ placed (ranges_of self.now.regions) addr (granule_range_of addr size) (pages_for size) }
+    /// Where `count` pages are to lie, at least one: for address 0 from the lowest granule whose pages are free, else from
+    /// `addr` on, which is the address of a granule. None exactly where those pages are not all free.
+    pub fn gap_for_view(&self, addr: u32, count: u32) -> Option<PageRange>
+        requires some { 1 ≤ count }
+        requires granule { is_granule_address addr ≡ true }
+        ensures found { result ≡ placed (ranges_of self.now.regions) addr (record { first = page_of addr; count = count }) count }
+        ensures free { IfSome result (λ r. (are_user_pages r ≡ true) × (1 ≤ r.count) × (r.first % 16 ≡ 0) × (is_free (ranges_of self.now.regions) r ≡ true)) }
     {
-        if addr == 0 {
-            let count = pages_for_bytes(size);
-            let first = self.space.lowest_gap(count)?;
-            return Some(PageRange {
-                first: first.0,
-                count,
-            });
-        }
-        let range = PageRange::from_granule(addr, size);
-        if self.space.is_free(Vpn(range.first), range.count) {
-            Some(range)
-        } else {
-            None
-        }
+        let wanted = PageRange {
+            first: addr / PAGE_SIZE,
+            count,
+        };
+        self.placed(addr, wanted, count)
     }
 
-    /// Whether all pages of the range lie in one region.
-    pub fn is_inside(&self, range: PageRange) -> bool
-        ensures inside { result ≡ is_some (region_around self.now.regions range) }
+    /// The region in which all pages of the range lie. None exactly where there is none.
+    pub fn region_around(&self, range: PageRange) -> Option<RegionInfo>
+        ensures found { result ≡ option_map found_info (region_around self.now.regions range) }
         ensures sound { IsSpace self.now.regions }
-        ensures private { all_private self.now.regions ≡ true }
     {
-        match self.region_at(range.first) {
-            Some(region) => range.end() <= end_of_region(region),
+        let region = self.around(range)?;
+        Some(info_of_region(region))
+    }
+
+    /// Whether all pages of the range lie in one private region.
+    pub fn is_in_private(&self, range: PageRange) -> bool
+        ensures { result ≡ is_some (private_around self.now.regions range) }
+    {
+        match self.around(range) {
+            Some(region) => is_private(region),
             None => false,
+        }
+    }
+
+    /// The view in which all pages of the range lie. None exactly where there is none.
+    pub fn view_around(&self, range: PageRange) -> Option<RegionInfo>
+        ensures found { result ≡ option_map found_info (view_around self.now.regions range) }
+        ensures sound { IsSpace self.now.regions }
+    {
+        let region = self.around(range)?;
+        if is_private(region) {
+            None
+        } else {
+            Some(info_of_region(region))
         }
     }
 
@@ -154,45 +158,65 @@ impl AddressSpace {
     pub fn private_at(&self, addr: u32) -> Option<PageRange>
         ensures found { result ≡ option_map (λ r. pages_of r.thing) (private_at self.now.regions addr) }
         ensures sound { IsSpace self.now.regions }
-        ensures private { all_private self.now.regions ≡ true }
     {
-        let region = self.region_at(addr / PAGE_SIZE)?;
-        if region.base.0 * PAGE_SIZE != addr {
-            return None;
-        }
-        Some(PageRange {
-            first: region.base.0,
-            count: region.pages,
-        })
-    }
-
-    /// Whether the page is committed.
-    pub fn is_committed(&self, page: u32) -> bool
-        ensures committed { result ≡ is_some (own_page self.now.regions page) }
-        ensures sound { IsSpace self.now.regions }
-        ensures private { all_private self.now.regions ≡ true }
-    {
-        match self.row(page) {
-            Some(row) => row.committed,
-            None => false,
+        let region = self.based_at(addr)?;
+        if is_private(region) {
+            Some(info_of_region(region).pages)
+        } else {
+            None
         }
     }
 
-    /// What an access asks of the page. None exactly where the page is not committed.
-    pub fn committed_row(&self, page: u32) -> Option<CommittedRow>
-        ensures row { result
-            ≡ option_map (λ row. record { prot = record { 0 = row.prot }; guard = row.guard }) (own_row self.now.regions page) }
+    /// The view whose base is the address, to the byte. None exactly where there is none.
+    pub fn view_at(&self, addr: u32) -> Option<RegionInfo>
+        ensures found { result ≡ option_map found_info (view_at self.now.regions addr) }
         ensures sound { IsSpace self.now.regions }
-        ensures private { all_private self.now.regions ≡ true }
     {
-        let row = self.row(page)?;
-        if !row.committed {
-            return None;
+        let region = self.based_at(addr)?;
+        if is_private(region) {
+            None
+        } else {
+            Some(info_of_region(region))
         }
-        Some(CommittedRow {
+    }
+
+    /// The lowest region. None exactly where there is no region.
+    pub fn lowest(&self) -> Option<RegionInfo>
+        ensures found { result ≡ option_map info_of (slice_get self.now.regions 0) }
+        ensures sound { IsSpace self.now.regions }
+    {
+        let region = self.space.next_region(LOWEST)?;
+        Some(info_of_region(region))
+    }
+
+    // ---- pages
+
+    /// What is told of a page. None exactly where it lies in no region.
+    pub fn row(&self, page: u32) -> Option<PageRow>
+        ensures row { result ≡ page_row self.now.regions page }
+        ensures sound { IsSpace self.now.regions }
+    {
+        let region = self.region_at(page)?;
+        let index = page - region.base.0;
+        let row = region.rows.get(index);
+        Some(PageRow {
+            kind: region.kind,
+            index,
             prot: row.prot,
             guard: row.guard,
+            marked: row.marked,
+            owned: has_own(region.kind, row),
         })
+    }
+
+    /// Whether the page has bytes of its own.
+    pub fn is_owned(&self, page: u32) -> bool
+        ensures { result ≡ is_some (own_page self.now.regions page) }
+    {
+        match self.row(page) {
+            Some(row) => row.owned,
+            None => false,
+        }
     }
 
     /// Whether each page of the range can have the protection `prot`, guard aside. The range lies in one region.
@@ -201,21 +225,114 @@ impl AddressSpace {
         ensures { (r : Found (RegionOf (Unit {0}))) → region_around self.now.regions range ≡ Some r
             → result ≡ every_page (accepts r.thing prot) range }
     {
-        let _ = &self.space;
-        let _ = &range.count;
-        is_private_protection(prot)
+        self.do_all_pass(range, RowTest::Accepts(prot))
     }
 
-    /// The protection of the first page of the range, guard included; 0 where that page is not committed. The range
-    /// lies in one region.
+    /// The protection of the first page of the range, guard included. The range lies in one region.
     pub fn protection_at(&self, range: PageRange) -> Prot
         requires inside { is_some (region_around self.now.regions range) ≡ true }
         ensures { (r : Found (RegionOf (Unit {0}))) → region_around self.now.regions range ≡ Some r
             → result ≡ protection_at r.thing range.first }
     {
-        match self.row(range.first) {
-            Some(row) => Prot(protection_of_row(row)),
-            None => Prot(0),
+        let Some(region) = self.around(range) else {
+            unreachable!()
+        };
+        let row = region.rows.get(range.first - region.base.0);
+        Prot(protection_of_row(row))
+    }
+
+    /// How many pages of the range, which lies in one region, have bytes of their own.
+    pub fn owned(&self, range: PageRange) -> u32
+        requires inside { is_some (region_around self.now.regions range) ≡ true }
+        ensures { result ≡ owned_in self.now.regions range }
+    {
+        self.count_passing(range, RowTest::Owned)
+    }
+
+    /// How many pages of the range, which lies in one region, have no mark.
+    pub fn unmarked(&self, range: PageRange) -> u32
+        requires inside { is_some (region_around self.now.regions range) ≡ true }
+        ensures { result ≡ unmarked_in self.now.regions range }
+    {
+        self.count_passing(range, RowTest::Unmarked)
+    }
+
+    /// How many pages of the range, which lies in one region, have a mark.
+    pub fn marked(&self, range: PageRange) -> u32
+        requires inside { is_some (region_around self.now.regions range) ≡ true }
+        ensures { result ≡ marked_in self.now.regions range }
+    {
+        self.count_passing(range, RowTest::Marked)
+    }
+
+    /// Whether all pages of the range, which lies in one private region, are committed.
+    pub fn are_owned(&self, range: PageRange) -> bool
+        requires inside { is_some (region_around self.now.regions range) ≡ true }
+        requires private { (r : Found (RegionOf (Unit {0}))) → region_around self.now.regions range ≡ Some r → is_private r.thing.kind ≡ true }
+        ensures { (w : WorldOf (Unit {0})) (r : Found (RegionOf (Unit {0}))) → region_around self.now.regions range ≡ Some r
+            → result ≡ every_page (is_committed_at w r.thing) range }
+    {
+        self.do_all_pass(range, RowTest::Owned)
+    }
+
+    /// Whether all pages of the range, which lies in one view, are committed; the view's control area has these pages.
+    pub fn are_committed(&self, range: PageRange, pages: &SectionPages) -> bool
+        requires inside { is_some (region_around self.now.regions range) ≡ true }
+        requires view { (r : Found (RegionOf (Unit {0}))) → region_around self.now.regions range ≡ Some r → is_private r.thing.kind ≡ false }
+        ensures { (w : WorldOf (Unit {0})) (r : Found (RegionOf (Unit {0}))) (v : View) → region_around self.now.regions range ≡ Some r → r.thing.kind ≡ kind.View v
+            → area_at w v.area.0 ≡ pages.now → result ≡ every_page (is_committed_at w r.thing) range }
+    {
+        let Some(region) = self.around(range) else {
+            unreachable!()
+        };
+        let Kind::View(view) = region.kind else {
+            unreachable!()
+        };
+        are_pages_committed(view, range.first - region.base.0, range.count, pages)
+    }
+
+    // Where `count` pages are to lie: at the lowest gap for address 0, else as wanted, if that is free.
+    fn placed(&self, addr: u32, wanted: PageRange, count: u32) -> Option<PageRange>
+        requires some { 1 ≤ count }
+        ensures { result ≡ placed (ranges_of self.now.regions) addr wanted count }
+    {
+        if addr == 0 {
+            let first = self.space.lowest_gap(count)?;
+            return Some(PageRange {
+                first: first.0,
+                count,
+            });
         }
+        if self.space.is_free(Vpn(wanted.first), wanted.count) {
+            Some(wanted)
+        } else {
+            None
+        }
+    }
+
+    // How many rows of a range, which lies in one region, pass.
+    fn count_passing(&self, range: PageRange, test: RowTest) -> u32
+        requires inside { is_some (region_around self.now.regions range) ≡ true }
+        ensures { (r : Found (RegionOf (Unit {0}))) → region_around self.now.regions range ≡ Some r
+            → result ≡ count_by (passes test r.thing.kind) (rows_in self.now.regions range) }
+    {
+        let Some(region) = self.around(range) else {
+            unreachable!()
+        };
+        let first = range.first - region.base.0;
+        count_rows(&region.rows, region.kind, first, range.count, test)
+    }
+
+    // Whether all rows of a range, which lies in one region, pass.
+    fn do_all_pass(&self, range: PageRange, test: RowTest) -> bool
+        requires inside { is_some (region_around self.now.regions range) ≡ true }
+        ensures { (r : Found (RegionOf (Unit {0}))) → region_around self.now.regions range ≡ Some r
+            → result ≡ list_all (passes test r.thing.kind) (rows_in self.now.regions range) }
+    {
+        let Some(region) = self.around(range) else {
+            unreachable!()
+        };
+        let first = range.first - region.base.0;
+        do_rows_pass(&region.rows, region.kind, first, range.count, test)
     }
 }

@@ -1,8 +1,10 @@
 //! Simulates the memory manager of 32-bit Windows: a script on standard input, its answers on standard output.
 #![tactic(auto)]
 
+use mm_blocks::MemBlocks;
 use mm_io::{StdSink, StdSource};
 use mm_run::run;
+use mm_types::NoMemory;
 use std::alloc::{AllocError, Global};
 use std::process::ExitCode;
 use std::rt::Env;
@@ -31,12 +33,36 @@ fn words(rt: &(impl Env + AllocGlobal)) -> Result<Vec<String>, AllocError> {
     }
 }
 
-fn main(rt: HostRuntime) -> ExitCode {
+/// A device in memory that fails no call and tells no log.
+fn device(alloc: Global) -> Result<MemBlocks, NoMemory> {
+    MemBlocks::new(alloc, Vec::new(alloc), 0)
+}
+
+/// Runs the words on standard input and output; nothing is written to standard error yet.
+fn simulate(rt: &HostRuntime, words: &[String]) -> Result<u8, NoMemory> {
     let alloc: Global = rt.alloc();
+    let mut paging = device(alloc)?;
+    let mut files = device(alloc)?;
     let mut source = StdSource::new(rt.reader());
-    let mut out = StdSink::new(io::writer(&rt));
+    let mut out = StdSink::new(io::writer(rt));
+    let mut moves = StdSink::new(rt.stderr());
+    Ok(run(
+        alloc,
+        words,
+        &mut source,
+        &mut out,
+        &mut moves,
+        &mut paging,
+        &mut files,
+    ))
+}
+
+fn main(rt: HostRuntime) -> ExitCode {
     match words(&rt) {
-        Ok(words) => ExitCode::from(run(alloc, &words, &mut source, &mut out)),
+        Ok(words) => match simulate(&rt, &words) {
+            Ok(status) => ExitCode::from(status),
+            Err(NoMemory) => ExitCode::from(NO_MEMORY),
+        },
         Err(_) => ExitCode::from(NO_MEMORY),
     }
 }

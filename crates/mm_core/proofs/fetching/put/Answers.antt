@@ -1,13 +1,13 @@
-use Rattle.std.proofs.Common.{◌≡◌, ◌∙◌, sym, ap, Some}
-use Rattle.mm_calls.specs.Fits.{key_at}
+use Rattle.std.proofs.Common.{◌≡◌, ◌∙◌, ap, Some}
+use Rattle.mm_tables.specs.Fits.{key_at}
 use Rattle.mm_core.proofs.Fitting.{fits_put}
 use Rattle.mm_core.proofs.Keys.{key-live}
 use Rattle.mm_core.proofs.fetching.put.Goals as goal
 
 pub returns-clause-fits : goal.returns-clause-fits
 returns-clause-fits g c =
-    let t = c.args.tables.now in
-    let at : key_at t c.place_of.result ≡ Some c.key_of.result = ap (key_at t) c.place_of.ensures ∙ c.requires.at ∙ ap (λ k. Some k) (sym c.key_of.ensures) in
-    fits_put t _ _ _ _ c.place_of.result c.key_of.result c.requires.fits at c.write.result _
-    (key-live t _ _ c.requires.fits c.place_of.result c.key_of.result at)
+    let t = c.args.t.now in
+    let at : key_at t c.place_of.result ≡ Some c.args.key = ap (key_at t) c.place_of.ensures ∙ c.requires.at in
+    fits_put t _ _ _ _ c.place_of.result c.args.key c.requires.fits at c.write.ensures.served c.write.ensures.stored c.write.result _
+    (key-live t _ _ c.requires.fits c.place_of.result c.args.key at)
     c.write.ensures.written c.write.ensures.kept c.write.ensures.ok c.write.ensures.err

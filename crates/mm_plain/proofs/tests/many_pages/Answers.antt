@@ -32,17 +32,17 @@ abbrev kind : StoreOf → LineKind
 kind s = s.kind
 
 pub open_process-requires-clause-new : goal.open_process-requires-clause-new
-open_process-requires-clause-new c = ap opened c.line.ensures.store ∙ c.in_ok-store.ensures.new.closed 1
+open_process-requires-clause-new g c = ap opened c.line.ensures.store ∙ c.in_ok-store.ensures.new.closed 1
 
 pub bind-requires-clause-open : goal.bind-requires-clause-open
-bind-requires-clause-open c = ap opened c.line-2.ensures.store ∙ ap opened c.in_ok-open_process.ensures.ok
+bind-requires-clause-open g c = ap opened c.line-2.ensures.store ∙ ap opened c.in_ok-open_process.ensures.ok
 
 pub bind-requires-clause-unbound : goal.bind-requires-clause-unbound
-bind-requires-clause-unbound c = λ n held.
+bind-requires-clause-unbound g c = λ n held.
     ap (bound n) c.line-2.ensures.store ∙ ap (bound n) c.in_ok-open_process.ensures.ok ∙ ap (bound n) c.line.ensures.store ∙ c.in_ok-store.ensures.new.unbound (place_at process n)
 
 pub loop-i-init : goal.loop-i-init
-loop-i-init c =
+loop-i-init g c =
     let before = store_in c.line-2.new.self in
     record {
       dead = λ n low.
@@ -56,7 +56,7 @@ loop-i-init c =
     }
 
 pub loop-i-preserved : goal.loop-i-preserved
-loop-i-preserved c =
+loop-i-preserved g c =
     let before = c.loop-i.invariant in
     record {
       dead = λ n low.

@@ -7,7 +7,7 @@ use Rattle.mm_plain.specs.Plain.{contents_in, store_in}
 use Rattle.mm_plain.proofs.tests.many_pages.Given as goal
 
 abbrev pub invariant-loop-i : goal.invariant-loop-i
-invariant-loop-i l = record {
+invariant-loop-i g l = record {
   dead : (page : ℕ) → 16 + l.i ≤ page → contents_in l.store (Private (record { 0 = 1 }) (record { 0 = page })) ≡ None;
   bound : (page : ℕ) → holds_page (record { first = 16; count = 100 }) page ≡ true → (store_in l.store).bound (place_at (record { 0 = 1 }) page) ≡ true;
   unnamed : (page : ℕ) → holds_page (record { first = 16; count = 100 }) page ≡ true → (store_in l.store).names (place_at (record { 0 = 1 }) page) ≡ None;

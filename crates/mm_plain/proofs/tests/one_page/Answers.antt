@@ -42,26 +42,26 @@ the_one n held =
     omega (arith, leb-true 16 n h.0, ltb-true n 17 h.1)
 
 pub open_process-requires-clause-new : goal.open_process-requires-clause-new
-open_process-requires-clause-new c = ap opened c.line.ensures.store ∙ c.in_ok-store.ensures.new.closed 1
+open_process-requires-clause-new g c = ap opened c.line.ensures.store ∙ c.in_ok-store.ensures.new.closed 1
 
 pub bind-requires-clause-open : goal.bind-requires-clause-open
-bind-requires-clause-open c = ap opened c.line-2.ensures.store ∙ ap opened c.in_ok-open_process.ensures.ok
+bind-requires-clause-open g c = ap opened c.line-2.ensures.store ∙ ap opened c.in_ok-open_process.ensures.ok
 
 pub bind-requires-clause-unbound : goal.bind-requires-clause-unbound
-bind-requires-clause-unbound c = λ n held.
+bind-requires-clause-unbound g c = λ n held.
     ap (λ (s : StoreOf). s.bound (place_at process n)) (c.line-2.ensures.store) ∙ ap (λ (s : StoreOf). s.bound (place_at process n)) c.in_ok-open_process.ensures.ok
     ∙ ap (λ (s : StoreOf). s.bound (place_at process n)) c.line.ensures.store ∙ c.in_ok-store.ensures.new.unbound (place_at process n)
 
 pub add-requires-clause-dead : goal.add-requires-clause-dead
-add-requires-clause-dead c =
+add-requires-clause-dead g c =
     ap (λ f. f page) (c.reserve.ensures.contents ∙ c.bind.ensures.contents ∙ c.line-2.ensures.contents ∙ c.open_process.ensures.contents ∙ c.line.ensures.contents)
     ∙ c.in_ok-store.ensures.new.empty page
 
 pub add-requires-clause-home : goal.add-requires-clause-home
-add-requires-clause-home c = (ap bound c.reserve.ensures.store ∙ ap bound c.in_ok-bind.ensures.ok, ap named c.reserve.ensures.store ∙ ap named c.in_ok-bind.ensures.ok)
+add-requires-clause-home g c = (ap bound c.reserve.ensures.store ∙ ap bound c.in_ok-bind.ensures.ok, ap named c.reserve.ensures.store ∙ ap named c.in_ok-bind.ensures.ok)
 
 pub read-requires-clause-at : goal.read-requires-clause-at
-read-requires-clause-at c = record {
+read-requires-clause-at g c = record {
   live = ap live c.line-3.ensures.contents ∙ ap live c.add.ensures.contents;
   home = refl;
   bound = ap bound c.line-3.ensures.store ∙ ap bound c.add.ensures.store ∙ ap bound c.reserve.ensures.store ∙ ap bound c.in_ok-bind.ensures.ok;
@@ -69,7 +69,7 @@ read-requires-clause-at c = record {
 }
 
 pub write-requires-clause-at : goal.write-requires-clause-at
-write-requires-clause-at c = record {
+write-requires-clause-at g c = record {
   live = ap live c.read.ensures.contents ∙ ap live c.line-3.ensures.contents ∙ ap live c.add.ensures.contents;
   home = refl;
   bound = ap bound c.in-Ok.ensures.ok ∙ ap bound c.line-3.ensures.store ∙ ap bound c.add.ensures.store ∙ ap bound c.reserve.ensures.store ∙ ap bound c.in_ok-bind.ensures.ok;
@@ -77,7 +77,7 @@ write-requires-clause-at c = record {
 }
 
 pub read-requires-2-clause-at : goal.read-requires-2-clause-at
-read-requires-2-clause-at c = record {
+read-requires-2-clause-at g c = record {
   live = ap live c.in-Ok-write.ensures.written;
   home = refl;
   bound = ap bound c.in-Ok-write.ensures.ok ∙ ap bound c.in-Ok.ensures.ok ∙ ap bound c.line-3.ensures.store ∙ ap bound c.add.ensures.store ∙ ap bound c.reserve.ensures.store ∙ ap bound c.in_ok-bind.ensures.ok;
@@ -85,21 +85,21 @@ read-requires-2-clause-at c = record {
 }
 
 pub remove-requires-clause-live : goal.remove-requires-clause-live
-remove-requires-clause-live c = ap live (c.line-4.ensures.contents ∙ c.read-2.ensures.contents) ∙ ap live c.in-Ok-write.ensures.written
+remove-requires-clause-live g c = ap live (c.line-4.ensures.contents ∙ c.read-2.ensures.contents) ∙ ap live c.in-Ok-write.ensures.written
 
 pub unbind-requires-clause-bound : goal.unbind-requires-clause-bound
-unbind-requires-clause-bound c = λ n held.
+unbind-requires-clause-bound g c = λ n held.
     subst (λ (m : ℕ). bound_in c.remove.new.self.places (place_at process m) ≡ true) (sym (the_one n held))
     (ap bound c.remove.ensures.store ∙ ap bound c.line-4.ensures.store ∙ ap bound c.in-Ok-read.ensures.ok ∙ ap bound c.in-Ok-write.ensures.ok ∙ ap bound c.in-Ok.ensures.ok
     ∙ ap bound c.line-3.ensures.store ∙ ap bound c.add.ensures.store ∙ ap bound c.reserve.ensures.store ∙ ap bound c.in_ok-bind.ensures.ok)
 
 pub unbind-requires-clause-dead : goal.unbind-requires-clause-dead
-unbind-requires-clause-dead c = λ n low high.
+unbind-requires-clause-dead g c = λ n low high.
     subst (λ (m : ℕ). pages_at c.remove.new.self.places (place_at process m) ≡ None) (let same : n ≡ 16 = omega (arith, low, high) in sym same)
     (ap (λ f. f page) c.remove.ensures.contents)
 
 pub close_process-requires-clause-open : goal.close_process-requires-clause-open
-close_process-requires-clause-open c =
+close_process-requires-clause-open g c =
     ap opened c.unbind.ensures.store ∙ ap opened c.remove.ensures.store ∙ ap opened c.line-4.ensures.store ∙ ap opened c.in-Ok-read.ensures.ok ∙ ap opened c.in-Ok-write.ensures.ok ∙ ap opened c.in-Ok.ensures.ok
     ∙ ap opened c.line-3.ensures.store ∙ ap opened c.add.ensures.store ∙ ap opened c.reserve.ensures.store ∙ ap opened c.in_ok-bind.ensures.ok ∙ ap opened c.line-2.ensures.store ∙ ap opened c.in_ok-open_process.ensures.ok
 
@@ -109,7 +109,7 @@ none_bound true x y d z = refl
 none_bound false x y d z = d ∙ z
 
 pub close_process-requires-clause-unbound : goal.close_process-requires-clause-unbound
-close_process-requires-clause-unbound c = λ n.
+close_process-requires-clause-unbound g c = λ n.
     let at : StoreOf → Bool = λ s. s.bound (place_at process n) in
     let before = ap at c.remove.ensures.store ∙ ap at c.line-4.ensures.store ∙ ap at c.in-Ok-read.ensures.ok ∙ ap at c.in-Ok-write.ensures.ok ∙ ap at c.in-Ok.ensures.ok
     ∙ ap at c.line-3.ensures.store ∙ ap at c.add.ensures.store ∙ ap at c.reserve.ensures.store ∙ ap at c.in_ok-bind.ensures.ok in

@@ -2,4 +2,4 @@ use Rattle.mm_run.proofs.Ends.{came_usage}
 use Rattle.mm_run.proofs.top.come_to.Goals as goal
 
 pub returns-else-is_run-clause-came : goal.returns-else-is_run-clause-came
-returns-else-is_run-clause-came g c = came_usage _ _
+returns-else-is_run-clause-came g c = came_usage _ _ _ _ tt

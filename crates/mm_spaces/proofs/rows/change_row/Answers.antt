@@ -3,7 +3,8 @@ use Rattle.mm_vad.specs.declared.regions.Region.{Region}
 use Rattle.mm_vad.specs.Regions.{SpaceOf}
 use Rattle.mm_vad.proofs.Lookups.{row_there}
 use Rattle.mm_world.specs.Find.{region_with}
-use Rattle.mm_spaces.specs.Shown.{shown}
+use Rattle.mm_spaces.specs.Shown.{row_of, shown}
+use Rattle.mm_spaces.specs.RowChanges.{changed}
 use Rattle.mm_spaces.proofs.Shows.{there, here, row_changed}
 use Rattle.mm_spaces.proofs.rows.change_row.Goals as goal
 
@@ -18,15 +19,18 @@ unreachable-requires c =
 pub overflow_sub-page : goal.overflow_sub-page
 overflow_sub-page c = (row_there c.args.space.now.regions c.args.page c.in-Some.region.now c.in-Some.ensures.sound.whole (sym c.in-Some.ensures.found)).0
 
-pub get-row-requires : goal.get-row-requires
-get-row-requires c = (row_there c.args.space.now.regions c.args.page c.in-Some.region.now c.in-Some.ensures.sound.whole (sym c.in-Some.ensures.found)).1
+pub get-requires : goal.get-requires
+get-requires c = (row_there c.args.space.now.regions c.args.page c.in-Some.region.now c.in-Some.ensures.sound.whole (sym c.in-Some.ensures.found)).1
 
 pub returns-clause-after : goal.returns-clause-after
-returns-clause-after c r row e private at =
+returns-clause-after c r row e at =
     let gs = c.args.space.now.regions in
+    let old = c.get.result in
+    let new = c.of-row.result in
     let h = here gs c.args.page r c.in-Some.ensures.sound.whole e in
     let both : Some h.region ≡ Some c.in-Some.region.now = sym h.found ∙ sym c.in-Some.ensures.found in
     let same : h.region ≡ c.in-Some.region.now = cc in
-    let read = subst (λ (g : Region). slice_get g.rows (c.args.page - g.base.0) ≡ Some c.get-row.result) (sym same) c.get-row.ensures in
+    let read = subst (λ (g : Region). slice_get g.rows (c.args.page - g.base.0) ≡ Some old) (sym same) c.get.ensures in
+    let made = subst (λ (g : Region). row_of g.kind new ≡ changed c.args.change g.kind (row_of g.kind old)) (sym same) c.of-row.ensures in
     ap (λ (s : SpaceOf). shown s.regions) c.set_row.ensures.after
-    ∙ row_changed gs c.args.page r h c.args.change c.get-row.result c.of.result row read private at c.of.ensures
+    ∙ row_changed gs c.args.page r h c.args.change old new row read at made

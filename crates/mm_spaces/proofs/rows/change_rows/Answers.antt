@@ -16,5 +16,5 @@ loop-i-preserved c =
     let some = some_now c.args.change (range_at c.args.first c.args.count) c.loop-i.i c.args.space.now c.loop-i.space c.requires c.loop-i.invariant.1 (omega arith) in
     let user : c.args.first + c.loop-i.i < end_of_user_pages = user_page first_user_page c.loop-i.space.regions (c.args.first + c.loop-i.i) sound.apart sound.whole some in (
       omega (arith, user),
-      changing_more c.args.change (range_at c.args.first c.args.count) c.loop-i.i c.args.space.now c.loop-i.space c.change_row.new.space c.requires c.loop-i.invariant.1 (omega arith) sound c.change_row.ensures.after c.change_row.ensures.spare c.change_row.ensures.kept,
+      changing_more c.args.change (range_at c.args.first c.args.count) c.loop-i.i c.args.space.now c.loop-i.space c.change_row.new.space c.loop-i.invariant.1 (omega arith) sound c.change_row.ensures.after c.change_row.ensures.spare c.change_row.ensures.kept,
     )

@@ -1,34 +1,36 @@
-use Rattle.std.proofs.Common.{ℕ, refl, ap}
-use Rattle.std.specs.Prelude.{is_some}
-use Rattle.mm_types.specs.Machine.{MachineOf}
+use Rattle.std.proofs.Common.{length, refl, ap, arith}
 use Rattle.mm_types.specs.declared.moves.LineKind.TheVariants as kind
+use Rattle.mm_plain.specs.Areas.{area_in, size_of}
 use Rattle.mm_plain.specs.Places.{pages_at}
-use Rattle.mm_plain.proofs.Contents.{contents_new}
-use Rattle.mm_plain.proofs.Fitting.{fits_new}
+use Rattle.mm_plain.proofs.Fitting.{fits_new, files_fit_new}
+use Rattle.mm_plain.proofs.Openings.{contents_new, paging_new, blocks_new}
 use Rattle.mm_plain.proofs.plain.Plain.new.Goals as goal
 
-with_slots : MachineOf → ℕ → MachineOf
-with_slots m n = record m { slots = n }
+pub invariant_of-result-clause-fits : goal.invariant_of-result-clause-fits
+invariant_of-result-clause-fits g c = fits_new c.new.result c.new-2.result c.new-4.result c.new.ensures.bound c.new.ensures.count c.new-2.ensures.count c.new-4.ensures
 
-pub invariant_of-result : goal.invariant_of-result
-invariant_of-result c = record { fits = fits_new c.new.result c.new-2.result c.new.ensures.bound c.new.ensures.count c.new-2.ensures }
+pub invariant_of-result-clause-files_fit : goal.invariant_of-result-clause-files_fit
+invariant_of-result-clause-files_fit g c =
+    files_fit_new (area_in c.new-2.result) c.new-3.result.pages.items _ _ c.new-2.ensures.areas c.new-3.ensures c.requires.opened (omega (arith, c.blocks-blocks.ensures))
 
 pub returns-clause-new : goal.returns-clause-new
-unfolding with_slots
-returns-clause-new c = record {
-  empty = λ k. contents_new (pages_at c.new.result) k c.new.ensures.pages;
-  machine = ap (with_slots c.args.machine) c.slots.ensures;
-  closed = λ pid. ap (λ f. f pid) c.new-3.ensures;
-  no_area = λ area. refl;
+returns-clause-new g c = record {
+  empty = λ k. contents_new (pages_at c.new.result) (area_in c.new-2.result) c.new-3.result.pages.items k c.new.ensures.pages c.new-2.ensures.areas;
+  machine = refl;
+  closed = λ pid. ap (λ f. f pid) c.new-5.ensures;
+  no_area = λ area. ap (λ f. size_of (f area)) c.new-2.ensures.areas;
   unbound = λ place. ap (λ f. f place) c.new.ensures.bound;
   no_name = λ place. ap (λ f. f place) c.new.ensures.names;
-  not_paging = λ k. ap is_some (contents_new (pages_at c.new.result) k c.new.ensures.pages);
-  no_keys = c.new.ensures.count;
-  no_block = λ k. refl;
-  unused = λ block. refl;
+  not_paging = λ k. paging_new (pages_at c.new.result) (area_in c.new-2.result) k c.new.ensures.pages c.new-2.ensures.areas;
+  no_keys = omega (arith, c.new.ensures.count, c.new-2.ensures.count);
+  no_block = λ k. blocks_new (area_in c.new-2.result) k c.new-2.ensures.areas;
+  unused = ap length c.new-3.ensures;
+  stored = c.requires.opened;
   line = refl;
-  kind = λ i. kind.Machine (c.frames.ensures i) (c.slots-2.ensures i) (c.depth.ensures i) (c.blocks-2.ensures i);
+  kind = λ i. kind.Machine (c.frames.ensures i) (c.slots.ensures i) (c.depth.ensures i) (c.blocks-blocks.ensures i);
   no_pid = refl;
   not_ready = refl;
-  begun = record { no_failed_read = refl; no_failed_write = refl };
+  begun = record { no_failed_read = refl; no_failed_write = c.none.ensures };
+  none_named_paging = refl;
+  none_named_file = c.requires.plain;
 }

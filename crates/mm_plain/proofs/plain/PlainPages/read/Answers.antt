@@ -1,7 +1,14 @@
-use Rattle.mm_plain.proofs.Fitting.{fits_kept}
+use Rattle.std.proofs.Common.{Some}
+use Rattle.mm_pages.specs.Store.{changed, same_place}
+use Rattle.mm_plain.specs.Places.{names_in}
+use Rattle.mm_plain.specs.Plain.{store_in}
+use Rattle.mm_plain.proofs.Stores.{fetched_named, served_named}
 use Rattle.mm_plain.proofs.plain.PlainPages.read.Goals as goal
 
-pub invariant_of-self : goal.invariant_of-self
-invariant_of-self c = record {
-  fits = fits_kept c.args.self.now.places c.name.new.self c.args.self.now.stock c.args.self.now.fits c.name.ensures.bound c.name.ensures.count;
-}
+pub returns-clause-ok : goal.returns-clause-ok
+returns-clause-ok g c =
+    let s = c.args.self.now in
+    fetched_named (store_in s) (store_in c.name_place.new.self) (changed same_place (names_in s.places) c.args.place (Some c.args.key)) c.name_place.ensures.store
+
+pub returns-clause-served : goal.returns-clause-served
+returns-clause-served g c = served_named _ _ _ c.name_place.ensures.store

@@ -12,7 +12,7 @@ add-requires-clause-free c =
     let vs = c.self.inside.space.regions in
     let r = c.region.inside.region in
     let can = can_add vs r c.args.self.now.regions c.args.region (ap (λ (v : RegionsOf). v.regions) c.self.view_is) c.region.view_is
-    (record { free = c.requires.free; granule = c.requires.granule; some = c.requires.some; fit = c.requires.rows; private = c.requires.private }) in
+    (record { free = c.requires.free; granule = c.requires.granule; some = c.requires.some; fit = c.requires.rows }) in
     free_among vs r c.self.invariant.whole.whole c.region.invariant can.free
 
 pub invariant_of-self : goal.invariant_of-self
@@ -20,7 +20,7 @@ invariant_of-self c =
     let vs = c.self.inside.space.regions in
     let r = c.region.inside.region in
     let can = can_add vs r c.args.self.now.regions c.args.region (ap (λ (v : RegionsOf). v.regions) c.self.view_is) c.region.view_is
-    (record { free = c.requires.free; granule = c.requires.granule; some = c.requires.some; fit = c.requires.rows; private = c.requires.private }) in
+    (record { free = c.requires.free; granule = c.requires.granule; some = c.requires.some; fit = c.requires.rows }) in
     kept_add vs c.add.new.self.regions r c.self.invariant can c.add.ensures.after c.add.ensures.sound
 
 pub returns-clause-added : goal.returns-clause-added

@@ -1,13 +1,20 @@
-use Rattle.std.proofs.Common.{ap}
-use Rattle.mm_spaces.specs.RowChanges.{range_at}
-use Rattle.mm_spaces.specs.Tables.{RegionsOf}
-use Rattle.mm_spaces.proofs.Written.{Same, in_private}
+use Rattle.std.proofs.Common.{false, sym, ap, ◌∙◌, ◌-◌}
+use Rattle.mm_types.specs.Address.{Range}
+use Rattle.mm_world.specs.Rows.{every_page_from}
+use Rattle.mm_spaces.specs.ViewStates.{is_area_page}
+use Rattle.mm_spaces.proofs.Viewed.{not_private, kind_around, committed_told}
 use Rattle.mm_spaces.proofs.spaces.AddressSpace.are_committed.Goals as goal
 
-pub are_committed-requires-clause-inside : goal.are_committed-requires-clause-inside
-are_committed-requires-clause-inside c =
-    let vs = c.self.inside.space.regions in
-    let inner = range_at c.range.inside.first c.range.inside.count in
-    let rs = c.args.self.now.regions in
-    let same : Same vs inner rs c.args.range = record { regions = ap (λ (v : RegionsOf). v.regions) c.self.view_is; range_is = c.range.view_is } in
-    in_private vs inner rs c.args.range same c.self.invariant c.requires.inside
+pub unreachable-requires-in_default-kind : goal.unreachable-requires-in_default-kind
+unreachable-requires-in_default-kind c =
+    let g = c.in-Some.region.now in
+    not_private g.kind c.in_default-kind.is (kind_around c.args.self.now.regions c.args.range g c.in-Some.ensures.some false c.requires.view)
+
+pub returns : goal.returns
+returns c = λ w r v e is same.
+    let g = c.in-Some.region.now in
+    let u = c.in-View.view in
+    let a = c.args.pages.now in
+    c.are_pages_committed.ensures
+    ∙ ap (λ (x : Range). every_page_from (is_area_page a u) (x.first - g.base.0) x.count) c.range.view_is
+    ∙ sym (committed_told w a c.args.self.now.regions c.args.range g u c.in-Some.ensures.some r v c.in-View.is e is same)

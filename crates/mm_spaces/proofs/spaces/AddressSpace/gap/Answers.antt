@@ -1,7 +1,13 @@
-use Rattle.mm_world.specs.Find.{ranges_of}
+use Rattle.std.proofs.Common.{ap, ◌∙◌, arith}
+use Rattle.mm_types.specs.Address.{Range, granule_range_of, pages_for}
+use Rattle.mm_world.specs.Find.{ranges_of, placed}
 use Rattle.mm_spaces.proofs.Gaps.{placed_gap}
 use Rattle.mm_spaces.proofs.spaces.AddressSpace.gap.Goals as goal
 
 pub returns-clause-free : goal.returns-clause-free
 returns-clause-free c =
-    placed_gap (ranges_of c.args.self.now.regions) c.args.addr c.args.size c.free_pages.result c.requires.some c.free_pages.ensures
+    let taken = ranges_of c.args.self.now.regions in
+    placed_gap taken c.args.addr (granule_range_of c.args.addr c.args.size) (pages_for c.args.size) c.placed.result (omega (arith, c.requires.some)) (omega (arith, c.requires.some)) (omega arith)
+    (c.placed.ensures
+    ∙ ap (λ (r : Range). placed taken c.args.addr r c.pages_for_bytes.result) c.from_granule.ensures
+    ∙ ap (λ n. placed taken c.args.addr (granule_range_of c.args.addr c.args.size) n) c.pages_for_bytes.ensures.pages)

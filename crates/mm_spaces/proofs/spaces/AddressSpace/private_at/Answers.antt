@@ -1,23 +1,25 @@
-use Rattle.std.proofs.Common.{Some, None, cond, sym, ap, ◌∙◌}
-use Rattle.std.specs.Cmp.{unsigned_Decides}
-use Rattle.std.proofs.lemmas.Bool.{ne_eqb}
-use Rattle.mm_types.specs.Address.{address_of}
-use Rattle.mm_vad.specs.Regions.{pages_of}
-use Rattle.mm_spaces.proofs.Kept.{private_told, private_none}
+use Rattle.std.proofs.Common.{Some, None, cond, option_map, sym, ap, ◌∙◌}
+use Rattle.mm_world.specs.World.{RegionOf, pages_of}
+use Rattle.mm_world.specs.Find.{Found, is_private}
+use Rattle.mm_spaces.specs.declared.spaces.RegionInfo.{RegionInfo}
+use Rattle.mm_spaces.specs.Shown.{region_of}
+use Rattle.mm_spaces.proofs.Kept.{private_at_told}
 use Rattle.mm_spaces.proofs.spaces.AddressSpace.private_at.Goals as goal
 
 pub returns-in_err-region-clause-found : goal.returns-in_err-region-clause-found
 returns-in_err-region-clause-found c =
-    c.from_residual.ensures ∙ sym (private_none c.args.self.now.regions c.region_at.ensures.sound c.args.addr c.in_err-region.ensures.none)
+    c.from_residual.ensures
+    ∙ sym (ap (option_map (λ (x : Found (RegionOf (Unit {0}))). pages_of x.thing)) (c.in_err-region.ensures.none.only (λ r. is_private r.kind)))
 
-pub returns-then-region-addr-clause-found : goal.returns-then-region-addr-clause-found
-returns-then-region-addr-clause-found c =
+pub returns-then-is_private-clause-found : goal.returns-then-is_private-clause-found
+returns-then-is_private-clause-found c =
     let region = c.in_ok-region.region.now in
-    sym (private_told c.args.self.now.regions c.region_at.ensures.sound c.args.addr region c.in_ok-region.ensures.some
-    ∙ ap (λ b. cond b (Some (pages_of region)) None) (ne_eqb (address_of region.base.0) c.args.addr c.if-region-addr.true))
+    ap (λ (x : RegionInfo). Some x.pages) c.info_of_region.ensures
+    ∙ sym (private_at_told c.args.self.now.regions c.args.addr region c.in_ok-region.ensures.some
+    ∙ ap (λ b. cond b (Some (pages_of (region_of region))) None) (sym c.is_private.ensures ∙ c.if-is_private.true))
 
-pub returns-clause-found : goal.returns-clause-found
-returns-clause-found c =
+pub returns-else-is_private-clause-found : goal.returns-else-is_private-clause-found
+returns-else-is_private-clause-found c =
     let region = c.in_ok-region.region.now in
-    sym (private_told c.args.self.now.regions c.region_at.ensures.sound c.args.addr region c.in_ok-region.ensures.some
-    ∙ ap (λ b. cond b (Some (pages_of region)) None) ((unsigned_Decides (address_of region.base.0) c.args.addr).1 c.if-region-addr.false))
+    sym (private_at_told c.args.self.now.regions c.args.addr region c.in_ok-region.ensures.some
+    ∙ ap (λ b. cond b (Some (pages_of (region_of region))) None) (sym c.is_private.ensures ∙ c.if-is_private.false))

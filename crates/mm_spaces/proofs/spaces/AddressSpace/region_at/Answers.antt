@@ -4,7 +4,7 @@ use Rattle.std.specs.Option.{option_copied}
 use Rattle.mm_vad.specs.Regions as vad
 use Rattle.mm_world.specs.Find.{region_with}
 use Rattle.mm_spaces.specs.Tables.{RegionsOf}
-use Rattle.mm_spaces.specs.Finds.{IsAt}
+use Rattle.mm_spaces.specs.Kept.{IsAt}
 use Rattle.mm_spaces.proofs.Kept.{is_at, none_at}
 use Rattle.mm_spaces.proofs.spaces.AddressSpace.region_at.Goals as goal
 

@@ -1,7 +1,9 @@
-use Rattle.std.proofs.Common.{◌≡◌, Some, sym, ap, ◌∙◌, subst}
+use Rattle.std.proofs.Common.{◌≡◌, Some, not, sym, ap, ◌∙◌, subst}
 use Rattle.std.specs.Prelude.{remove}
 use Rattle.mm_types.specs.Address.{page_of}
+use Rattle.mm_world.specs.Find.{is_private}
 use Rattle.mm_world.specs.Free.{private_at}
+use Rattle.mm_world.specs.Views.{view_at}
 use Rattle.mm_spaces.specs.Tables.{RegionsOf}
 use Rattle.mm_spaces.proofs.Made.{kept_remove, removed}
 use Rattle.mm_spaces.proofs.spaces.AddressSpace.remove.Goals as goal
@@ -10,9 +12,16 @@ pub invariant_of-self : goal.invariant_of-self
 invariant_of-self c =
     kept_remove c.self.inside.space.regions c.remove.new.self.regions (page_of c.args.addr) c.self.invariant c.remove.ensures.after c.remove.ensures.sound
 
-pub returns-clause-removed : goal.returns-clause-removed
-returns-clause-removed c = λ r e. (
+pub returns-clause-private : goal.returns-clause-private
+returns-clause-private c = λ r e. (
     let vs = c.self.inside.space.regions in
     let there = subst (λ (v : RegionsOf). private_at v.regions c.args.addr ≡ Some r) (sym c.self.view_is) e in
-    removed vs c.remove.new.self.regions c.args.addr r c.self.invariant c.remove.ensures.after there
+    removed (λ x. is_private x.kind) vs c.remove.new.self.regions c.args.addr r c.self.invariant c.remove.ensures.after there
+    ∙ ap (λ (v : RegionsOf). remove v.regions r.place) c.self.view_is)
+
+pub returns-clause-view : goal.returns-clause-view
+returns-clause-view c = λ r e. (
+    let vs = c.self.inside.space.regions in
+    let there = subst (λ (v : RegionsOf). view_at v.regions c.args.addr ≡ Some r) (sym c.self.view_is) e in
+    removed (λ x. not (is_private x.kind)) vs c.remove.new.self.regions c.args.addr r c.self.invariant c.remove.ensures.after there
     ∙ ap (λ (v : RegionsOf). remove v.regions r.place) c.self.view_is)

@@ -1,0 +1,49 @@
+use Rattle.std.proofs.Common.{◌≡◌, ◌≤◌, ◌<◌, ◌+◌, ◌-◌, ◌*◌, ℕ, ◌∙◌, sym, ap, arith}
+use Rattle.std.proofs.lemmas.Bool.{leb-true, leb-false}
+use Rattle.mm_types.specs.declared.answers.Answer.TheVariants as answer
+use Rattle.mm_types.specs.declared.views.Kind.TheVariants as kind
+use Rattle.mm_types.specs.Address.{Range}
+use Rattle.mm_world.specs.Find.{process_of, region_around}
+use Rattle.mm_world.specs.Charge.{charge, limit}
+use Rattle.mm_world.specs.Outcome.{done}
+use Rattle.mm_spaces.specs.Tables.{owned_in}
+use Rattle.mm_calls.proofs.Around.{kind_found, user_range}
+use Rattle.mm_calls.proofs.Counts.{owned_few}
+use Rattle.mm_calls.proofs.Decided.{commit_refused, commit_made}
+use Rattle.mm_calls.proofs.Tests.{some_found}
+use Rattle.mm_calls.proofs.allocations.commit_private.Goals as goal
+
+pub returns-then-not-can_charge-clause-ok : goal.returns-then-not-can_charge-clause-ok
+returns-then-not-can_charge-clause-ok g c p lives =
+    let t = c.args.t.now in
+    let range : Range = c.args.range in
+    let r = kind_found (region_around p.regions range) kind.Private (c.requires.around p lives) in
+    let count : c.range.inside.count ≡ range.count = ap (λ (r : Range). r.count) c.range.view_is in
+    let n : ℕ = c.range.inside.count - c.owned.result in
+    let owned : c.owned.result ≡ owned_in p.regions range = c.owned.ensures ∙ ap (λ rs. owned_in rs range) (c.space.ensures p lives) in
+    let counted : n + owned_in p.regions range ≡ range.count = omega (arith, count, owned, owned_few p.regions range r.0 r.1.0) in
+    let past : limit t < charge t + n = (let h = leb-false _ _ (sym c.can_charge.ensures ∙ c.if-not-can_charge.true) in omega (arith, h)) in
+    commit_refused t c.args.pid.0 p range c.args.prot n lives r.0 r.1.0 r.1.1 counted past
+
+pub overflow_mul-result : goal.overflow_mul-result
+overflow_mul-result g c =
+    let t = c.args.t.now in
+    let range : Range = c.args.range in
+    let p = some_found (process_of t c.args.pid.0) c.requires.lives in
+    let r = kind_found (region_around p.0.regions range) kind.Private (c.requires.around p.0 p.1) in
+    let first : c.range-2.inside.first ≡ range.first = ap (λ (r : Range). r.first) c.range-2.view_is in
+    omega (arith, first, user_range t c.args.pid.0 p.0 range r.0 p.1 c.sound.ensures.sound r.1.0)
+
+pub returns-clause-ok : goal.returns-clause-ok
+returns-clause-ok g c p lives =
+    let t = c.args.t.now in
+    let range : Range = c.args.range in
+    let r = kind_found (region_around p.regions range) kind.Private (c.requires.around p lives) in
+    let count : c.range.inside.count ≡ range.count = ap (λ (r : Range). r.count) c.range.view_is in
+    let first : range.first ≡ c.range-2.inside.first = sym (ap (λ (r : Range). r.first) c.range-2.view_is) in
+    let n : ℕ = c.range.inside.count - c.owned.result in
+    let owned : c.owned.result ≡ owned_in p.regions range = c.owned.ensures ∙ ap (λ rs. owned_in rs range) (c.space.ensures p lives) in
+    let counted : n + owned_in p.regions range ≡ range.count = omega (arith, count, owned, owned_few p.regions range r.0 r.1.0) in
+    let room : charge t + n ≤ limit t = leb-true _ _ (sym c.can_charge.ensures ∙ c.if-not-can_charge.false) in
+    let now = sym (c.in_ok-commit.ensures.ok p r.0 lives r.1.0) in
+    commit_made t c.args.pid.0 p range c.args.prot n lives r.0 r.1.0 r.1.1 counted room ∙ (λ i. done (answer.At (first i * 4096)) (now i))

@@ -1,0 +1,100 @@
+use Rattle.std.proofs.Common.{◌≡◌, ◌≤◌, ◌<◌, ◌+◌, ◌-◌, ◌*◌, ℕ, ◌∙◌, sym, ap, arith, length, is_some, true, None}
+use Rattle.std.proofs.lemmas.Bool.{leb-true, leb-false}
+use Rattle.mm_types.specs.declared.answers.Answer.TheVariants as answer
+use Rattle.mm_types.specs.Address.{Range}
+use Rattle.mm_world.specs.World.{AreaOf}
+use Rattle.mm_world.specs.Find.{process_of, region_around, area_at}
+use Rattle.mm_world.specs.Charge.{charge, limit}
+use Rattle.mm_world.specs.Outcome.{done}
+use Rattle.mm_world.specs.Rows.{accepts, every_page}
+use Rattle.mm_sections.specs.Pages.{uncommitted_in}
+use Rattle.mm_calls.proofs.Areas.{tells_view}
+use Rattle.mm_calls.proofs.Around.{user_range}
+use Rattle.mm_calls.proofs.Decided.{view_refused, view_made}
+use Rattle.mm_calls.proofs.Tests.{some_found, no_block}
+use Rattle.mm_calls.proofs.allocations.commit_view.Goals as goal
+
+pub area-area-requires : goal.area-area-requires
+area-area-requires g c =
+    let p = some_found (process_of c.args.t.now c.args.pid.0) c.requires.lives in
+    (tells_view c.args.t.now c.args.pid.0 p.0 c.args.range c.args.pages c.args.view p.1 c.sound.ensures.sound (c.requires.around p.0 p.1)).made
+
+pub overflow_sub-range-inside : goal.overflow_sub-range-inside
+overflow_sub-range-inside g c =
+    let p = some_found (process_of c.args.t.now c.args.pid.0) c.requires.lives in
+    let v = tells_view c.args.t.now c.args.pid.0 p.0 c.args.range c.args.pages c.args.view p.1 c.sound.ensures.sound (c.requires.around p.0 p.1) in
+    omega (arith, v.low, ap (λ (r : Range). r.first) c.range.view_is, ap (λ (r : Range). r.first) c.pages.view_is)
+
+pub overflow_add-view : goal.overflow_add-view
+overflow_add-view g c =
+    let p = some_found (process_of c.args.t.now c.args.pid.0) c.requires.lives in
+    let v = tells_view c.args.t.now c.args.pid.0 p.0 c.args.range c.args.pages c.args.view p.1 c.sound.ensures.sound (c.requires.around p.0 p.1) in
+    omega (
+      arith,
+      v.within,
+      ap (λ (r : Range). r.first) c.range.view_is,
+      ap (λ (r : Range). r.first) c.pages.view_is,
+      ap (λ (a : AreaOf (Unit {0})). length a.pages) c.area-area.ensures,
+      c.len-total.ensures,
+      c.len-total.type_inv,
+    )
+
+pub uncommitted-n-requires : goal.uncommitted-n-requires
+uncommitted-n-requires g c = record {
+  inside = (let p = some_found (process_of c.args.t.now c.args.pid.0) c.requires.lives in
+      let v = tells_view c.args.t.now c.args.pid.0 p.0 c.args.range c.args.pages c.args.view p.1 c.sound.ensures.sound (c.requires.around p.0 p.1) in
+      omega (
+        arith,
+        v.within,
+        ap (λ (r : Range). r.first) c.range.view_is,
+        ap (λ (r : Range). r.count) c.range.view_is,
+        ap (λ (r : Range). r.first) c.pages.view_is,
+        ap (λ (a : AreaOf (Unit {0})). length a.pages) c.area-area.ensures,
+      ));
+}
+
+pub returns-then-not-can_charge-clause-ok : goal.returns-then-not-can_charge-clause-ok
+returns-then-not-can_charge-clause-ok g c p lives =
+    let t = c.args.t.now in
+    let range : Range = c.args.range in
+    let v = tells_view t c.args.pid.0 p range c.args.pages c.args.view lives c.sound.ensures.sound (c.requires.around p lives) in
+    let first : c.args.view.first + (c.range.inside.first - c.pages.inside.first) ≡ c.args.view.first + (range.first - v.region.thing.base) =
+    omega (arith, v.index, ap (λ (r : Range). r.first) c.range.view_is, ap (λ (r : Range). r.first) c.pages.view_is) in
+    let count : c.range.inside.count ≡ range.count = ap (λ (r : Range). r.count) c.range.view_is in
+    let n : ℕ = c.uncommitted-n.result in
+    let counted : n ≡ uncommitted_in (area_at t c.args.view.area.0) (c.args.view.first + (range.first - v.region.thing.base)) range.count =
+    c.uncommitted-n.ensures ∙ (λ i. uncommitted_in (c.area-area.ensures i) (first i) (count i)) in
+    let none : (area_at t c.args.view.area.0).file_block ≡ None =
+    ap (λ (a : AreaOf (Unit {0})). a.file_block) (sym c.area-area.ensures) ∙ no_block c.area-area.result.now.file_block (ap (λ o. is_some o) (sym c.first_block.ensures) ∙ sym c.is_some.ensures ∙ c.if-is_some.false) in
+    let takes : every_page (accepts v.region.thing c.args.prot) range ≡ true = sym (c.accepts.ensures v.region (ap (λ rs. region_around rs range) (c.space.ensures p lives) ∙ v.found)) ∙ c.if-not-accepts.false in
+    let past : limit t < charge t + n = (let h = leb-false _ _ (sym c.can_charge.ensures ∙ c.if-not-can_charge.true) in omega (arith, h)) in
+    view_refused t c.args.pid.0 p range c.args.prot n lives v.region v.found c.args.view v.kind none c.sound.ensures.sound c.requires.prot takes counted past
+
+pub overflow_mul-result : goal.overflow_mul-result
+overflow_mul-result g c =
+    let t = c.args.t.now in
+    let range : Range = c.args.range in
+    let p = some_found (process_of t c.args.pid.0) c.requires.lives in
+    let v = tells_view t c.args.pid.0 p.0 range c.args.pages c.args.view p.1 c.sound.ensures.sound (c.requires.around p.0 p.1) in
+    let first : c.range-2.inside.first ≡ range.first = ap (λ (r : Range). r.first) c.range-2.view_is in
+    omega (arith, first, user_range t c.args.pid.0 p.0 range v.region p.1 c.sound.ensures.sound v.found)
+
+pub returns-clause-ok : goal.returns-clause-ok
+returns-clause-ok g c p lives =
+    let t = c.args.t.now in
+    let range : Range = c.args.range in
+    let v = tells_view t c.args.pid.0 p range c.args.pages c.args.view lives c.sound.ensures.sound (c.requires.around p lives) in
+    let first : c.args.view.first + (c.range.inside.first - c.pages.inside.first) ≡ c.args.view.first + (range.first - v.region.thing.base) =
+    omega (arith, v.index, ap (λ (r : Range). r.first) c.range.view_is, ap (λ (r : Range). r.first) c.pages.view_is) in
+    let count : c.range.inside.count ≡ range.count = ap (λ (r : Range). r.count) c.range.view_is in
+    let n : ℕ = c.uncommitted-n.result in
+    let counted : n ≡ uncommitted_in (area_at t c.args.view.area.0) (c.args.view.first + (range.first - v.region.thing.base)) range.count =
+    c.uncommitted-n.ensures ∙ (λ i. uncommitted_in (c.area-area.ensures i) (first i) (count i)) in
+    let none : (area_at t c.args.view.area.0).file_block ≡ None =
+    ap (λ (a : AreaOf (Unit {0})). a.file_block) (sym c.area-area.ensures) ∙ no_block c.area-area.result.now.file_block (ap (λ o. is_some o) (sym c.first_block.ensures) ∙ sym c.is_some.ensures ∙ c.if-is_some.false) in
+    let takes : every_page (accepts v.region.thing c.args.prot) range ≡ true = sym (c.accepts.ensures v.region (ap (λ rs. region_around rs range) (c.space.ensures p lives) ∙ v.found)) ∙ c.if-not-accepts.false in
+    let room : charge t + n ≤ limit t = leb-true _ _ (sym c.can_charge.ensures ∙ c.if-not-can_charge.false) in
+    let at : range.first ≡ c.range-2.inside.first = sym (ap (λ (r : Range). r.first) c.range-2.view_is) in
+    let now = sym (c.in_ok-commit_view.ensures.ok p v.region c.args.view lives v.found v.kind) in
+    view_made t c.args.pid.0 p range c.args.prot n lives v.region v.found c.args.view v.kind none c.sound.ensures.sound c.requires.prot takes counted room
+    ∙ (λ i. done (answer.At (at i * 4096)) (now i))

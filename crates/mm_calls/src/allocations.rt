@@ -1,0 +1,141 @@
+ghost use Rattle.std.specs.Prelude.{◌≡◌, ◌≤◌, true, is_some, Some, IfOk, OnErr, option_map};
+ghost use Rattle.mm_types.specs.declared.moves.LineKind.TheVariants as line_kind;
+ghost use Rattle.mm_types.specs.declared.views.Kind.TheVariants as kind;
+ghost use Rattle.mm_world.specs.World.{ProcessOf};
+ghost use Rattle.mm_world.specs.Find.{process_of, region_around};
+ghost use Rattle.mm_world.specs.Alloc.{reserve, commit_pages};
+ghost use Rattle.mm_world.specs.Contents.{blank};
+ghost use Rattle.mm_world.specs.Rows.{is_protection_among, private_protections};
+ghost use Rattle.mm_spaces.specs.Tables.{found_info};
+ghost use Rattle.mm_tables.specs.Fits.{Fits, Settled};
+
+use crate::parameters::{PAGE_SIZE, new_pages};
+use mm_pages::Pages;
+use mm_spaces::PageRange;
+use mm_tables::Tables;
+use mm_types::{Answer, Code, Kind, NoMemory, Pid, View};
+use std::alloc::Global;
+
+/// Reserves pages of a living process, and commits them where the type says so.
+pub(crate) fn reserve<G: Pages>(
+    allocator: Global,
+    t: &mut Tables,
+    g: &mut G,
+    pid: Pid,
+    addr: u32,
+    size: u32,
+    kind: u32,
+    prot: u32,
+) -> Result<Answer, NoMemory>
+    requires fits { Fits t.old (G.contents g.old) (G.store g.old) }
+    requires kind { (G.store g.old).kind ≡ line_kind.Call }
+    requires lives { is_some (process_of t.old pid.0) ≡ true }
+    requires some { 1 ≤ size }
+    requires prot { is_protection_among private_protections prot ≡ true }
+    ensures ok { IfOk result (λ a. (p : ProcessOf (Unit {0})) → process_of t.old pid.0 ≡ Some p → reserve blank t.old pid.0 p addr size kind prot ≡ record { answer = a; world = t.new }) }
+    ensures err { OnErr result ((t.new ≡ t.old) × (G.contents g.new ≡ G.contents g.old)) }
+    ensures settled { Settled t.new (G.contents g.old) (G.contents g.new) (G.store g.old) (G.store g.new) }
+    ensures loans { G.loans g.new ≡ G.loans g.old }
+{
+    let range = match t.space(pid).gap(addr, size) {
+        Some(range) => range,
+        None => return Ok(Answer::Error(Code::InvalidAddress)),
+    };
+    if !t.can_charge(new_pages(kind, range)) {
+        return Ok(Answer::Error(Code::CommitmentLimit));
+    }
+    t.reserve(allocator, g, pid, range, kind, prot)?;
+    Ok(Answer::At(range.first * PAGE_SIZE))
+}
+
+/// Commits pages of a living process, in a private region or in a view.
+pub(crate) fn commit<G: Pages>(
+    t: &mut Tables,
+    g: &mut G,
+    pid: Pid,
+    range: PageRange,
+    prot: u32,
+) -> Result<Answer, NoMemory>
+    requires fits { Fits t.old (G.contents g.old) (G.store g.old) }
+    requires kind { (G.store g.old).kind ≡ line_kind.Call }
+    requires lives { is_some (process_of t.old pid.0) ≡ true }
+    requires prot { is_protection_among private_protections prot ≡ true }
+    ensures ok { IfOk result (λ a. (p : ProcessOf (Unit {0})) → process_of t.old pid.0 ≡ Some p → commit_pages blank t.old pid.0 p range prot ≡ record { answer = a; world = t.new }) }
+    ensures err { OnErr result ((t.new ≡ t.old) × (G.contents g.new ≡ G.contents g.old)) }
+    ensures settled { Settled t.new (G.contents g.old) (G.contents g.new) (G.store g.old) (G.store g.new) }
+    ensures loans { G.loans g.new ≡ G.loans g.old }
+{
+    let region = match t.space(pid).region_around(range) {
+        Some(region) => region,
+        None => return Ok(Answer::Error(Code::InvalidAddress)),
+    };
+    match region.kind {
+        Kind::Private => commit_private(t, g, pid, range, prot),
+        Kind::View(view) => commit_view(t, g, pid, range, region.pages, view, prot),
+    }
+}
+
+/// Commits pages of the private region around them.
+fn commit_private<G: Pages>(
+    t: &mut Tables,
+    g: &mut G,
+    pid: Pid,
+    range: PageRange,
+    prot: u32,
+) -> Result<Answer, NoMemory>
+    requires fits { Fits t.old (G.contents g.old) (G.store g.old) }
+    requires kind { (G.store g.old).kind ≡ line_kind.Call }
+    requires lives { is_some (process_of t.old pid.0) ≡ true }
+    requires around { (p : ProcessOf (Unit {0})) → process_of t.old pid.0 ≡ Some p → option_map (λ r. r.thing.kind) (region_around p.regions range) ≡ Some kind.Private }
+    requires prot { is_protection_among private_protections prot ≡ true }
+    ensures ok { IfOk result (λ a. (p : ProcessOf (Unit {0})) → process_of t.old pid.0 ≡ Some p → commit_pages blank t.old pid.0 p range prot ≡ record { answer = a; world = t.new }) }
+    ensures err { OnErr result ((t.new ≡ t.old) × (G.contents g.new ≡ G.contents g.old)) }
+    ensures settled { Settled t.new (G.contents g.old) (G.contents g.new) (G.store g.old) (G.store g.new) }
+    ensures loans { G.loans g.new ≡ G.loans g.old }
+{
+    t.sound();
+    let n = range.count - t.space(pid).owned(range);
+    if !t.can_charge(n) {
+        return Ok(Answer::Error(Code::CommitmentLimit));
+    }
+    t.commit(g, pid, range, prot, n)?;
+    Ok(Answer::At(range.first * PAGE_SIZE))
+}
+
+/// Commits section pages under pages of the view around them, which has these pages, and gives the view's rows the protection.
+fn commit_view<G: Pages>(
+    t: &mut Tables,
+    g: &mut G,
+    pid: Pid,
+    range: PageRange,
+    pages: PageRange,
+    view: View,
+    prot: u32,
+) -> Result<Answer, NoMemory>
+    requires fits { Fits t.old (G.contents g.old) (G.store g.old) }
+    requires kind { (G.store g.old).kind ≡ line_kind.Call }
+    requires lives { is_some (process_of t.old pid.0) ≡ true }
+    requires around { (p : ProcessOf (Unit {0})) → process_of t.old pid.0 ≡ Some p → option_map found_info (region_around p.regions range) ≡ Some (record { pages = pages; kind = kind.View view }) }
+    requires prot { is_protection_among private_protections prot ≡ true }
+    ensures ok { IfOk result (λ a. (p : ProcessOf (Unit {0})) → process_of t.old pid.0 ≡ Some p → commit_pages blank t.old pid.0 p range prot ≡ record { answer = a; world = t.new }) }
+    ensures err { OnErr result ((t.new ≡ t.old) × (G.contents g.new ≡ G.contents g.old)) }
+    ensures settled { Settled t.new (G.contents g.old) (G.contents g.new) (G.store g.old) (G.store g.new) }
+    ensures loans { G.loans g.new ≡ G.loans g.old }
+{
+    t.sound();
+    let area = t.area(view.area);
+    if area.first_block().is_some() {
+        return Ok(Answer::Error(Code::InvalidAddress));
+    }
+    if !t.space(pid).accepts(range, prot) {
+        return Ok(Answer::Error(Code::InvalidParameter));
+    }
+    // The section's pages are numbered in 32 bits, and so are those of its view.
+    let _total = area.len();
+    let n = area.uncommitted(view.first + (range.first - pages.first), range.count);
+    if !t.can_charge(n) {
+        return Ok(Answer::Error(Code::CommitmentLimit));
+    }
+    t.commit_view(g, pid, range, prot, n)?;
+    Ok(Answer::At(range.first * PAGE_SIZE))
+}

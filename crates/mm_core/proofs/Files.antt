@@ -1,0 +1,281 @@
+-- The lines that the file device has a part in: `file`, `flush`, and `fail`, which names calls of either device.
+use Rattle.std.proofs.Common.{◌≡◌, ◌≤◌, ◌<◌, ℕ, zero, suc, ◌+◌, ◌-◌, Bool, true, false, Option, Some, None, List, [], ◌∷◌, refl, sym, ◌∙◌, ap, subst, cond, arith, is_some, unwrap_or, option_map, ◌&&◌, not, nat_le, nat_lt, ◌==◌, length, map, get_or, slice_get, count_by}
+use Rattle.std.proofs.Math.Path.{fun_ext}
+use Rattle.std.proofs.lemmas.Bool.{leb-true, lt-ltb}
+use Rattle.std.proofs.lemmas.List.{length-append}
+use Rattle.std.proofs.lemmas.List.Sums.{sum_by-cons}
+use Rattle.mm_types.specs.declared.answers.Answer.{Answer}
+use Rattle.mm_types.specs.declared.answers.Answer.TheVariants as answer
+use Rattle.mm_types.specs.declared.devices.Device.{Device}
+use Rattle.mm_types.specs.declared.devices.Device.TheVariants as device_of
+use Rattle.mm_types.specs.declared.devices.Direction.{Direction}
+use Rattle.mm_types.specs.declared.events.Event.TheVariants as line
+use Rattle.mm_types.specs.declared.numbers.Key.{Key}
+use Rattle.mm_types.specs.declared.numbers.Pid.{Pid}
+use Rattle.mm_types.specs.declared.views.View.{View}
+use Rattle.mm_types.specs.declared.views.Kind.TheVariants as kind
+use Rattle.mm_types.specs.Address.{Range, holds_page, lies_within, range_of, page_of, end_of}
+use Rattle.mm_types.specs.Spelling.{Text}
+use Rattle.mm_blocks.specs.declared.device_calls.NamedCalls.{NamedCalls}
+use Rattle.mm_world.specs.World.{Page, World, RegionOf, ProcessOf, AreaOf, filled, pages_of}
+use Rattle.mm_world.specs.Find.{Found, first_where, process_of, area_at, no_area, shared_page, is_private}
+use Rattle.mm_world.specs.Keys.{content_of, shared_key}
+use Rattle.mm_world.specs.Outcome.{OutcomeOf, done}
+use Rattle.mm_world.specs.Processes.{new_file, take_fail, most_fails}
+use Rattle.mm_world.specs.Views.{flush, view_around, flushed_view, flushed_range}
+use Rattle.mm_world.specs.Step.{unpaged, when, is_ok}
+use Rattle.mm_world.specs.Contents.{Tables, BytesAfter, BytesAfterFile, file_bytes, blank, world_with, region_with_bytes, process_with, area_with}
+use Rattle.mm_world.specs.WellFormed.{WellFormed, Spaces, RegionRefers}
+use Rattle.mm_world.proofs.Across.{flush_across}
+use Rattle.mm_world.proofs.AcrossFile.{new_file_across}
+use Rattle.mm_world.proofs.Each.{each-at}
+use Rattle.mm_world.proofs.Finding.{found_stands}
+use Rattle.mm_world.proofs.LaidOut.{and-true, less}
+use Rattle.mm_world.proofs.Natural.{first-map}
+use Rattle.mm_pages.specs.Devices.{DeviceOf}
+use Rattle.mm_pages.specs.Store.{StoreOf}
+use Rattle.mm_pages.specs.Reports.{with_named, with_named_paging}
+use Rattle.mm_tables.specs.Fits.{bytes_of, block_in, BlocksHold, IsNamed, filed, flushed}
+use Rattle.mm_tables.specs.References.{IsTidy}
+use Rattle.mm_core.specs.Serving.{FlushHolds, Flushed}
+use Rattle.mm_core.specs.Stepping.{Stepped}
+use Rattle.mm_core.specs.Deciding.{Begins, Devices}
+use Rattle.mm_core.proofs.Lines.{stepped-faulted, bytes-kept}
+use Rattle.mm_core.proofs.With.{found_with, process-with, pages-with, get-areas, shared-with}
+
+-- ---- `file`
+
+-- bytes of a key that is live before and after, or never
+file-same : (o : Option Page) (b : Bool) (x : Page) → is_some o ≡ b → cond (b && b) (unwrap_or o (filled 0)) (cond b x (filled 0)) ≡ unwrap_or o (filled 0)
+file-same None false x e = refl
+file-same (Some y) true x e = refl
+file-same None true x e = cc
+file-same (Some y) false x e = cc
+
+module _ (u : Bool) (n : ℕ) (t : Tables) (old new : Key → Option Page) (s m z : StoreOf) (spaces : Spaces t) (live : (k : Key) → is_some (old k) ≡ is_some (content_of t k)) (a : Answer) (after : Tables) where
+  abbrev w : World
+  w = world_with t (bytes_of old)
+
+  module _ (name : Text) (pages byte : ℕ) where
+    abbrev made : OutcomeOf (Unit {0})
+    made = new_file blank t name pages byte
+
+    abbrev some-bytes : Key → Page
+    some-bytes k = cond (is_some (content_of t k) && is_some (content_of made.world k)) (bytes_of old k) (cond (is_some (content_of made.world k)) (file_bytes byte k) (filled 0))
+
+    file-answers : (unpaged w (line.File name pages byte)).answer ≡ made.answer
+    file-answers = ap (λ (o : OutcomeOf Page). o.answer) ((new_file_across t (bytes_of old) spaces name pages byte).across some-bytes (λ k. refl))
+
+    pub file-stepped : filed t name pages byte z.report ≡ done a after → BytesAfterFile byte t (bytes_of old) after (bytes_of new) → Stepped u w (line.File name pages byte) s.report z.report a (world_with after (bytes_of new))
+    file-stepped outcome bytes =
+        stepped-faulted u (line.File name pages byte) n t old s m a after new z (is_ok made.answer && nat_lt 0 z.report.file_writes.failed) made outcome
+        (ap (λ (a : Answer). when (is_ok a && nat_lt 0 z.report.file_writes.failed) answer.Fault) file-answers) refl
+        (λ same.
+        let kept : bytes_of new ≡ bytes_of old = fun_ext (λ k.
+        bytes k
+        ∙ ap (λ (v : Tables). cond (is_some (content_of t k) && is_some (content_of v k)) (bytes_of old k) (cond (is_some (content_of v k)) (file_bytes byte k) (filled 0))) same
+        ∙ file-same (old k) (is_some (content_of t k)) (file_bytes byte k) (live k)) in
+        λ i. world_with (same i) (kept i))
+        (λ e.
+        let world : made.world ≡ after = ap (λ (q : OutcomeOf (Unit {0})). q.world) e in
+        (new_file_across t (bytes_of old) spaces name pages byte).across (bytes_of new) (subst (λ (v : Tables). BytesAfterFile byte t (bytes_of old) v (bytes_of new)) (sym world) bytes)
+        ∙ ap (λ (q : OutcomeOf (Unit {0})). done q.answer (world_with q.world (bytes_of new))) e)
+
+  -- ---- `flush`
+
+  module _ (pid : Pid) (addr size : ℕ) where
+    abbrev flushes : OutcomeOf (Unit {0})
+    flushes = flush t pid.0 addr size
+
+    abbrev flushed-bytes : Key → Page
+    flushed-bytes k = cond (is_some (content_of t k) && is_some (content_of flushes.world k)) (bytes_of old k) (filled 0)
+
+    flush-answers : (unpaged w (line.Flush pid addr size)).answer ≡ flushes.answer
+    flush-answers = ap (λ (o : OutcomeOf Page). o.answer) ((flush_across t (bytes_of old) spaces pid.0 addr size).across flushed-bytes (λ k. refl))
+
+    pub flush-stepped : flushed t pid.0 addr size z.report ≡ done a after → after ≡ t → new ≡ old → Stepped u w (line.Flush pid addr size) s.report z.report a (world_with after (bytes_of new))
+    flush-stepped outcome tables contents =
+        stepped-faulted u (line.Flush pid addr size) n t old s m a after new z (is_ok flushes.answer && nat_lt 0 z.report.file_writes.failed) flushes outcome
+        (ap (λ (a : Answer). when (is_ok a && nat_lt 0 z.report.file_writes.failed) answer.Fault) flush-answers) refl
+        (λ same. λ i. world_with (same i) (bytes_of (contents i)))
+        (λ e.
+        let world : flushes.world ≡ t = ap (λ (q : OutcomeOf (Unit {0})). q.world) e ∙ tables in
+        let kept : BytesAfter t (bytes_of old) flushes.world (bytes_of old) = subst (λ (v : Tables). BytesAfter t (bytes_of old) v (bytes_of old)) (sym world) (bytes-kept t t old live live) in
+        (flush_across t (bytes_of old) spaces pid.0 addr size).across (bytes_of old) kept
+        ∙ ap (λ (q : OutcomeOf (Unit {0})). done q.answer (world_with q.world (bytes_of old))) e
+        ∙ ap (λ (c : Key → Option Page). done a (world_with after (bytes_of c))) (sym contents))
+
+-- ---- what a `flush` leaves in the blocks
+
+record Mapped {A B : Type 0} (f : A → B) (o : Option A) (y : B) : Type 0 where
+  thing : A
+  there : o ≡ Some thing
+  is : f thing ≡ y
+
+mapped : {A B : Type 0} (f : A → B) (o : Option A) (y : B) → option_map f o ≡ Some y → Mapped f o y
+mapped f None y e = cc
+mapped f (Some x) y e = record { thing = x; there = refl; is = cc }
+
+count-most : {A : Type 0} (xs : List (Option A)) → count_by is_some xs ≤ length xs
+count-most [] = omega arith
+count-most (None ∷ xs) = omega (arith, sum_by-cons (λ (o : Option _). cond (is_some o) 1 0) None xs, count-most xs)
+count-most (Some x ∷ xs) = omega (arith, sum_by-cons (λ (o : Option _). cond (is_some o) 1 0) (Some x) xs, count-most xs)
+
+all-some : {A : Type 0} (xs : List (Option A)) (i : ℕ) → count_by is_some xs ≡ length xs → i < length xs → is_some (get_or xs i None) ≡ true
+all-some [] i e h = absurd (omega (arith, h))
+all-some (None ∷ xs) i e h = absurd (omega (arith, e, sum_by-cons (λ (o : Option _). cond (is_some o) 1 0) None xs, count-most xs))
+all-some (Some x ∷ xs) zero e h = refl
+all-some (Some x ∷ xs) (suc i) e h = all-some xs i (omega (arith, e, sum_by-cons (λ (o : Option _). cond (is_some o) 1 0) (Some x) xs)) (omega (arith, h))
+
+same-bytes : (o : Option Page) (q : Option (Unit {0})) → is_some o ≡ true → is_some q ≡ true → o ≡ option_map (λ u. unwrap_or o (filled 0)) q
+same-bytes (Some x) (Some u) e f = refl
+same-bytes None q e f = cc
+same-bytes (Some x) None e f = cc
+
+module _ (t : Tables) (c : Key → Option Page) (sound : WellFormed t) (tidy : IsTidy t) (live : (k : Key) → is_some (c k) ≡ is_some (content_of t k)) where
+  abbrev b : Key → Page
+  b = bytes_of c
+
+  view-with : (pid : ℕ) (range : Range) (rs : List (RegionOf (Unit {0}))) → view_around (map (region_with_bytes b pid) rs) range ≡ option_map (found_with b pid) (view_around rs range)
+  view-with pid range rs =
+      first-map (λ r. not (is_private r.kind) && lies_within range (pages_of r)) (region_with_bytes b pid) rs
+      ∙ ap (λ t. option_map (found_with b pid) (first_where t rs)) (fun_ext (λ r. ap (λ pages. not (is_private r.kind) && lies_within range pages) (pages-with b pid r)))
+
+  block-with : (area : ℕ) → (area_at (world_with t b) area).file_block ≡ (area_at t area).file_block
+  block-with area = ap (λ o. (unwrap_or o no_area).file_block) (get-areas b 0 area t.areas) ∙ by_area (slice_get t.areas area)
+    where
+      by_area : (o : Option (AreaOf (Unit {0}))) → (unwrap_or (option_map (area_with b (0 + area)) o) no_area).file_block ≡ (unwrap_or o no_area).file_block
+      by_area None = refl
+      by_area (Some a) = refl
+
+  -- a page of the range lies within the view
+  record Within (r : RegionOf (Unit {0})) (page : ℕ) : Type 0 where
+    low : r.base ≤ page
+    high : page < r.base + length r.rows
+
+  within-by : (r : RegionOf (Unit {0})) (addr size page : ℕ) (small : Bool) → (size == 0) ≡ small → lies_within (range_of addr (cond small 1 size)) (pages_of r) ≡ true → holds_page (cond small (record { first = page_of addr; count = end_of (pages_of r) - page_of addr }) (range_of addr size)) page ≡ true → Within r page
+  within-by r addr size page true is lies holds =
+      let l = and-true (nat_le r.base (page_of addr)) (nat_le (end_of (range_of addr 1)) (end_of (pages_of r))) lies in
+      let h = and-true (nat_le (page_of addr) page) (nat_lt page (page_of addr + (end_of (pages_of r) - page_of addr))) holds in
+      let base : r.base ≤ page_of addr = leb-true _ _ l.0 in
+      let end : end_of (range_of addr 1) ≤ end_of (pages_of r) = leb-true _ _ l.1 in
+      let from : page_of addr ≤ page = leb-true _ _ h.0 in
+      let below : page < page_of addr + (end_of (pages_of r) - page_of addr) = less _ _ h.1 in
+      record { low = omega (arith, base, from); high = omega (arith, base, from, end, below) }
+  within-by r addr size page false is lies holds =
+      let l = and-true (nat_le r.base (page_of addr)) (nat_le (end_of (range_of addr size)) (end_of (pages_of r))) lies in
+      let h = and-true (nat_le (page_of addr) page) (nat_lt page (end_of (range_of addr size))) holds in
+      let base : r.base ≤ page_of addr = leb-true _ _ l.0 in
+      let end : end_of (range_of addr size) ≤ end_of (pages_of r) = leb-true _ _ l.1 in
+      let from : page_of addr ≤ page = leb-true _ _ h.0 in
+      let below : page < end_of (range_of addr size) = less _ _ h.1 in
+      record { low = omega (arith, base, from); high = omega (arith, end, below) }
+
+  module _ (blocks : List Page) (pid addr size : ℕ) (holds : BlocksHold t c blocks pid addr size) where
+    at-page : (p : ProcessOf (Unit {0})) (r : Found (RegionOf (Unit {0}))) (v : View) (page first : ℕ) → process_of t pid ≡ Some p → flushed_view p.regions addr size ≡ Some r → r.thing.kind ≡ kind.View v → holds_page (flushed_range r.thing addr size) page ≡ true → (area_at t v.area.0).file_block ≡ Some first → slice_get blocks (first + (v.first + (page - r.thing.base))) ≡ shared_page (world_with t b) v.area.0 (v.first + (page - r.thing.base))
+    at-page p r v page first lives found is inside block =
+        let index = v.first + (page - r.thing.base) in
+        let stands = found_stands _ p.regions r found in
+        let passes = and-true (not (is_private r.thing.kind)) (lies_within (range_of addr (cond (size == 0) 1 size)) (pages_of r.thing)) stands.passes in
+        let at = within-by r.thing addr size page (size == 0) refl passes.1 inside in
+        let refers = each-at (RegionRefers t) p.regions r.place r.thing ((sound.references.processes pid p lives).views) stands.there in
+        let view = refers v is in
+        let file = tidy.files v.area.0 first block in
+        let there : is_some (shared_page t v.area.0 index) ≡ true = all-some (area_at t v.area.0).pages index file.committed (omega (arith, at.low, at.high, view.within)) in
+        let has : block_in t (shared_key v.area.0 index) ≡ Some (first + index) =
+        (λ i. cond (there i) (option_map (λ first. first + index) (block i)) None) in
+        holds p r v page (first + index) lives found is inside has
+        ∙ same-bytes (c (shared_key v.area.0 index)) (shared_page t v.area.0 index) (live (shared_key v.area.0 index) ∙ there) there
+        ∙ sym (shared-with b t v.area.0 index)
+
+    range-with : (r : RegionOf (Unit {0})) → flushed_range (region_with_bytes b pid r) addr size ≡ flushed_range r addr size
+    range-with r = ap (λ (pages : Range). cond (size == 0) (record { first = page_of addr; count = end_of pages - page_of addr }) (range_of addr size)) (pages-with b pid r)
+
+    pub flush-holds : FlushHolds (world_with t b) blocks pid addr size
+    flush-holds p r v page first lives found is inside block =
+        let q = mapped (process_with b pid) (process_of t pid) p (sym (process-with b t pid) ∙ lives) in
+        let view : flushed_view (map (region_with_bytes b pid) q.thing.regions) addr size ≡ Some r = ap (λ (p : ProcessOf Page). flushed_view p.regions addr size) q.is ∙ found in
+        let x = mapped (found_with b pid) (flushed_view q.thing.regions addr size) r (sym (view-with pid (range_of addr (cond (size == 0) 1 size)) q.thing.regions) ∙ view) in
+        let same : (found_with b pid x.thing).thing ≡ r.thing = ap (λ (f : Found (RegionOf Page)). f.thing) x.is in
+        subst (λ (g : RegionOf Page). slice_get blocks (first + (v.first + (page - g.base))) ≡ shared_page (world_with t b) v.area.0 (v.first + (page - g.base))) same
+        (at-page q.thing x.thing v page first q.there x.there
+        (ap (λ (g : RegionOf Page). g.kind) same ∙ is)
+        (ap (λ (range : Range). holds_page range page) (sym (range-with x.thing.thing)) ∙ ap (λ (g : RegionOf Page). holds_page (flushed_range g addr size) page) same ∙ inside)
+        (sym (block-with v.area.0) ∙ block))
+
+pub flushed-line : (t : Tables) (c : Key → Option Page) → WellFormed t → IsTidy t → ((k : Key) → is_some (c k) ≡ is_some (content_of t k)) → (blocks : List Page) (pid : Pid) (addr size : ℕ) (a : Answer) → (a ≡ answer.Ok → BlocksHold t c blocks pid.0 addr size) → Flushed (world_with t (bytes_of c)) blocks (line.Flush pid addr size) a
+flushed-line t c sound tidy live blocks pid addr size answer.Ok holds = flush-holds t c sound tidy live blocks pid.0 addr size (holds refl)
+flushed-line t c sound tidy live blocks pid addr size a holds = tt
+
+-- ---- `fail`
+
+pub fail-taken : (t : Tables) → t.fails_taken < 64 → take_fail t ≡ done answer.Ok (record t { fails_taken = t.fails_taken + 1 })
+fail-taken t h = ap (λ b. cond b (done answer.Ok (record t { fails_taken = t.fails_taken + 1 })) (done answer.Full t)) (lt-ltb t.fails_taken most_fails h)
+
+module _ (u : Bool) (direction : Direction) (k n number : ℕ) (s m z : StoreOf) (b : Begins number s m) where
+  abbrev calls : NamedCalls
+  calls = record { direction = direction; passes = k - 1; fails = n }
+
+  abbrev FilesNamed : Type 0
+  FilesNamed = z ≡ record m { file_device = with_named m.file_device calls }
+
+  abbrev PagingNamed : Type 0
+  PagingNamed = z ≡ record m { paging_device = with_named_paging u m.paging_device calls }
+
+  paging-faults : (u : Bool) (d : DeviceOf) → (with_named_paging u d calls).faults ≡ d.faults
+  paging-faults true d = refl
+  paging-faults false d = refl
+
+  paging-length : (u : Bool) (d : DeviceOf) → length (with_named_paging u d calls).named ≤ length d.named + 1
+  paging-length true d = omega arith
+  paging-length false d = omega (arith, length-append d.named (calls ∷ []))
+
+  on-files : FilesNamed → Devices u (line.Fail device_of.File direction k n) s z answer.Ok
+  on-files e =
+      let paging : z.paging_device ≡ s.paging_device = ap (λ (s : StoreOf). s.paging_device) e ∙ b.paging in
+      let files : z.file_device ≡ with_named s.file_device calls = ap (λ (s : StoreOf). s.file_device) e ∙ ap (λ (d : DeviceOf). with_named d calls) b.files in
+      record {
+        asked_files = λ bad. cc;
+        asked_paging = λ bad. cc;
+        named = (paging, files);
+        failed = λ f. absurd f;
+        paging_later = omega (arith, ap (λ (d : DeviceOf). d.faults) paging);
+        files_later = omega (arith, ap (λ (d : DeviceOf). d.faults) files);
+      }
+
+  on-paging : PagingNamed → Devices u (line.Fail device_of.Paging direction k n) s z answer.Ok
+  on-paging e =
+      let paging : z.paging_device ≡ with_named_paging u s.paging_device calls = ap (λ (s : StoreOf). s.paging_device) e ∙ ap (λ (d : DeviceOf). with_named_paging u d calls) b.paging in
+      let files : z.file_device ≡ s.file_device = ap (λ (s : StoreOf). s.file_device) e ∙ b.files in
+      record {
+        asked_files = λ bad. cc;
+        asked_paging = λ bad. cc;
+        named = (paging, files);
+        failed = λ f. absurd f;
+        paging_later = omega (arith, ap (λ (d : DeviceOf). d.faults) paging, paging-faults u s.paging_device);
+        files_later = omega (arith, ap (λ (d : DeviceOf). d.faults) files);
+      }
+
+  pub devices-named : (device : Device) → (device ≡ device_of.File → FilesNamed) → (device ≡ device_of.Paging → PagingNamed) → Devices u (line.Fail device direction k n) s z answer.Ok
+  devices-named device_of.File files paging = on-files (files refl)
+  devices-named device_of.Paging files paging = on-paging (paging refl)
+
+  pub is-named : (device : Device) → (device ≡ device_of.File → FilesNamed) → (device ≡ device_of.Paging → PagingNamed) → IsNamed m z
+  is-named device_of.File files paging =
+      let e = files refl in
+      record {
+        same = e ∙ (λ i. record m { paging_device = ap (λ (s : StoreOf). s.paging_device) (sym e) i; file_device = ap (λ (s : StoreOf). s.file_device) (sym e) i });
+        paging = omega (arith, ap (λ (s : StoreOf). length s.paging_device.named) e);
+        file = omega (arith, ap (λ (s : StoreOf). length s.file_device.named) e, length-append m.file_device.named (calls ∷ []));
+      }
+  is-named device_of.Paging files paging =
+      let e = paging refl in
+      record {
+        same = e ∙ (λ i. record m { paging_device = ap (λ (s : StoreOf). s.paging_device) (sym e) i; file_device = ap (λ (s : StoreOf). s.file_device) (sym e) i });
+        paging = omega (arith, ap (λ (s : StoreOf). length s.paging_device.named) e, paging-length u m.paging_device);
+        file = omega (arith, ap (λ (s : StoreOf). length s.file_device.named) e);
+      }
+
+  pub named-line : (device : Device) → (device ≡ device_of.File → FilesNamed) → (device ≡ device_of.Paging → PagingNamed) → z.line ≡ m.line
+  named-line device_of.File files paging = ap (λ (s : StoreOf). s.line) (files refl)
+  named-line device_of.Paging files paging = ap (λ (s : StoreOf). s.line) (paging refl)

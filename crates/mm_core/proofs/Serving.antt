@@ -1,0 +1,125 @@
+-- What a line did to the devices, from the calls that its store made.
+use Rattle.std.proofs.Common.{◌≡◌, ◌≤◌, ℕ, Bool, List, [], ◌∷◌, ◌++◌, refl, sym, ◌∙◌, ap, subst, arith, length}
+use Rattle.std.proofs.lemmas.List.{length-map}
+use Rattle.mm_types.specs.declared.answers.Answer.{Answer}
+use Rattle.mm_types.specs.declared.devices.Direction.{Direction}
+use Rattle.mm_types.specs.declared.devices.Direction.TheVariants as way
+use Rattle.mm_types.specs.declared.events.Event.{Event}
+use Rattle.mm_blocks.specs.Traffic.{one_further}
+use Rattle.mm_world.specs.Report.{Report, Tally}
+use Rattle.mm_pages.specs.Devices.{DeviceOf, Call, AllServed, with_call, tallied}
+use Rattle.mm_pages.specs.Store.{StoreOf}
+use Rattle.mm_pages.specs.Reports.{Served, SomeRose, rearranged}
+use Rattle.mm_tables.specs.Fits.{beside}
+use Rattle.mm_core.specs.Serving.{IsFailure, Named, OneRose}
+use Rattle.mm_core.specs.Deciding.{Begins, Devices}
+
+-- ---- calls behind calls
+
+all-then : (a b : List Call) (x y z : DeviceOf) → AllServed a x y → AllServed b y z → AllServed (a ++ b) x z
+all-then [] b x y z h k = subst (λ (y : DeviceOf). AllServed b y z) h k
+all-then (c ∷ cs) b x y z h k = (h.0, (h.1.0, all-then cs b h.0 y z h.1.1 k))
+
+tallied-then : (way : Direction) (a b : List Call) (t : Tally) → tallied way (a ++ b) t ≡ tallied way b (tallied way a t)
+tallied-then way [] b t = refl
+tallied-then way (c ∷ cs) b t = tallied-then way cs b (with_call way c t)
+
+pub all-later : (cs : List Call) (x y : DeviceOf) → AllServed cs x y → x.faults ≤ y.faults
+all-later [] x y h = omega (arith, ap (λ (d : DeviceOf). d.faults) h)
+all-later (c ∷ cs) x y h = let l = all-later cs h.0 y h.1.1 in omega (arith, h.1.0.later, l)
+
+pub all-named : (cs : List Call) (x y : DeviceOf) → AllServed cs x y → length y.named ≡ length x.named
+all-named [] x y h = ap (λ (d : DeviceOf). length d.named) h
+all-named (c ∷ cs) x y h = all-named cs h.0 y h.1.1 ∙ ap length h.1.0.after ∙ length-map x.named (one_further c.way)
+
+pub served-then : (a b c : StoreOf) → Served a b → Served b c → Served a c
+served-then a b c h k =
+    record {
+      paging_calls = h.paging_calls ++ k.paging_calls;
+      file_calls = h.file_calls ++ k.file_calls;
+      paging = all-then h.paging_calls k.paging_calls a.paging_device b.paging_device c.paging_device h.paging k.paging;
+      files = all-then h.file_calls k.file_calls a.file_device b.file_device c.file_device h.files k.files;
+      paging_reads = k.paging_reads ∙ ap (tallied way.Read k.paging_calls) h.paging_reads ∙ sym (tallied-then way.Read h.paging_calls k.paging_calls a.report.paging_reads);
+      paging_writes = k.paging_writes ∙ ap (tallied way.Write k.paging_calls) h.paging_writes ∙ sym (tallied-then way.Write h.paging_calls k.paging_calls a.report.paging_writes);
+      file_reads = k.file_reads ∙ ap (tallied way.Read k.file_calls) h.file_reads ∙ sym (tallied-then way.Read h.file_calls k.file_calls a.report.file_reads);
+      file_writes = k.file_writes ∙ ap (tallied way.Write k.file_calls) h.file_writes ∙ sym (tallied-then way.Write h.file_calls k.file_calls a.report.file_writes);
+    }
+
+-- ---- no device was called
+
+pub record Quiet (m z : StoreOf) : Type 0 where
+  pub paging : z.paging_device ≡ m.paging_device
+  pub files : z.file_device ≡ m.file_device
+  pub report_is : z.report ≡ rearranged m.report z.report
+  pub line_is : z.line ≡ m.line
+
+pub quiet-beside : (m z : StoreOf) → z ≡ beside m z → Quiet m z
+quiet-beside m z e =
+    record {
+      paging = ap (λ (s : StoreOf). s.paging_device) e;
+      files = ap (λ (s : StoreOf). s.file_device) e;
+      report_is = ap (λ (s : StoreOf). s.report) e;
+      line_is = ap (λ (s : StoreOf). s.line) e;
+    }
+
+pub quiet-rearranged : (m z : StoreOf) → z ≡ record m { report = rearranged m.report z.report } → Quiet m z
+quiet-rearranged m z e =
+    record {
+      paging = ap (λ (s : StoreOf). s.paging_device) e;
+      files = ap (λ (s : StoreOf). s.file_device) e;
+      report_is = ap (λ (s : StoreOf). s.report) e;
+      line_is = ap (λ (s : StoreOf). s.line) e;
+    }
+
+pub quiet-same : (m z : StoreOf) → z ≡ m → Quiet m z
+quiet-same m z e =
+    record {
+      paging = ap (λ (s : StoreOf). s.paging_device) e;
+      files = ap (λ (s : StoreOf). s.file_device) e;
+      report_is = ap (λ (s : StoreOf). s.report) e ∙ ap (λ (s : StoreOf). rearranged m.report s.report) (sym e);
+      line_is = ap (λ (s : StoreOf). s.line) e;
+    }
+
+pub served-quiet : (m z : StoreOf) → Quiet m z → Served m z
+served-quiet m z h =
+    record {
+      paging_calls = [];
+      file_calls = [];
+      paging = h.paging;
+      files = h.files;
+      paging_reads = ap (λ (r : Report). r.paging_reads) h.report_is;
+      paging_writes = ap (λ (r : Report). r.paging_writes) h.report_is;
+      file_reads = ap (λ (r : Report). r.file_reads) h.report_is;
+      file_writes = ap (λ (r : Report). r.file_writes) h.report_is;
+    }
+
+-- ---- a line
+
+pub devices-served : (u : Bool) (e : Event) (n : ℕ) (s m z : StoreOf) (a : Answer) → Begins n s m → Served m z → Named u e a s.paging_device z.paging_device s.file_device z.file_device → (IsFailure a → SomeRose m z) → Devices u e s z a
+devices-served u e n s m z a b h named failed =
+    record {
+      asked_files = λ plain.
+          record {
+            calls = h.file_calls;
+            served = subst (λ (d : DeviceOf). AllServed h.file_calls d z.file_device) b.files h.files;
+            read = h.file_reads ∙ ap (λ (r : Report). tallied way.Read h.file_calls r.file_reads) b.report_is;
+            wrote = h.file_writes ∙ ap (λ (r : Report). tallied way.Write h.file_calls r.file_writes) b.report_is;
+          };
+      asked_paging = λ plain stays.
+          record {
+            calls = h.paging_calls;
+            served = subst (λ (d : DeviceOf). AllServed h.paging_calls d z.paging_device) b.paging h.paging;
+            read = h.paging_reads ∙ ap (λ (r : Report). tallied way.Read h.paging_calls r.paging_reads) b.report_is;
+            wrote = h.paging_writes ∙ ap (λ (r : Report). tallied way.Write h.paging_calls r.paging_writes) b.report_is;
+          };
+      named = named;
+      failed = λ f.
+          subst (λ (d : DeviceOf). OneRose d z.paging_device s.file_device z.file_device) b.paging
+          (subst (λ (d : DeviceOf). OneRose m.paging_device z.paging_device d z.file_device) b.files (failed f));
+      paging_later = omega (arith, all-later h.paging_calls m.paging_device z.paging_device h.paging, ap (λ (d : DeviceOf). d.faults) b.paging);
+      files_later = omega (arith, all-later h.file_calls m.file_device z.file_device h.files, ap (λ (d : DeviceOf). d.faults) b.files);
+    }
+
+-- where no device was called, the answer is no failure
+pub devices-quiet : (u : Bool) (e : Event) (n : ℕ) (s m z : StoreOf) (a : Answer) → Begins n s m → Quiet m z → Named u e a s.paging_device z.paging_device s.file_device z.file_device → (IsFailure a → ⊥) → Devices u e s z a
+devices-quiet u e n s m z a b h named fine = devices-served u e n s m z a b (served-quiet m z h) named (λ f. absurd (fine f))

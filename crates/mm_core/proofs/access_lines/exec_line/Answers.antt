@@ -1,0 +1,54 @@
+use Rattle.std.proofs.Common.{refl, sym, ◌∙◌, subst}
+use Rattle.mm_types.specs.declared.answers.Answer.TheVariants as answer
+use Rattle.mm_types.specs.declared.codes.Code.TheVariants as code
+use Rattle.mm_types.specs.declared.events.Event.TheVariants as event
+use Rattle.mm_world.specs.Access.{Execute}
+use Rattle.mm_world.specs.Contents.{Tables, world_with}
+use Rattle.mm_world.specs.WellFormed.{Spaces}
+use Rattle.mm_tables.specs.Fits.{bytes_of}
+use Rattle.mm_core.specs.Accessing.{Accessed}
+use Rattle.mm_core.proofs.Rows.{gone-by}
+use Rattle.mm_core.proofs.Accesses.{no_process}
+use Rattle.mm_core.proofs.AccessLines.{keeps-begun, decided-refused, decided-access}
+use Rattle.mm_core.proofs.access_lines.exec_line.Goals as goal
+
+pub returns-then-not-begin_access-clause-decided : goal.returns-then-not-begin_access-clause-decided
+returns-then-not-begin_access-clause-decided g c =
+    let t = c.args.t.now in
+    let old = g.G.Pages.contents c.args.g.now in
+    let s = g.G.Pages.store c.args.g.now in
+    let mid = g.G.Pages.contents c.begin_access.new.g in
+    let m = g.G.Pages.store c.begin_access.new.g in
+    let begins = c.begin_access.ensures.begins in
+    decided-refused g.G.Pages.unpaged (event.Exec c.args.pid c.args.addr) c.args.line t old mid s m (answer.Error code.InvalidHandle) t mid m c.args.pid.0 c.args.addr Execute
+    c.begin_access.ensures.contents begins (keeps-begun c.args.line t old mid s m c.requires.keeps c.requires.next begins c.begin_access.ensures.fits) refl refl refl tt tt refl
+    (no_process t (bytes_of mid) c.args.pid.0 c.args.addr Execute (gone-by t c.args.pid.0 (sym c.begin_access.ensures.lives ∙ c.if-not-begin_access.true)))
+
+pub returns-in-Err-clause-decided : goal.returns-in-Err-clause-decided
+returns-in-Err-clause-decided g c =
+    let t = c.args.t.now in
+    let old = g.G.Pages.contents c.args.g.now in
+    let s = g.G.Pages.store c.args.g.now in
+    let mid = g.G.Pages.contents c.begin_access.new.g in
+    let m = g.G.Pages.store c.begin_access.new.g in
+    let begins = c.begin_access.ensures.begins in
+    decided-refused g.G.Pages.unpaged (event.Exec c.args.pid c.args.addr) c.args.line t old mid s m c.in-Err.answer c.admit.new.t mid m c.args.pid.0 c.args.addr Execute
+    c.begin_access.ensures.contents begins (c.admit.ensures.keeps mid m (keeps-begun c.args.line t old mid s m c.requires.keeps c.requires.next begins c.begin_access.ensures.fits)) refl refl refl tt tt refl
+    (c.in-Err.ensures.refused (bytes_of mid) Execute refl)
+
+pub execute_at-requires-clause-spaces : goal.execute_at-requires-clause-spaces
+execute_at-requires-clause-spaces g c = subst (λ (v : Tables). Spaces v) (sym c.in-Ok.ensures.unchanged) c.sound.ensures.sound.spaces
+
+pub returns-clause-decided : goal.returns-clause-decided
+returns-clause-decided g c =
+    let t = c.args.t.now in
+    let old = g.G.Pages.contents c.args.g.now in
+    let s = g.G.Pages.store c.args.g.now in
+    let mid = g.G.Pages.contents c.begin_access.new.g in
+    let m = g.G.Pages.store c.begin_access.new.g in
+    let call = c.execute_at in
+    let z = g.G.Pages.store call.new.g in
+    let v = world_with c.admit.new.t (bytes_of (g.G.Pages.contents call.new.g)) in
+    decided-access g.G.Pages.unpaged (event.Exec c.args.pid c.args.addr) c.args.line t old mid s m call.result c.admit.new.t (g.G.Pages.contents call.new.g) z c.args.pid.0 c.args.addr Execute
+    c.begin_access.ensures.contents c.begin_access.ensures.begins call.ensures.keeps call.ensures.line refl refl tt tt refl
+    (subst (λ (x : Tables). Accessed g.G.Pages.unpaged (world_with x (bytes_of mid)) c.args.pid.0 c.args.addr Execute m z call.result v) c.in-Ok.ensures.unchanged call.ensures.accessed)

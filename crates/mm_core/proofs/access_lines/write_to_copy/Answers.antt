@@ -1,0 +1,65 @@
+use Rattle.std.proofs.Common.{◌≡◌, sym, ◌∙◌, ap, subst, true, ◌%◌, ℕ, Option, Some}
+use Rattle.mm_types.specs.declared.answers.Answer.TheVariants as answer
+use Rattle.mm_types.specs.declared.numbers.Key.{Key}
+use Rattle.mm_types.specs.Address.{page_of, page_size}
+use Rattle.mm_world.specs.World.{Page}
+use Rattle.mm_world.specs.Access.{WriteOf, written}
+use Rattle.mm_world.specs.Outcome.{done}
+use Rattle.mm_world.specs.Contents.{Tables, world_with}
+use Rattle.mm_tables.specs.Fits.{bytes_of}
+use Rattle.mm_core.proofs.AccessLines.{accessed-had, accessed-lost}
+use Rattle.mm_core.proofs.Accesses.{copy-needs, copies-write}
+use Rattle.mm_core.proofs.AccessLines.{twice-others, twice-at}
+use Rattle.mm_core.proofs.Writing.{key_itself}
+use Rattle.mm_core.proofs.Making.{made-set_row}
+use Rattle.mm_world.specs.Failure.{same_key}
+use Rattle.mm_world.specs.Keys.{private_key, set_row}
+use Rattle.mm_pages.specs.Store.{changed}
+use Rattle.mm_tables.specs.References.{MadeAtMost}
+use Rattle.mm_core.proofs.access_lines.write_to_copy.Goals as goal
+
+pub returns-in-Ok-clause-accessed : goal.returns-in-Ok-clause-accessed
+returns-in-Ok-clause-accessed g c =
+    let t = c.args.t.now in
+    let old = g.G.Pages.contents c.args.g.now in
+    let w = world_with t (bytes_of old) in
+    let h = c.requires.admitted in
+    let row = c.args.row in
+    let page = page_of c.args.addr in
+    let own = private_key c.args.pid.0 page in
+    let new = g.G.Pages.contents c.put_copy.new.g in
+    let stored : Page = written (bytes_of old row.key) (c.args.addr % page_size) c.args.bytes.now in
+    let is : new ≡ changed same_key (changed same_key old own (old row.key)) own (Some stored) =
+    c.in-Ok.ensures.written ∙ (λ i. changed same_key (changed same_key old own (old row.key)) own (Some (written (bytes_of old row.key) (c.args.addr % page_size) (c.as_slice.ensures.bytes i)))) in
+    let tables : c.put_copy.new.t ≡ set_row t c.args.pid.0 h.process h.row.region page (record h.row.row { own = Some tt; prot = 0x04 }) = c.in-Ok.ensures.row h.process h.row h.lives h.committed in
+    accessed-had g.G.Pages.unpaged w c.args.pid.0 c.args.addr (WriteOf c.args.bytes.now) _ _ _
+    (copy-needs t (bytes_of old) c.args.pid.0 c.args.addr c.args.bytes.now row h c.requires.copies)
+    c.put_copy.result c.put_copy.ensures.ends c.put_copy.ensures.served _ _ c.in-Ok.field-0 c.in-Ok.is
+    (copies-write t (bytes_of old) c.args.pid.0 c.args.addr c.args.bytes.now row h (bytes_of new) c.requires.spaces
+    (λ k other. ap (λ (n : Key → Option Page). bytes_of n k) is ∙ twice-others old own (old row.key) stored k other)
+    (ap (λ (n : Key → Option Page). bytes_of n own) is ∙ twice-at old own (old row.key) stored (key_itself c.args.pid.0 page)) c.requires.copies
+    ∙ ap (λ (v : Tables). done answer.Ok (world_with v (bytes_of new))) (sym tables))
+
+pub returns-in-Ok-clause-keeps : goal.returns-in-Ok-clause-keeps
+returns-in-Ok-clause-keeps g c =
+    let t = c.args.t.now in
+    let h = c.requires.admitted in
+    let page = page_of c.args.addr in
+    let made : c.args.row.copies ≡ true → MadeAtMost (g.G.Pages.store c.args.g.now).line c.put_copy.new.t = λ e.
+    subst (λ (v : Tables). MadeAtMost (g.G.Pages.store c.args.g.now).line v) (sym (c.in-Ok.ensures.row h.process h.row h.lives h.committed))
+    (made-set_row t (g.G.Pages.store c.args.g.now).line c.args.pid.0 page h.process h.row.region (record h.row.row { own = Some tt; prot = 0x04 }) h.lives c.requires.keeps.few) in
+    record {
+      fits = c.put_copy.ensures.fits;
+      few = subst (λ (n : ℕ). MadeAtMost n c.put_copy.new.t) (sym c.put_copy.ensures.line) (made c.requires.copies);
+    }
+
+pub returns-in-Err-clause-accessed : goal.returns-in-Err-clause-accessed
+returns-in-Err-clause-accessed g c =
+    let t = c.args.t.now in
+    let old = g.G.Pages.contents c.args.g.now in
+    let w = world_with t (bytes_of old) in
+    let kept = c.in-Err.ensures.kept in
+    accessed-lost g.G.Pages.unpaged w c.args.pid.0 c.args.addr (WriteOf c.args.bytes.now) _ _ _
+    (copy-needs t (bytes_of old) c.args.pid.0 c.args.addr c.args.bytes.now c.args.row c.requires.admitted c.requires.copies)
+    c.put_copy.result c.put_copy.ensures.ends c.put_copy.ensures.served _ c.in-Err.field-0 c.in-Err.is
+    (λ i. world_with (kept.0 i) (bytes_of (kept.1 i))) c.put_copy.ensures.blamed c.put_copy.ensures.unpaged

@@ -1,0 +1,65 @@
+use Rattle.std.proofs.Common.{◌≡◌, ◌∙◌, sym, ap, subst, arith, Some, Option}
+use Rattle.mm_types.specs.declared.numbers.Key.{Key}
+use Rattle.mm_types.specs.Address.{page_of}
+use Rattle.mm_world.specs.World.{Page}
+use Rattle.mm_pages.specs.Conditions.{place_at}
+use Rattle.mm_tables.specs.Fits.{Fits, key_at}
+use Rattle.std.proofs.Common.{cond, true, ◌+◌}
+use Rattle.mm_world.specs.Failure.{same_key}
+use Rattle.mm_world.specs.Keys.{private_key}
+use Rattle.mm_pages.specs.Store.{StoreOf, changed, same_place}
+use Rattle.mm_pages.specs.Reports.{fetched}
+use Rattle.mm_tables.specs.declared.looks.CommittedRow.{CommittedRow}
+use Rattle.mm_core.proofs.Accesses.{is-copying}
+use Rattle.mm_core.proofs.Fitting.{fits_uncopied, fits_copied, at-named, place_itself}
+use Rattle.mm_core.proofs.Keys.{key-row, key-live, some-of}
+use Rattle.mm_core.proofs.Room.{room-to-copy}
+use Rattle.mm_core.proofs.fetching.copy.Goals as goal
+
+pub copy-requires-clause-room : goal.copy-requires-clause-room
+copy-requires-clause-room g c =
+    let t = c.args.t.now in
+    let h = c.requires.admitted in
+    let page = page_of c.args.addr in
+    let y = is-copying t c.args.pid.0 page h.process h.row h.committed (ap (λ (r : CommittedRow). r.copies) h.is_told ∙ c.requires.copies) in
+    omega (arith, room-to-copy t c.requires.spaces c.args.pid.0 page h.process h.row y.view h.lives h.committed y.is y.none y.marked, c.requires.fits.counted, c.requires.fits.room)
+
+pub returns-in_err-copy-clause-fits : goal.returns-in_err-copy-clause-fits
+returns-in_err-copy-clause-fits g c =
+    let t = c.args.t.now in
+    let h = c.requires.admitted in
+    let at : key_at t c.place_of.result ≡ Some c.args.row.key =
+    ap (key_at t) c.place_of.ensures ∙ key-row t c.args.pid (page_of c.args.addr) h.process h.row h.lives h.committed ∙ ap (λ (r : CommittedRow). Some r.key) h.is_told in
+    fits_uncopied t _ _ _ _ c.place_of.result c.args.row.key c.requires.fits at c.copy.ensures.served c.copy.ensures.stored c.in_err-copy.ensures.kept c.in_err-copy.ensures.err c.in_err-copy.ensures.names
+
+pub returns-clause-fits : goal.returns-clause-fits
+returns-clause-fits g c =
+    let t = c.args.t.now in
+    let old = g.G.Pages.contents c.args.g.now in
+    let s = g.G.Pages.store c.args.g.now in
+    let z = g.G.Pages.store c.copy.new.self in
+    let page = page_of c.args.addr in
+    let place = place_at c.args.pid page in
+    let h = c.requires.admitted in
+    let own = private_key c.args.pid.0 page in
+    let at : key_at t place ≡ Some c.args.row.key =
+    key-row t c.args.pid page h.process h.row h.lives h.committed ∙ ap (λ (r : CommittedRow). Some r.key) h.is_told in
+    let from = some-of (old c.args.row.key) (key-live t old s c.requires.fits place c.args.row.key at) in
+    let contents : g.G.Pages.contents c.copy.new.self ≡ changed same_key old own (Some from.thing) =
+    c.in_ok-copy.ensures.copied ∙ (λ i. changed same_key old (c.own_key_of.ensures i) (from.is i)) in
+    let store : z ≡ record (fetched s z) { names = changed same_place s.names place (Some own); paging = changed same_key s.paging own true; paging_keys = s.paging_keys + 1 } =
+    c.in_ok-copy.ensures.ok
+    ∙ (λ i. record (fetched s z) { names = changed same_place s.names (c.place_of.ensures i) (Some (c.own_key_of.ensures i)); paging = changed same_key s.paging (c.own_key_of.ensures i) true; paging_keys = s.paging_keys + 1 }) in
+    subst (λ (n : Key → Option Page). Fits c.copy_page.new.self n z) (sym contents)
+    (fits_copied c.copy_page.new.self (changed same_key old own (Some from.thing)) s z place (c.copy_page.ensures.fits old s from.thing c.requires.fits) c.copy.ensures.served c.copy.ensures.stored store)
+
+pub returns-clause-at : goal.returns-clause-at
+returns-clause-at g c =
+    let s = g.G.Pages.store c.args.g.now in
+    let page = page_of c.args.addr in
+    let place = place_at c.args.pid page in
+    let own = private_key c.args.pid.0 page in
+    at-named c.copy_page.new.self _ (g.G.Pages.store c.copy.new.self) (returns-clause-fits g c) place own
+    (ap (λ (s : StoreOf). s.names place) c.in_ok-copy.ensures.ok
+    ∙ (λ i. changed same_place s.names (c.place_of.ensures i) (Some (c.own_key_of.ensures i)) place)
+    ∙ ap (λ b. cond b (Some own) (s.names place)) (place_itself place))

@@ -1,0 +1,21 @@
+use Rattle.std.proofs.Common.{◌∙◌, refl, sym}
+use Rattle.mm_types.specs.declared.answers.Answer.TheVariants as answer
+use Rattle.mm_types.specs.declared.events.Event.TheVariants as event
+use Rattle.mm_world.specs.Outcome.{done}
+use Rattle.mm_world.specs.Contents.{world_with}
+use Rattle.mm_tables.specs.Fits.{bytes_of}
+use Rattle.mm_core.proofs.Charged.{charge-with}
+use Rattle.mm_core.proofs.Serving.{quiet-same}
+use Rattle.mm_core.proofs.Lines.{decided-same}
+use Rattle.mm_core.proofs.memory_lines.charge_line.Goals as goal
+
+pub returns-clause-decided : goal.returns-clause-decided
+returns-clause-decided g c =
+    let t = c.args.t.now in
+    let old = g.G.Pages.contents c.args.g.now in
+    let m = g.G.Pages.store c.begin.new.g in
+    let told = c.charge-charge in
+    decided-same g.G.Pages.unpaged event.Charge c.args.line t old _ m (answer.Charge told.result.0 told.result.1) t (g.G.Pages.contents c.begin.new.g) m
+    c.requires.keeps c.requires.next c.begin.ensures.begins (quiet-same _ _ refl) refl c.begin.ensures.contents refl
+    (λ i. done (answer.Charge ((charge-with t (bytes_of old) ∙ sym told.ensures.charge) i) (sym told.ensures.limit i)) (world_with t (bytes_of old)))
+    (λ f. f) tt tt (c.begin.ensures.fits t c.requires.keeps.fits)

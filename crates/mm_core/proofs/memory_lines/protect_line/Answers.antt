@@ -1,0 +1,23 @@
+use Rattle.std.proofs.Common.{refl, subst, Option}
+use Rattle.mm_types.specs.declared.events.Event.TheVariants as event
+use Rattle.mm_types.specs.declared.numbers.Key.{Key}
+use Rattle.mm_world.specs.World.{Page}
+use Rattle.mm_tables.specs.Fits.{Called, bytes_of}
+use Rattle.mm_core.proofs.Serving.{quiet-beside}
+use Rattle.mm_world.specs.Protect.{protect}
+use Rattle.mm_world.proofs.Across.{protect_across}
+use Rattle.mm_core.proofs.Making.{in_protect}
+use Rattle.mm_core.proofs.Lines.{decided-call, if-ok}
+use Rattle.mm_core.proofs.memory_lines.protect_line.Goals as goal
+
+pub returns-clause-ok : goal.returns-clause-ok
+returns-clause-ok g c =
+    let t = c.args.t.now in
+    let old = g.G.Pages.contents c.args.g.now in
+    let call = c.protect in
+    let new = g.G.Pages.contents call.new.g in
+    if-ok call.result call.ensures.ok (λ a h.
+    decided-call g.G.Pages.unpaged (event.Protect c.args.pid c.args.addr c.args.size c.args.prot) c.args.line t old _ (g.G.Pages.store c.begin.new.g) a call.new.t new (g.G.Pages.store call.new.g)
+    (protect t c.args.pid.0 c.args.addr c.args.size c.args.prot) c.requires.keeps c.requires.next c.begin.ensures.begins (quiet-beside _ _ call.ensures.beside)
+    (protect_across t (bytes_of old) c.sound.ensures.sound.spaces c.args.pid.0 c.args.addr c.args.size c.args.prot) (in_protect t c.args.pid.0 c.args.addr c.args.size c.args.prot) refl tt tt
+    (subst (λ (old : Key → Option Page). Called (protect t c.args.pid.0 c.args.addr c.args.size c.args.prot) t old a call.new.t new) c.begin.ensures.contents h) call.ensures.fits)

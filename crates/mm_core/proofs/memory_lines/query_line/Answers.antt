@@ -1,0 +1,24 @@
+use Rattle.std.proofs.Common.{refl, subst, Option}
+use Rattle.mm_types.specs.declared.events.Event.TheVariants as event
+use Rattle.mm_types.specs.declared.numbers.Key.{Key}
+use Rattle.mm_world.specs.World.{Page}
+use Rattle.mm_tables.specs.Fits.{Called, bytes_of}
+use Rattle.mm_world.specs.Query.{query}
+use Rattle.mm_world.proofs.Across.{query_across}
+use Rattle.mm_core.proofs.Serving.{quiet-same}
+use Rattle.mm_core.proofs.Making.{in_query}
+use Rattle.mm_core.proofs.Lines.{decided-call, bytes-kept}
+use Rattle.mm_core.proofs.memory_lines.query_line.Goals as goal
+
+pub returns-clause-decided : goal.returns-clause-decided
+returns-clause-decided g c =
+    let t = c.args.t.now in
+    let old = g.G.Pages.contents c.args.g.now in
+    let new = g.G.Pages.contents c.begin.new.g in
+    let m = g.G.Pages.store c.begin.new.g in
+    let fits = c.begin.ensures.fits t c.requires.keeps.fits in
+    decided-call g.G.Pages.unpaged (event.Query c.args.pid c.args.addr) c.args.line t old _ m c.query.result t new m
+    (query t c.args.pid.0 c.args.addr) c.requires.keeps c.requires.next c.begin.ensures.begins (quiet-same _ _ refl)
+    (query_across t (bytes_of old) c.sound.ensures.sound.spaces c.args.pid.0 c.args.addr) (in_query t c.args.pid.0 c.args.addr) refl tt tt
+    (subst (λ (old : Key → Option Page). Called (query t c.args.pid.0 c.args.addr) t old c.query.result t new) c.begin.ensures.contents
+    (record { outcome = c.query.ensures; bytes = bytes-kept t t new fits.live fits.live })) fits

@@ -1,0 +1,46 @@
+use Rattle.std.proofs.Common.{◌≡◌, ◌<◌, ◌+◌, refl, sym, ◌∙◌, ap, subst, arith, Option}
+use Rattle.mm_types.specs.declared.answers.Answer.TheVariants as answer
+use Rattle.mm_types.specs.declared.events.Event.TheVariants as event
+use Rattle.mm_types.specs.declared.numbers.Key.{Key}
+use Rattle.mm_world.specs.World.{Page}
+use Rattle.mm_world.specs.Contents.{Tables, world_with}
+use Rattle.mm_world.specs.Outcome.{OutcomeOf, done}
+use Rattle.mm_world.specs.Processes.{take_fail}
+use Rattle.mm_tables.specs.Fits.{Fits, Called, bytes_of}
+use Rattle.mm_tables.specs.References.{MadeAtMost}
+use Rattle.mm_world.proofs.Across.{take_fail_across}
+use Rattle.mm_core.proofs.Lines.{stepped-plain, called-across, bytes-kept, keeps-made}
+use Rattle.mm_core.proofs.Making.{in_take_fail}
+use Rattle.mm_core.proofs.Files.{fail-taken, devices-named, is-named, named-line}
+use Rattle.mm_core.proofs.paging_lines.fail_line.Goals as goal
+
+pub returns-clause-decided : goal.returns-clause-decided
+returns-clause-decided g c =
+    let t = c.args.t.now in
+    let u = g.G.Pages.unpaged in
+    let old = g.G.Pages.contents c.args.g.now in
+    let s = g.G.Pages.store c.args.g.now in
+    let m = g.G.Pages.store c.begin.new.g in
+    let new = g.G.Pages.contents c.fail.new.self in
+    let z = g.G.Pages.store c.fail.new.self in
+    let after = c.take_fail.new.self in
+    let e = event.Fail c.args.device c.args.direction c.args.k c.args.n in
+    let b = c.begin.ensures.begins in
+    let contents : new ≡ old = c.fail.ensures.contents ∙ c.begin.ensures.contents in
+    let room : t.fails_taken < 64 = omega (arith, c.fails_taken.ensures, c.if-fails_taken-ge-MOST_FAILS.false) in
+    let is = is-named u c.args.direction c.args.k c.args.n c.args.line s m z b c.args.device c.fail.ensures.files c.fail.ensures.paging in
+    let line_is = named-line u c.args.direction c.args.k c.args.n c.args.line s m z b c.args.device c.fail.ensures.files c.fail.ensures.paging in
+    let fits = c.take_fail.ensures.fits old m z (subst (λ (x : Key → Option Page). Fits t x m) c.begin.ensures.contents (c.begin.ensures.fits t c.requires.keeps.fits)) is in
+    let fits-new = subst (λ (x : Key → Option Page). Fits after x z) (sym contents) fits in
+    let outcome : take_fail t ≡ done answer.Ok after = fail-taken t room ∙ ap (λ (v : Tables). done answer.Ok v) (sym c.take_fail.ensures.taken) in
+    let called : Called (take_fail t) t old answer.Ok after old = record { outcome = outcome; bytes = bytes-kept t after old c.requires.keeps.fits.live fits.live } in
+    let step = called-across (take_fail t) _ t old answer.Ok after old (take_fail_across t (bytes_of old) c.sound.ensures.sound.spaces) called
+    ∙ ap (λ (x : Key → Option Page). done answer.Ok (world_with after (bytes_of x))) (sym contents) in
+    let made : MadeAtMost (s.line + 1) after = subst (λ (v : Tables). MadeAtMost (s.line + 1) v) (ap (λ (o : OutcomeOf (Unit {0})). o.world) outcome) ((in_take_fail t).it.made s.line c.requires.keeps.few) in
+    record {
+      stepped = stepped-plain u (world_with t (bytes_of old)) e s.report z.report answer.Ok (world_with after (bytes_of new)) refl step;
+      devices = devices-named u c.args.direction c.args.k c.args.n c.args.line s m z b c.args.device c.fail.ensures.files c.fail.ensures.paging;
+      flushed = tt;
+      keeps = keeps-made u e c.args.line t old s m answer.Ok after new z c.requires.next (line_is ∙ b.line_is) made fits-new;
+      line_is = line_is ∙ b.line_is;
+    }

@@ -1,0 +1,36 @@
+use Rattle.std.proofs.Common.{◌+◌, ap, subst, inr, Option, ◌&&◌, nat_lt}
+use Rattle.mm_types.specs.declared.events.Event.TheVariants as event
+use Rattle.mm_types.specs.declared.numbers.Key.{Key}
+use Rattle.mm_world.specs.World.{Page}
+use Rattle.mm_world.specs.Contents.{blank, BytesAfterFile}
+use Rattle.mm_world.specs.Processes.{new_file}
+use Rattle.mm_world.specs.Step.{is_ok}
+use Rattle.mm_pages.specs.Store.{StoreOf}
+use Rattle.mm_tables.specs.Fits.{bytes_of}
+use Rattle.mm_core.proofs.Lines.{decided-served, faulted-answer, faulted-made, one-later, if-and, if-both, on-ok}
+use Rattle.mm_core.proofs.Making.{in_new_file}
+use Rattle.mm_core.proofs.Files.{file-stepped}
+use Rattle.mm_core.proofs.section_lines.file_line.Goals as goal
+
+pub returns-clause-ok : goal.returns-clause-ok
+returns-clause-ok g c =
+    let t = c.args.t.now in
+    let u = g.G.Pages.unpaged in
+    let old = g.G.Pages.contents c.args.g.now in
+    let s = g.G.Pages.store c.args.g.now in
+    let m = g.G.Pages.store c.begin.new.g in
+    let call = c.new_file in
+    let new = g.G.Pages.contents call.new.g in
+    let z = g.G.Pages.store call.new.g in
+    let after = call.new.t in
+    let name = c.args.name.now in
+    let e = event.File name c.args.pages c.args.byte in
+    let q = new_file blank t name c.args.pages c.args.byte in
+    let makes = (in_new_file blank t name c.args.pages c.args.byte).it in
+    let b = is_ok q.answer && nat_lt 0 z.report.file_writes.failed in
+    if-both call.result (if-and _ _ call.result call.ensures.ok (on-ok _ call.result call.ensures.bytes)) call.ensures.blamed (λ a both blamed.
+    decided-served u e c.args.line t old s m a after new z c.requires.next c.begin.ensures.begins (ap (λ (s : StoreOf). s.line) call.ensures.beside) call.ensures.served
+    (file-stepped u c.args.line t old new s m z c.sound.ensures.sound.spaces c.requires.keeps.fits.live a after name c.args.pages c.args.byte both.first
+    (subst (λ (x : Key → Option Page). BytesAfterFile c.args.byte t (bytes_of x) after (bytes_of new)) c.begin.ensures.contents both.second))
+    (λ f. inr (blamed (faulted-answer u e c.args.line t old s m a after new z b q makes.fine both.first f))) tt tt
+    (faulted-made u e c.args.line t old s m a after new z b q (s.line + 1) (one-later t s.line c.requires.keeps.few) (makes.made s.line c.requires.keeps.few) both.first) call.ensures.fits)

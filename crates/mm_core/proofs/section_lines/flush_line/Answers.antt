@@ -1,0 +1,29 @@
+use Rattle.std.proofs.Common.{refl, ◌∙◌, ap, inr, ◌&&◌, nat_lt}
+use Rattle.mm_types.specs.declared.events.Event.TheVariants as event
+use Rattle.mm_world.specs.Views.{flush}
+use Rattle.mm_world.specs.Step.{is_ok}
+use Rattle.mm_pages.specs.Store.{StoreOf}
+use Rattle.mm_core.proofs.Lines.{decided-served, faulted-answer, one-later}
+use Rattle.mm_core.proofs.Making.{in_flush}
+use Rattle.mm_core.proofs.Files.{flush-stepped, flushed-line}
+use Rattle.mm_core.proofs.section_lines.flush_line.Goals as goal
+
+pub returns-clause-decided : goal.returns-clause-decided
+returns-clause-decided g c =
+    let t = c.args.t.now in
+    let u = g.G.Pages.unpaged in
+    let old = g.G.Pages.contents c.args.g.now in
+    let s = g.G.Pages.store c.args.g.now in
+    let m = g.G.Pages.store c.begin.new.g in
+    let call = c.flush_view in
+    let new = g.G.Pages.contents call.new.g in
+    let z = g.G.Pages.store call.new.g in
+    let a = call.result in
+    let e = event.Flush c.args.pid c.args.addr c.args.size in
+    let q = flush t c.args.pid.0 c.args.addr c.args.size in
+    let b = is_ok q.answer && nat_lt 0 z.report.file_writes.failed in
+    decided-served u e c.args.line t old s m a t new z c.requires.next c.begin.ensures.begins (ap (λ (s : StoreOf). s.line) call.ensures.beside) call.ensures.served
+    (flush-stepped u c.args.line t old new s m z c.sound.ensures.sound.spaces c.requires.keeps.fits.live a t c.args.pid c.args.addr c.args.size call.ensures.outcome refl (call.ensures.contents ∙ c.begin.ensures.contents))
+    (λ f. inr (call.ensures.blamed (faulted-answer u e c.args.line t old s m a t new z b q (in_flush t c.args.pid.0 c.args.addr c.args.size).it.fine call.ensures.outcome f))) tt
+    (flushed-line t new c.sound.ensures.sound c.sound.ensures.tidy call.ensures.fits.live z.file_blocks c.args.pid c.args.addr c.args.size a call.ensures.holds)
+    (one-later t s.line c.requires.keeps.few) call.ensures.fits

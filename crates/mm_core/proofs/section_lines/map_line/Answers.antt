@@ -1,0 +1,23 @@
+use Rattle.std.proofs.Common.{refl, subst, Option}
+use Rattle.mm_types.specs.declared.events.Event.TheVariants as event
+use Rattle.mm_types.specs.declared.numbers.Key.{Key}
+use Rattle.mm_world.specs.World.{Page}
+use Rattle.mm_tables.specs.Fits.{Called, bytes_of}
+use Rattle.mm_core.proofs.Serving.{quiet-beside}
+use Rattle.mm_world.specs.Views.{map_view}
+use Rattle.mm_world.proofs.Across.{map_across}
+use Rattle.mm_core.proofs.Making.{in_map}
+use Rattle.mm_core.proofs.Lines.{decided-call, if-ok}
+use Rattle.mm_core.proofs.section_lines.map_line.Goals as goal
+
+pub returns-clause-ok : goal.returns-clause-ok
+returns-clause-ok g c =
+    let t = c.args.t.now in
+    let old = g.G.Pages.contents c.args.g.now in
+    let call = c.map in
+    let new = g.G.Pages.contents call.new.g in
+    if-ok call.result call.ensures.ok (λ a h.
+    decided-call g.G.Pages.unpaged (event.Map c.args.pid c.args.handle c.args.access c.args.offset c.args.view_length c.args.addr) c.args.line t old _ (g.G.Pages.store c.begin.new.g) a call.new.t new (g.G.Pages.store call.new.g)
+    (map_view t c.args.pid.0 c.args.handle c.args.access c.args.offset c.args.view_length c.args.addr) c.requires.keeps c.requires.next c.begin.ensures.begins (quiet-beside _ _ call.ensures.beside)
+    (map_across t (bytes_of old) c.sound.ensures.sound.spaces c.args.pid.0 c.args.handle c.args.access c.args.offset c.args.view_length c.args.addr) (in_map t c.args.pid.0 c.args.handle c.args.access c.args.offset c.args.view_length c.args.addr) refl tt tt
+    (subst (λ (old : Key → Option Page). Called (map_view t c.args.pid.0 c.args.handle c.args.access c.args.offset c.args.view_length c.args.addr) t old a call.new.t new) c.begin.ensures.contents h) call.ensures.fits)

@@ -1,0 +1,26 @@
+use Rattle.std.proofs.Common.{refl, subst, Option}
+use Rattle.mm_types.specs.declared.events.Event.TheVariants as event
+use Rattle.mm_types.specs.declared.numbers.Key.{Key}
+use Rattle.mm_world.specs.World.{Page}
+use Rattle.mm_tables.specs.Fits.{Called, bytes_of}
+use Rattle.mm_core.proofs.Serving.{quiet-same}
+use Rattle.mm_core.proofs.Lines.{decided-call, bytes-kept, if-ok}
+use Rattle.mm_world.specs.Sections.{open_section}
+use Rattle.mm_world.proofs.Across.{open_across}
+use Rattle.mm_core.proofs.Making.{in_open}
+use Rattle.mm_core.proofs.section_lines.open_line.Goals as goal
+
+pub returns-clause-ok : goal.returns-clause-ok
+returns-clause-ok g c =
+    let t = c.args.t.now in
+    let call = c.open_section in
+    let old = g.G.Pages.contents c.args.g.now in
+    let new = g.G.Pages.contents c.begin.new.g in
+    let m = g.G.Pages.store c.begin.new.g in
+    let settled = call.ensures.settled new m (c.begin.ensures.fits t c.requires.keeps.fits) in
+    if-ok call.result call.ensures.ok (λ a h.
+    decided-call g.G.Pages.unpaged (event.Open c.args.pid c.args.name.now) c.args.line t old _ m a call.new.t new m
+    (open_section t c.args.pid.0 c.args.name.now) c.requires.keeps c.requires.next c.begin.ensures.begins (quiet-same _ _ refl)
+    (open_across t (bytes_of old) c.sound.ensures.sound.spaces c.args.pid.0 c.args.name.now) (in_open t c.args.pid.0 c.args.name.now) refl tt tt
+    (subst (λ (old : Key → Option Page). Called (open_section t c.args.pid.0 c.args.name.now) t old a call.new.t new) c.begin.ensures.contents
+    (record { outcome = h; bytes = bytes-kept t call.new.t new (c.begin.ensures.fits t c.requires.keeps.fits).live settled.fits.live })) settled.fits)

@@ -1,0 +1,22 @@
+use Rattle.std.proofs.Common.{refl, subst, Option}
+use Rattle.mm_types.specs.declared.events.Event.TheVariants as event
+use Rattle.mm_types.specs.declared.numbers.Key.{Key}
+use Rattle.mm_world.specs.World.{Page}
+use Rattle.mm_tables.specs.Fits.{Called, bytes_of}
+use Rattle.mm_core.proofs.Serving.{quiet-beside}
+use Rattle.mm_world.specs.Views.{unmap}
+use Rattle.mm_world.proofs.Across.{unmap_across}
+use Rattle.mm_core.proofs.Making.{in_unmap}
+use Rattle.mm_core.proofs.Lines.{decided-call}
+use Rattle.mm_core.proofs.section_lines.unmap_line.Goals as goal
+
+pub returns-clause-decided : goal.returns-clause-decided
+returns-clause-decided g c =
+    let t = c.args.t.now in
+    let old = g.G.Pages.contents c.args.g.now in
+    let call = c.unmap in
+    let new = g.G.Pages.contents call.new.g in
+    decided-call g.G.Pages.unpaged (event.Unmap c.args.pid c.args.addr) c.args.line t old _ (g.G.Pages.store c.begin_release.new.g) call.result call.new.t new (g.G.Pages.store call.new.g)
+    (unmap t c.args.pid.0 c.args.addr) c.requires.keeps c.requires.next c.begin_release.ensures.begins (quiet-beside _ _ call.ensures.beside)
+    (unmap_across t (bytes_of old) c.sound.ensures.sound.spaces c.args.pid.0 c.args.addr) (in_unmap t c.args.pid.0 c.args.addr) refl tt tt
+    (subst (λ (old : Key → Option Page). Called (unmap t c.args.pid.0 c.args.addr) t old call.result call.new.t new) c.begin_release.ensures.contents call.ensures.called) call.ensures.fits

@@ -1,0 +1,30 @@
+use Rattle.std.proofs.Common.{◌≡◌, ◌≤◌, ℕ, zero, suc, None, Some, refl, sym, ap, ◌∙◌, subst, arith}
+use Rattle.mm_types.specs.Machine.{MachineOf}
+use Rattle.mm_world.specs.World.{ProcessOf}
+use Rattle.mm_world.specs.Find.{process_of}
+use Rattle.mm_world.specs.Contents.{Tables}
+use Rattle.mm_world.specs.Step.{first_world}
+use Rattle.mm_tables.specs.References.{MadeAtMost}
+use Rattle.mm_tables.specs.Fits.{Fits}
+use Rattle.mm_tables.proofs.Lines.{new_fits}
+use Rattle.mm_core.proofs.worlds.World.new.Goals as goal
+
+-- no process lives, and nothing was made yet
+nobody : (m : MachineOf) (pid : ℕ) → process_of {B = Unit {0}} (first_world m) pid ≡ None
+nobody m zero = refl
+nobody m (suc pid) = refl
+
+made_none : (m : MachineOf) (line : ℕ) → MadeAtMost {B = Unit {0}} line (first_world m)
+made_none m line = record {
+  sections = omega arith;
+  areas = omega arith;
+  handles = λ pid p e. (let none : None ≡ Some p = sym (nobody m pid) ∙ e in cc);
+}
+
+pub invariant_of-result : goal.invariant_of-result
+invariant_of-result g c =
+    let pages = c.args.pages in
+    record {
+      fits = λ h. subst (λ (t : Tables). Fits t (g.G.Pages.contents pages) (g.G.Pages.store pages)) (sym c.new.ensures) (new_fits c.args.machine _ _ c.requires.new);
+      few = λ h. subst (λ (t : Tables). MadeAtMost (g.G.Pages.store pages).line t) (sym c.new.ensures) (made_none c.args.machine (g.G.Pages.store pages).line);
+    }

@@ -1,0 +1,101 @@
+-- What one line does to the tables, to the bytes and to the store.
+use Rattle.std.specs.Prelude.{◌≡◌, ◌≤◌, ℕ, Bool, true, false, Option}
+use Rattle.mm_types.specs.declared.answers.Answer.{Answer}
+use Rattle.mm_types.specs.declared.events.Event.{Event}
+use Rattle.mm_types.specs.declared.events.Event.TheVariants as event
+use Rattle.mm_types.specs.declared.moves.LineKind.{LineKind}
+use Rattle.mm_types.specs.declared.moves.LineKind.TheVariants as kind_of
+use Rattle.mm_types.specs.declared.numbers.Key.{Key}
+use Rattle.mm_world.specs.World.{Page}
+use Rattle.mm_world.specs.Contents.{Tables, world_with}
+use Rattle.mm_pages.specs.Store.{StoreOf}
+use Rattle.mm_pages.specs.Reports.{begun}
+use Rattle.mm_tables.specs.Fits.{Fits, bytes_of}
+use Rattle.mm_tables.specs.References.{MadeAtMost}
+use Rattle.mm_core.specs.Serving.{AskedFiles, AskedPaging, IsFailure, OneRose, Flushed, Named, is_grow, is_fail}
+use Rattle.mm_core.specs.Stepping.{Stepped}
+
+-- a line that names no numbers of its own in its kind
+abbrev pub is_plain : LineKind → Bool
+is_plain (kind_of.Machine frames slots depth blocks) = false
+is_plain (kind_of.Process pid min max) = false
+is_plain (kind_of.Grow n) = false
+is_plain _ = true
+
+-- a store fits the tables, and each line before made at most one of each thing that is numbered
+pub record Keeps (t : Tables) (contents : Key → Option Page) (s : StoreOf) : Type 0 where
+  pub fits : Fits t contents s
+  pub few : MadeAtMost s.line t
+
+-- a line has begun, and no device was called yet
+pub record Begins (number : ℕ) (s m : StoreOf) : Type 0 where
+  pub line_is : m.line ≡ number
+  pub report_is : m.report ≡ begun s.report
+  pub paging : m.paging_device ≡ s.paging_device
+  pub files : m.file_device ≡ s.file_device
+  pub blocks : m.file_blocks ≡ s.file_blocks
+
+-- what a line did to both devices
+pub record Devices (never_fails : Bool) (e : Event) (s z : StoreOf) (a : Answer) : Type 0 where
+  pub asked_files : is_fail e ≡ false → AskedFiles s.file_device z.file_device z.report
+  pub asked_paging : is_fail e ≡ false → is_grow e ≡ false → AskedPaging s.paging_device z.paging_device z.report
+  pub named : Named never_fails e a s.paging_device z.paging_device s.file_device z.file_device
+  pub failed : IsFailure a → OneRose s.paging_device z.paging_device s.file_device z.file_device
+  pub paging_later : s.paging_device.faults ≤ z.paging_device.faults
+  pub files_later : s.file_device.faults ≤ z.file_device.faults
+
+-- a line was decided, from tables, bytes and store to those that there are now
+pub record Decided (never_fails : Bool) (e : Event) (number : ℕ) (t : Tables) (old : Key → Option Page) (s : StoreOf) (a : Answer) (after : Tables) (new : Key → Option Page) (z : StoreOf) : Type 0 where
+  pub stepped : Stepped never_fails (world_with t (bytes_of old)) e s.report z.report a (world_with after (bytes_of new))
+  pub devices : Devices never_fails e s z a
+  pub flushed : Flushed (world_with after (bytes_of new)) z.file_blocks e a
+  pub keeps : Keeps after new z
+  pub line_is : z.line ≡ number
+
+-- a line wanted memory: the world and the devices are as before
+pub record Idle (t : Tables) (old : Key → Option Page) (s : StoreOf) (after : Tables) (new : Key → Option Page) (z : StoreOf) : Type 0 where
+  pub tables : after ≡ t
+  pub contents : new ≡ old
+  pub paging : z.paging_device ≡ s.paging_device
+  pub files : z.file_device ≡ s.file_device
+  pub blocks : z.file_blocks ≡ s.file_blocks
+
+-- ---- the lines, by what they go by
+
+abbrev pub is_memory_line : Event → Bool
+is_memory_line (event.Process min max) = true
+is_memory_line (event.Exit pid) = true
+is_memory_line (event.Alloc pid addr size type prot) = true
+is_memory_line (event.Free pid addr size type) = true
+is_memory_line (event.Protect pid addr size prot) = true
+is_memory_line (event.Query pid addr) = true
+is_memory_line event.Charge = true
+is_memory_line (event.Grow n) = true
+is_memory_line _ = false
+
+abbrev pub is_section_line : Event → Bool
+is_section_line (event.File name pages byte) = true
+is_section_line (event.Create pid size flags name) = true
+is_section_line (event.CreateFile pid file flags name) = true
+is_section_line (event.Open pid name) = true
+is_section_line (event.Close pid handle) = true
+is_section_line _ = false
+
+abbrev pub is_view_line : Event → Bool
+is_view_line (event.Map pid handle access offset len addr) = true
+is_view_line (event.Unmap pid addr) = true
+is_view_line (event.Flush pid addr size) = true
+is_view_line _ = false
+
+abbrev pub is_access_line : Event → Bool
+is_access_line (event.Read pid addr len) = true
+is_access_line (event.Write pid addr bytes) = true
+is_access_line (event.Exec pid addr) = true
+is_access_line _ = false
+
+abbrev pub is_paging_line : Event → Bool
+is_paging_line (event.Trim pid n) = true
+is_paging_line (event.Age pid) = true
+is_paging_line (event.Zeroer n) = true
+is_paging_line (event.Fail device direction k n) = true
+is_paging_line _ = false

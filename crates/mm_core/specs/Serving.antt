@@ -1,0 +1,77 @@
+-- What a line does to devices, and what it leaves in blocks.
+use Rattle.std.specs.Prelude.{◌≡◌, ◌≤◌, ◌⊎◌, ℕ, ◌+◌, ◌-◌, Bool, true, false, List, Some, slice_get}
+use Rattle.mm_types.specs.declared.answers.Answer.{Answer}
+use Rattle.mm_types.specs.declared.answers.Answer.TheVariants as answer
+use Rattle.mm_types.specs.declared.codes.Raise.TheVariants as raise
+use Rattle.mm_types.specs.declared.devices.Direction.TheVariants as way
+use Rattle.mm_types.specs.declared.events.Event.{Event}
+use Rattle.mm_types.specs.declared.events.Event.TheVariants as line
+use Rattle.mm_types.specs.declared.views.View.{View}
+use Rattle.mm_types.specs.declared.views.Kind.TheVariants as kind
+use Rattle.mm_types.specs.Address.{holds_page}
+use Rattle.mm_types.specs.Outside.{Rose}
+use Rattle.mm_world.specs.World.{Page, World, RegionOf, ProcessOf}
+use Rattle.mm_world.specs.Find.{Found, process_of, area_at, shared_page}
+use Rattle.mm_world.specs.Report.{Report, Tally}
+use Rattle.mm_world.specs.Views.{flushed_view, flushed_range}
+use Rattle.mm_pages.specs.Devices.{DeviceOf, Call, AllServed, tallied}
+use Rattle.mm_pages.specs.Reports.{no_calls, with_named, with_named_paging}
+use Rattle.mm_blocks.specs.declared.device_calls.NamedCalls.{NamedCalls}
+use Rattle.mm_types.specs.declared.devices.Device.{Device}
+use Rattle.mm_types.specs.declared.devices.Device.TheVariants as device_of
+
+-- the reads and writes that a line asked of a device: those not named stand in its log, where that is told, and the report after the line
+-- counts them all
+pub record Asked (old new : DeviceOf) (reads writes : Report → Tally) (after : Report) : Type 0 where
+  pub calls : List Call
+  pub served : AllServed calls old new
+  pub read : reads after ≡ tallied way.Read calls no_calls
+  pub wrote : writes after ≡ tallied way.Write calls no_calls
+
+abbrev pub AskedFiles : DeviceOf → DeviceOf → Report → Type 0
+AskedFiles old new after = Asked old new (λ r. r.file_reads) (λ r. r.file_writes) after
+
+abbrev pub AskedPaging : DeviceOf → DeviceOf → Report → Type 0
+AskedPaging old new after = Asked old new (λ r. r.paging_reads) (λ r. r.paging_writes) after
+
+-- a line in which the paging device grows, which is no read or write
+abbrev pub is_grow : Event → Bool
+is_grow (line.Grow n) = true
+is_grow _ = false
+
+-- a line that names device calls to come
+abbrev pub is_fail : Event → Bool
+is_fail (line.Fail device direction k n) = true
+is_fail _ = false
+
+-- such a line, answered `ok`, names them on its device, and does nothing else to devices
+abbrev pub NamedOn : Bool → Device → NamedCalls → DeviceOf → DeviceOf → DeviceOf → DeviceOf → Type 0
+NamedOn unpaged device_of.Paging calls paging paging' files files' = (paging' ≡ with_named_paging unpaged paging calls) × (files' ≡ files)
+NamedOn unpaged device_of.File calls paging paging' files files' = (paging' ≡ paging) × (files' ≡ with_named files calls)
+
+abbrev pub Named : Bool → Event → Answer → DeviceOf → DeviceOf → DeviceOf → DeviceOf → Type 0
+Named unpaged (line.Fail device direction k n) answer.Ok paging paging' files files' =
+    NamedOn unpaged device (record { direction = direction; passes = k - 1; fails = n }) paging paging' files files'
+Named unpaged (line.Fail device direction k n) _ paging paging' files files' = (paging' ≡ paging) × (files' ≡ files)
+Named unpaged _ _ paging paging' files files' = Unit {0}
+
+-- an answer that comes only where a device failed
+abbrev pub IsFailure : Answer → Type 0
+IsFailure answer.Fault = Unit {0}
+IsFailure (answer.Raised raise.InPageError) = Unit {0}
+IsFailure _ = ⊥
+
+-- the count of faults of one of both devices rose
+abbrev pub OneRose : DeviceOf → DeviceOf → DeviceOf → DeviceOf → Type 0
+OneRose paging paging' files files' = Rose paging.faults paging'.faults ⊎ Rose files.faults files'.faults
+
+-- after a `flush`, the blocks of the shared pages of the range hold their bytes
+abbrev pub FlushHolds : World → List Page → ℕ → ℕ → ℕ → Type 0
+FlushHolds w blocks pid addr size =
+    (p : ProcessOf Page) (r : Found (RegionOf Page)) (v : View) (page first : ℕ) → process_of w pid ≡ Some p → flushed_view p.regions addr size ≡ Some r →
+    r.thing.kind ≡ kind.View v → holds_page (flushed_range r.thing addr size) page ≡ true → (area_at w v.area.0).file_block ≡ Some first →
+    slice_get blocks (first + (v.first + (page - r.thing.base))) ≡ shared_page w v.area.0 (v.first + (page - r.thing.base))
+
+abbrev pub Flushed : World → List Page → Event → Answer → Type 0
+Flushed w blocks (line.Flush pid addr size) answer.Ok = FlushHolds w blocks pid.0 addr size
+Flushed w blocks _ _ = Unit {0}

@@ -1,0 +1,206 @@
+ghost use Rattle.std.specs.Prelude.{◌≡◌, ◌≤◌, ◌+◌, ◌%◌, true, false, Some, length};
+ghost use Rattle.mm_types.specs.declared.events.Event.TheVariants as event;
+ghost use Rattle.mm_types.specs.declared.moves.LineKind.TheVariants as line_kind;
+ghost use Rattle.mm_types.specs.declared.protections.Access.TheVariants as access_kind;
+ghost use Rattle.mm_types.specs.Address.{page_of};
+ghost use Rattle.mm_world.specs.Access.{ReadOf, WriteOf, Execute};
+ghost use Rattle.mm_world.specs.Contents.{world_with};
+ghost use Rattle.mm_world.specs.WellFormed.{Spaces};
+ghost use Rattle.mm_pages.specs.Reports.{IsBegun};
+ghost use Rattle.mm_pages.specs.Conditions.{place_at};
+ghost use Rattle.mm_tables.specs.Fits.{key_at, bytes_of};
+ghost use Rattle.mm_core.specs.Accessing.{Admits, Accessed};
+ghost use Rattle.mm_core.specs.Deciding.{Keeps, Decided};
+
+use crate::beginning::begin_access;
+use crate::fetching::{fetch, put, put_copy, read_bytes};
+use crate::refusals::admit;
+use mm_pages::Pages;
+use mm_tables::{CommittedRow, Tables};
+use mm_types::{Access, Answer, ByteBuf, Code, Pid, Raise};
+
+/// Reads 1 to 64 bytes, which the row of their page permits.
+fn read_at<G: Pages>(
+    t: &Tables,
+    g: &mut G,
+    pid: Pid,
+    addr: u32,
+    row: CommittedRow,
+    len: u32,
+) -> Answer
+    requires keeps { Keeps t.now (G.contents g.old) (G.store g.old) }
+    requires spaces { Spaces t.now }
+    requires admitted { Admits t.now pid.0 addr access_kind.Read row }
+    requires at { key_at t.now (place_at pid (page_of addr)) ≡ Some row.key }
+    requires form { (G.store g.old).kind ≡ line_kind.Access pid }
+    requires begun { IsBegun (G.store g.old).report }
+    requires some { 1 ≤ len }
+    requires few { len ≤ 64 }
+    requires inside { addr % 4096 + len ≤ 4096 }
+    ensures accessed { Accessed G.unpaged (world_with t.now (bytes_of (G.contents g.old))) pid.0 addr (ReadOf len) (G.store g.old) (G.store g.new) result (world_with t.now (bytes_of (G.contents g.new))) }
+    ensures keeps { Keeps t.now (G.contents g.new) (G.store g.new) }
+    ensures line { (G.store g.new).line ≡ (G.store g.old).line }
+    ensures loans { G.loans g.new ≡ G.loans g.old }
+{
+    match read_bytes(t, g, pid, addr, row.key, len) {
+        Ok(bytes) => Answer::Bytes(bytes),
+        Err(_) => Answer::Raised(Raise::InPageError),
+    }
+}
+
+/// Executes what the row of a page permits. No byte is read, but a page that cannot be had raises as for a read.
+fn execute_at<G: Pages>(t: &Tables, g: &mut G, pid: Pid, addr: u32, row: CommittedRow) -> Answer
+    requires keeps { Keeps t.now (G.contents g.old) (G.store g.old) }
+    requires spaces { Spaces t.now }
+    requires admitted { Admits t.now pid.0 addr access_kind.Execute row }
+    requires at { key_at t.now (place_at pid (page_of addr)) ≡ Some row.key }
+    requires form { (G.store g.old).kind ≡ line_kind.Access pid }
+    requires begun { IsBegun (G.store g.old).report }
+    ensures accessed { Accessed G.unpaged (world_with t.now (bytes_of (G.contents g.old))) pid.0 addr Execute (G.store g.old) (G.store g.new) result (world_with t.now (bytes_of (G.contents g.new))) }
+    ensures keeps { Keeps t.now (G.contents g.new) (G.store g.new) }
+    ensures line { (G.store g.new).line ≡ (G.store g.old).line }
+    ensures loans { G.loans g.new ≡ G.loans g.old }
+{
+    match fetch(t, g, pid, addr, row.key, &mut []) {
+        Ok(()) => Answer::Ok,
+        Err(_) => Answer::Raised(Raise::InPageError),
+    }
+}
+
+/// Writes bytes where they are, which the row of their page permits.
+fn write_at<G: Pages>(
+    t: &Tables,
+    g: &mut G,
+    pid: Pid,
+    addr: u32,
+    row: CommittedRow,
+    bytes: &ByteBuf,
+) -> Answer
+    requires keeps { Keeps t.now (G.contents g.old) (G.store g.old) }
+    requires spaces { Spaces t.now }
+    requires admitted { Admits t.now pid.0 addr access_kind.Write row }
+    requires at { key_at t.now (place_at pid (page_of addr)) ≡ Some row.key }
+    requires form { (G.store g.old).kind ≡ line_kind.Access pid }
+    requires begun { IsBegun (G.store g.old).report }
+    requires stays { row.copies ≡ false }
+    requires inside { addr % 4096 + length bytes.now ≤ 4096 }
+    ensures accessed { Accessed G.unpaged (world_with t.now (bytes_of (G.contents g.old))) pid.0 addr (WriteOf bytes.now) (G.store g.old) (G.store g.new) result (world_with t.now (bytes_of (G.contents g.new))) }
+    ensures keeps { Keeps t.now (G.contents g.new) (G.store g.new) }
+    ensures line { (G.store g.new).line ≡ (G.store g.old).line }
+    ensures loans { G.loans g.new ≡ G.loans g.old }
+{
+    match put(t, g, pid, addr, row.key, bytes.as_slice()) {
+        Ok(()) => Answer::Ok,
+        Err(_) => Answer::Raised(Raise::InPageError),
+    }
+}
+
+/// Writes bytes, which the row of their page permits, to a copy that is the page's own from then on.
+fn write_to_copy<G: Pages>(
+    t: &mut Tables,
+    g: &mut G,
+    pid: Pid,
+    addr: u32,
+    row: CommittedRow,
+    bytes: &ByteBuf,
+) -> Answer
+    requires keeps { Keeps t.old (G.contents g.old) (G.store g.old) }
+    requires spaces { Spaces t.old }
+    requires admitted { Admits t.old pid.0 addr access_kind.Write row }
+    requires at { key_at t.old (place_at pid (page_of addr)) ≡ Some row.key }
+    requires form { (G.store g.old).kind ≡ line_kind.Access pid }
+    requires begun { IsBegun (G.store g.old).report }
+    requires copies { row.copies ≡ true }
+    requires inside { addr % 4096 + length bytes.now ≤ 4096 }
+    ensures accessed { Accessed G.unpaged (world_with t.old (bytes_of (G.contents g.old))) pid.0 addr (WriteOf bytes.now) (G.store g.old) (G.store g.new) result (world_with t.new (bytes_of (G.contents g.new))) }
+    ensures keeps { Keeps t.new (G.contents g.new) (G.store g.new) }
+    ensures line { (G.store g.new).line ≡ (G.store g.old).line }
+    ensures loans { G.loans g.new ≡ G.loans g.old }
+{
+    match put_copy(t, g, pid, addr, row, bytes.as_slice()) {
+        Ok(()) => Answer::Ok,
+        Err(_) => Answer::Raised(Raise::InPageError),
+    }
+}
+
+/// Decides a `read` line.
+pub(crate) fn read_line<G: Pages>(
+    t: &mut Tables,
+    g: &mut G,
+    line: u32,
+    pid: Pid,
+    addr: u32,
+    len: u32,
+) -> Answer
+    requires keeps { Keeps t.old (G.contents g.old) (G.store g.old) }
+    requires next { line ≡ (G.store g.old).line + 1 }
+    requires some { 1 ≤ len }
+    requires few { len ≤ 64 }
+    requires inside { addr % 4096 + len ≤ 4096 }
+    ensures decided { Decided G.unpaged (event.Read pid addr len) line t.old (G.contents g.old) (G.store g.old) result t.new (G.contents g.new) (G.store g.new) }
+    ensures loans { G.loans g.new ≡ G.loans g.old }
+{
+    t.sound();
+    if !begin_access(t, g, line, pid) {
+        return Answer::Error(Code::InvalidHandle);
+    }
+    let row = match admit(t, pid, addr, Access::Read) {
+        Ok(row) => row,
+        Err(answer) => return answer,
+    };
+    read_at(t, g, pid, addr, row, len)
+}
+
+/// Decides a `write` line.
+pub(crate) fn write_line<G: Pages>(
+    t: &mut Tables,
+    g: &mut G,
+    line: u32,
+    pid: Pid,
+    addr: u32,
+    bytes: &ByteBuf,
+) -> Answer
+    requires keeps { Keeps t.old (G.contents g.old) (G.store g.old) }
+    requires next { line ≡ (G.store g.old).line + 1 }
+    requires inside { addr % 4096 + length bytes.now ≤ 4096 }
+    ensures decided { Decided G.unpaged (event.Write pid addr bytes.now) line t.old (G.contents g.old) (G.store g.old) result t.new (G.contents g.new) (G.store g.new) }
+    ensures loans { G.loans g.new ≡ G.loans g.old }
+{
+    t.sound();
+    if !begin_access(t, g, line, pid) {
+        return Answer::Error(Code::InvalidHandle);
+    }
+    let row = match admit(t, pid, addr, Access::Write) {
+        Ok(row) => row,
+        Err(answer) => return answer,
+    };
+    if row.copies {
+        write_to_copy(t, g, pid, addr, row, bytes)
+    } else {
+        write_at(t, g, pid, addr, row, bytes)
+    }
+}
+
+/// Decides an `exec` line.
+pub(crate) fn exec_line<G: Pages>(
+    t: &mut Tables,
+    g: &mut G,
+    line: u32,
+    pid: Pid,
+    addr: u32,
+) -> Answer
+    requires keeps { Keeps t.old (G.contents g.old) (G.store g.old) }
+    requires next { line ≡ (G.store g.old).line + 1 }
+    ensures decided { Decided G.unpaged (event.Exec pid addr) line t.old (G.contents g.old) (G.store g.old) result t.new (G.contents g.new) (G.store g.new) }
+    ensures loans { G.loans g.new ≡ G.loans g.old }
+{
+    t.sound();
+    if !begin_access(t, g, line, pid) {
+        return Answer::Error(Code::InvalidHandle);
+    }
+    let row = match admit(t, pid, addr, Access::Execute) {
+        Ok(row) => row,
+        Err(answer) => return answer,
+    };
+    execute_at(t, g, pid, addr, row)
+}

@@ -1,0 +1,80 @@
+ghost use Rattle.std.specs.Prelude.{◌≡◌, ◌+◌, true, is_some};
+ghost use Rattle.mm_types.specs.declared.moves.LineKind.TheVariants as line_kind;
+ghost use Rattle.mm_world.specs.Find.{process_of};
+ghost use Rattle.mm_world.specs.Contents.{Tables};
+ghost use Rattle.mm_tables.specs.Fits.{Fits};
+ghost use Rattle.mm_core.specs.Deciding.{Begins, is_plain};
+
+use mm_pages::Pages;
+use mm_tables::Tables;
+use mm_types::{LineKind, Pid};
+
+/// Begins a line that names no numbers of its own.
+pub(crate) fn begin<G: Pages>(g: &mut G, line: u32, form: LineKind)
+    requires next { line ≡ (G.store g.old).line + 1 }
+    requires plain { is_plain form ≡ true }
+    ensures fits { (t : Tables) → Fits t (G.contents g.old) (G.store g.old) → Fits t (G.contents g.new) (G.store g.new) }
+    ensures begins { Begins line (G.store g.old) (G.store g.new) }
+    ensures form { (G.store g.new).kind ≡ form }
+    ensures contents { G.contents g.new ≡ G.contents g.old }
+    ensures loans { G.loans g.new ≡ G.loans g.old }
+{
+    g.line(line, form);
+}
+
+/// Begins a line that may unbind pages of a process, if it lives.
+pub(crate) fn begin_release<G: Pages>(t: &Tables, g: &mut G, line: u32, pid: Pid)
+    requires fits { Fits t.now (G.contents g.old) (G.store g.old) }
+    requires next { line ≡ (G.store g.old).line + 1 }
+    ensures fits { Fits t.now (G.contents g.new) (G.store g.new) }
+    ensures begins { Begins line (G.store g.old) (G.store g.new) }
+    ensures form { is_some (process_of t.now pid.0) ≡ true → (G.store g.new).kind ≡ line_kind.Unbind pid }
+    ensures contents { G.contents g.new ≡ G.contents g.old }
+    ensures loans { G.loans g.new ≡ G.loans g.old }
+{
+    if t.has(pid) {
+        begin(g, line, LineKind::Unbind(pid));
+    } else {
+        begin(g, line, LineKind::Call);
+    }
+}
+
+/// Begins a line that accesses a process, and tells whether it lives.
+pub(crate) fn begin_access<G: Pages>(t: &Tables, g: &mut G, line: u32, pid: Pid) -> bool
+    requires fits { Fits t.now (G.contents g.old) (G.store g.old) }
+    requires next { line ≡ (G.store g.old).line + 1 }
+    ensures lives { result ≡ is_some (process_of t.now pid.0) }
+    ensures fits { Fits t.now (G.contents g.new) (G.store g.new) }
+    ensures begins { Begins line (G.store g.old) (G.store g.new) }
+    ensures form { result ≡ true → (G.store g.new).kind ≡ line_kind.Access pid }
+    ensures contents { G.contents g.new ≡ G.contents g.old }
+    ensures loans { G.loans g.new ≡ G.loans g.old }
+{
+    let lives = t.has(pid);
+    if lives {
+        begin(g, line, LineKind::Access(pid));
+    } else {
+        begin(g, line, LineKind::Call);
+    }
+    lives
+}
+
+/// Begins a line that trims a process, and tells whether it lives.
+pub(crate) fn begin_trim<G: Pages>(t: &Tables, g: &mut G, line: u32, pid: Pid) -> bool
+    requires fits { Fits t.now (G.contents g.old) (G.store g.old) }
+    requires next { line ≡ (G.store g.old).line + 1 }
+    ensures lives { result ≡ is_some (process_of t.now pid.0) }
+    ensures fits { Fits t.now (G.contents g.new) (G.store g.new) }
+    ensures begins { Begins line (G.store g.old) (G.store g.new) }
+    ensures form { result ≡ true → (G.store g.new).kind ≡ line_kind.Trim pid }
+    ensures contents { G.contents g.new ≡ G.contents g.old }
+    ensures loans { G.loans g.new ≡ G.loans g.old }
+{
+    let lives = t.has(pid);
+    if lives {
+        begin(g, line, LineKind::Trim(pid));
+    } else {
+        begin(g, line, LineKind::Call);
+    }
+    lives
+}

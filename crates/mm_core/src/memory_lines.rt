@@ -1,0 +1,167 @@
+ghost use Rattle.std.specs.Prelude.{◌≡◌, ◌≤◌, ◌+◌, ◌==◌, false, IfOk, OnErr, IsOk};
+ghost use Rattle.mm_types.specs.declared.events.Event.TheVariants as event;
+ghost use Rattle.mm_types.specs.Protection.{base_of};
+ghost use Rattle.mm_core.specs.Deciding.{Keeps, Decided, Idle};
+
+use crate::beginning::{begin, begin_release};
+use mm_calls::{grow_paging, new_process, protect, query, valloc, vfree};
+use mm_pages::Pages;
+use mm_tables::Tables;
+use mm_types::{Answer, LineKind, NoMemory, Pid};
+use mm_views::end_process;
+use std::alloc::Global;
+
+/// Decides a `process` line.
+pub(crate) fn process_line<G: Pages>(
+    alloc: Global,
+    t: &mut Tables,
+    g: &mut G,
+    line: u32,
+    min: u32,
+    max: u32,
+) -> Result<Answer, NoMemory>
+    requires keeps { Keeps t.old (G.contents g.old) (G.store g.old) }
+    requires next { line ≡ (G.store g.old).line + 1 }
+    requires ordered { min ≤ max }
+    requires some { 1 ≤ max }
+    requires most { max ≤ 65536 }
+    ensures ok { IfOk result (λ a. Decided G.unpaged (event.Process min max) line t.old (G.contents g.old) (G.store g.old) a t.new (G.contents g.new) (G.store g.new)) }
+    ensures err { OnErr result (Idle t.old (G.contents g.old) (G.store g.old) t.new (G.contents g.new) (G.store g.new)) }
+    ensures loans { G.loans g.new ≡ G.loans g.old }
+{
+    t.sound();
+    let pid = match t.next_pid() {
+        Some(pid) => pid,
+        None => {
+            begin(g, line, LineKind::Call);
+            return Ok(Answer::Full);
+        }
+    };
+    g.line(line, LineKind::Process(pid, min, max));
+    new_process(alloc, t, g, min, max)
+}
+
+/// Decides an `exit` line.
+pub(crate) fn exit_line<G: Pages>(t: &mut Tables, g: &mut G, line: u32, pid: Pid) -> Answer
+    requires keeps { Keeps t.old (G.contents g.old) (G.store g.old) }
+    requires next { line ≡ (G.store g.old).line + 1 }
+    ensures decided { Decided G.unpaged (event.Exit pid) line t.old (G.contents g.old) (G.store g.old) result t.new (G.contents g.new) (G.store g.new) }
+    ensures loans { G.loans g.new ≡ G.loans g.old }
+{
+    t.sound();
+    begin_release(t, g, line, pid);
+    end_process(t, g, pid)
+}
+
+/// Decides an `alloc` line.
+pub(crate) fn alloc_line<G: Pages>(
+    alloc: Global,
+    t: &mut Tables,
+    g: &mut G,
+    line: u32,
+    pid: Pid,
+    addr: u32,
+    size: u32,
+    form: u32,
+    prot: u32,
+) -> Result<Answer, NoMemory>
+    requires keeps { Keeps t.old (G.contents g.old) (G.store g.old) }
+    requires next { line ≡ (G.store g.old).line + 1 }
+    ensures ok { IfOk result (λ a. Decided G.unpaged (event.Alloc pid addr size form prot) line t.old (G.contents g.old) (G.store g.old) a t.new (G.contents g.new) (G.store g.new)) }
+    ensures err { OnErr result (Idle t.old (G.contents g.old) (G.store g.old) t.new (G.contents g.new) (G.store g.new)) }
+    ensures loans { G.loans g.new ≡ G.loans g.old }
+{
+    t.sound();
+    begin(g, line, LineKind::Call);
+    valloc(alloc, t, g, pid, addr, size, form, prot)
+}
+
+/// Decides a `free` line.
+pub(crate) fn free_line<G: Pages>(
+    t: &mut Tables,
+    g: &mut G,
+    line: u32,
+    pid: Pid,
+    addr: u32,
+    size: u32,
+    form: u32,
+) -> Answer
+    requires keeps { Keeps t.old (G.contents g.old) (G.store g.old) }
+    requires next { line ≡ (G.store g.old).line + 1 }
+    ensures decided { Decided G.unpaged (event.Free pid addr size form) line t.old (G.contents g.old) (G.store g.old) result t.new (G.contents g.new) (G.store g.new) }
+    ensures loans { G.loans g.new ≡ G.loans g.old }
+{
+    t.sound();
+    begin_release(t, g, line, pid);
+    vfree(t, g, pid, addr, size, form)
+}
+
+/// Decides a `protect` line.
+pub(crate) fn protect_line<G: Pages>(
+    t: &mut Tables,
+    g: &mut G,
+    line: u32,
+    pid: Pid,
+    addr: u32,
+    size: u32,
+    prot: u32,
+) -> Result<Answer, NoMemory>
+    requires keeps { Keeps t.old (G.contents g.old) (G.store g.old) }
+    requires next { line ≡ (G.store g.old).line + 1 }
+    ensures ok { IfOk result (λ a. Decided G.unpaged (event.Protect pid addr size prot) line t.old (G.contents g.old) (G.store g.old) a t.new (G.contents g.new) (G.store g.new)) }
+    ensures err { OnErr result (Idle t.old (G.contents g.old) (G.store g.old) t.new (G.contents g.new) (G.store g.new)) }
+    ensures unmarked { (base_of prot == 0x08) ≡ false → IsOk result }
+    ensures loans { G.loans g.new ≡ G.loans g.old }
+{
+    t.sound();
+    begin(g, line, LineKind::Call);
+    protect(t, g, pid, addr, size, prot)
+}
+
+/// Decides a `query` line.
+pub(crate) fn query_line<G: Pages>(
+    t: &mut Tables,
+    g: &mut G,
+    line: u32,
+    pid: Pid,
+    addr: u32,
+) -> Answer
+    requires keeps { Keeps t.old (G.contents g.old) (G.store g.old) }
+    requires next { line ≡ (G.store g.old).line + 1 }
+    ensures decided { Decided G.unpaged (event.Query pid addr) line t.old (G.contents g.old) (G.store g.old) result t.new (G.contents g.new) (G.store g.new) }
+    ensures loans { G.loans g.new ≡ G.loans g.old }
+{
+    t.sound();
+    begin(g, line, LineKind::Call);
+    query(t, pid, addr)
+}
+
+/// Decides a `charge` line.
+pub(crate) fn charge_line<G: Pages>(t: &mut Tables, g: &mut G, line: u32) -> Answer
+    requires keeps { Keeps t.old (G.contents g.old) (G.store g.old) }
+    requires next { line ≡ (G.store g.old).line + 1 }
+    ensures decided { Decided G.unpaged event.Charge line t.old (G.contents g.old) (G.store g.old) result t.new (G.contents g.new) (G.store g.new) }
+    ensures loans { G.loans g.new ≡ G.loans g.old }
+{
+    begin(g, line, LineKind::Call);
+    let (charge, limit) = t.charge();
+    Answer::Charge(charge, limit)
+}
+
+/// Decides a `grow` line. The call notes its own line.
+pub(crate) fn grow_line<G: Pages>(
+    t: &mut Tables,
+    g: &mut G,
+    line: u32,
+    n: u32,
+) -> Result<Answer, NoMemory>
+    requires keeps { Keeps t.old (G.contents g.old) (G.store g.old) }
+    requires next { line ≡ (G.store g.old).line + 1 }
+    requires some { 1 ≤ n }
+    ensures ok { IfOk result (λ a. Decided G.unpaged (event.Grow n) line t.old (G.contents g.old) (G.store g.old) a t.new (G.contents g.new) (G.store g.new)) }
+    ensures err { OnErr result (Idle t.old (G.contents g.old) (G.store g.old) t.new (G.contents g.new) (G.store g.new)) }
+    ensures loans { G.loans g.new ≡ G.loans g.old }
+{
+    t.sound();
+    grow_paging(t, g, line, n)
+}

@@ -1,0 +1,79 @@
+ghost use Rattle.std.specs.Prelude.{◌≡◌, ◌≤◌, ◌+◌};
+ghost use Rattle.mm_types.specs.declared.events.Event.TheVariants as event;
+ghost use Rattle.mm_core.specs.Deciding.{Keeps, Decided};
+
+use crate::beginning::{begin, begin_trim};
+use mm_pages::Pages;
+use mm_tables::Tables;
+use mm_types::{Answer, Code, Device, Direction, LineKind, Pid};
+
+/// How many `fail` lines a run takes.
+const MOST_FAILS: u32 = 64;
+
+/// Decides a `trim` line: pages of the process's working set, the oldest first, are taken from it.
+pub(crate) fn trim_line<G: Pages>(t: &mut Tables, g: &mut G, line: u32, pid: Pid, n: u32) -> Answer
+    requires keeps { Keeps t.old (G.contents g.old) (G.store g.old) }
+    requires next { line ≡ (G.store g.old).line + 1 }
+    ensures decided { Decided G.unpaged (event.Trim pid n) line t.old (G.contents g.old) (G.store g.old) result t.new (G.contents g.new) (G.store g.new) }
+    ensures loans { G.loans g.new ≡ G.loans g.old }
+{
+    if !begin_trim(t, g, line, pid) {
+        return Answer::Error(Code::InvalidHandle);
+    }
+    g.trim(pid, n);
+    Answer::Ok
+}
+
+/// Decides an `age` line: the pages of the process's working set are older.
+pub(crate) fn age_line<G: Pages>(t: &mut Tables, g: &mut G, line: u32, pid: Pid) -> Answer
+    requires keeps { Keeps t.old (G.contents g.old) (G.store g.old) }
+    requires next { line ≡ (G.store g.old).line + 1 }
+    ensures decided { Decided G.unpaged (event.Age pid) line t.old (G.contents g.old) (G.store g.old) result t.new (G.contents g.new) (G.store g.new) }
+    ensures loans { G.loans g.new ≡ G.loans g.old }
+{
+    begin(g, line, LineKind::Call);
+    if !t.has(pid) {
+        return Answer::Error(Code::InvalidHandle);
+    }
+    g.age(pid);
+    Answer::Ok
+}
+
+/// Decides a `zeroer` line: free frames are cleared.
+pub(crate) fn zeroer_line<G: Pages>(t: &mut Tables, g: &mut G, line: u32, n: u32) -> Answer
+    requires keeps { Keeps t.old (G.contents g.old) (G.store g.old) }
+    requires next { line ≡ (G.store g.old).line + 1 }
+    ensures decided { Decided G.unpaged (event.Zeroer n) line t.old (G.contents g.old) (G.store g.old) result t.new (G.contents g.new) (G.store g.new) }
+    ensures loans { G.loans g.new ≡ G.loans g.old }
+{
+    begin(g, line, LineKind::Zeroer);
+    g.zero(n);
+    Answer::Ok
+}
+
+/// Decides a `fail` line: device calls to come are named to fail, while fewer than 64 such lines were taken.
+pub(crate) fn fail_line<G: Pages>(
+    t: &mut Tables,
+    g: &mut G,
+    line: u32,
+    device: Device,
+    direction: Direction,
+    k: u32,
+    n: u32,
+) -> Answer
+    requires keeps { Keeps t.old (G.contents g.old) (G.store g.old) }
+    requires next { line ≡ (G.store g.old).line + 1 }
+    requires first { 1 ≤ k }
+    requires some { 1 ≤ n }
+    ensures decided { Decided G.unpaged (event.Fail device direction k n) line t.old (G.contents g.old) (G.store g.old) result t.new (G.contents g.new) (G.store g.new) }
+    ensures loans { G.loans g.new ≡ G.loans g.old }
+{
+    t.sound();
+    begin(g, line, LineKind::Call);
+    if t.fails_taken() >= MOST_FAILS {
+        return Answer::Full;
+    }
+    g.fail(device, direction, k, n);
+    t.take_fail();
+    Answer::Ok
+}

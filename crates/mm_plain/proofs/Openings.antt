@@ -1,0 +1,273 @@
+-- An area is opened or closed, or a file is made.
+use Rattle.std.proofs.Common.{◌≡◌, ◌⊎◌, ℕ, zero, suc, ◌+◌, ◌-◌, ◌<◌, ◌≤◌, ◌%◌, Bool, true, false, List, [], ◌∷◌, ◌++◌, length, replicate, Option, Some, None, Result, Ok, Err, refl, sym, ap, ◌∙◌, inl, inr, arith}
+use Rattle.std.specs.Prelude.{◌==◌, ◌&&◌, nat_lt, is_some, IsSome, if◌then◌else◌, slice_get, slice_set, slice_index_or, OnOk, OnErr}
+use Rattle.std.specs.List.{sum_by}
+use Rattle.std.proofs.lemmas.Bool.{eqb-true, ltb-true, cases_lt}
+use Rattle.std.proofs.lemmas.List.{length-append}
+use Rattle.std.proofs.lemmas.List.Sums.{sum_by-cons}
+use Rattle.mm_types.specs.declared.numbers.Area.{Area}
+use Rattle.mm_types.specs.declared.numbers.Key.{Key}
+use Rattle.mm_types.specs.declared.numbers.Key.TheVariants.{Private, Shared}
+use Rattle.mm_types.specs.declared.numbers.Place.{Place}
+use Rattle.mm_types.proofs.Cells.{get_within}
+use Rattle.mm_world.specs.World.{Page, filled}
+use Rattle.mm_pages.specs.Store.{changed, with_file, with_blocks}
+use Rattle.mm_plain.specs.declared.areas.AreaPages.{AreaPages}
+use Rattle.mm_plain.specs.declared.areas.AreaPages.TheVariants.{Paged, Filed}
+use Rattle.mm_plain.specs.declared.file_pages.FilePage.{FilePage}
+use Rattle.mm_plain.specs.Areas.{size_of, pages_of, page_at, block_at, count_of, one_if_live, no_area}
+use Rattle.mm_plain.specs.Files.{IsMade, Stored, page_of, page_in, made_page}
+use Rattle.mm_plain.specs.Places.{no_page}
+use Rattle.mm_plain.specs.Fitting.{FilesFit}
+use Rattle.mm_plain.specs.Shown.{shared_page, contents_of, paging_of, blocks_of, sizes_of}
+use Rattle.mm_plain.proofs.OpenAreas.{in_file}
+use Rattle.mm_plain.proofs.MadeFiles.{get_before, get_behind}
+
+-- ---- functions of areas
+
+pub closed_of : (o : Option AreaPages) → size_of o ≡ None → o ≡ None
+closed_of None e = refl
+closed_of (Some (Paged pages)) e = cc
+closed_of (Some (Filed first count)) e = cc
+
+pub open_of : (o : Option AreaPages) → IsSome (size_of o) → IsSome o
+open_of None e = cc
+open_of (Some o) e = refl
+
+-- the number of areas apart, an area is another one or as before
+pub at_area : {V : Type 0} (areas : ℕ → Option AreaPages) (a : ℕ) (new : Option AreaPages) (b : ℕ) (g : Option AreaPages → V) → g (changed ◌==◌ areas a new b) ≡ (if b == a then g new else g (areas b))
+at_area {V} areas a new b g = go (b == a)
+  where
+    go : (t : Bool) → g (if t then new else areas b) ≡ (if t then g new else g (areas b))
+    go true = refl
+    go false = refl
+
+-- what the areas show stays, where it does for the one that changed
+kept_at : {V : Type 0} (areas : ℕ → Option AreaPages) (a : ℕ) (new : Option AreaPages) (b : ℕ) (g : Option AreaPages → V) → g new ≡ g (areas a) → g (changed ◌==◌ areas a new b) ≡ g (areas b)
+kept_at {V} areas a new b g same = go (b == a) refl
+  where
+    go : (t : Bool) → (b == a) ≡ t → g (if t then new else areas b) ≡ g (areas b)
+    go true e = same ∙ ap (λ (n : ℕ). g (areas n)) (sym (eqb-true b a e))
+    go false e = refl
+
+module _ (areas after : ℕ → Option AreaPages) (a : ℕ) (new : Option AreaPages) (is : after ≡ changed ◌==◌ areas a new) where
+  -- an area without blocks, and its pages as they were
+  pub contents_kept : (places : Place → Option Page) (files : List FilePage) → ((j : ℕ) → shared_page files (block_at new j) (page_at new j) ≡ shared_page files (block_at (areas a) j) (page_at (areas a) j)) → contents_of places after files ≡ contents_of places areas files
+  contents_kept places files same = ap (λ f. contents_of places f files) is ∙ (λ t. λ (q : Key). (at q) t)
+    where
+      at : (q : Key) → contents_of places (changed ◌==◌ areas a new) files q ≡ contents_of places areas files q
+      at (Private p v) = refl
+      at (Shared b j) = kept_at areas a new b.0 (λ o. shared_page files (block_at o j) (page_at o j)) (same j)
+
+  pub paging_kept : (places : Place → Option Page) → ((j : ℕ) → is_some (page_at new j) ≡ is_some (page_at (areas a) j)) → paging_of places after ≡ paging_of places areas
+  paging_kept places same = ap (paging_of places) is ∙ (λ t. λ (q : Key). (at q) t)
+    where
+      at : (q : Key) → paging_of places (changed ◌==◌ areas a new) q ≡ paging_of places areas q
+      at (Private p v) = refl
+      at (Shared b j) = kept_at areas a new b.0 (λ o. is_some (page_at o j)) (same j)
+
+  pub block_kept : (b j : ℕ) → block_at new j ≡ block_at (areas a) j → block_at (after b) j ≡ block_at (areas b) j
+  block_kept b j same = ap (λ f. block_at (f b) j) is ∙ kept_at areas a new b (λ o. block_at o j) same
+
+  pub blocks_kept : ((j : ℕ) → block_at new j ≡ block_at (areas a) j) → blocks_of after ≡ blocks_of areas
+  blocks_kept same = λ t. λ (q : Key). (at q) t
+    where
+      at : (q : Key) → blocks_of after q ≡ blocks_of areas q
+      at (Private p v) = refl
+      at (Shared b j) = block_kept b.0 j (same j)
+
+  pub sizes_changed : sizes_of after ≡ changed ◌==◌ (sizes_of areas) a (size_of new)
+  sizes_changed = ap sizes_of is ∙ (λ t. λ (b : ℕ). (at_area areas a new b size_of) t)
+
+-- ---- an area opened
+
+pub none_at : (n j : ℕ) → ◌≡◌ {A = Option Page} (slice_index_or (replicate n None) j None) None
+none_at zero j = refl
+none_at (suc n) zero = refl
+none_at (suc n) (suc j) = none_at n j
+
+-- ---- an area without live pages
+
+page_there : (fs : List FilePage) (k : ℕ) → k < length fs → page_of (slice_get fs k) ≡ None → ⊥
+page_there [] k h e = omega arith
+page_there (f ∷ fs) zero h e = cc
+page_there (f ∷ fs) (suc k) h e = page_there fs k (omega arith) e
+
+-- a key that is not live, at an index of an open area, is none of a file
+pub paged_home : (files : List FilePage) (o : Option AreaPages) (i pages : ℕ) → size_of o ≡ Some pages → i < pages → shared_page files (block_at o i) (page_at o i) ≡ None → ((block : ℕ) → block_at o i ≡ Some block → block < length files) → i < length (pages_of o)
+paged_home files None i pages size near dead within = cc
+paged_home files (Some (Paged ps)) i pages size near dead within = let same : length ps ≡ pages = cc in omega (arith, near, same)
+paged_home files (Some (Filed first count)) i pages size near dead within =
+    let same : count ≡ pages = cc in
+    let there = in_file first count i (omega (arith, near, same)) in
+    absurd (page_there files (first + i) (within (first + i) there) (sym (ap (λ b. shared_page files b None) there) ∙ dead))
+
+module _ (files : List FilePage) (o : Option AreaPages) (dead : (j : ℕ) → shared_page files (block_at o j) (page_at o j) ≡ None) where
+  pub dead_page : (j : ℕ) → page_at o j ≡ None
+  dead_page j = go o j (dead j)
+    where
+      go : (x : Option AreaPages) (i : ℕ) → shared_page files (block_at x i) (page_at x i) ≡ None → page_at x i ≡ None
+      go None i e = refl
+      go (Some (Paged pages)) i e = e
+      go (Some (Filed first count)) i e = refl
+
+  pub dead_block : ((j block : ℕ) → block_at o j ≡ Some block → block < length files) → (j : ℕ) → block_at o j ≡ None
+  dead_block near j = go (block_at o j) refl
+    where
+      go : (x : Option ℕ) → block_at o j ≡ x → block_at o j ≡ None
+      go None e = e
+      go (Some k) e = absurd (page_there files k (near j k e) (sym (ap (λ b. shared_page files b (page_at o j)) e) ∙ dead j))
+
+  pub dead_count : count_of o ≡ 0
+  dead_count = all (pages_of o) (λ j. dead_page j)
+    where
+      all : (ps : List (Option Page)) → ((j : ℕ) → slice_index_or ps j None ≡ None) → sum_by one_if_live ps ≡ 0
+      all [] e = refl
+      all (p ∷ ps) e =
+          let first = sum_by-cons one_if_live p ps in
+          let none : one_if_live p ≡ 0 = ap one_if_live (e 0) in
+          omega (arith, first, none, all ps (λ j. e (suc j)))
+
+-- ---- a file made
+
+pub block_in : (first n j block : ℕ) → block_at (Some (Filed first n)) j ≡ Some block → (j < n) × (block ≡ first + j)
+block_in first n j block e = go (nat_lt j n) refl e
+  where
+    go : (t : Bool) → nat_lt j n ≡ t → (if t then Some (first + j) else None) ≡ Some block → (j < n) × (block ≡ first + j)
+    go true h e = (ltb-true j n h, cc)
+    go false h e = cc
+
+module _ (areas after : ℕ → Option AreaPages) (a first n byte : ℕ) (files made all : List FilePage) (new : areas a ≡ None) (is : after ≡ changed ◌==◌ areas a (Some (Filed first n))) (next : first ≡ length files) (filed : IsMade made n byte) (whole : all ≡ files ++ made) where
+  made_at : (j : ℕ) → j < n → slice_get (files ++ made) (first + j) ≡ Some (made_page ((byte + j) % 256))
+  made_at j h = ap (λ (k : ℕ). slice_get (files ++ made) (k + j)) next ∙ get_behind files made j ∙ filed.each j h
+
+  pub contents_with_file : (places : Place → Option Page) → ((b j block : ℕ) → block_at (areas b) j ≡ Some block → block < length files) → contents_of places after all ≡ with_file a n byte (contents_of places areas files)
+  contents_with_file places near = ap (λ f. contents_of places f all) is ∙ ap (λ fs. contents_of places (changed ◌==◌ areas a (Some (Filed first n))) fs) whole ∙ (λ t. λ (q : Key). (at q) t)
+    where
+      old : (b j : ℕ) (o : Option ℕ) → block_at (areas b) j ≡ o → shared_page (files ++ made) o (page_at (areas b) j) ≡ shared_page files o (page_at (areas b) j)
+      old b j None e = refl
+      old b j (Some k) e = ap page_of (get_before files made k (near b j k e))
+
+      here : (b j : ℕ) (t : Bool) → areas b ≡ None → nat_lt j n ≡ t → shared_page (files ++ made) (if t then Some (first + j) else None) None ≡ (if t then Some (filled ((byte + j) % 256)) else shared_page files (block_at (areas b) j) (page_at (areas b) j))
+      here b j true none h = ap page_of (made_at j (ltb-true j n h))
+      here b j false none h = ap (λ o. shared_page files (block_at o j) (page_at o j)) (sym none)
+
+      split : (b j : ℕ) (t : Bool) → (b == a) ≡ t → shared_page (files ++ made) (block_at (if t then Some (Filed first n) else areas b) j) (page_at (if t then Some (Filed first n) else areas b) j) ≡ (if t && nat_lt j n then Some (filled ((byte + j) % 256)) else shared_page files (block_at (areas b) j) (page_at (areas b) j))
+      split b j true e = here b j (nat_lt j n) (ap areas (eqb-true b a e) ∙ new) refl
+      split b j false e = old b j (block_at (areas b) j) refl
+
+      at : (q : Key) → contents_of places (changed ◌==◌ areas a (Some (Filed first n))) (files ++ made) q ≡ with_file a n byte (contents_of places areas files) q
+      at (Private p v) = refl
+      at (Shared b j) = split b.0 j (b.0 == a) refl
+
+  pub blocks_with_file : blocks_of after ≡ with_blocks a n first (blocks_of areas)
+  blocks_with_file = ap blocks_of is ∙ (λ t. λ (q : Key). (at q) t)
+    where
+      here : (b j : ℕ) (t : Bool) → areas b ≡ None → (if t then Some (first + j) else None) ≡ (if t then Some (first + j) else block_at (areas b) j)
+      here b j true none = refl
+      here b j false none = ap (λ o. block_at o j) (sym none)
+
+      split : (b j : ℕ) (t : Bool) → (b == a) ≡ t → block_at (if t then Some (Filed first n) else areas b) j ≡ (if t && nat_lt j n then Some (first + j) else block_at (areas b) j)
+      split b j true e = here b j (nat_lt j n) (ap areas (eqb-true b a e) ∙ new)
+      split b j false e = refl
+
+      at : (q : Key) → blocks_of (changed ◌==◌ areas a (Some (Filed first n))) q ≡ with_blocks a n first (blocks_of areas) q
+      at (Private p v) = refl
+      at (Shared b j) = split b.0 j (b.0 == a) refl
+
+  pub paging_with_file : (places : Place → Option Page) → paging_of places after ≡ paging_of places areas
+  paging_with_file places = paging_kept areas after a (Some (Filed first n)) is places (λ j. ap (λ o. is_some (page_at o j)) (sym new))
+
+  pub used_with_file : length all ≡ length files + n
+  used_with_file = ap length whole ∙ length-append files made ∙ ap (λ (k : ℕ). length files + k) filed.long
+
+  -- where the block of a page is
+  whose : (b j block : ℕ) → block_at (after b) j ≡ Some block → ((b ≡ a) × ((j < n) × (block ≡ first + j))) ⊎ (block_at (areas b) j ≡ Some block)
+  whose b j block e = go (b == a) refl (sym (ap (λ f. block_at (f b) j) is) ∙ e)
+    where
+      go : (t : Bool) → (b == a) ≡ t → block_at (if t then Some (Filed first n) else areas b) j ≡ Some block → ((b ≡ a) × ((j < n) × (block ≡ first + j))) ⊎ (block_at (areas b) j ≡ Some block)
+      go true h e = inl (eqb-true b a h, block_in first n j block e)
+      go false h e = inr e
+
+  pub files_fit_made : (blocks stored : List Page) (count : ℕ) → FilesFit areas files blocks count → first + n ≤ count → Stored first n made blocks stored → FilesFit after all stored count
+  files_fit_made blocks stored count fit room put = record {
+    near = λ b j block e. elim (whose b j block e) [
+      | inl own ↦ omega (arith, own.1.0, own.1.1, next, used_with_file)
+      | inr old ↦ (let h = fit.near b j block old in omega (arith, h, used_with_file))
+    ];
+    alone = λ b i d j block e f. elim (whose b i block e) [
+      | inl own ↦ elim (whose d j block f) [
+        | inl too ↦ (own.0 ∙ sym too.0, omega (arith, own.1.1, too.1.1))
+        | inr old ↦ (let h = fit.near d j block old in absurd (omega (arith, h, own.1.1, next)))
+      ]
+      | inr old ↦ elim (whose d j block f) [
+        | inl own ↦ (let h = fit.near b i block old in absurd (omega (arith, h, own.1.1, next)))
+        | inr too ↦ fit.alone b i d j block old too
+      ]
+    ];
+    kept = λ b page e clean. kept b page (sym (ap (λ ps. slice_get ps b) whole) ∙ e) clean;
+    device = put.long ∙ fit.device;
+    used = omega (arith, used_with_file, next, room);
+    few = fit.few;
+  }
+    where
+      behind : (b : ℕ) (page : FilePage) (i : ℕ) → b ≡ length files + i → slice_get (files ++ made) b ≡ Some page → slice_get stored b ≡ Some page.page
+      behind b page i at e =
+          let there : slice_get made i ≡ Some page = sym (get_behind files made i) ∙ ap (λ (k : ℕ). slice_get (files ++ made) k) (sym at) ∙ e in
+          let near : i < n = omega (arith, get_within made i page there, filed.long) in
+          let same : b ≡ first + i = omega (arith, at, next) in
+          ap (λ (k : ℕ). slice_get stored k) same ∙ put.done i page near there
+
+      kept : (b : ℕ) (page : FilePage) → slice_get (files ++ made) b ≡ Some page → page.changed ≡ false → slice_get stored b ≡ Some page.page
+      kept b page e clean = elim (cases_lt b (length files)) [
+        | inl low ↦ put.others b (inl (omega (arith, low, next))) ∙ fit.kept b page (sym (get_before files made b low) ∙ e) clean
+        | inr high ↦ behind b page (b - length files) (omega (arith, high)) e
+      ]
+
+-- ---- a page settled
+
+settled_page : (fs : List FilePage) (b k : ℕ) → page_of (slice_get (slice_set fs b (record { page = page_in fs b; changed = false })) k) ≡ page_of (slice_get fs k)
+settled_page [] b k = refl
+settled_page (f ∷ fs) zero zero = refl
+settled_page (f ∷ fs) zero (suc k) = refl
+settled_page (f ∷ fs) (suc b) zero = refl
+settled_page (f ∷ fs) (suc b) (suc k) = settled_page fs b k
+
+pub contents_settled : (places : Place → Option Page) (areas : ℕ → Option AreaPages) (files after : List FilePage) (b : ℕ) → after ≡ slice_set files b (record { page = page_in files b; changed = false }) → contents_of places areas after ≡ contents_of places areas files
+contents_settled places areas files after b is = ap (contents_of places areas) is ∙ (λ t. λ (q : Key). (at q) t)
+  where
+    here : (o : Option ℕ) (p : Option Page) → shared_page (slice_set files b (record { page = page_in files b; changed = false })) o p ≡ shared_page files o p
+    here None p = refl
+    here (Some k) p = settled_page files b k
+
+    at : (q : Key) → contents_of places areas (slice_set files b (record { page = page_in files b; changed = false })) q ≡ contents_of places areas files q
+    at (Private p v) = refl
+    at (Shared a j) = here (block_at (areas a.0) j) (page_at (areas a.0) j)
+
+-- ---- nothing yet
+
+pub contents_new : (places : Place → Option Page) (areas : ℕ → Option AreaPages) (files : List FilePage) (k : Key) → places ≡ no_page → areas ≡ no_area → contents_of places areas files k ≡ None
+contents_new places areas files (Private p v) none closed = ap (λ f. f (record { pid = p; vpn = v })) none
+contents_new places areas files (Shared a i) none closed = ap (λ f. shared_page files (block_at (f a.0) i) (page_at (f a.0) i)) closed
+
+pub paging_new : (places : Place → Option Page) (areas : ℕ → Option AreaPages) (k : Key) → places ≡ no_page → areas ≡ no_area → paging_of places areas k ≡ false
+paging_new places areas (Private p v) none closed = ap (λ f. is_some (f (record { pid = p; vpn = v }))) none
+paging_new places areas (Shared a i) none closed = ap (λ f. is_some (page_at (f a.0) i)) closed
+
+pub blocks_new : (areas : ℕ → Option AreaPages) (k : Key) → areas ≡ no_area → blocks_of areas k ≡ None
+blocks_new areas (Private p v) closed = refl
+blocks_new areas (Shared a i) closed = ap (λ f. block_at (f a.0) i) closed
+
+-- ---- outcomes
+
+pub on_ok : {T E P Q : Type 0} (result : Result T E) → (P → Q) → OnOk result P → OnOk result Q
+on_ok (Ok x) f p = f p
+on_ok (Err e) f p = p
+
+pub either : {T E P Q R : Type 0} (result : Result T E) → (P → R) → (Q → R) → OnOk result P → OnErr result Q → R
+either (Ok x) f h p q = f p
+either (Err e) f h p q = h q
+
+-- the block of a key is one
+pub only_block : (areas : ℕ → Option AreaPages) (k : Key) (a : Area) (i block other : ℕ) → k ≡ Shared a i → block_at (areas a.0) i ≡ Some block → blocks_of areas k ≡ Some other → other ≡ block
+only_block areas k a i block other is there at = let same : Some other ≡ Some block = sym at ∙ ap (blocks_of areas) is ∙ there in cc

@@ -1,0 +1,81 @@
+-- The blocks of a new file, written one after another.
+use Rattle.std.proofs.Common.{◌≡◌, ◌≢◌, ◌≤◌, ◌⊎◌, ℕ, ◌+◌, ◌<◌, Bool, true, false, List, [], ◌∷◌, ◌++◌, length, Some, refl, sym, ap, ◌∙◌, subst, inl, inr, arith}
+use Rattle.std.specs.Prelude.{slice_get, slice_set}
+use Rattle.std.proofs.Math.ListN.{length-set}
+use Rattle.mm_types.specs.declared.devices.Direction.TheVariants as way
+use Rattle.mm_types.proofs.Cells.{same_or_not, get_set_same, get_set_other}
+use Rattle.mm_world.specs.Report.{Tally}
+use Rattle.mm_world.specs.World.{Page}
+use Rattle.mm_pages.specs.Devices.{DeviceOf, Serves, with_outcome, tallied}
+use Rattle.mm_pages.proofs.Served.{all_served_then, all_served_one, tallied_then}
+use Rattle.mm_plain.specs.declared.file_pages.FilePage.{FilePage}
+use Rattle.mm_plain.specs.Files.{Wrote, Stored}
+
+-- ---- what stands in the blocks
+
+pub stored_none : (first : ℕ) (pages : List FilePage) (old : List Page) → Stored first 0 pages old old
+stored_none first pages old = record {
+  long = refl;
+  done = λ i page h e. absurd (omega arith);
+  others = λ block h. refl;
+}
+
+module _ (first i : ℕ) (pages : List FilePage) (old mid new : List Page) (page : Page) where
+  pub stored_more : Stored first i pages old mid → new ≡ slice_set mid (first + i) page → first + i < length mid → ((p : FilePage) → slice_get pages i ≡ Some p → p.page ≡ page) → Stored first (i + 1) pages old new
+  stored_more s e near is = record {
+    long = ap length e ∙ length-set mid (first + i) page ∙ s.long;
+    done = done;
+    others = others;
+  }
+    where
+      done : (k : ℕ) (p : FilePage) → k < i + 1 → slice_get pages k ≡ Some p → slice_get new (first + k) ≡ Some p.page
+      done k p h at = elim (same_or_not k i) [
+        | inl last ↦
+            ap (λ ps. slice_get ps (first + k)) e ∙ ap (λ (n : ℕ). slice_get (slice_set mid (first + i) page) (first + n)) last
+            ∙ get_set_same mid (first + i) page near ∙ ap Some (sym (is p (subst (λ (n : ℕ). slice_get pages n ≡ Some p) last at)))
+        | inr other ↦
+            let apart : first + k ≢ first + i = λ same. other (omega (arith, same)) in
+            ap (λ ps. slice_get ps (first + k)) e ∙ get_set_other mid (first + i) (first + k) page apart
+            ∙ s.done k p (omega (arith, h, other)) at
+      ]
+
+      others : (block : ℕ) → (block < first) ⊎ (first + (i + 1) ≤ block) → slice_get new block ≡ slice_get old block
+      others block h =
+          let apart : block ≢ first + i = λ same. (elim h [ inl low ↦ omega (arith, low, same) | inr high ↦ omega (arith, high, same) ]) in
+          ap (λ ps. slice_get ps block) e ∙ get_set_other mid (first + i) block page apart
+          ∙ s.others block (elim h [ inl low ↦ inl low | inr high ↦ inr (omega (arith, high)) ])
+
+-- where the writes stopped early, the blocks behind the file are as before too
+pub others_of : (first i n : ℕ) (pages : List FilePage) (old new : List Page) (block : ℕ) → Stored first i pages old new → i ≤ n → (block < first) ⊎ (first + n ≤ block) → slice_get new block ≡ slice_get old block
+others_of first i n pages old new block s le h = s.others block (elim h [ inl low ↦ inl low | inr high ↦ inr (omega (arith, high, le)) ])
+
+-- ---- which calls were made
+
+pub wrote_none : (d : DeviceOf) (t : Tally) → Wrote d d t t
+wrote_none d t = record { calls = []; served = refl; counted = refl; none_read = λ r. refl }
+
+pub wrote_one : (a b : DeviceOf) (t u : Tally) (block : ℕ) (ok named : Bool) → Serves (record { way = way.Write; block = block; succeeded = ok; named = named }) a b → u ≡ with_outcome ok t → Wrote a b t u
+wrote_one a b t u block ok named s e = record {
+  calls = record { way = way.Write; block = block; succeeded = ok; named = named } ∷ [];
+  served = all_served_one _ a b s;
+  counted = e;
+  none_read = λ r. refl;
+}
+
+pub wrote_then : (a b c : DeviceOf) (t u v : Tally) → Wrote a b t u → Wrote b c u v → Wrote a c t v
+wrote_then a b c t u v p q = record {
+  calls = p.calls ++ q.calls;
+  served = all_served_then p.calls q.calls a b c p.served q.served;
+  counted = q.counted ∙ ap (tallied way.Write q.calls) p.counted ∙ sym (tallied_then way.Write p.calls q.calls t);
+  none_read = λ r. tallied_then way.Read p.calls q.calls r ∙ ap (tallied way.Read q.calls) (p.none_read r) ∙ q.none_read r;
+}
+
+-- ---- how many failed
+
+pub none_failed : (t u : Tally) (ok : Bool) → ok ≡ true → u ≡ with_outcome ok t → u.failed ≡ t.failed
+none_failed t u true is e = ap (λ (x : Tally). x.failed) e
+none_failed t u false is e = cc
+
+pub one_failed : (t u : Tally) (ok : Bool) → ok ≡ false → u ≡ with_outcome ok t → 0 < u.failed
+one_failed t u false is e = let n = ap (λ (x : Tally). x.failed) e in omega (arith, n)
+one_failed t u true is e = cc

@@ -1,0 +1,15 @@
+use Rattle.std.proofs.Common.{◌==◌, ap, ◌∙◌, Some, None}
+use Rattle.std.specs.Prelude.{slice_set}
+use Rattle.mm_pages.specs.Store.{changed}
+use Rattle.mm_plain.specs.declared.areas.AreaPages.TheVariants.{Paged}
+use Rattle.mm_plain.specs.Areas.{area_in, pages_of}
+use Rattle.mm_plain.proofs.OpenAreas.{indexed, set_area, has_place}
+use Rattle.mm_plain.proofs.areas.Areas.put.Goals as goal
+
+pub returns-clause-areas : goal.returns-clause-areas
+returns-clause-areas c =
+    let items = c.args.self.now.areas.items in
+    let near = has_place items c.args.area.0 c.args.index c.requires.place in
+    set_area items c.args.area.0 c.put_page.new.area None near
+    ∙ ap (changed ◌==◌ (area_in c.args.self.now) c.args.area.0)
+    (c.put_page.ensures ∙ ap (λ o. Some (Paged (slice_set (pages_of o) c.args.index (Some c.args.page)))) (indexed items c.args.area.0 c.index_mut.result.now None near c.index_mut.ensures.value))

@@ -1,0 +1,15 @@
+use Rattle.std.proofs.Common.{◌==◌, ap, ◌∙◌, Some, None}
+use Rattle.std.specs.Prelude.{slice_set}
+use Rattle.mm_pages.specs.Store.{changed}
+use Rattle.mm_plain.specs.declared.areas.AreaPages.TheVariants.{Paged}
+use Rattle.mm_plain.specs.Areas.{area_in, pages_of}
+use Rattle.mm_plain.proofs.OpenAreas.{indexed, set_area, live_place}
+use Rattle.mm_plain.proofs.areas.Areas.take.Goals as goal
+
+pub returns-clause-areas : goal.returns-clause-areas
+returns-clause-areas c =
+    let items = c.args.self.now.areas.items in
+    let near = live_place items c.args.area.0 c.args.index c.requires in
+    set_area items c.args.area.0 c.take_page.new.area None near
+    ∙ ap (changed ◌==◌ (area_in c.args.self.now) c.args.area.0)
+    (c.take_page.ensures.area ∙ ap (λ o. Some (Paged (slice_set (pages_of o) c.args.index None))) (indexed items c.args.area.0 c.index_mut.result.now None near c.index_mut.ensures.value))

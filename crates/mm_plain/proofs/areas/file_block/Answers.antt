@@ -1,0 +1,13 @@
+use Rattle.std.proofs.Common.{rules, ◌≡◌, ◌+◌, Some, ap, ◌∙◌, arith}
+use Rattle.mm_plain.specs.Areas.{block_at}
+use Rattle.mm_plain.specs.declared.areas.AreaPages.TheVariants.{Filed}
+use Rattle.mm_plain.proofs.OpenAreas.{in_file}
+use Rattle.mm_plain.proofs.areas.file_block.Goals as goal
+
+pub overflow_add-result : goal.overflow_add-result
+overflow_add-result c =
+    let f = c.in-Some-Filed in
+    let is : c.args.area.now ≡ Some (Filed f.first f.count) = search rules in
+    let there = ap (λ o. block_at o c.args.index) is ∙ in_file f.first f.count c.args.index c.if-index-count.true in
+    let small = c.requires.small (f.first + c.args.index) there in
+    omega (arith, small)

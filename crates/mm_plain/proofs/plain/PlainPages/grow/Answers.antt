@@ -1,0 +1,25 @@
+use Rattle.std.proofs.Common.{◌≡◌, ◌+◌, ℕ, None, ap, ◌∙◌}
+use Rattle.mm_types.specs.declared.moves.LineKind.TheVariants as kind
+use Rattle.mm_types.specs.Machine.{MachineOf}
+use Rattle.mm_world.specs.Processes.{with_slots}
+use Rattle.mm_pages.specs.Reports.{begun}
+use Rattle.mm_plain.specs.Plain.{store_in}
+use Rattle.mm_plain.proofs.Fitting.{more_slots}
+use Rattle.mm_plain.proofs.Stores.{grown}
+use Rattle.mm_plain.proofs.plain.PlainPages.grow.Goals as goal
+
+pub new-self-requires : goal.new-self-requires
+new-self-requires g c =
+    let s = c.args.self.now in
+    more_slots s.machine _ _ _ _ c.args.n s.numbers c.frames.ensures c.slots.ensures c.depth.ensures c.blocks-2.ensures c.requires.most
+
+pub returns-clause-ok : goal.returns-clause-ok
+returns-clause-ok g c =
+    let s = store_in c.args.self.now in
+    let m : MachineOf = s.machine in
+    let made : c.new-self.result ≡ with_slots m c.args.n =
+    c.new-self.ensures
+    ∙ (λ i. record { frames = c.frames.ensures i; slots = ap (λ (k : ℕ). k + c.args.n) c.slots.ensures i; depth = c.depth.ensures i; blocks = c.blocks-2.ensures i }) in
+    grown s (store_in c.begin.new.self) (with_slots m c.args.n) c.args.line (kind.Grow c.args.n)
+    (c.begin.ensures.store
+    ∙ ap (λ (x : MachineOf). record s { machine = x; line = c.args.line; kind = kind.Grow c.args.n; ready = None; report = begun s.report }) made)

@@ -1,0 +1,47 @@
+-- The pages of files in memory, and the writes of their blocks.
+use Rattle.std.specs.Prelude.{◌≡◌, ◌<◌, ◌≤◌, ◌⊎◌, ℕ, ◌+◌, ◌%◌, Bool, false, List, length, slice_get, Option, Some, None, unwrap_or}
+use Rattle.mm_types.specs.declared.devices.Direction.TheVariants as way
+use Rattle.mm_blocks.specs.declared.device_calls.DeviceCall.{DeviceCall}
+use Rattle.mm_blocks.specs.declared.device_calls.NamedCalls.{NamedCalls}
+use Rattle.mm_world.specs.Report.{Tally}
+use Rattle.mm_world.specs.World.{Page, filled}
+use Rattle.mm_pages.specs.Devices.{DeviceOf, Call, AllServed, tallied}
+use Rattle.mm_plain.specs.declared.file_pages.FilePage.{FilePage}
+
+-- a page of which each byte is this one, as its block has it
+abbrev pub made_page : ℕ → FilePage
+made_page byte = record { page = filled byte; changed = false }
+
+-- the pages of a new file: page i holds the byte `byte + i` throughout
+pub record IsMade (pages : List FilePage) (n byte : ℕ) : Type 0 where
+  pub long : length pages ≡ n
+  pub each : (i : ℕ) → i < n → slice_get pages i ≡ Some (made_page ((byte + i) % 256))
+
+-- the page of a block, and whether it was changed since the block was last written
+abbrev pub page_of : Option FilePage → Option Page
+page_of None = None
+page_of (Some page) = Some page.page
+
+abbrev pub changed_of : Option FilePage → Option Bool
+changed_of None = None
+changed_of (Some page) = Some page.changed
+
+abbrev pub page_in : List FilePage → ℕ → Page
+page_in pages block = unwrap_or (page_of (slice_get pages block)) (filled 0)
+
+-- what is kept of a device, beside its blocks
+abbrev pub device_with : Option (List DeviceCall) → List NamedCalls → ℕ → DeviceOf
+device_with log named faults = record { log = log; named = named; faults = faults }
+
+-- some writes of a device, one after another, and its tally with them
+pub record Wrote (old new : DeviceOf) (before after : Tally) : Type 0 where
+  pub calls : List Call
+  pub served : AllServed calls old new
+  pub counted : after ≡ tallied way.Write calls before
+  pub none_read : (reads : Tally) → tallied way.Read calls reads ≡ reads
+
+-- the first `count` of these pages stand in the blocks from `first` on, and each other block is as before
+pub record Stored (first count : ℕ) (pages : List FilePage) (old new : List Page) : Type 0 where
+  pub long : length new ≡ length old
+  pub done : (i : ℕ) (page : FilePage) → i < count → slice_get pages i ≡ Some page → slice_get new (first + i) ≡ Some page.page
+  pub others : (block : ℕ) → (block < first) ⊎ (first + count ≤ block) → slice_get new block ≡ slice_get old block

@@ -1,0 +1,202 @@
+ghost use Rattle.std.specs.Prelude.{◌≡◌, ◌+◌, ◌-◌, ◌<◌, ◌≤◌, ◌^◌, ◌==◌, ℕ, Some, None, IsSome, OnOk, OnErr, length, replicate, slice_set, unwrap_or, vec_len};
+ghost use Rattle.mm_world.specs.World.{filled};
+ghost use Rattle.mm_world.specs.Access.{written};
+ghost use Rattle.mm_pages.specs.Store.{changed};
+ghost use Rattle.mm_plain.specs.declared.areas.AreaPages.TheVariants.{Paged, Filed};
+
+use crate::boxes::PageBox;
+use crate::segments::Segment;
+use mm_types::{Area, NoMemory};
+use std::alloc::Global;
+
+/// The pages of an open area.
+#[derive(Drop)]
+pub(crate) enum AreaPages {
+    /// Of a page-file section.
+    Paged(Segment),
+    /// Of a file: its first block, and how many.
+    Filed(u32, u32),
+}
+
+/// The open areas, by number.
+#[derive(Drop)]
+pub(crate) struct Areas {
+    areas: Vec<Option<AreaPages>>,
+}
+
+ghost use Rattle.mm_plain.specs.Areas.{pages_of, page_at, block_at};
+
+/// The block of a page of a file; none where the area is no file or has fewer pages.
+#[tactic(auto, using(crate::proofs::OpenAreas::in_file))]
+fn file_block(area: &Option<AreaPages>, index: u32) -> Option<u32>
+    requires small { (block : ℕ) → block_at area.now index ≡ Some block → block < 2 ^ 32 }
+    ensures { result ≡ block_at area.now index }
+{
+    match area {
+        Some(AreaPages::Filed(first, count)) => {
+            if index < *count {
+                Some(*first + index)
+            } else {
+                None
+            }
+        }
+        _ => None,
+    }
+}
+
+/// A page of a page-file section comes to be.
+fn put_page(area: &mut Option<AreaPages>, index: u32, page: PageBox)
+    requires { index < length (pages_of area.old) }
+    ensures { area.new ≡ Some (Paged (slice_set (pages_of area.old) index (Some page))) }
+{
+    match area {
+        Some(AreaPages::Paged(segment)) => segment.put(index, page),
+        _ => unreachable!(),
+    }
+}
+
+/// A live page of a page-file section is no more; its box.
+fn take_page(area: &mut Option<AreaPages>, index: u32) -> PageBox
+    requires { IsSome (page_at area.old index) }
+    ensures page { page_at area.old index ≡ Some result }
+    ensures area { area.new ≡ Some (Paged (slice_set (pages_of area.old) index None)) }
+{
+    match area {
+        Some(AreaPages::Paged(segment)) => segment.take(index),
+        _ => unreachable!(),
+    }
+}
+
+/// Writes bytes from `off` on into a live page of a page-file section.
+fn write_page(area: &mut Option<AreaPages>, index: u32, off: u16, bytes: &[u8])
+    requires live { IsSome (page_at area.old index) }
+    requires inside { off + length bytes.now ≤ 4096 }
+    ensures { area.new ≡ Some (Paged (slice_set (pages_of area.old) index (Some (written (unwrap_or (page_at area.old index) (filled 0)) off bytes.now)))) }
+{
+    match area {
+        Some(AreaPages::Paged(segment)) => segment.write(index, off, bytes),
+        _ => unreachable!(),
+    }
+}
+
+impl Areas {
+    ghost use Rattle.mm_plain.specs.Areas.{area_in, no_area, size_of, count_of, count_in};
+
+    /// No area is open.
+    pub(crate) fn new(alloc: Global) -> Areas
+        ensures areas { area_in result ≡ no_area }
+        ensures count { count_in result ≡ 0 }
+    {
+        Areas {
+            areas: Vec::new(alloc),
+        }
+    }
+
+    /// Sees that an area of this number can be opened.
+    pub(crate) fn make_place(&mut self, area: Area) -> Result<(), NoMemory>
+        requires { area.0 < 2 ^ 28 }
+        ensures areas { area_in self.new ≡ area_in self.old }
+        ensures count { count_in self.new ≡ count_in self.old }
+        ensures place { OnOk result (area.0 < vec_len self.new.areas) }
+    {
+        for _ in self.areas.len()..area.0 as usize + 1 {
+            self.areas.push(None)?;
+        }
+        Ok(())
+    }
+
+    /// An area that is not open, and for which there is a place, has these pages from now on.
+    fn set(&mut self, area: Area, pages: Option<AreaPages>)
+        requires place { area.0 < vec_len self.old.areas }
+        ensures areas { area_in self.new ≡ changed ◌==◌ (area_in self.old) area.0 pages }
+        ensures count { count_in self.new + count_of (area_in self.old area.0) ≡ count_in self.old + count_of pages }
+        ensures place { vec_len self.new.areas ≡ vec_len self.old.areas }
+    {
+        self.areas[area.0 as usize] = pages;
+    }
+
+    /// Opens an area of `n` pages of a page-file section, of which none is live. After `NoMemory` nothing has changed.
+    pub(crate) fn open(&mut self, alloc: Global, area: Area, n: u32) -> Result<(), NoMemory>
+        requires few { area.0 < 2 ^ 28 }
+        requires new { area_in self.old area.0 ≡ None }
+        ensures ok { OnOk result (area_in self.new ≡ changed ◌==◌ (area_in self.old) area.0 (Some (Paged (replicate n None)))) }
+        ensures err { OnErr result (area_in self.new ≡ area_in self.old) }
+        ensures count { count_in self.new ≡ count_in self.old }
+    {
+        let pages = Segment::new(alloc, n)?;
+        self.make_place(area)?;
+        self.set(area, Some(AreaPages::Paged(pages)));
+        Ok(())
+    }
+
+    /// Opens an area of the `n` pages of a file, in the blocks from `first` on. There is a place for it.
+    pub(crate) fn open_file(&mut self, area: Area, first: u32, n: u32)
+        requires place { area.0 < vec_len self.old.areas }
+        requires new { area_in self.old area.0 ≡ None }
+        ensures areas { area_in self.new ≡ changed ◌==◌ (area_in self.old) area.0 (Some (Filed first n)) }
+        ensures count { count_in self.new ≡ count_in self.old }
+    {
+        self.set(area, Some(AreaPages::Filed(first, n)));
+    }
+
+    /// Closes an area of which no page is live.
+    pub(crate) fn close(&mut self, area: Area)
+        requires open { IsSome (area_in self.old area.0) }
+        requires dead { count_of (area_in self.old area.0) ≡ 0 }
+        ensures areas { area_in self.new ≡ changed ◌==◌ (area_in self.old) area.0 None }
+        ensures count { count_in self.new ≡ count_in self.old }
+    {
+        self.set(area, None);
+    }
+
+    /// The block of a page of a file; none where the area is no file or has fewer pages.
+    pub(crate) fn block(&self, area: Area, index: u32) -> Option<u32>
+        requires small { (block : ℕ) → block_at (area_in self.now area.0) index ≡ Some block → block < 2 ^ 32 }
+        ensures { result ≡ block_at (area_in self.now area.0) index }
+    {
+        match self.areas.get(area.0 as usize) {
+            Some(area) => file_block(area, index),
+            None => None,
+        }
+    }
+
+    /// A live page of a page-file section.
+    pub(crate) fn page(&self, area: Area, index: u32) -> &PageBox
+        requires { IsSome (page_at (area_in self.now area.0) index) }
+        ensures { page_at (area_in self.now area.0) index ≡ Some result.now }
+    {
+        match &self.areas[area.0 as usize] {
+            Some(AreaPages::Paged(segment)) => segment.page(index),
+            _ => unreachable!(),
+        }
+    }
+
+    /// A page of a page-file section comes to be.
+    pub(crate) fn put(&mut self, area: Area, index: u32, page: PageBox)
+        requires place { index < length (pages_of (area_in self.old area.0)) }
+        requires dead { page_at (area_in self.old area.0) index ≡ None }
+        ensures areas { area_in self.new ≡ changed ◌==◌ (area_in self.old) area.0 (Some (Paged (slice_set (pages_of (area_in self.old area.0)) index (Some page)))) }
+        ensures count { count_in self.new ≡ count_in self.old + 1 }
+    {
+        put_page(&mut self.areas[area.0 as usize], index, page);
+    }
+
+    /// A live page of a page-file section is no more; its box.
+    pub(crate) fn take(&mut self, area: Area, index: u32) -> PageBox
+        requires { IsSome (page_at (area_in self.old area.0) index) }
+        ensures areas { area_in self.new ≡ changed ◌==◌ (area_in self.old) area.0 (Some (Paged (slice_set (pages_of (area_in self.old area.0)) index None))) }
+        ensures count { count_in self.new + 1 ≡ count_in self.old }
+    {
+        take_page(&mut self.areas[area.0 as usize], index)
+    }
+
+    /// Writes bytes from `off` on into a live page of a page-file section.
+    pub(crate) fn write(&mut self, area: Area, index: u32, off: u16, bytes: &[u8])
+        requires live { IsSome (page_at (area_in self.old area.0) index) }
+        requires inside { off + length bytes.now ≤ 4096 }
+        ensures areas { area_in self.new ≡ changed ◌==◌ (area_in self.old) area.0 (Some (Paged (slice_set (pages_of (area_in self.old area.0)) index (Some (written (unwrap_or (page_at (area_in self.old area.0) index) (filled 0)) off bytes.now))))) }
+        ensures count { count_in self.new ≡ count_in self.old }
+    {
+        write_page(&mut self.areas[area.0 as usize], index, off, bytes);
+    }
+}

@@ -1,0 +1,99 @@
+ghost use Rattle.std.specs.Prelude.{◌≡◌, ◌<◌, ◌≤◌, ◌+◌, ◌^◌, ◌⊎◌, ℕ, OnOk, OnErr, is_ok, length, slice_get, slice_set};
+ghost use Rattle.mm_types.specs.Outside.{Rose};
+ghost use Rattle.mm_types.specs.declared.devices.Direction.TheVariants as way;
+ghost use Rattle.mm_blocks.specs.Traffic.{is_named};
+ghost use Rattle.mm_pages.specs.Devices.{Serves, with_outcome};
+ghost use Rattle.mm_pages.specs.Reports.{no_calls};
+ghost use Rattle.mm_plain.specs.Files.{device_with, Wrote, Stored};
+
+use crate::boxes::PageBox;
+use crate::file_pages::FilePages;
+use mm_blocks::Blocks;
+use mm_types::Failed;
+use std::marker::Model;
+
+/// How many writes of the file device succeeded, and how many failed, since the line began. Each count stands still at
+/// its type's end.
+#[derive(Drop)]
+pub(crate) struct Writes {
+    succeeded: u64,
+    failed: u64,
+}
+
+impl Model for Writes {
+    ghost use Rattle.mm_world.specs.Report.{Tally};
+
+    ghost Value = { Tally };
+
+    ghost view = { λ w. record { succeeded = w.succeeded; failed = w.failed } };
+}
+
+impl Writes {
+    /// None yet.
+    pub(crate) fn none() -> Writes
+        ensures { result ≡ no_calls }
+    {
+        Writes {
+            succeeded: 0,
+            failed: 0,
+        }
+    }
+
+    /// One more.
+    pub(crate) fn count(&mut self, succeeded: bool)
+        ensures { self.new ≡ with_outcome succeeded self.old }
+    {
+        if succeeded {
+            self.succeeded = self.succeeded.saturating_add(1);
+        } else {
+            self.failed = self.failed.saturating_add(1);
+        }
+    }
+}
+
+/// Writes a page to a block, and counts the write.
+pub(crate) fn write_block<F: Blocks>(
+    device: &mut F,
+    writes: &mut Writes,
+    block: u32,
+    page: &PageBox,
+) -> Result<(), Failed>
+    requires { block < length (F.blocks device.old) }
+    ensures ok { OnOk result (F.blocks device.new ≡ slice_set (F.blocks device.old) block page.now) }
+    ensures err { OnErr result (F.blocks device.new ≡ F.blocks device.old) }
+    ensures serves { Serves (record { way = way.Write; block = block; succeeded = is_ok result; named = is_named way.Write (F.named device.old) }) (device_with (F.log device.old) (F.named device.old) (F.faults device.old)) (device_with (F.log device.new) (F.named device.new) (F.faults device.new)) }
+    ensures writes { writes.new ≡ with_outcome (is_ok result) writes.old }
+    ensures later { F.faults device.old ≤ F.faults device.new }
+    ensures blamed { OnErr result (Rose (F.faults device.old) (F.faults device.new)) }
+    ensures loans { F.loans device.new ≡ F.loans device.old }
+{
+    let done = device.write(block, page.bytes());
+    writes.count(done.is_ok());
+    done
+}
+
+/// Writes the `n` pages of a new file to the blocks from `first` on, in order, up to the first write that fails.
+pub(crate) fn write_file<F: Blocks>(
+    device: &mut F,
+    writes: &mut Writes,
+    first: u32,
+    n: u32,
+    made: &FilePages,
+) -> Result<(), Failed>
+    requires pages { length made.now.pages.items ≡ n }
+    requires inside { first + n ≤ length (F.blocks device.old) }
+    requires few { length (F.blocks device.old) < 2 ^ 32 }
+    ensures ok { OnOk result (Stored first n made.now.pages.items (F.blocks device.old) (F.blocks device.new)) }
+    ensures long { length (F.blocks device.new) ≡ length (F.blocks device.old) }
+    ensures others { (block : ℕ) → (block < first) ⊎ (first + n ≤ block) → slice_get (F.blocks device.new) block ≡ slice_get (F.blocks device.old) block }
+    ensures wrote { Wrote (device_with (F.log device.old) (F.named device.old) (F.faults device.old)) (device_with (F.log device.new) (F.named device.new) (F.faults device.new)) writes.old writes.new }
+    ensures quiet { OnOk result (writes.new.failed ≡ writes.old.failed) }
+    ensures failed { OnErr result (0 < writes.new.failed) }
+    ensures blamed { OnErr result (Rose (F.faults device.old) (F.faults device.new)) }
+    ensures loans { F.loans device.new ≡ F.loans device.old }
+{
+    for i in 0..n {
+        write_block(device, writes, first + i, made.page(i))?;
+    }
+    Ok(())
+}

@@ -1,0 +1,62 @@
+-- The first line, and lines behind it.
+use Rattle.std.proofs.Common.{◌≡◌, ◌≢◌, ◌<◌, ◌≤◌, ℕ, zero, suc, ◌+◌, List, [], ◌∷◌, take, drop, length, refl, sym, ap, ◌∙◌, subst, arith}
+use Rattle.std.specs.Prelude.{Option, Some, None, MatchOption, Result, Ok, Err, Bool, true, false}
+use Rattle.mm_types.specs.Outside.{Appended}
+use Rattle.mm_types.specs.Spelling.{Text}
+use Rattle.mm_types.specs.AnswerText.{spelling}
+use Rattle.mm_lines.specs.Looking.{HasLine}
+use Rattle.mm_script.specs.declared.faults.LineFault.{LineFault}
+use Rattle.mm_script.specs.Grammar.{IsLine as IsLineFor}
+use Rattle.mm_script.specs.Reading.{parse}
+use Rattle.mm_types.specs.declared.events.Event.{Event}
+use Rattle.mm_types.specs.declared.answers.Answer.{Answer}
+use Rattle.mm_run.specs.declared.endings.Ending.{Ending}
+use Rattle.mm_run.specs.declared.endings.Ending.TheVariants as ending
+use Rattle.mm_run.specs.Built.{is_built}
+use Rattle.mm_run.specs.Reading.{reading, read_first, read_later, is_machine, is_machine_word, without_return}
+use Rattle.mm_run.specs.Scenes.{Scene, Stage, NotBegun, Running}
+use Rattle.mm_run.specs.Ends.{SameDevices, StandsAs}
+use Rattle.mm_run.specs.Steps.{IsDecided}
+use Rattle.mm_run.specs.Story.{Went, Came, TornText, outside, stand}
+use Rattle.mm_run.proofs.Stops.{went_to, came_torn}
+
+pub stands_here : (z : Scene) → StandsAs z (Running z)
+stands_here z = record { paging = refl; files = refl; blocks = refl }
+
+later_is : (b : Bool) (r : Result Event LineFault) (e : Event) → read_later b r ≡ Ok e → is_machine e ≡ false
+later_is b (Err f) e q = cc
+later_is b (Ok x) e q = elim (is_machine x) as (λ m. is_machine x ≡ m → is_machine e ≡ false) [
+  | true ↦ λ p. (let bad : Err 1 ≡ Ok e = rw p at q in cc)
+  | false ↦ λ p. (let good : Ok x ≡ Ok e = rw p at q in let same : x ≡ e = cc in ap is_machine (sym same) ∙ p)
+] refl
+
+-- no line but the first is a `machine` line
+pub later_machine : (n : ℕ) (text : Text) (e : Event) → 0 < n → reading n text ≡ Ok e → is_machine e ≡ false
+later_machine zero text e some q = absurd (omega arith)
+later_machine (suc n) text e some q = later_is (is_machine_word (without_return text)) (parse text) e q
+
+first_is : (b : Bool) (r : Result Event LineFault) (e : Event) → read_first b r ≡ Ok e → is_machine e ≡ true
+first_is b (Err f) e q = cc
+first_is b (Ok x) e q = elim (is_machine x) as (λ m. is_machine x ≡ m → is_machine e ≡ true) [
+  | true ↦ λ p. (let good : Ok x ≡ Ok e = rw p at q in let same : x ≡ e = cc in ap is_machine (sym same) ∙ p)
+  | false ↦ λ p. (let bad : Err 1 ≡ Ok e = rw p at q in cc)
+] refl
+
+pub first_machine : (text : Text) (e : Event) → reading 0 text ≡ Ok e → is_machine e ≡ true
+first_machine text e q = first_is (is_machine_word (without_return text)) (parse text) e q
+
+-- a decided line was answered, whole or torn
+module _ (held : Text) (len n : ℕ) (h : HasLine held len) (small : n < 1000000) (behind : length held < len + 1 + 4096) where
+  module _ (a t t' : Option Text) (w w' : Stage) (At : Stage → Type 0) (at : At w') (event : Event) (answer : Answer) (p : reading n (take len held) ≡ Ok event) (g : IsLineFor (take len held) event) (q : is_built event ≡ true) (s : IsDecided w event answer w') (held' : Text) (rest : held' ≡ drop (len + 1) held) where
+    pub told_went : Appended t t' (spelling answer) → Went (outside a t) (outside a t') (stand held n w) (stand held' (n + 1) w')
+    told_went u = went_to held len n h small behind a t t' w w' event answer p g q s held' (spelling answer) (spelling answer) rest refl refl u
+
+    pub told_came : (e : Ending) → e ≡ ending.OutFault → TornText t t' (spelling answer) → Came (outside a t) (outside a t') (stand held n w) e At
+    told_came e f u =
+        subst (λ (k : Ending). Came (outside a t) (outside a t') (stand held n w) k At) (sym f)
+        (came_torn held len n h small behind a t t' w w' event answer p g q s At u.front u.back at u.whole u.wrote)
+
+    pub told_either : (r : Option Ending) → MatchOption r (Appended t t' (spelling answer)) (λ e. (e ≡ ending.OutFault) × TornText t t' (spelling answer))
+        → MatchOption r (Went (outside a t) (outside a t') (stand held n w) (stand held' (n + 1) w')) (λ e. Came (outside a t) (outside a t') (stand held n w) e At)
+    told_either None u = told_went u
+    told_either (Some e) u = told_came e u.0 u.1

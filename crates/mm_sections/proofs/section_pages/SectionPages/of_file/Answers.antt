@@ -1,0 +1,10 @@
+use Rattle.std.proofs.Common.{ap, ◌∙◌, List, Option, Bool, true, Some, map}
+use Rattle.mm_world.specs.World.{AreaOf}
+use Rattle.mm_world.proofs.Natural.{map-replicate}
+use Rattle.mm_sections.specs.Pages.{page_if}
+use Rattle.mm_sections.proofs.section_pages.SectionPages.of_file.Goals as goal
+
+pub returns : goal.returns
+returns c =
+    let area : List (Option (Unit {0})) → AreaOf (Unit {0}) = λ pages. record { file_block = Some c.args.first.0; pages = pages } in
+    ap (λ (xs : List Bool). area (map page_if xs)) c.in_ok-new_pages.ensures ∙ ap area (map-replicate page_if c.args.pages true)

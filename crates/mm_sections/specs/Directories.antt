@@ -1,0 +1,57 @@
+-- The sections and the files of a machine.
+use Rattle.std.specs.Prelude.{ℕ, ◌+◌, ◌-◌, nat_lt, if◌then◌else◌, List, map, Option, Some, None, option_map}
+use Rattle.mm_sections.specs.declared.directories.Section.{Section}
+use Rattle.mm_types.specs.declared.numbers.SectionId.{SectionId}
+use Rattle.mm_types.specs.declared.numbers.Area.{Area}
+use Rattle.mm_types.specs.Spelling.{Text}
+use Rattle.mm_world.specs.World.{Numbered, SectionOf, FileOf}
+
+-- a section that lives, and how many handles and views refer to it
+pub record CountedSection : Type 0 where
+  pub section : SectionOf
+  pub handles : ℕ
+  pub views : ℕ
+
+pub record DirectoryOf : Type 0 where
+  pub entries : Numbered CountedSection
+  pub files : List FileOf
+  pub spare : ℕ  -- for how many sections and files there is room
+
+abbrev pub section_in : CountedSection → SectionOf
+section_in c = c.section
+
+-- the sections as a world has them
+abbrev pub sections_of : Numbered CountedSection → Numbered SectionOf
+sections_of entries = map (option_map section_in) entries
+
+-- what is told of a section
+abbrev pub told : CountedSection → Section
+told c = record { prot = record { 0 = c.section.prot }; area = record { 0 = c.section.area } }
+
+-- a section lives while a handle or a view refers to it, its name while a handle does
+abbrev pub settled_by : CountedSection → Option CountedSection
+settled_by c =
+    if nat_lt 0 c.handles then Some c
+    else if nat_lt 0 c.views then Some (record c { section = record (c.section) { name = None } })
+    else None
+
+abbrev pub new_entry : ℕ → Option Text → ℕ → CountedSection
+new_entry prot name area = record { section = record { prot = prot; name = name; area = area }; handles = 0; views = 0 }
+
+abbrev pub one_handle_more : CountedSection → CountedSection
+one_handle_more c = record c { handles = c.handles + 1 }
+
+abbrev pub one_view_more : CountedSection → CountedSection
+one_view_more c = record c { views = c.views + 1 }
+
+abbrev pub one_handle_less : CountedSection → CountedSection
+one_handle_less c = record c { handles = c.handles - 1 }
+
+abbrev pub one_view_less : CountedSection → CountedSection
+one_view_less c = record c { views = c.views - 1 }
+
+abbrev pub id_of : ℕ → SectionId
+id_of number = record { 0 = number }
+
+abbrev pub area_of : FileOf → Area
+area_of f = record { 0 = f.area }

@@ -1,0 +1,4 @@
+pub mod Handles
+pub mod Pages
+pub mod Directories
+pub mod Names

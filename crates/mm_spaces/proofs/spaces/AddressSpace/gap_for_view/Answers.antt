@@ -1,0 +1,10 @@
+use Rattle.mm_types.specs.Address.{page_of}
+use Rattle.mm_world.specs.Find.{ranges_of}
+use Rattle.mm_gaps.specs.Ranges.{range_at}
+use Rattle.mm_world.proofs.Spaces.{wanted_granule}
+use Rattle.mm_spaces.proofs.Gaps.{placed_gap}
+use Rattle.mm_spaces.proofs.spaces.AddressSpace.gap_for_view.Goals as goal
+
+pub returns-clause-free : goal.returns-clause-free
+returns-clause-free c =
+    placed_gap (ranges_of c.args.self.now.regions) c.args.addr (range_at (page_of c.args.addr) c.args.count) c.args.count c.placed.result c.requires.some c.requires.some (wanted_granule c.args.addr c.requires.granule) c.placed.ensures

@@ -1,0 +1,377 @@
+-- What is left of tables when a process loses references: at most one section and its area are other.
+use Rattle.std.proofs.Common.{◌≡◌, ◌≢◌, ◌⊎◌, inl, inr, ℕ, zero, suc, ◌+◌, ◌≤◌, ◌<◌, Bool, true, false, Option, Some, None, List, [], ◌∷◌, refl, sym, ◌∙◌, ap, subst, cond, arith, length, set, slice_get, is_some, ◌||◌, unwrap_or, count_by}
+use Rattle.std.specs.Prelude.{◌==◌}
+use Rattle.std.specs.List.{list_any}
+use Rattle.std.specs.Cmp.{unsigned_Decides}
+use Rattle.std.proofs.lemmas.List.{get_or-set_same, get_or-set_other}
+use Rattle.mm_types.proofs.Cells.{same_or_not}
+use Rattle.mm_world.specs.World.{WorldOf, ProcessOf, SectionOf, AreaOf, FileOf, Numbered, numbered}
+use Rattle.mm_world.specs.Find.{section_of, area_at, no_area, set_process}
+use Rattle.mm_world.specs.Sections.{holds, views, uses, settle, settled_section, settled_sections, settled_area, settled_areas}
+use Rattle.mm_world.specs.WellFormed.{Each}
+use Rattle.mm_world.proofs.Finding.{numbered_inside}
+use Rattle.mm_tables.specs.References.{IsTidy}
+use Rattle.mm_tables.specs.Endings.{ended_area}
+use Rattle.mm_tables.proofs.EndingKeys.{not_true}
+
+-- ---- lists
+
+or_right : (a b : Bool) → b ≡ true → (a || b) ≡ true
+or_right true b e = refl
+or_right false b e = e
+
+or_left : (a b : Bool) → a ≡ true → (a || b) ≡ true
+or_left true b e = refl
+or_left false b e = cc
+
+either : (a b : Bool) → (a || b) ≡ true → (a ≡ true) ⊎ (b ≡ true)
+either true b e = inl refl
+either false b e = inr e
+
+any_set : {A : Type 0} (test : A → Bool) (xs : List A) (i : ℕ) (y : A) → list_any test (set xs i y) ≡ true → (test y ≡ true) ⊎ (list_any test xs ≡ true)
+any_set test [] i y e = inr e
+any_set test (x ∷ xs) zero y e =
+    elim (either (test y) (list_any test xs) e) [
+      | inl h ↦ inl h
+      | inr h ↦ inr (or_right (test x) (list_any test xs) h)
+    ]
+any_set test (x ∷ xs) (suc i) y e =
+    elim (either (test x) (list_any test (set xs i y)) e) [
+      | inl h ↦ inr (or_left (test x) (list_any test xs) h)
+      | inr h ↦ elim (any_set test xs i y h) [ inl k ↦ inl k | inr k ↦ inr (or_right (test x) (list_any test xs) k) ]
+    ]
+
+any_set_same : {A : Type 0} (test : Option A → Bool) (xs : List (Option A)) (i : ℕ) (y : Option A) → test (numbered xs i) ≡ test y → list_any test (set xs i y) ≡ list_any test xs
+any_set_same test [] i y e = refl
+any_set_same test (x ∷ xs) zero y e = ap (λ b. b || list_any test xs) (sym e)
+any_set_same test (x ∷ xs) (suc i) y e = ap (λ b. test x || b) (any_set_same test xs i y e)
+
+pub any_numbered : {A : Type 0} (test : Option A → Bool) (xs : Numbered A) (i : ℕ) (x : A) → numbered xs i ≡ Some x → test (Some x) ≡ true → list_any test xs ≡ true
+any_numbered test [] i x there passes = cc
+any_numbered test (y ∷ xs) zero x there passes = ap (λ b. b || list_any test xs) (ap test there ∙ passes)
+any_numbered test (y ∷ xs) (suc i) x there passes = or_right (test y) (list_any test xs) (any_numbered test xs i x there passes)
+
+set_set : {A : Type 0} (xs : List A) (i : ℕ) (x y : A) → set (set xs i x) i y ≡ set xs i y
+set_set [] i x y = refl
+set_set (z ∷ xs) zero x y = refl
+set_set (z ∷ xs) (suc i) x y = ap (λ ys. z ∷ ys) (set_set xs i x y)
+
+some_get : {A : Type 0} (xs : List A) (i : ℕ) (d : A) → i < length xs → slice_get xs i ≡ Some (unwrap_or (slice_get xs i) d)
+some_get [] i d h = absurd (omega (arith, h))
+some_get (x ∷ xs) zero d h = refl
+some_get (x ∷ xs) (suc i) d h = some_get xs i d (omega (arith, h))
+
+-- which section uses an area
+pub record Uses (ss : Numbered SectionOf) (area : ℕ) : Type 0 where
+  pub number : ℕ
+  pub section : SectionOf
+  pub there : numbered ss number ≡ Some section
+  pub same_area : section.area ≡ area
+
+used_by : (ss : Numbered SectionOf) (area : ℕ) → list_any (uses area) ss ≡ true → Uses ss area
+used_by [] area e = cc
+used_by (None ∷ ss) area e = let u = used_by ss area e in record { number = suc u.number; section = u.section; there = u.there; same_area = u.same_area }
+used_by (Some s ∷ ss) area e =
+    elim (either (s.area == area) (list_any (uses area) ss) e) [
+      | inl h ↦ record { number = 0; section = s; there = refl; same_area = (unsigned_Decides s.area area).0 h }
+      | inr h ↦ (let u = used_by ss area h in record { number = suc u.number; section = u.section; there = u.there; same_area = u.same_area })
+    ]
+
+twice : (s : SectionOf) (h v g u : Bool) → (g ≡ true → h ≡ true) → (u ≡ true → v ≡ true) → (settle_by : Option SectionOf → Option SectionOf) → ((x : SectionOf) → settle_by (Some x) ≡ cond g (Some x) (cond u (Some (record x { name = None })) None)) → settle_by None ≡ None → settle_by (cond h (Some s) (cond v (Some (record s { name = None })) None)) ≡ cond g (Some s) (cond u (Some (record s { name = None })) None)
+twice s true v g u gh uv by at none = at s
+twice s false true true u gh uv by at none = absurd (let bad : false ≡ true = gh refl in cc)
+twice s false true false u gh uv by at none = at (record s { name = None })
+twice s false false true u gh uv by at none = absurd (let bad : false ≡ true = gh refl in cc)
+twice s false false false true gh uv by at none = absurd (let bad : false ≡ true = uv refl in cc)
+twice s false false false false gh uv by at none = none
+
+head_of : {A : Type 0} (x y : A) (xs ys : List A) → x ∷ xs ≡ y ∷ ys → x ≡ y
+head_of x y xs ys e = cc
+
+tail_of : {A : Type 0} (x y : A) (xs ys : List A) → x ∷ xs ≡ y ∷ ys → xs ≡ ys
+tail_of x y xs ys e = cc
+
+each_still : (P Q : FileOf → Type 0) (fs : List FileOf) → ((f : FileOf) → P f → Q f) → Each P fs → Each Q fs
+each_still P Q [] h k = tt
+each_still P Q (f ∷ fs) h k = (h f k.0, each_still P Q fs h k.1)
+
+module _ {B : Type 0} where
+  -- ---- settled once and again
+
+  -- the second processes have no reference that the first have not
+  pub record Takes (ps qs : List (Option (ProcessOf B))) : Type 0 where
+    pub held : (n : ℕ) → list_any (holds n) qs ≡ true → list_any (holds n) ps ≡ true
+    pub seen : (n : ℕ) → list_any (views n) qs ≡ true → list_any (views n) ps ≡ true
+
+  pub takes_same : (ps : List (Option (ProcessOf B))) → Takes ps ps
+  takes_same ps = record { held = λ n e. e; seen = λ n e. e }
+
+  pub takes_none : (ps : List (Option (ProcessOf B))) (pid : ℕ) → Takes ps (set ps pid None)
+  takes_none ps pid =
+      record {
+        held = λ n e. elim (any_set (holds n) ps pid None e) [ inl h ↦ cc | inr h ↦ h ];
+        seen = λ n e. elim (any_set (views n) ps pid None e) [ inl h ↦ cc | inr h ↦ h ];
+      }
+
+  section_twice : (ps qs : List (Option (ProcessOf B))) (n : ℕ) (s : Option SectionOf) → Takes ps qs → settled_section qs n (settled_section ps n s) ≡ settled_section qs n s
+  section_twice ps qs n None t = refl
+  section_twice ps qs n (Some s) t =
+      twice s (list_any (holds n) ps) (list_any (views n) ps) (list_any (holds n) qs) (list_any (views n) qs) (t.held n) (t.seen n) (settled_section qs n) (λ x. refl) refl
+
+  sections_twice : (ps qs : List (Option (ProcessOf B))) (k : ℕ) (ss : Numbered SectionOf) → Takes ps qs → settled_sections qs k (settled_sections ps k ss) ≡ settled_sections qs k ss
+  sections_twice ps qs k [] t = refl
+  sections_twice ps qs k (s ∷ ss) t = λ i. section_twice ps qs k s t i ∷ sections_twice ps qs (k + 1) ss t i
+
+  empty : (g : Bool) → cond g (no_area {B = B}) (no_area {B = B}) ≡ no_area
+  empty true = refl
+  empty false = refl
+
+  area_twice : (a : AreaOf B) (f b g : Bool) → (g ≡ true → b ≡ true) → (by : AreaOf B → AreaOf B) → by a ≡ cond (f || g) a no_area → by no_area ≡ no_area → by (cond (f || b) a no_area) ≡ cond (f || g) a no_area
+  area_twice a true b g up by at none = at
+  area_twice a false true g up by at none = at
+  area_twice a false false true up by at none = absurd (let bad : false ≡ true = up refl in cc)
+  area_twice a false false false up by at none = none
+
+  areas_twice : (ss us : Numbered SectionOf) (k : ℕ) (areas : List (AreaOf B)) → ((a : ℕ) → list_any (uses a) us ≡ true → list_any (uses a) ss ≡ true) → settled_areas us k (settled_areas ss k areas) ≡ settled_areas us k areas
+  areas_twice ss us k [] up = refl
+  areas_twice ss us k (a ∷ rest) up =
+      λ i. area_twice a (is_some a.file_block) (list_any (uses k) ss) (list_any (uses k) us) (up k) (settled_area us k) refl (empty (list_any (uses k) us)) i
+      ∷ areas_twice ss us (k + 1) rest up i
+
+  stayed : (ps : List (Option (ProcessOf B))) (n : ℕ) (s : Option SectionOf) (t : SectionOf) → settled_section ps n s ≡ Some t → (x : SectionOf) × (s ≡ Some x) × (t.area ≡ x.area)
+  stayed ps n None t e = cc
+  stayed ps n (Some s) t e = by_tests (list_any (holds n) ps) (list_any (views n) ps) e
+    where
+      by_tests : (b c : Bool) → cond b (Some s) (cond c (Some (record s { name = None })) None) ≡ Some t → (x : SectionOf) × (Some s ≡ Some x) × (t.area ≡ x.area)
+      by_tests true c e = (s, refl, (let same : s ≡ t = cc in ap (λ (s : SectionOf). s.area) (sym same)))
+      by_tests false true e = (s, refl, (let same : record s { name = None } ≡ t = cc in ap (λ (s : SectionOf). s.area) (sym same)))
+      by_tests false false e = cc
+
+  pub at_section : (ps : List (Option (ProcessOf B))) (k n : ℕ) (ss : Numbered SectionOf) → numbered (settled_sections ps k ss) n ≡ settled_section ps (k + n) (numbered ss n)
+  at_section ps k n [] = refl
+  at_section ps k zero (s ∷ ss) = ap (λ (n : ℕ). settled_section ps n s) (let same : k ≡ k + 0 = omega arith in same)
+  at_section ps k (suc n) (s ∷ ss) = at_section ps (k + 1) n ss ∙ ap (λ (m : ℕ). settled_section ps m (numbered ss n)) (let same : k + 1 + n ≡ k + suc n = omega arith in same)
+
+  pub at_area : (ss : Numbered SectionOf) (k m : ℕ) (areas : List (AreaOf B)) → unwrap_or (slice_get (settled_areas ss k areas) m) no_area ≡ settled_area ss (k + m) (unwrap_or (slice_get areas m) no_area)
+  at_area ss k m [] = sym (empty (is_some (no_area {B = B}).file_block || list_any (uses (k + m)) ss))
+  at_area ss k zero (a ∷ rest) = ap (λ (n : ℕ). settled_area ss n a) (let same : k ≡ k + 0 = omega arith in same)
+  at_area ss k (suc m) (a ∷ rest) = at_area ss (k + 1) m rest ∙ ap (λ (n : ℕ). settled_area ss n (unwrap_or (slice_get rest m) no_area)) (let same : k + 1 + m ≡ k + suc m = omega arith in same)
+
+  -- the section that stands after settling stood before
+  pub stood : (ps : List (Option (ProcessOf B))) (ss : Numbered SectionOf) (n : ℕ) (t : SectionOf) → numbered (settled_sections ps 0 ss) n ≡ Some t → (x : SectionOf) × (numbered ss n ≡ Some x) × (t.area ≡ x.area)
+  stood ps ss n t e = stayed ps n (numbered ss n) t (sym (at_section ps 0 n ss ∙ ap (λ (m : ℕ). settled_section ps m (numbered ss n)) (let same : 0 + n ≡ n = omega arith in same)) ∙ e)
+
+  uses_less : (ps : List (Option (ProcessOf B))) (ss : Numbered SectionOf) (a : ℕ) → list_any (uses a) (settled_sections ps 0 ss) ≡ true → list_any (uses a) ss ≡ true
+  uses_less ps ss a e =
+      let u = used_by (settled_sections ps 0 ss) a e in
+      let x = stood ps ss u.number u.section u.there in
+      any_numbered (uses a) ss u.number x.0 x.1 ((unsigned_Decides x.0.area a).1 (sym x.2 ∙ u.same_area))
+
+  pub settle_twice : (w : WorldOf B) (qs : List (Option (ProcessOf B))) → Takes w.processes qs → settle (record (settle w) { processes = qs }) ≡ settle (record w { processes = qs })
+  settle_twice w qs t =
+      let one = settled_sections w.processes 0 w.sections in
+      let same : settled_sections qs 0 one ≡ settled_sections qs 0 w.sections = sections_twice w.processes qs 0 w.sections t in
+      let areas : settled_areas (settled_sections qs 0 one) 0 (settled_areas one 0 w.areas) ≡ settled_areas (settled_sections qs 0 one) 0 w.areas =
+      areas_twice one (settled_sections qs 0 one) 0 w.areas (uses_less qs one) in
+      let whole : settled_areas (settled_sections qs 0 one) 0 (settled_areas one 0 w.areas) ≡ settled_areas (settled_sections qs 0 w.sections) 0 w.areas =
+      areas ∙ ap (λ (ss : Numbered SectionOf). settled_areas ss 0 w.areas) same in
+      λ i. record w { processes = qs; sections = same i; areas = whole i }
+
+  pub settled_again : (w : WorldOf B) → settle (settle w) ≡ settle w
+  settled_again w = settle_twice w w.processes (takes_same w.processes)
+
+  -- an end that follows a step comes to the same as the end alone
+  pub ends_same : (u : WorldOf B) (pid : ℕ) (q : Option (ProcessOf B)) → settle (set_process (settle (set_process u pid q)) pid None) ≡ settle (set_process u pid None)
+  ends_same u pid q =
+      settle_twice (set_process u pid q) (set (set u.processes pid q) pid None) (takes_none (set u.processes pid q) pid)
+      ∙ ap (λ (ps : List (Option (ProcessOf B))). settle (record u { processes = ps })) (set_set u.processes pid q None)
+
+  pub ends_after : (u : WorldOf B) (pid : ℕ) (q : Option (ProcessOf B)) → settle (set_process (set_process u pid q) pid None) ≡ settle (set_process u pid None)
+  ends_after u pid q = ap (λ (ps : List (Option (ProcessOf B))). settle (record u { processes = ps })) (set_set u.processes pid q None)
+
+  -- ---- one section less
+
+  abbrev SameBits : ℕ → List (Option (ProcessOf B)) → List (Option (ProcessOf B)) → Type 0
+  SameBits n ps qs = (list_any (holds n) qs ≡ list_any (holds n) ps) × (list_any (views n) qs ≡ list_any (views n) ps)
+
+  section_same : (ps qs : List (Option (ProcessOf B))) (n : ℕ) (s : Option SectionOf) → SameBits n ps qs → settled_section qs n s ≡ settled_section ps n s
+  section_same ps qs n None h = refl
+  section_same ps qs n (Some s) h = λ i. cond (h.0 i) (Some s) (cond (h.1 i) (Some (record s { name = None })) None)
+
+  sections_same : (ps qs : List (Option (ProcessOf B))) (k : ℕ) (ss : Numbered SectionOf) → settled_sections ps k ss ≡ ss → ((n : ℕ) → k ≤ n → SameBits n ps qs) → settled_sections qs k ss ≡ ss
+  sections_same ps qs k [] e h = refl
+  sections_same ps qs k (s ∷ ss) e h =
+      let first : settled_section qs k s ≡ s = section_same ps qs k s (h k (omega arith)) ∙ head_of (settled_section ps k s) s (settled_sections ps (k + 1) ss) ss e in
+      let rest : settled_sections qs (k + 1) ss ≡ ss = sections_same ps qs (k + 1) ss (tail_of (settled_section ps k s) s (settled_sections ps (k + 1) ss) ss e) (λ n more. h n (omega (arith, more))) in
+      λ i. first i ∷ rest i
+
+  sections_put : (ps qs : List (Option (ProcessOf B))) (k m : ℕ) (ss : Numbered SectionOf) (s : SectionOf) → settled_sections ps k ss ≡ ss → ((n : ℕ) → n ≢ k + m → SameBits n ps qs) → numbered ss m ≡ Some s → settled_sections qs k ss ≡ set ss m (settled_section qs (k + m) (Some s))
+  sections_put ps qs k m [] s e h there = cc
+  sections_put ps qs k zero (x ∷ ss) s e h there =
+      let at : k ≡ k + 0 = omega arith in
+      let first : settled_section qs k x ≡ settled_section qs (k + 0) (Some s) = λ i. settled_section qs (at i) (there i) in
+      let rest : settled_sections qs (k + 1) ss ≡ ss = sections_same ps qs (k + 1) ss (tail_of (settled_section ps k x) x (settled_sections ps (k + 1) ss) ss e) (λ n more. h n (λ same. absurd (omega (arith, more, same)))) in
+      λ i. first i ∷ rest i
+  sections_put ps qs k (suc m) (x ∷ ss) s e h there =
+      let at : k + 1 + m ≡ k + suc m = omega arith in
+      let first : settled_section qs k x ≡ x = section_same ps qs k x (h k (λ same. absurd (omega (arith, same)))) ∙ head_of (settled_section ps k x) x (settled_sections ps (k + 1) ss) ss e in
+      let rest : settled_sections qs (k + 1) ss ≡ set ss m (settled_section qs (k + suc m) (Some s)) =
+      sections_put ps qs (k + 1) m ss s (tail_of (settled_section ps k x) x (settled_sections ps (k + 1) ss) ss e) (λ n other. h n (λ same. other (same ∙ sym at))) there
+      ∙ ap (λ (n : ℕ). set ss m (settled_section qs n (Some s))) at in
+      λ i. first i ∷ rest i
+
+  area_same : (ss us : Numbered SectionOf) (n : ℕ) (a : AreaOf B) → list_any (uses n) us ≡ list_any (uses n) ss → settled_area us n a ≡ settled_area ss n a
+  area_same ss us n a h = λ i. cond (is_some a.file_block || h i) a no_area
+
+  areas_same : (ss us : Numbered SectionOf) (k : ℕ) (areas : List (AreaOf B)) → settled_areas ss k areas ≡ areas → ((n : ℕ) → k ≤ n → list_any (uses n) us ≡ list_any (uses n) ss) → settled_areas us k areas ≡ areas
+  areas_same ss us k [] e h = refl
+  areas_same ss us k (a ∷ rest) e h =
+      let first : settled_area us k a ≡ a = area_same ss us k a (h k (omega arith)) ∙ head_of (settled_area ss k a) a (settled_areas ss (k + 1) rest) rest e in
+      let later : settled_areas us (k + 1) rest ≡ rest = areas_same ss us (k + 1) rest (tail_of (settled_area ss k a) a (settled_areas ss (k + 1) rest) rest e) (λ n more. h n (omega (arith, more))) in
+      λ i. first i ∷ later i
+
+  areas_put : (ss us : Numbered SectionOf) (k m : ℕ) (areas : List (AreaOf B)) (a : AreaOf B) → settled_areas ss k areas ≡ areas → ((n : ℕ) → n ≢ k + m → list_any (uses n) us ≡ list_any (uses n) ss) → slice_get areas m ≡ Some a → settled_areas us k areas ≡ set areas m (settled_area us (k + m) a)
+  areas_put ss us k m [] a e h there = cc
+  areas_put ss us k zero (x ∷ rest) a e h there =
+      let at : k ≡ k + 0 = omega arith in
+      let same : x ≡ a = cc in
+      let first : settled_area us k x ≡ settled_area us (k + 0) a = λ i. settled_area us (at i) (same i) in
+      let later : settled_areas us (k + 1) rest ≡ rest = areas_same ss us (k + 1) rest (tail_of (settled_area ss k x) x (settled_areas ss (k + 1) rest) rest e) (λ n more. h n (λ same. absurd (omega (arith, more, same)))) in
+      λ i. first i ∷ later i
+  areas_put ss us k (suc m) (x ∷ rest) a e h there =
+      let at : k + 1 + m ≡ k + suc m = omega arith in
+      let first : settled_area us k x ≡ x = area_same ss us k x (h k (λ same. absurd (omega (arith, same)))) ∙ head_of (settled_area ss k x) x (settled_areas ss (k + 1) rest) rest e in
+      let later : settled_areas us (k + 1) rest ≡ set rest m (settled_area us (k + suc m) a) =
+      areas_put ss us (k + 1) m rest a (tail_of (settled_area ss k x) x (settled_areas ss (k + 1) rest) rest e) (λ n other. h n (λ same. other (same ∙ sym at))) there
+      ∙ ap (λ (n : ℕ). set rest m (settled_area us n a)) at in
+      λ i. first i ∷ later i
+
+  sections_of_tidy : (w : WorldOf B) → settle w ≡ w → settled_sections w.processes 0 w.sections ≡ w.sections
+  sections_of_tidy w e = ap (λ (w : WorldOf B). w.sections) e
+
+  areas_of_tidy : (w : WorldOf B) → settle w ≡ w → settled_areas w.sections 0 w.areas ≡ w.areas
+  areas_of_tidy w e = sym (ap (λ (ss : Numbered SectionOf). settled_areas ss 0 w.areas) (sections_of_tidy w e)) ∙ ap (λ (w : WorldOf B). w.areas) e
+
+  -- the processes lost references to one section alone
+  module _ (t : WorldOf B) (qs : List (Option (ProcessOf B))) (m : ℕ) (s : SectionOf) (tidy : IsTidy t) (there : section_of t m ≡ Some s) (inside : s.area < length t.areas) (others : (n : ℕ) → n ≢ m → (list_any (holds n) qs ≡ list_any (holds n) t.processes) × (list_any (views n) qs ≡ list_any (views n) t.processes)) where
+    no_longer_used : (area_at t s.area).file_block ≡ None → list_any (uses s.area) (set t.sections m None) ≡ false
+    no_longer_used paging =
+        not_true (list_any (uses s.area) (set t.sections m None)) (λ e.
+        let u = used_by (set t.sections m None) s.area e in
+        let inside_sections = numbered_inside t.sections m s there in
+        let cases : (u.number ≡ m) ⊎ (u.number ≢ m) = same_or_not u.number m in
+        elim cases [
+          | inl same ↦
+              (let gone : numbered (set t.sections m None) m ≡ None = get_or-set_same t.sections m None None inside_sections in
+              let here : numbered (set t.sections m None) m ≡ Some u.section = ap (λ (n : ℕ). numbered (set t.sections m None) n) (sym same) ∙ u.there in
+              let bad : ◌≡◌ {A = Option SectionOf} None (Some u.section) = sym gone ∙ here in
+              absurd (cc))
+          | inr other ↦
+              (let was : section_of t u.number ≡ Some u.section = sym (get_or-set_other t.sections m u.number None None other) ∙ u.there in
+              absurd (other (tidy.own_area u.number m u.section s was there u.same_area (ap (λ (a : ℕ). (area_at t a).file_block) u.same_area ∙ paging))))
+        ])
+
+    area_ends : settled_area (set t.sections m None) s.area (area_at t s.area) ≡ ended_area (area_at t s.area)
+    area_ends = by_file (area_at t s.area).file_block refl
+      where
+        by_file : (f : Option ℕ) → (area_at t s.area).file_block ≡ f → settled_area (set t.sections m None) s.area (area_at t s.area) ≡ ended_area (area_at t s.area)
+        by_file None e =
+            ap (λ b. cond (is_some (area_at t s.area).file_block || b) (area_at t s.area) no_area) (no_longer_used e)
+            ∙ or_none (is_some (area_at t s.area).file_block)
+          where
+            or_none : (b : Bool) → cond (b || false) (area_at t s.area) no_area ≡ cond b (area_at t s.area) no_area
+            or_none true = refl
+            or_none false = refl
+        by_file (Some first) e =
+            ap (λ (f : Option ℕ). cond (is_some f || list_any (uses s.area) (set t.sections m None)) (area_at t s.area) no_area) e
+            ∙ sym (ap (λ (f : Option ℕ). cond (is_some f) (area_at t s.area) no_area) e)
+
+    used_same : (n : ℕ) (o : Option SectionOf) → uses n (Some s) ≡ uses n o → list_any (uses n) (set t.sections m o) ≡ list_any (uses n) t.sections
+    used_same n o e = any_set_same (uses n) t.sections m o (ap (uses n) there ∙ e)
+
+    areas_by : (o : Option SectionOf) → ((x : SectionOf) → o ≡ Some x → x.area ≡ s.area) → settled_areas (set t.sections m o) 0 t.areas ≡ cond (is_some o) t.areas (set t.areas s.area (ended_area (area_at t s.area)))
+    areas_by None same =
+        let zero_more : 0 + s.area ≡ s.area = omega arith in
+        areas_put t.sections (set t.sections m None) 0 s.area t.areas (area_at t s.area) (areas_of_tidy t tidy.settled)
+        (λ n other. used_same n None (not_true (s.area == n) (λ e. other (sym ((unsigned_Decides s.area n).0 e) ∙ sym zero_more))))
+        (some_get t.areas s.area no_area inside)
+        ∙ ap (λ (n : ℕ). set t.areas s.area (settled_area (set t.sections m None) n (area_at t s.area))) zero_more
+        ∙ ap (λ (a : AreaOf B). set t.areas s.area a) area_ends
+    areas_by (Some x) same =
+        areas_same t.sections (set t.sections m (Some x)) 0 t.areas (areas_of_tidy t tidy.settled) (λ n low. used_same n (Some x) (ap (λ (a : ℕ). a == n) (sym (same x refl))))
+
+    pub settle_put : settle (record t { processes = qs }) ≡ record t { processes = qs; sections = set t.sections m (settled_section qs m (Some s)); areas = cond (is_some (settled_section qs m (Some s))) t.areas (set t.areas s.area (ended_area (area_at t s.area))) }
+    settle_put =
+        let at : 0 + m ≡ m = omega arith in
+        let sections : settled_sections qs 0 t.sections ≡ set t.sections m (settled_section qs m (Some s)) =
+        sections_put t.processes qs 0 m t.sections s (sections_of_tidy t tidy.settled) (λ n other. others n (λ same. other (same ∙ sym at))) there
+        ∙ ap (λ (n : ℕ). set t.sections m (settled_section qs n (Some s))) at in
+        let areas : settled_areas (settled_sections qs 0 t.sections) 0 t.areas ≡ cond (is_some (settled_section qs m (Some s))) t.areas (set t.areas s.area (ended_area (area_at t s.area))) =
+        ap (λ (ss : Numbered SectionOf). settled_areas ss 0 t.areas) sections
+        ∙ areas_by (settled_section qs m (Some s)) (λ x e. let was = stayed qs m (Some s) x e in was.2 ∙ (let same : was.0 ≡ s = sym (let back : s ≡ was.0 = (let both : Some s ≡ Some was.0 = was.1 in cc) in back) in ap (λ (s : SectionOf). s.area) same)) in
+        λ i. record t { processes = qs; sections = sections i; areas = areas i }
+
+  -- no reference was lost
+  pub settle_same : (t : WorldOf B) (qs : List (Option (ProcessOf B))) → settle t ≡ t → ((n : ℕ) → (list_any (holds n) qs ≡ list_any (holds n) t.processes) × (list_any (views n) qs ≡ list_any (views n) t.processes)) → settle (record t { processes = qs }) ≡ record t { processes = qs }
+  settle_same t qs tidy same =
+      let sections : settled_sections qs 0 t.sections ≡ t.sections = sections_same t.processes qs 0 t.sections (sections_of_tidy t tidy) (λ n low. same n) in
+      let areas : settled_areas (settled_sections qs 0 t.sections) 0 t.areas ≡ t.areas = ap (λ (ss : Numbered SectionOf). settled_areas ss 0 t.areas) sections ∙ areas_of_tidy t tidy in
+      λ i. record t { processes = qs; sections = sections i; areas = areas i }
+
+  -- ---- tidy tables stay tidy
+
+  used_area : (ss : Numbered SectionOf) (a : ℕ) (area : AreaOf B) → list_any (uses a) ss ≡ true → settled_area ss a area ≡ area
+  used_area ss a area e = by_test (is_some area.file_block) (list_any (uses a) ss) e
+    where
+      by_test : (b c : Bool) → c ≡ true → cond (b || c) area no_area ≡ area
+      by_test true c e = refl
+      by_test false true e = refl
+      by_test false false e = cc
+
+  file_area : (ss : Numbered SectionOf) (a : ℕ) (area : AreaOf B) → is_some area.file_block ≡ true → settled_area ss a area ≡ area
+  file_area ss a area e = ap (λ b. cond (b || list_any (uses a) ss) area no_area) e
+
+  of_file : (ss : Numbered SectionOf) (a first : ℕ) (area : AreaOf B) → (settled_area ss a area).file_block ≡ Some first → settled_area ss a area ≡ area
+  of_file ss a first area e = by_test (is_some area.file_block || list_any (uses a) ss) e
+    where
+      by_test : (b : Bool) → (cond b area no_area).file_block ≡ Some first → cond b area no_area ≡ area
+      by_test true e = refl
+      by_test false e = cc
+
+  module _ (t : WorldOf B) (qs : List (Option (ProcessOf B))) (tidy : IsTidy t) where
+    new : WorldOf B
+    new = settle (record t { processes = qs })
+
+    area_is : (a : ℕ) → area_at (settle (record t { processes = qs })) a ≡ settled_area (settled_sections qs 0 t.sections) a (area_at t a)
+    area_is a = at_area (settled_sections qs 0 t.sections) 0 a t.areas ∙ ap (λ (n : ℕ). settled_area (settled_sections qs 0 t.sections) n (area_at t a)) (let same : 0 + a ≡ a = omega arith in same)
+
+    -- the area of a section that stands is as it was
+    area_of_section : (n : ℕ) (s : SectionOf) → section_of (settle (record t { processes = qs })) n ≡ Some s → area_at (settle (record t { processes = qs })) s.area ≡ area_at t s.area
+    area_of_section n s e =
+        area_is s.area ∙ used_area (settled_sections qs 0 t.sections) s.area (area_at t s.area) (any_numbered (uses s.area) (settled_sections qs 0 t.sections) n s e ((unsigned_Decides s.area s.area).1 refl))
+
+    pub tidy_settled : IsTidy (settle (record t { processes = qs }))
+    tidy_settled =
+        record {
+          settled = settled_again (record t { processes = qs });
+          own_area = λ n m s r e f same paging.
+              let x = stood qs t.sections n s e in
+              let y = stood qs t.sections m r f in
+              tidy.own_area n m x.0 y.0 x.1 y.1 (sym x.2 ∙ same ∙ y.2) (ap (λ (a : ℕ). (area_at t a).file_block) (sym x.2) ∙ ap (λ (a : AreaOf B). a.file_block) (sym (area_of_section n s e)) ∙ paging);
+          some = λ n s e.
+              let x = stood qs t.sections n s e in
+              subst (λ (a : AreaOf B). 1 ≤ length a.pages) (ap (λ (a : ℕ). area_at t a) (sym x.2) ∙ sym (area_of_section n s e)) (tidy.some n x.0 x.1);
+          files = λ area first e.
+              let same : area_at (settle (record t { processes = qs })) area ≡ area_at t area =
+              area_is area ∙ of_file (settled_sections qs 0 t.sections) area first (area_at t area) (ap (λ (a : AreaOf B). a.file_block) (sym (area_is area)) ∙ e) in
+              let f = tidy.files area first (ap (λ (a : AreaOf B). a.file_block) (sym same) ∙ e) in
+              let pages = ap (λ (a : AreaOf B). length a.pages) same in
+              record {
+                blocks = omega (arith, f.blocks, pages);
+                some = omega (arith, f.some, pages);
+                committed = subst (λ (a : AreaOf B). count_by is_some a.pages ≡ length a.pages) (sym same) f.committed;
+              };
+          file_areas = each_still (λ f. is_some (area_at t f.area).file_block ≡ true) (λ f. is_some (area_at (settle (record t { processes = qs })) f.area).file_block ≡ true) t.files
+              (λ f k. ap (λ (a : AreaOf B). is_some a.file_block) (area_is f.area ∙ file_area (settled_sections qs 0 t.sections) f.area (area_at t f.area) k) ∙ k) tidy.file_areas;
+          none_kept = tidy.none_kept;
+        }

@@ -1,0 +1,12 @@
+use Rattle.std.proofs.Common.{inr, ap, option_map}
+use Rattle.mm_tables.specs.Shown.{shown_process}
+use Rattle.mm_tables.proofs.closings.unmap_in.Goals as goal
+
+pub marked-marked-requires : goal.marked-marked-requires
+marked-marked-requires g c = record { inside = (c.requires.around (shown_process c.in-Some.process) (ap (option_map shown_process) c.in-Some.is)) }
+
+pub release_pages-requires-clause-can : goal.release_pages-requires-clause-can
+release_pages-requires-clause-can g c = c.requires.can (shown_process c.in-Some.process) (ap (option_map shown_process) c.in-Some.is)
+
+pub remove-requires : goal.remove-requires
+remove-requires g c = record { there = (inr (c.requires.there (shown_process c.in-Some.process) (ap (option_map shown_process) c.in-Some.is))) }

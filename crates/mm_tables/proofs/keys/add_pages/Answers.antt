@@ -1,0 +1,25 @@
+use Rattle.std.proofs.Common.{◌≡◌, ℕ, ◌+◌, ◌<◌, ◌∙◌, sym, ap, subst, arith}
+use Rattle.mm_types.specs.Address.{Range}
+use Rattle.mm_tables.specs.Ranges.{CanAdd, Adds, only}
+use Rattle.mm_tables.proofs.PageByPage.{can_add_next, adds_then}
+use Rattle.mm_tables.proofs.keys.add_pages.Goals as goal
+
+pub add_page-requires : goal.add_page-requires
+add_page-requires g c =
+    let first : c.range.inside.first ≡ c.args.range.first = ap (λ (r : Range). r.first) c.range.view_is in
+    let count : c.range.inside.count ≡ c.args.range.count = ap (λ (r : Range). r.count) c.range.view_is in
+    let few : c.loop-i.i < c.args.range.count = omega (arith, c.loop-i-test.true, count) in
+    record {
+      can = subst (λ (k : ℕ). CanAdd c.args.pid (only (k + c.loop-i.i)) c.args.space.now.regions (g.G.Pages.contents c.loop-i.g) (g.G.Pages.store c.loop-i.g)) (sym first)
+          (can_add_next c.args.pid c.args.range c.loop-i.i c.args.space.now.regions (g.G.Pages.contents c.args.g.now) (g.G.Pages.contents c.loop-i.g) (g.G.Pages.store c.args.g.now) (g.G.Pages.store c.loop-i.g) c.requires.can few c.loop-i.invariant.adds);
+    }
+
+pub loop-i-preserved : goal.loop-i-preserved
+loop-i-preserved g c =
+    let first : c.range.inside.first ≡ c.args.range.first = ap (λ (r : Range). r.first) c.range.view_is in
+    record {
+      adds = adds_then c.args.pid c.args.range c.loop-i.i (g.G.Pages.contents c.args.g.now) (g.G.Pages.contents c.loop-i.g) (g.G.Pages.contents c.add_page.new.g)
+          (g.G.Pages.store c.args.g.now) (g.G.Pages.store c.loop-i.g) (g.G.Pages.store c.add_page.new.g) c.loop-i.invariant.adds
+          (subst (λ (k : ℕ). Adds c.args.pid (only (k + c.loop-i.i)) (g.G.Pages.contents c.loop-i.g) (g.G.Pages.contents c.add_page.new.g) (g.G.Pages.store c.loop-i.g) (g.G.Pages.store c.add_page.new.g)) first c.add_page.ensures.adds);
+      loans = c.add_page.ensures.loans ∙ c.loop-i.invariant.loans;
+    }

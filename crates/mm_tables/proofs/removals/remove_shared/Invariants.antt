@@ -1,0 +1,9 @@
+use Rattle.std.proofs.Common.{◌≡◌}
+use Rattle.mm_tables.specs.Endings.{Gone, among, owned_among, shared_at, is_committed_in}
+use Rattle.mm_tables.proofs.removals.remove_shared.Given as goal
+
+abbrev pub invariant-loop-i : goal.invariant-loop-i
+invariant-loop-i g l = record {
+  gone : Gone (among (shared_at l.area) (is_committed_in l.fn.pages) l.i) (owned_among (is_committed_in l.fn.pages) l.i) (g.G.Pages.contents l.fn.g) (g.G.Pages.contents l.g) (g.G.Pages.store l.fn.g) (g.G.Pages.store l.g);
+  loans : g.G.Pages.loans l.g ≡ g.G.Pages.loans l.fn.g;
+}

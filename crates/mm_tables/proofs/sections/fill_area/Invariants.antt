@@ -1,0 +1,9 @@
+use Rattle.std.proofs.Common.{◌≡◌}
+use Rattle.mm_tables.specs.SectionSteps.{Fills}
+use Rattle.mm_tables.proofs.sections.fill_area.Given as goal
+
+abbrev pub invariant-loop-i : goal.invariant-loop-i
+invariant-loop-i g l = record {
+  fills : Fills l.area l.i (g.G.Pages.contents l.fn.g) (g.G.Pages.contents l.g) (g.G.Pages.store l.fn.g) (g.G.Pages.store l.g);
+  loans : g.G.Pages.loans l.g ≡ g.G.Pages.loans l.fn.g;
+}

@@ -1,0 +1,10 @@
+use Rattle.std.proofs.Common.{◌∙◌, ap}
+use Rattle.mm_sections.specs.Directories.{DirectoryOf, new_entry}
+use Rattle.mm_tables.proofs.SectionCounts.{handled_last}
+use Rattle.mm_tables.proofs.sections.list_section.Goals as goal
+
+pub returns-clause-entries : goal.returns-clause-entries
+returns-clause-entries c =
+    ap (λ (d : DirectoryOf). d.entries) c.add_handle.ensures
+    ∙ handled_last c.args.directory.now.entries c.add_section-id.new.self.entries (new_entry c.args.prot.0 c.args.name c.args.area.0) c.add_section-id.result.0
+    (ap (λ (d : DirectoryOf). d.entries) c.add_section-id.ensures.added) c.add_section-id.ensures.number

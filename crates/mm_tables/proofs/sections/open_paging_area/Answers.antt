@@ -1,0 +1,10 @@
+use Rattle.std.proofs.Common.{◌∙◌}
+use Rattle.mm_tables.proofs.SectionStore.{can_fill}
+use Rattle.mm_tables.proofs.sections.open_paging_area.Goals as goal
+
+pub fill_area-requires : goal.fill_area-requires
+fill_area-requires g c =
+    record {
+      can = can_fill c.args.area c.args.pages c.args.n c.args.total (g.G.Pages.contents c.args.g.now) (g.G.Pages.contents c.open_area.new.self) (g.G.Pages.store c.args.g.now) (g.G.Pages.store c.reserve.new.self) (g.G.Pages.store c.open_area.new.self)
+          (c.in_ok-open_area.ensures.contents ∙ c.in_ok-reserve.ensures.contents) c.in_ok-reserve.ensures.store c.in_ok-reserve.ensures.ok c.in_ok-open_area.ensures.ok c.requires.dead c.requires.within c.requires.keys c.requires.kind;
+    }

@@ -1,0 +1,11 @@
+use Rattle.std.proofs.Common.{◌∙◌, sym, ap}
+use Rattle.mm_tables.specs.Spaces.{regions_of}
+use Rattle.mm_tables.proofs.Filled.{can_fill}
+use Rattle.mm_tables.proofs.steps.make_region.Goals as goal
+
+pub fill_region-requires-clause-can : goal.fill_region-requires-clause-can
+fill_region-requires-clause-can g c commits =
+    can_fill c.args.pid c.args.range c.args.kind c.args.total (regions_of c.args.process.now) c.grow_for_region.new.space.regions
+    (g.G.Pages.contents c.args.g.now) (g.G.Pages.contents c.grow_for_region.new.g) (g.G.Pages.store c.args.g.now) (g.G.Pages.store c.grow_for_region.new.g)
+    c.requires.can c.in_ok-grow_for_region.ensures.stored c.in_ok-grow_for_region.ensures.counted c.in_ok-grow_for_region.ensures.room
+    (c.in_ok-grow_for_region.ensures.regions ∙ sym (ap regions_of c.in-Some.is)) commits

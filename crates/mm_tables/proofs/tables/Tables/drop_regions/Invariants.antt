@@ -1,0 +1,17 @@
+use Rattle.std.proofs.Common.{◌≡◌, true, is_some, Some, length}
+use Rattle.mm_world.specs.World.{ProcessOf}
+use Rattle.mm_world.specs.Find.{process_of}
+use Rattle.mm_tables.specs.Endings.{Toward, HasNoHandle}
+use Rattle.mm_tables.proofs.EndingFits.{regions_in}
+use Rattle.mm_tables.proofs.tables.Tables.drop_regions.Given as goal
+
+abbrev pub invariant-loop-info : goal.invariant-loop-info
+invariant-loop-info g l = record {
+  toward : Toward l.pid.0 l.fn.self l.self (g.G.Pages.contents l.fn.g) (g.G.Pages.contents l.g) (g.G.Pages.store l.fn.g) (g.G.Pages.store l.g);
+  lives : is_some (process_of l.self l.pid.0) ≡ true;
+  closed : (p : ProcessOf (Unit {0})) → process_of l.self l.pid.0 ≡ Some p → HasNoHandle p;
+  loans : g.G.Pages.loans l.g ≡ g.G.Pages.loans l.fn.g;
+}
+
+abbrev pub decreases-loop-info : goal.decreases-loop-info
+decreases-loop-info g l = length (regions_in l.self l.pid.0)

@@ -1,0 +1,21 @@
+use Rattle.std.proofs.Common.{None, sym, ◌∙◌, ap}
+use Rattle.mm_world.specs.Contents.{Tables}
+use Rattle.mm_world.specs.Find.{set_process}
+use Rattle.mm_world.specs.Sections.{settle}
+use Rattle.mm_tables.proofs.EndingFits.{less_then, beside_then, carries_less}
+use Rattle.mm_tables.proofs.EndingExits.{toward_then, none_waits}
+use Rattle.mm_tables.proofs.tables.Tables.end_process.Goals as goal
+
+pub returns-clause-ended : goal.returns-clause-ended
+returns-clause-ended g c =
+    let steps = toward_then c.args.pid.0 c.args.self.now c.close_handles.new.self c.drop_regions.new.self (g.G.Pages.contents c.args.g.now) (g.G.Pages.contents c.close_handles.new.g) (g.G.Pages.contents c.drop_regions.new.g) (g.G.Pages.store c.args.g.now) (g.G.Pages.store c.close_handles.new.g) (g.G.Pages.store c.drop_regions.new.g) c.close_handles.ensures.toward c.drop_regions.ensures.toward in
+    c.close_process.ensures.ended ∙ steps.same ∙ sym (ap (λ (w : Tables). settle (set_process w c.args.pid.0 None)) (none_waits c.args.self.now c.args.pid.0 c.close_handles.ensures.none_kept))
+
+pub returns-clause-settled : goal.returns-clause-settled
+returns-clause-settled g c =
+    let steps = toward_then c.args.pid.0 c.args.self.now c.close_handles.new.self c.drop_regions.new.self (g.G.Pages.contents c.args.g.now) (g.G.Pages.contents c.close_handles.new.g) (g.G.Pages.contents c.drop_regions.new.g) (g.G.Pages.store c.args.g.now) (g.G.Pages.store c.close_handles.new.g) (g.G.Pages.store c.drop_regions.new.g) c.close_handles.ensures.toward c.drop_regions.ensures.toward in
+    record {
+      fits = c.close_process.ensures.settled.fits;
+      carries = carries_less (g.G.Pages.contents c.args.g.now) (g.G.Pages.contents c.close_process.new.g) (less_then (g.G.Pages.contents c.args.g.now) (g.G.Pages.contents c.drop_regions.new.g) (g.G.Pages.contents c.close_process.new.g) steps.less c.close_process.ensures.less);
+      rest = beside_then (g.G.Pages.store c.args.g.now) (g.G.Pages.store c.drop_regions.new.g) (g.G.Pages.store c.close_process.new.g) steps.rest c.close_process.ensures.settled.rest;
+    }

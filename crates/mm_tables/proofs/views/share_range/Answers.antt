@@ -1,0 +1,16 @@
+use Rattle.std.proofs.Common.{◌∙◌, arith}
+use Rattle.mm_tables.proofs.ViewShares.{can_next, shares_then}
+use Rattle.mm_tables.proofs.views.share_range.Goals as goal
+
+pub share_page-requires-clause-can : goal.share_page-requires-clause-can
+share_page-requires-clause-can g c =
+    can_next c.args.area c.args.first c.loop-i.i c.args.pages.now (g.G.Pages.contents c.args.g.now) (g.G.Pages.contents c.loop-i.g) (g.G.Pages.store c.args.g.now) (g.G.Pages.store c.loop-i.g)
+    c.loop-i.invariant.shares c.args.count c.requires.can (omega (arith, c.loop-i-test.true))
+
+pub loop-i-preserved : goal.loop-i-preserved
+loop-i-preserved g c =
+    record {
+      shares = shares_then c.args.area c.args.first c.loop-i.i c.args.pages.now (g.G.Pages.contents c.args.g.now) (g.G.Pages.contents c.loop-i.g) (g.G.Pages.store c.args.g.now) (g.G.Pages.store c.loop-i.g)
+          c.loop-i.invariant.shares (g.G.Pages.contents c.share_page.new.g) (g.G.Pages.store c.share_page.new.g) (omega (arith, c.requires.can.inside, c.loop-i-test.true)) c.share_page.ensures.shares;
+      loans = c.share_page.ensures.loans ∙ c.loop-i.invariant.loans;
+    }

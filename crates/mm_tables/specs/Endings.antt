@@ -1,0 +1,161 @@
+-- Keys that are removed one after another, regions that are given up, and areas that end with their sections.
+use Rattle.std.specs.Prelude.{◌≡◌, ◌<◌, ℕ, zero, suc, ◌+◌, ◌-◌, Bool, true, false, ◌&&◌, ◌||◌, ◌==◌, if◌then◌else◌, is_some, Option, Some, None, List, length, count_by}
+use Rattle.mm_types.specs.declared.moves.LineKind.TheVariants as line_kind
+use Rattle.mm_types.specs.declared.numbers.Area.{Area}
+use Rattle.mm_types.specs.declared.numbers.Key.{Key}
+use Rattle.mm_types.specs.declared.numbers.Key.TheVariants as key
+use Rattle.mm_types.specs.declared.numbers.Pid.{Pid}
+use Rattle.mm_types.specs.declared.numbers.Place.{Place}
+use Rattle.mm_types.specs.Address.{Range, holds_page}
+use Rattle.mm_world.specs.World.{Page, AreaOf, RegionOf, ProcessOf, numbered}
+use Rattle.mm_world.specs.Find.{no_area, set_process}
+use Rattle.mm_world.specs.Keys.{own_page}
+use Rattle.mm_world.specs.Sections.{settle}
+use Rattle.mm_world.specs.Failure.{same_key}
+use Rattle.mm_world.specs.Contents.{Tables}
+use Rattle.mm_pages.specs.Store.{StoreOf, changed, own_key, is_place_in}
+use Rattle.mm_pages.specs.Reports.{rearranged}
+use Rattle.mm_pages.specs.Conditions.{AllBound, MayRemove, IsReleasing}
+use Rattle.mm_tables.specs.Fits.{Fits, beside}
+
+-- ---- keys
+
+-- one of those among the first `n` of these keys that are owned
+abbrev pub among : (ℕ → Key) → (ℕ → Bool) → ℕ → Key → Bool
+among at owned zero k = false
+among at owned (suc n) k = (owned n && same_key k (at n)) || among at owned n k
+
+-- how many of them there are
+abbrev pub owned_among : (ℕ → Bool) → ℕ → ℕ
+owned_among owned zero = 0
+owned_among owned (suc n) = owned_among owned n + (if owned n then 1 else 0)
+
+-- the keys that are held are live no more
+abbrev pub without : (Key → Bool) → (Key → Option Page) → Key → Option Page
+without held c k = if held k then None else c k
+
+abbrev pub without_paging : (Key → Bool) → (Key → Bool) → Key → Bool
+without_paging held f k = if held k then false else f k
+
+-- their own places name nothing
+abbrev pub without_names : (Key → Bool) → (Place → Option Key) → Place → Option Key
+without_names held names place = if held (own_key place) then None else names place
+
+-- a store after the keys that are held, `n` of them, were removed
+pub record Gone (held : Key → Bool) (n : ℕ) (c d : Key → Option Page) (s z : StoreOf) : Type 0 where
+  pub contents : d ≡ without held c
+  pub store : z ≡ record s {
+    names = without_names held s.names;
+    paging = without_paging held s.paging;
+    paging_keys = s.paging_keys - n;
+    report = rearranged s.report z.report;
+  }
+
+-- the key can be removed, if it is owned
+pub record CanGo (k : Key) (owned : Bool) (s : StoreOf) : Type 0 where
+  pub paging : owned ≡ true → s.paging k ≡ true
+  pub may : owned ≡ true → MayRemove s k
+
+-- the first `n` of these keys are others each, and can be removed where they are owned
+pub record CanGoAll (at : ℕ → Key) (owned : ℕ → Bool) (n : ℕ) (s : StoreOf) : Type 0 where
+  pub each : (i : ℕ) → i < n → CanGo (at i) (owned i) s
+  pub apart : (i j : ℕ) → i < j → same_key (at j) (at i) ≡ false
+
+abbrev pub own_at : Pid → ℕ → ℕ → Key
+own_at pid first i = key.Private pid (record { 0 = first + i })
+
+abbrev pub shared_at : Area → ℕ → Key
+shared_at area i = key.Shared area i
+
+abbrev pub is_owned_at : List (RegionOf (Unit {0})) → ℕ → ℕ → Bool
+is_owned_at regions first i = is_some (own_page regions (first + i))
+
+abbrev pub is_committed_in : AreaOf (Unit {0}) → ℕ → Bool
+is_committed_in a i = is_some (numbered a.pages i)
+
+-- ---- keys and places of a store that are no more
+
+-- keys that are live are as they were
+abbrev pub Less : (Key → Option Page) → (Key → Option Page) → Type 0
+Less c d = (k : Key) → is_some (d k) ≡ true → d k ≡ c k
+
+-- a store after the keys that are held, `n` of them live, and the places that were left
+pub record Lost (held : Key → Bool) (left : Place → Bool) (n : ℕ) (c d : Key → Option Page) (s z : StoreOf) : Type 0 where
+  pub live : (k : Key) → is_some (d k) ≡ (if held k then false else is_some (c k))
+  pub less : Less c d
+  pub paging : (k : Key) → z.paging k ≡ (if held k then false else s.paging k)
+  pub bound : (place : Place) → z.bound place ≡ (if left place then false else s.bound place)
+  pub names : (place : Place) (k : Key) → z.names place ≡ Some k → (s.names place ≡ Some k) × (left place ≡ false)
+  pub count : z.paging_keys ≡ s.paging_keys - n
+  pub open_same : z.is_open ≡ s.is_open
+  pub room : z.room ≡ s.room
+  pub rest : z ≡ beside s z
+
+-- a private key of one of the pages of a process
+abbrev pub is_key_in : Pid → Range → Key → Bool
+is_key_in pid range (key.Private p v) = (p.0 == pid.0) && holds_page range v.0
+is_key_in pid range (key.Shared area index) = false
+
+-- a key of a page of the area
+abbrev pub is_shared_in : ℕ → Key → Bool
+is_shared_in area (key.Private pid page) = false
+is_shared_in area (key.Shared a i) = a.0 == area
+
+abbrev pub nowhere : Place → Bool
+nowhere place = false
+
+-- ---- regions
+
+-- pages of a process can be given up: their keys are those of the regions
+pub record CanRelease (pid : Pid) (range : Range) (regions : List (RegionOf (Unit {0}))) (c : Key → Option Page) (s : StoreOf) : Type 0 where
+  pub live : (i : ℕ) → i < range.count → is_some (c (own_at pid range.first i)) ≡ is_owned_at regions range.first i
+  pub paging : (i : ℕ) → i < range.count → s.paging (own_at pid range.first i) ≡ is_owned_at regions range.first i
+  pub bound : AllBound s pid range true
+  pub unbinding : s.kind ≡ line_kind.Unbind pid
+
+pub record Released (pid : Pid) (range : Range) (regions : List (RegionOf (Unit {0}))) (c d : Key → Option Page) (s z : StoreOf) : Type 0 where
+  pub lost : Lost (is_key_in pid range) (is_place_in pid range) (owned_among (is_owned_at regions range.first) range.count) c d s z
+  pub areas : z.areas ≡ s.areas
+
+-- ---- areas
+
+-- an area whose section has ended: a file's stays
+abbrev pub ended_area : {B : Type 0} → AreaOf B → AreaOf B
+ended_area a = if is_some a.file_block then a else no_area
+
+-- an area of which this is the number can end: no place names a page of it
+pub record CanEnd (area : Area) (a : AreaOf (Unit {0})) (c : Key → Option Page) (s : StoreOf) : Type 0 where
+  pub live : (i : ℕ) → is_some (c (shared_at area i)) ≡ is_committed_in a i
+  pub paging : (i : ℕ) → s.paging (shared_at area i) ≡ is_committed_in a i
+  pub unnamed : (place : Place) (i : ℕ) → s.names place ≡ Some (shared_at area i) → ⊥
+  pub opened : is_some (s.areas area.0) ≡ true
+  pub releasing : IsReleasing s.kind
+
+-- a store after an area ended that is no file's
+pub record Emptied (area : Area) (a : AreaOf (Unit {0})) (c d : Key → Option Page) (s z : StoreOf) : Type 0 where
+  pub lost : Lost (is_shared_in area.0) nowhere (count_by is_some a.pages) c d s z
+  pub areas : z.areas ≡ changed ◌==◌ s.areas area.0 None
+
+-- ---- ends
+
+-- one step towards the end of a process: what stays when it has ended is the same
+pub record Toward (pid : ℕ) (t u : Tables) (c d : Key → Option Page) (s z : StoreOf) : Type 0 where
+  pub same : settle (set_process u pid None) ≡ settle (set_process t pid None)
+  pub fits : Fits u d z
+  pub less : Less c d
+  pub rest : z ≡ beside s z
+
+-- no handle of the process is open
+abbrev pub HasNoHandle : ProcessOf (Unit {0}) → Type 0
+HasNoHandle p = (place : ℕ) → numbered p.handles place ≡ None
+
+-- one handle is closed, and none opened
+pub record Closes (index : ℕ) (p q : ProcessOf (Unit {0})) : Type 0 where
+  pub at : numbered q.handles index ≡ None
+  pub still : (k : ℕ) → numbered p.handles k ≡ None → numbered q.handles k ≡ None
+  pub made : length q.handles ≡ length p.handles
+
+-- one region less
+pub record Fewer (p q : ProcessOf (Unit {0})) : Type 0 where
+  pub count : length q.regions + 1 ≡ length p.regions
+  pub same : q.handles ≡ p.handles

@@ -1,0 +1,11 @@
+pub mod References
+pub mod Sound
+pub mod Shown
+pub mod Fits
+pub mod Looks
+pub mod Ranges
+pub mod Effects
+pub mod Spaces
+pub mod SectionSteps
+pub mod Endings
+pub mod ViewChanges

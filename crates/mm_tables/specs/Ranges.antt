@@ -1,0 +1,94 @@
+-- A store with the private keys of a range of pages added or removed.
+use Rattle.std.specs.Prelude.{◌≡◌, ◌≤◌, ℕ, zero, suc, ◌+◌, ◌-◌, Bool, true, false, not, ◌&&◌, ◌==◌, if◌then◌else◌, is_some, Option, Some, None, unwrap_or, List}
+use Rattle.mm_types.specs.declared.numbers.Key.{Key}
+use Rattle.mm_types.specs.declared.numbers.Key.TheVariants as key
+use Rattle.mm_types.specs.declared.numbers.Pid.{Pid}
+use Rattle.mm_types.specs.declared.moves.LineKind.TheVariants as kind
+use Rattle.mm_types.specs.Address.{Range, holds_page}
+use Rattle.mm_world.specs.World.{Page, RegionOf, filled}
+use Rattle.mm_world.specs.Keys.{own_page}
+use Rattle.mm_pages.specs.Store.{StoreOf, changed_in, own_key}
+use Rattle.mm_pages.specs.Conditions.{AllBound, place_at}
+use Rattle.mm_pages.specs.Reports.{rearranged}
+
+-- a private key of one of the pages of a process
+abbrev pub is_key_in : Pid → Range → Key → Bool
+is_key_in pid range (key.Private p v) = (p.0 == pid.0) && holds_page range v.0
+is_key_in pid range (key.Shared area index) = false
+
+-- these pages of a process have a key: what was not live reads as zero
+abbrev pub added : Pid → Range → (Key → Option Page) → Key → Option Page
+added pid range contents k = if is_key_in pid range k then Some (unwrap_or (contents k) (filled 0)) else contents k
+
+-- these pages of a process have none
+abbrev pub removed : Pid → Range → (Key → Option Page) → Key → Option Page
+removed pid range contents k = if is_key_in pid range k then None else contents k
+
+-- of a function of keys, the value at these pages of a process set
+abbrev pub set_in : Pid → Range → (Key → Bool) → Bool → Key → Bool
+set_in pid range flags b k = if is_key_in pid range k then b else flags k
+
+-- how many of `count` numbers from `first` on pass the test
+abbrev pub passing : (ℕ → Bool) → ℕ → ℕ → ℕ
+passing test first zero = 0
+passing test first (suc count) = passing test first count + (if test (first + count) then 1 else 0)
+
+-- a page of a process has a key
+abbrev pub is_live : Pid → (Key → Option Page) → ℕ → Bool
+is_live pid contents page = is_some (contents (key.Private pid (record { 0 = page })))
+
+abbrev pub is_dead : Pid → (Key → Option Page) → ℕ → Bool
+is_dead pid contents page = not (is_live pid contents page)
+
+-- the store after the keys were added, `new` for its report alone
+abbrev pub with_keys : Pid → Range → ℕ → StoreOf → StoreOf → StoreOf
+with_keys pid range count old new =
+    record old {
+      paging = set_in pid range old.paging true;
+      paging_keys = old.paging_keys + count;
+      report = rearranged old.report new.report;
+    }
+
+-- the store after they were removed
+abbrev pub without_keys : Pid → Range → ℕ → StoreOf → StoreOf → StoreOf
+without_keys pid range count old new =
+    record old {
+      names = changed_in pid range old.names None;
+      paging = set_in pid range old.paging false;
+      paging_keys = old.paging_keys - count;
+      report = rearranged old.report new.report;
+    }
+
+-- keys can be added where these pages of a process, which regions have, hold none
+pub record CanAdd (pid : Pid) (range : Range) (regions : List (RegionOf (Unit {0}))) (c : Key → Option Page) (s : StoreOf) : Type 0 where
+  pub live : (page : ℕ) → holds_page range page ≡ true → is_live pid c page ≡ is_some (own_page regions page)
+  pub bound : AllBound s pid range true
+  pub named : (page : ℕ) → holds_page range page ≡ true → is_live pid c page ≡ false → s.names (place_at pid page) ≡ None
+  pub paging : (page : ℕ) → holds_page range page ≡ true → s.paging (own_key (place_at pid page)) ≡ is_live pid c page
+  pub room : s.paging_keys + passing (is_dead pid c) range.first range.count ≤ s.room
+  pub called : s.kind ≡ kind.Call
+
+-- those that these pages hold can be removed
+pub record CanRemove (pid : Pid) (range : Range) (regions : List (RegionOf (Unit {0}))) (c : Key → Option Page) (s : StoreOf) : Type 0 where
+  pub live : (page : ℕ) → holds_page range page ≡ true → is_live pid c page ≡ is_some (own_page regions page)
+  pub named : (page : ℕ) → holds_page range page ≡ true → is_live pid c page ≡ false → s.names (place_at pid page) ≡ None
+  pub paging : (page : ℕ) → holds_page range page ≡ true → s.paging (own_key (place_at pid page)) ≡ is_live pid c page
+  pub unbinding : s.kind ≡ kind.Unbind pid
+
+-- one page
+abbrev pub only : ℕ → Range
+only page = record { first = page; count = 1 }
+
+-- the first `n` pages of a range
+abbrev pub front : Range → ℕ → Range
+front range n = record { first = range.first; count = n }
+
+-- what adding keys comes to
+pub record Adds (pid : Pid) (range : Range) (c d : Key → Option Page) (s z : StoreOf) : Type 0 where
+  pub contents : d ≡ added pid range c
+  pub store : z ≡ with_keys pid range (passing (is_dead pid c) range.first range.count) s z
+
+-- what removing keys comes to
+pub record Removes (pid : Pid) (range : Range) (c d : Key → Option Page) (s z : StoreOf) : Type 0 where
+  pub contents : d ≡ removed pid range c
+  pub store : z ≡ without_keys pid range (passing (is_live pid c) range.first range.count) s z

@@ -1,0 +1,68 @@
+-- The steps in which a section is made: room for a handle, and the keys of a new area.
+use Rattle.std.specs.Prelude.{◌≡◌, ◌≤◌, ◌<◌, ℕ, ◌+◌, ◌-◌, Bool, true, false, ◌&&◌, ◌==◌, nat_le, nat_lt, if◌then◌else◌, List, Option, Some, None}
+use Rattle.mm_types.specs.declared.numbers.Area.{Area}
+use Rattle.mm_types.specs.declared.numbers.Key.{Key}
+use Rattle.mm_types.specs.declared.numbers.Key.TheVariants as key
+use Rattle.mm_types.specs.declared.moves.LineKind.TheVariants as kind
+use Rattle.mm_world.specs.World.{Page, numbered, filled}
+use Rattle.mm_pages.specs.Store.{StoreOf, changed}
+use Rattle.mm_pages.specs.Reports.{rearranged}
+use Rattle.mm_tables.specs.declared.tables.Process.{Process}
+
+-- ---- handles
+
+abbrev pub has_spare : Option Process → Bool
+has_spare None = false
+has_spare (Some p) = nat_le 1 p.handles.spare
+
+-- a handle can be given to the process without memory
+abbrev pub has_room : List (Option Process) → ℕ → Bool
+has_room processes pid = has_spare (numbered processes (pid - 1))
+
+-- ---- keys
+
+-- one of the first `n` pages of the area
+abbrev pub is_page_of : Area → ℕ → Key → Bool
+is_page_of area n (key.Private pid vpn) = false
+is_page_of area n (key.Shared a i) = (a.0 == area.0) && nat_lt i n
+
+-- these pages read as zero
+abbrev pub with_pages : Area → ℕ → (Key → Option Page) → Key → Option Page
+with_pages area n contents k = if is_page_of area n k then Some (filled 0) else contents k
+
+abbrev pub with_flags : Area → ℕ → (Key → Bool) → Key → Bool
+with_flags area n flags k = if is_page_of area n k then true else flags k
+
+-- the store after their keys were added, `new` for its report alone
+abbrev pub with_area_keys : Area → ℕ → StoreOf → StoreOf → StoreOf
+with_area_keys area n old new =
+    record old {
+      paging = with_flags area n old.paging;
+      paging_keys = old.paging_keys + n;
+      report = rearranged old.report new.report;
+    }
+
+-- the first `n` pages of an open area have no keys yet, and there is room for them
+pub record CanFill (area : Area) (n : ℕ) (c : Key → Option Page) (s : StoreOf) : Type 0 where
+  pub dead : (i : ℕ) → i < n → c (key.Shared area i) ≡ None
+  pub pages : ℕ
+  pub opened : s.areas area.0 ≡ Some pages
+  pub within : n ≤ pages
+  pub room : s.paging_keys + n ≤ s.room
+  pub called : s.kind ≡ kind.Call
+
+-- what adding them comes to
+pub record Fills (area : Area) (n : ℕ) (c d : Key → Option Page) (s z : StoreOf) : Type 0 where
+  pub contents : d ≡ with_pages area n c
+  pub store : z ≡ with_area_keys area n s z
+
+-- nothing but room was had
+pub record MoreRoom (c d : Key → Option Page) (s z : StoreOf) : Type 0 where
+  pub contents : d ≡ c
+  pub store : z ≡ record s { room = z.room }
+  pub later : s.room ≤ z.room
+
+-- an area was opened, and its first `n` pages have keys
+pub record Opens (area : Area) (pages n : ℕ) (c d : Key → Option Page) (s z : StoreOf) : Type 0 where
+  pub contents : d ≡ with_pages area n c
+  pub store : z ≡ record (with_area_keys area n s z) { areas = changed ◌==◌ s.areas area.0 (Some pages); room = z.room }

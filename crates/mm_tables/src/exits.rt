@@ -1,0 +1,168 @@
+ghost use Rattle.std.specs.Prelude.{◌≡◌, ◌≤◌, ◌<◌, ◌^◌, [], true, is_some, map, length, replicate, Some, None, IfSome, option_map, slice_get};
+ghost use Rattle.mm_types.specs.declared.moves.LineKind.TheVariants as line_kind;
+ghost use Rattle.mm_types.specs.Address.{end_of, end_of_user_pages};
+ghost use Rattle.mm_world.specs.World.{ProcessOf};
+ghost use Rattle.mm_world.specs.Find.{process_of, set_process};
+ghost use Rattle.mm_world.specs.Processes.{kept_of_others};
+ghost use Rattle.mm_world.specs.Sections.{settle};
+ghost use Rattle.mm_world.specs.Step.{threads};
+ghost use Rattle.mm_world.specs.WellFormed.{WellFormed};
+ghost use Rattle.mm_sections.specs.Handles.{held};
+ghost use Rattle.mm_spaces.specs.Tables.{info_of};
+ghost use Rattle.mm_tables.specs.References.{IsTidy};
+ghost use Rattle.mm_tables.specs.Shown.{shown_process};
+ghost use Rattle.mm_tables.specs.Fits.{Fits, Settled};
+ghost use Rattle.mm_tables.specs.Endings.{Less, Toward, Closes, Fewer, HasNoHandle};
+
+use crate::Tables;
+use crate::tables::Process;
+use mm_pages::Pages;
+use mm_spaces::RegionInfo;
+use mm_types::{Kind, Pid};
+
+/// The bytes of a page.
+const PAGE_BYTES: u32 = 4096;
+
+impl Tables {
+    /// A living process.
+    fn process(&self, pid: Pid) -> &Process
+        requires lives { is_some (process_of self.now pid.0) ≡ true }
+        ensures shown { (p : ProcessOf (Unit {0})) → process_of self.now pid.0 ≡ Some p → shown_process result.now ≡ p }
+        ensures sound { WellFormed self.now }
+        ensures tidy { IsTidy self.now }
+    {
+        match &self.processes[pid.0 as usize - 1] {
+            Some(process) => process,
+            None => unreachable!(),
+        }
+    }
+
+    /// Whether a living process has this handle.
+    fn has_handle(&self, pid: Pid, handle: u32) -> bool
+        requires lives { is_some (process_of self.now pid.0) ≡ true }
+        ensures held { (p : ProcessOf (Unit {0})) → process_of self.now pid.0 ≡ Some p → result ≡ is_some (held p.handles handle) }
+        ensures sound { WellFormed self.now }
+    {
+        self.process(pid).handles.section(handle).is_some()
+    }
+
+    /// One more than the handles that a living process was ever given.
+    fn handles_made(&self, pid: Pid) -> u32
+        requires lives { is_some (process_of self.now pid.0) ≡ true }
+        ensures made { (p : ProcessOf (Unit {0})) → process_of self.now pid.0 ≡ Some p → result ≡ length p.handles }
+        ensures few { result ≤ 2 ^ 28 }
+        ensures tidy { IsTidy self.now }
+    {
+        self.process(pid).handles.made()
+    }
+
+    /// The lowest region of a living process. None exactly where it has no region.
+    fn lowest(&self, pid: Pid) -> Option<RegionInfo>
+        requires lives { is_some (process_of self.now pid.0) ≡ true }
+        ensures found { (p : ProcessOf (Unit {0})) → process_of self.now pid.0 ≡ Some p → result ≡ option_map info_of (slice_get p.regions 0) }
+        ensures within { IfSome result (λ info. end_of info.pages ≤ end_of_user_pages) }
+    {
+        self.process(pid).space.lowest()
+    }
+
+    /// Closes the handle `4 * index` of a process, if it is open.
+    fn close_at<G: Pages>(&mut self, g: &mut G, pid: Pid, index: u32)
+        requires fits { Fits self.old (G.contents g.old) (G.store g.old) }
+        requires kind { (G.store g.old).kind ≡ line_kind.Unbind pid }
+        requires lives { is_some (process_of self.old pid.0) ≡ true }
+        requires few { index < 2 ^ 28 }
+        ensures toward { Toward pid.0 self.old self.new (G.contents g.old) (G.contents g.new) (G.store g.old) (G.store g.new) }
+        ensures lives { is_some (process_of self.new pid.0) ≡ true }
+        ensures closed { (p q : ProcessOf (Unit {0})) → process_of self.old pid.0 ≡ Some p → process_of self.new pid.0 ≡ Some q → Closes index p q }
+        ensures loans { G.loans g.new ≡ G.loans g.old }
+    {
+        let handle = 4 * index;
+        if self.has_handle(pid, handle) {
+            self.close_handle(g, pid, handle);
+        }
+    }
+
+    /// Closes all handles of a process, in rising order.
+    fn close_handles<G: Pages>(&mut self, g: &mut G, pid: Pid)
+        requires fits { Fits self.old (G.contents g.old) (G.store g.old) }
+        requires kind { (G.store g.old).kind ≡ line_kind.Unbind pid }
+        requires lives { is_some (process_of self.old pid.0) ≡ true }
+        ensures toward { Toward pid.0 self.old self.new (G.contents g.old) (G.contents g.new) (G.store g.old) (G.store g.new) }
+        ensures lives { is_some (process_of self.new pid.0) ≡ true }
+        ensures closed { (p : ProcessOf (Unit {0})) → process_of self.new pid.0 ≡ Some p → HasNoHandle p }
+        ensures none_kept { self.old.kept ≡ replicate threads None }
+        ensures loans { G.loans g.new ≡ G.loans g.old }
+    {
+        let made = self.handles_made(pid);
+        for index in 0..made {
+            self.close_at(g, pid, index);
+        }
+    }
+
+    /// Releases or unmaps the lowest region of a process, of which this is told.
+    fn drop_lowest<G: Pages>(&mut self, g: &mut G, pid: Pid, info: RegionInfo)
+        requires fits { Fits self.old (G.contents g.old) (G.store g.old) }
+        requires kind { (G.store g.old).kind ≡ line_kind.Unbind pid }
+        requires lives { is_some (process_of self.old pid.0) ≡ true }
+        requires there { (p : ProcessOf (Unit {0})) → process_of self.old pid.0 ≡ Some p → option_map info_of (slice_get p.regions 0) ≡ Some info }
+        requires within { end_of info.pages ≤ end_of_user_pages }
+        ensures toward { Toward pid.0 self.old self.new (G.contents g.old) (G.contents g.new) (G.store g.old) (G.store g.new) }
+        ensures lives { is_some (process_of self.new pid.0) ≡ true }
+        ensures fewer { (p q : ProcessOf (Unit {0})) → process_of self.old pid.0 ≡ Some p → process_of self.new pid.0 ≡ Some q → Fewer p q }
+        ensures loans { G.loans g.new ≡ G.loans g.old }
+    {
+        let range = info.pages;
+        match info.kind {
+            Kind::Private => self.release_lowest(g, pid, range),
+            Kind::View(view) => {
+                self.unmap_view(g, pid, range.first * PAGE_BYTES, range, view);
+            }
+        }
+    }
+
+    /// Releases and unmaps all regions of a process, from the lowest on.
+    fn drop_regions<G: Pages>(&mut self, g: &mut G, pid: Pid)
+        requires fits { Fits self.old (G.contents g.old) (G.store g.old) }
+        requires kind { (G.store g.old).kind ≡ line_kind.Unbind pid }
+        requires lives { is_some (process_of self.old pid.0) ≡ true }
+        requires closed { (p : ProcessOf (Unit {0})) → process_of self.old pid.0 ≡ Some p → HasNoHandle p }
+        ensures toward { Toward pid.0 self.old self.new (G.contents g.old) (G.contents g.new) (G.store g.old) (G.store g.new) }
+        ensures lives { is_some (process_of self.new pid.0) ≡ true }
+        ensures closed { (p : ProcessOf (Unit {0})) → process_of self.new pid.0 ≡ Some p → HasNoHandle p }
+        ensures empty { (p : ProcessOf (Unit {0})) → process_of self.new pid.0 ≡ Some p → p.regions ≡ [] }
+        ensures loans { G.loans g.new ≡ G.loans g.old }
+    {
+        while let Some(info) = self.lowest(pid) {
+            self.drop_lowest(g, pid, info);
+        }
+    }
+
+    /// Ends a process that has no handle and no region.
+    fn close_process<G: Pages>(&mut self, g: &mut G, pid: Pid)
+        requires fits { Fits self.old (G.contents g.old) (G.store g.old) }
+        requires lives { is_some (process_of self.old pid.0) ≡ true }
+        requires closed { (p : ProcessOf (Unit {0})) → process_of self.old pid.0 ≡ Some p → HasNoHandle p }
+        requires empty { (p : ProcessOf (Unit {0})) → process_of self.old pid.0 ≡ Some p → p.regions ≡ [] }
+        ensures ended { self.new ≡ settle (set_process self.old pid.0 None) }
+        ensures settled { Settled self.new (G.contents g.old) (G.contents g.new) (G.store g.old) (G.store g.new) }
+        ensures less { Less (G.contents g.old) (G.contents g.new) }
+        ensures loans { G.loans g.new ≡ G.loans g.old }
+    {
+        g.close_process(pid);
+        self.processes[pid.0 as usize - 1] = None;
+    }
+
+    /// Ends a living process: its handles are closed in rising order, then its regions unmapped or released from the lowest on.
+    pub fn end_process<G: Pages>(&mut self, g: &mut G, pid: Pid)
+        requires fits { Fits self.old (G.contents g.old) (G.store g.old) }
+        requires kind { (G.store g.old).kind ≡ line_kind.Unbind pid }
+        requires lives { is_some (process_of self.old pid.0) ≡ true }
+        ensures ended { self.new ≡ settle (set_process (record self.old { kept = map (kept_of_others pid.0) self.old.kept }) pid.0 None) }
+        ensures settled { Settled self.new (G.contents g.old) (G.contents g.new) (G.store g.old) (G.store g.new) }
+        ensures loans { G.loans g.new ≡ G.loans g.old }
+    {
+        self.close_handles(g, pid);
+        self.drop_regions(g, pid);
+        self.close_process(g, pid);
+    }
+}

@@ -1,0 +1,104 @@
+ghost use Rattle.std.specs.Prelude.{◌≡◌, ◌≤◌, ◌<◌, ◌+◌, ◌++◌, [], ◌∷◌, length, replicate, Some, None, find, bytes_eq, IsErrOf, IfOk, OnOk, OnErr, vec_len, vec_capacity};
+ghost use Rattle.mm_types.specs.declared.moves.LineKind.TheVariants as line_kind;
+ghost use Rattle.mm_types.specs.declared.faults.MakeFault.TheVariants as make_fault;
+ghost use Rattle.mm_types.specs.Outside.{Rose};
+ghost use Rattle.mm_world.specs.Contents.{blank};
+ghost use Rattle.mm_world.specs.Processes.{new_file};
+ghost use Rattle.mm_world.specs.Sections.{file_named};
+ghost use Rattle.mm_pages.specs.Store.{with_file};
+ghost use Rattle.mm_pages.specs.Reports.{Served};
+ghost use Rattle.mm_tables.specs.References.{IsFew};
+ghost use Rattle.mm_tables.specs.Fits.{Fits, beside_file};
+
+use crate::Tables;
+use mm_pages::Pages;
+use mm_sections::{Directory, SectionPages};
+use mm_types::{Area, Block, MakeFault, Name, NoMemory};
+use std::alloc::Global;
+
+/// What a file takes beside its blocks: room for it, and its control area.
+fn grow_for_file(
+    alloc: Global,
+    directory: &mut Directory,
+    areas: &mut Vec<SectionPages>,
+    first: Block,
+    pages: u32,
+) -> Result<SectionPages, NoMemory>
+    ensures made { IfOk result (λ a. a ≡ record { file_block = Some first.0; pages = replicate pages (Some tt) }) }
+    ensures entries { directory.new.entries ≡ directory.old.entries }
+    ensures files { directory.new.files ≡ directory.old.files }
+    ensures areas { areas.new.items ≡ areas.old.items }
+    ensures spare { OnOk result (1 ≤ directory.new.spare) }
+    ensures space { OnOk result (vec_len areas.new + 1 ≤ vec_capacity areas.new) }
+{
+    directory.reserve()?;
+    let made = SectionPages::of_file(alloc, first, pages)?;
+    areas.reserve(1)?;
+    Ok(made)
+}
+
+/// Lists a file of the next area. There is room for both.
+fn list_file(
+    directory: &mut Directory,
+    areas: &mut Vec<SectionPages>,
+    area: Area,
+    made: SectionPages,
+    name: Name,
+)
+    requires spare { 1 ≤ directory.old.spare }
+    requires space { vec_len areas.old + 1 ≤ vec_capacity areas.old }
+    requires unnamed { find (λ f. bytes_eq f.name name) directory.old.files ≡ None }
+    ensures entries { directory.new.entries ≡ directory.old.entries }
+    ensures files { directory.new.files ≡ directory.old.files ++ record { name = name; area = area.0 } ∷ [] }
+    ensures areas { areas.new.items ≡ areas.old.items ++ made ∷ [] }
+{
+    directory.add_file(name, area);
+    match areas.push(made) {
+        Ok(()) => {}
+        Err(_) => unreachable!(),
+    }
+}
+
+impl Tables {
+    /// Makes a file of `pages` pages in the lowest blocks that no file uses; no file has the name. Page i holds the byte `byte + i`
+    /// throughout. `Write` where a write of a block failed: then there is no file. After an error the tables are as before.
+    pub fn add_file<G: Pages>(
+        &mut self,
+        alloc: Global,
+        g: &mut G,
+        name: Name,
+        pages: u32,
+        byte: u8,
+    ) -> Result<(), MakeFault>
+        requires fits { Fits self.old (G.contents g.old) (G.store g.old) }
+        requires kind { (G.store g.old).kind ≡ line_kind.Call }
+        requires few { IsFew self.old }
+        requires some { 1 ≤ pages }
+        requires unnamed { file_named self.old name ≡ None }
+        requires room { self.old.blocks_used + pages ≤ self.old.machine.blocks }
+        ensures ok { OnOk result (self.new ≡ (new_file blank self.old name pages byte).world) }
+        ensures err { OnErr result (self.new ≡ self.old) }
+        ensures made { OnOk result (G.contents g.new ≡ with_file (length self.old.areas) pages byte (G.contents g.old)) }
+        ensures kept { OnErr result (G.contents g.new ≡ G.contents g.old) }
+        ensures fits { Fits self.new (G.contents g.new) (G.store g.new) }
+        ensures beside { G.store g.new ≡ beside_file (G.store g.old) (G.store g.new) }
+        ensures memory { IsErrOf result make_fault.Memory → G.store g.new ≡ G.store g.old }
+        ensures served { Served (G.store g.old) (G.store g.new) }
+        ensures quiet { OnOk result ((G.store g.new).report.file_writes.failed ≡ (G.store g.old).report.file_writes.failed) }
+        ensures failed { IsErrOf result make_fault.Write → 0 < (G.store g.new).report.file_writes.failed }
+        ensures blamed { IsErrOf result make_fault.Write → Rose (G.store g.old).file_device.faults (G.store g.new).file_device.faults }
+        ensures loans { G.loans g.new ≡ G.loans g.old }
+    {
+        let area = Area(self.areas.len() as u32);
+        let first = Block(self.blocks_used);
+        let grown = grow_for_file(alloc, &mut self.directory, &mut self.areas, first, pages);
+        let made = match grown {
+            Ok(made) => made,
+            Err(NoMemory) => return Err(MakeFault::Memory),
+        };
+        g.make_file(area, first, pages, byte)?;
+        list_file(&mut self.directory, &mut self.areas, area, made, name);
+        self.blocks_used += pages;
+        Ok(())
+    }
+}

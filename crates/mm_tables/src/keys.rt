@@ -1,0 +1,60 @@
+ghost use Rattle.std.specs.Prelude.{◌≡◌, ◌≤◌, ◌+◌};
+ghost use Rattle.mm_types.specs.Address.{end_of, end_of_user_pages};
+ghost use Rattle.mm_tables.specs.Ranges.{CanAdd, CanRemove, Adds, Removes, only};
+
+use mm_pages::Pages;
+use mm_spaces::{AddressSpace, PageRange};
+use mm_types::{Key, Pid, Vpn};
+
+/// The key of a page's own bytes.
+fn private_key(pid: Pid, page: u32) -> Key
+    ensures { result ≡ Key.Private pid (record { 0 = page }) }
+{
+    Key::Private(pid, Vpn(page))
+}
+
+/// Adds the page's key if it is not committed.
+fn add_page<G: Pages>(g: &mut G, space: &AddressSpace, pid: Pid, page: u32)
+    requires can { CanAdd pid (only page) space.now.regions (G.contents g.old) (G.store g.old) }
+    ensures adds { Adds pid (only page) (G.contents g.old) (G.contents g.new) (G.store g.old) (G.store g.new) }
+    ensures loans { G.loans g.new ≡ G.loans g.old }
+{
+    if !space.is_owned(page) {
+        g.add(private_key(pid, page));
+    }
+}
+
+/// Adds the keys of those pages of the range that are not committed.
+pub(crate) fn add_pages<G: Pages>(g: &mut G, space: &AddressSpace, pid: Pid, range: PageRange)
+    requires end { end_of range ≤ end_of_user_pages }
+    requires can { CanAdd pid range space.now.regions (G.contents g.old) (G.store g.old) }
+    ensures adds { Adds pid range (G.contents g.old) (G.contents g.new) (G.store g.old) (G.store g.new) }
+    ensures loans { G.loans g.new ≡ G.loans g.old }
+{
+    for i in 0..range.count {
+        add_page(g, space, pid, range.first + i);
+    }
+}
+
+/// Removes the page's key if it is committed.
+fn remove_page<G: Pages>(g: &mut G, space: &AddressSpace, pid: Pid, page: u32)
+    requires can { CanRemove pid (only page) space.now.regions (G.contents g.old) (G.store g.old) }
+    ensures removes { Removes pid (only page) (G.contents g.old) (G.contents g.new) (G.store g.old) (G.store g.new) }
+    ensures loans { G.loans g.new ≡ G.loans g.old }
+{
+    if space.is_owned(page) {
+        g.remove(private_key(pid, page));
+    }
+}
+
+/// Removes the keys of those pages of the range that are committed.
+pub(crate) fn remove_pages<G: Pages>(g: &mut G, space: &AddressSpace, pid: Pid, range: PageRange)
+    requires end { end_of range ≤ end_of_user_pages }
+    requires can { CanRemove pid range space.now.regions (G.contents g.old) (G.store g.old) }
+    ensures removes { Removes pid range (G.contents g.old) (G.contents g.new) (G.store g.old) (G.store g.new) }
+    ensures loans { G.loans g.new ≡ G.loans g.old }
+{
+    for i in 0..range.count {
+        remove_page(g, space, pid, range.first + i);
+    }
+}

@@ -1,0 +1,20 @@
+//! The tables of a machine: what the calls go by, over a store that keeps the bytes. Each change of them is one call here, which
+//! changes tables and store together.
+#![tactic(auto)]
+
+mod closings;
+mod endings;
+mod exits;
+mod files;
+mod keys;
+mod looks;
+mod private_pages;
+mod processes;
+mod removals;
+mod sections;
+mod steps;
+mod tables;
+mod views;
+
+pub use looks::{CommittedRow, HandleSection};
+pub use tables::Tables;

@@ -1,0 +1,118 @@
+ghost use Rattle.std.specs.Prelude.{◌≡◌, ◌≤◌, ◌+◌, ◌%◌, true, false, is_some, Option, Some, OnOk, OnErr, option_map, remove};
+ghost use Rattle.mm_types.specs.declared.moves.LineKind.TheVariants as line_kind;
+ghost use Rattle.mm_types.specs.Address.{is_free};
+ghost use Rattle.mm_world.specs.World.{RegionOf, ProcessOf, pages_of};
+ghost use Rattle.mm_world.specs.Find.{Found, process_of, region_around, ranges_of, add_region, set_region, set_regions, is_private};
+ghost use Rattle.mm_world.specs.Alloc.{private_region};
+ghost use Rattle.mm_world.specs.Charge.{charge, limit};
+ghost use Rattle.mm_world.specs.Contents.{blank};
+ghost use Rattle.mm_world.specs.Free.{private_at};
+ghost use Rattle.mm_world.specs.Rows.{is_protection_among, private_protections, commit, reserved_row, change_rows};
+ghost use Rattle.mm_spaces.specs.Tables.{owned_in};
+ghost use Rattle.mm_tables.specs.Fits.{Fits, Settled, new_pages};
+
+use crate::Tables;
+use crate::steps::{commit_pages, decommit_pages, make_region, new_pages, release_pages, take};
+use mm_pages::Pages;
+use mm_spaces::PageRange;
+use mm_types::{NoMemory, Pid};
+use std::alloc::Global;
+
+impl Tables {
+    /// Commits a range of one private region of a process; `n` of its pages are not committed, and the limit allows them. After
+    /// `NoMemory` tables and bytes are as before.
+    pub fn commit<G: Pages>(
+        &mut self,
+        g: &mut G,
+        pid: Pid,
+        range: PageRange,
+        prot: u32,
+        n: u32,
+    ) -> Result<(), NoMemory>
+        requires fits { Fits self.old (G.contents g.old) (G.store g.old) }
+        requires kind { (G.store g.old).kind ≡ line_kind.Call }
+        requires lives { is_some (process_of self.old pid.0) ≡ true }
+        requires inside { (p : ProcessOf (Unit {0})) → process_of self.old pid.0 ≡ Some p → is_some (region_around p.regions range) ≡ true }
+        requires private { (p : ProcessOf (Unit {0})) (r : Found (RegionOf (Unit {0}))) → process_of self.old pid.0 ≡ Some p → region_around p.regions range ≡ Some r → is_private r.thing.kind ≡ true }
+        requires prot { is_protection_among private_protections prot ≡ true }
+        requires counted { (p : ProcessOf (Unit {0})) → process_of self.old pid.0 ≡ Some p → n + owned_in p.regions range ≡ range.count }
+        requires room { charge self.old + n ≤ limit self.old }
+        ensures ok { OnOk result ((p : ProcessOf (Unit {0})) (r : Found (RegionOf (Unit {0}))) → process_of self.old pid.0 ≡ Some p → region_around p.regions range ≡ Some r → self.new ≡ set_region self.old pid.0 p r.place (change_rows (commit tt prot) range r.thing)) }
+        ensures err { OnErr result ((self.new ≡ self.old) × (G.contents g.new ≡ G.contents g.old)) }
+        ensures settled { Settled self.new (G.contents g.old) (G.contents g.new) (G.store g.old) (G.store g.new) }
+        ensures loans { G.loans g.new ≡ G.loans g.old }
+    {
+        let total = self.commit.now() + n;
+        commit_pages(
+            &mut self.processes[pid.0 as usize - 1],
+            g,
+            pid,
+            range,
+            prot,
+            total,
+        )?;
+        take(&mut self.commit, n);
+        Ok(())
+    }
+
+    /// Makes a private region of free pages, committed where the type says so; the limit allows them. After `NoMemory` tables and
+    /// bytes are as before.
+    pub fn reserve<G: Pages>(
+        &mut self,
+        alloc: Global,
+        g: &mut G,
+        pid: Pid,
+        range: PageRange,
+        kind: u32,
+        prot: u32,
+    ) -> Result<(), NoMemory>
+        requires fits { Fits self.old (G.contents g.old) (G.store g.old) }
+        requires kind { (G.store g.old).kind ≡ line_kind.Call }
+        requires lives { is_some (process_of self.old pid.0) ≡ true }
+        requires free { (p : ProcessOf (Unit {0})) → process_of self.old pid.0 ≡ Some p → is_free (ranges_of p.regions) range ≡ true }
+        requires granule { range.first % 16 ≡ 0 }
+        requires some { 1 ≤ range.count }
+        requires prot { is_protection_among private_protections prot ≡ true }
+        requires room { charge self.old + new_pages kind range ≤ limit self.old }
+        ensures ok { OnOk result ((p : ProcessOf (Unit {0})) → process_of self.old pid.0 ≡ Some p → self.new ≡ set_regions self.old pid.0 p (add_region (private_region blank kind prot range) p.regions)) }
+        ensures err { OnErr result ((self.new ≡ self.old) × (G.contents g.new ≡ G.contents g.old)) }
+        ensures settled { Settled self.new (G.contents g.old) (G.contents g.new) (G.store g.old) (G.store g.new) }
+        ensures loans { G.loans g.new ≡ G.loans g.old }
+    {
+        let pages = new_pages(kind, range);
+        let total = self.commit.now() + pages;
+        let process = &mut self.processes[pid.0 as usize - 1];
+        make_region(alloc, process, g, pid, range, kind, prot, total)?;
+        take(&mut self.commit, pages);
+        Ok(())
+    }
+
+    /// Decommits a range of one private region of a process.
+    pub fn decommit<G: Pages>(&mut self, g: &mut G, pid: Pid, range: PageRange)
+        requires fits { Fits self.old (G.contents g.old) (G.store g.old) }
+        requires kind { (G.store g.old).kind ≡ line_kind.Unbind pid }
+        requires lives { is_some (process_of self.old pid.0) ≡ true }
+        requires inside { (p : ProcessOf (Unit {0})) → process_of self.old pid.0 ≡ Some p → is_some (region_around p.regions range) ≡ true }
+        requires private { (p : ProcessOf (Unit {0})) (r : Found (RegionOf (Unit {0}))) → process_of self.old pid.0 ≡ Some p → region_around p.regions range ≡ Some r → is_private r.thing.kind ≡ true }
+        ensures changed { (p : ProcessOf (Unit {0})) (r : Found (RegionOf (Unit {0}))) → process_of self.old pid.0 ≡ Some p → region_around p.regions range ≡ Some r → self.new ≡ set_region self.old pid.0 p r.place (change_rows (λ row. reserved_row) range r.thing) }
+        ensures settled { Settled self.new (G.contents g.old) (G.contents g.new) (G.store g.old) (G.store g.new) }
+        ensures loans { G.loans g.new ≡ G.loans g.old }
+    {
+        let owned = decommit_pages(&mut self.processes[pid.0 as usize - 1], g, pid, range);
+        self.commit.refund(owned);
+    }
+
+    /// Releases the private region of a process that begins at the address and has these pages.
+    pub fn release<G: Pages>(&mut self, g: &mut G, pid: Pid, addr: u32, range: PageRange)
+        requires fits { Fits self.old (G.contents g.old) (G.store g.old) }
+        requires kind { (G.store g.old).kind ≡ line_kind.Unbind pid }
+        requires lives { is_some (process_of self.old pid.0) ≡ true }
+        requires there { (p : ProcessOf (Unit {0})) → process_of self.old pid.0 ≡ Some p → option_map (λ r. pages_of r.thing) (private_at p.regions addr) ≡ Some range }
+        ensures changed { (p : ProcessOf (Unit {0})) (r : Found (RegionOf (Unit {0}))) → process_of self.old pid.0 ≡ Some p → private_at p.regions addr ≡ Some r → self.new ≡ set_regions self.old pid.0 p (remove p.regions r.place) }
+        ensures settled { Settled self.new (G.contents g.old) (G.contents g.new) (G.store g.old) (G.store g.new) }
+        ensures loans { G.loans g.new ≡ G.loans g.old }
+    {
+        let freed = release_pages(&mut self.processes[pid.0 as usize - 1], g, pid, addr, range);
+        self.commit.refund(freed);
+    }
+}

@@ -1,0 +1,303 @@
+ghost use Rattle.std.specs.Prelude.{◌≡◌, ◌≤◌, ◌<◌, ◌+◌, ◌^◌, ◌++◌, [], ◌∷◌, true, false, is_some, ℕ, length, replicate, if◌then◌else◌, Option, Some, None, IfOk, OnOk, OnErr, IfSome, position, slice_set, option_map, vec_len, vec_capacity};
+ghost use Rattle.mm_types.specs.declared.answers.Answer.TheVariants as answer;
+ghost use Rattle.mm_types.specs.declared.numbers.Key.{Key};
+ghost use Rattle.mm_types.specs.Machine.{limit_of};
+ghost use Rattle.mm_world.specs.World.{Page, ProcessOf, numbered};
+ghost use Rattle.mm_world.specs.Find.{process_of, section_of, section_named, area_at, is_named};
+ghost use Rattle.mm_world.specs.Charge.{charge, limit};
+ghost use Rattle.mm_world.specs.Sections.{next_handle, with_handle, new_section};
+ghost use Rattle.mm_pages.specs.Store.{StoreOf};
+ghost use Rattle.mm_sections.specs.Directories.{sections_of, new_entry, one_handle_more};
+ghost use Rattle.mm_sections.specs.Pages.{page_if};
+ghost use Rattle.mm_tables.specs.References.{IsFew};
+ghost use Rattle.mm_tables.specs.Shown.{shown_process, shown_processes};
+ghost use Rattle.mm_tables.specs.SectionSteps.{has_spare, has_room, CanFill, Fills, Opens, MoreRoom};
+ghost use Rattle.mm_tables.specs.Fits.{Fits, Settled};
+ghost use Rattle.mm_types.specs.declared.moves.LineKind.TheVariants as line_kind;
+
+use crate::Tables;
+use crate::tables::Process;
+use mm_commit::Commit;
+use mm_pages::Pages;
+use mm_sections::{Directory, SectionPages};
+use mm_types::{Area, Key, Name, NoMemory, Pid, Prot, SectionId};
+use std::alloc::Global;
+
+/// Sees that there is room for one handle more of a living process.
+fn grow_handles(process: &mut Option<Process>) -> Result<(), NoMemory>
+    requires lives { is_some process.old ≡ true }
+    ensures same { option_map shown_process process.new ≡ option_map shown_process process.old }
+    ensures ok { OnOk result (has_spare process.new ≡ true) }
+{
+    match process {
+        Some(process) => process.handles.reserve(),
+        None => unreachable!(),
+    }
+}
+
+/// The next handle of a living process, to this section. There is room for it.
+fn give_handle(process: &mut Option<Process>, id: SectionId) -> u32
+    requires room { has_spare process.old ≡ true }
+    requires few { (p : ProcessOf (Unit {0})) → option_map shown_process process.old ≡ Some p → length p.handles < 2 ^ 28 }
+    ensures handle { (p : ProcessOf (Unit {0})) → option_map shown_process process.old ≡ Some p → result ≡ next_handle p }
+    ensures given { (p : ProcessOf (Unit {0})) → option_map shown_process process.old ≡ Some p → option_map shown_process process.new ≡ Some (record p { handles = p.handles ++ Some id.0 ∷ [] }) }
+{
+    match process {
+        Some(process) => process.handles.add(id),
+        None => unreachable!(),
+    }
+}
+
+/// Sees that there is room for one handle more of the process.
+fn grow_handles_of(processes: &mut Vec<Option<Process>>, pid: Pid) -> Result<(), NoMemory>
+    requires lives { is_some (numbered (shown_processes processes.old.items) pid.0) ≡ true }
+    ensures same { shown_processes processes.new.items ≡ shown_processes processes.old.items }
+    ensures ok { OnOk result (has_room processes.new.items pid.0 ≡ true) }
+{
+    grow_handles(&mut processes[pid.0 as usize - 1])
+}
+
+/// The next handle of the process, to this section. There is room for it.
+fn give_handle_of(processes: &mut Vec<Option<Process>>, pid: Pid, id: SectionId) -> u32
+    requires lives { is_some (numbered (shown_processes processes.old.items) pid.0) ≡ true }
+    requires room { has_room processes.old.items pid.0 ≡ true }
+    requires few { (p : ProcessOf (Unit {0})) → numbered (shown_processes processes.old.items) pid.0 ≡ Some p → length p.handles < 2 ^ 28 }
+    ensures handle { (p : ProcessOf (Unit {0})) → numbered (shown_processes processes.old.items) pid.0 ≡ Some p → result ≡ next_handle p }
+    ensures given { (p : ProcessOf (Unit {0})) → numbered (shown_processes processes.old.items) pid.0 ≡ Some p → shown_processes processes.new.items ≡ slice_set (shown_processes processes.old.items) pid.0 (Some (record p { handles = p.handles ++ Some id.0 ∷ [] })) }
+{
+    give_handle(&mut processes[pid.0 as usize - 1], id)
+}
+
+/// Sees that there is room for one section more and a handle to it. After `NoMemory` all is as before but for room.
+fn grow_for_section(
+    directory: &mut Directory,
+    processes: &mut Vec<Option<Process>>,
+    pid: Pid,
+) -> Result<(), NoMemory>
+    requires lives { is_some (numbered (shown_processes processes.old.items) pid.0) ≡ true }
+    ensures processes { shown_processes processes.new.items ≡ shown_processes processes.old.items }
+    ensures entries { directory.new.entries ≡ directory.old.entries }
+    ensures files { directory.new.files ≡ directory.old.files }
+    ensures spare { OnOk result (1 ≤ directory.new.spare) }
+    ensures room { OnOk result (has_room processes.new.items pid.0 ≡ true) }
+{
+    directory.reserve()?;
+    grow_handles_of(processes, pid)
+}
+
+/// Makes a section to which one handle of the process refers, which is answered. There is room for both.
+fn list_section(
+    directory: &mut Directory,
+    processes: &mut Vec<Option<Process>>,
+    pid: Pid,
+    area: Area,
+    prot: Prot,
+    name: Option<Name>,
+) -> u32
+    requires lives { is_some (numbered (shown_processes processes.old.items) pid.0) ≡ true }
+    requires spare { 1 ≤ directory.old.spare }
+    requires room { has_room processes.old.items pid.0 ≡ true }
+    requires few { length directory.old.entries < 2 ^ 28 }
+    requires held { (p : ProcessOf (Unit {0})) → numbered (shown_processes processes.old.items) pid.0 ≡ Some p → length p.handles < 2 ^ 28 }
+    requires unnamed { IfSome name (λ n. position (is_named n) (sections_of directory.old.entries) ≡ None) }
+    ensures handle { (p : ProcessOf (Unit {0})) → numbered (shown_processes processes.old.items) pid.0 ≡ Some p → result ≡ next_handle p }
+    ensures given { (p : ProcessOf (Unit {0})) → numbered (shown_processes processes.old.items) pid.0 ≡ Some p → shown_processes processes.new.items ≡ slice_set (shown_processes processes.old.items) pid.0 (Some (record p { handles = p.handles ++ Some (length directory.old.entries) ∷ [] })) }
+    ensures entries { directory.new.entries ≡ directory.old.entries ++ Some (one_handle_more (new_entry prot.0 name area.0)) ∷ [] }
+    ensures files { directory.new.files ≡ directory.old.files }
+{
+    let id = directory.add_section(prot, name, area);
+    directory.add_handle(id);
+    give_handle_of(processes, pid, id)
+}
+
+/// What a page-file section takes beside keys: room for it and a handle, and its control area.
+fn grow_for_paging(
+    alloc: Global,
+    directory: &mut Directory,
+    processes: &mut Vec<Option<Process>>,
+    areas: &mut Vec<SectionPages>,
+    pid: Pid,
+    pages: u32,
+    committed: bool,
+) -> Result<SectionPages, NoMemory>
+    requires lives { is_some (numbered (shown_processes processes.old.items) pid.0) ≡ true }
+    ensures made { IfOk result (λ a. a ≡ record { file_block = None; pages = replicate pages (page_if committed) }) }
+    ensures processes { shown_processes processes.new.items ≡ shown_processes processes.old.items }
+    ensures entries { directory.new.entries ≡ directory.old.entries }
+    ensures files { directory.new.files ≡ directory.old.files }
+    ensures areas { areas.new.items ≡ areas.old.items }
+    ensures spare { OnOk result (1 ≤ directory.new.spare) }
+    ensures room { OnOk result (has_room processes.new.items pid.0 ≡ true) }
+    ensures space { OnOk result (vec_len areas.new + 1 ≤ vec_capacity areas.new) }
+{
+    grow_for_section(directory, processes, pid)?;
+    let made = SectionPages::of_paging_file(alloc, pages, committed)?;
+    areas.reserve(1)?;
+    Ok(made)
+}
+
+/// Adds the keys of the first `n` pages of an open area.
+fn fill_area<G: Pages>(g: &mut G, area: Area, n: u32)
+    requires can { CanFill area n (G.contents g.old) (G.store g.old) }
+    ensures fills { Fills area n (G.contents g.old) (G.contents g.new) (G.store g.old) (G.store g.new) }
+    ensures loans { G.loans g.new ≡ G.loans g.old }
+{
+    for i in 0..n {
+        g.add(Key::Shared(area, i));
+    }
+}
+
+/// Opens an area of the store, and adds the keys of its first `n` pages. `total` is what all keys then come to at most.
+/// After `NoMemory` there may be more room.
+fn open_paging_area<G: Pages>(
+    g: &mut G,
+    area: Area,
+    pages: u32,
+    n: u32,
+    total: u32,
+) -> Result<(), NoMemory>
+    requires new { (G.store g.old).areas area.0 ≡ None }
+    requires few { area.0 < 2 ^ 28 }
+    requires some { 1 ≤ pages }
+    requires within { n ≤ pages }
+    requires dead { (i : ℕ) → G.contents g.old (Key.Shared area i) ≡ None }
+    requires limit { total ≤ limit_of (G.store g.old).machine }
+    requires keys { (G.store g.old).paging_keys + n ≤ total }
+    requires kind { (G.store g.old).kind ≡ line_kind.Call }
+    ensures ok { OnOk result (Opens area pages n (G.contents g.old) (G.contents g.new) (G.store g.old) (G.store g.new)) }
+    ensures room { OnOk result (total ≤ (G.store g.new).room) }
+    ensures err { OnErr result (MoreRoom (G.contents g.old) (G.contents g.new) (G.store g.old) (G.store g.new)) }
+    ensures loans { G.loans g.new ≡ G.loans g.old }
+{
+    g.reserve(total)?;
+    g.open_area(area, pages)?;
+    fill_area(g, area, n);
+    Ok(())
+}
+
+/// How many pages of a new area are committed.
+fn pages_if(pages: u32, committed: bool) -> u32
+    ensures { result ≡ (if committed then pages else 0) }
+{
+    if committed { pages } else { 0 }
+}
+
+/// Puts an area at the end, for which there is room.
+fn push_area(areas: &mut Vec<SectionPages>, area: SectionPages)
+    requires room { vec_len areas.old + 1 ≤ vec_capacity areas.old }
+    ensures { areas.new.items ≡ areas.old.items ++ area ∷ [] }
+{
+    match areas.push(area) {
+        Ok(()) => {}
+        Err(_) => unreachable!(),
+    }
+}
+
+/// Charges pages for which there is room.
+fn take(commit: &mut Commit, n: u32)
+    requires { commit.old.charge + n ≤ commit.old.limit }
+    ensures { commit.new ≡ record commit.old { charge = commit.old.charge + n } }
+{
+    match commit.charge(n) {
+        Ok(()) => {}
+        Err(_) => unreachable!(),
+    }
+}
+
+impl Tables {
+    /// Makes a page-file section with a control area of its own, and a handle to it, which is answered. No section has the name, if
+    /// one is given; where its pages are committed the limit allows them. After `NoMemory` tables and bytes are as before.
+    pub fn add_paging_section<G: Pages>(
+        &mut self,
+        alloc: Global,
+        g: &mut G,
+        pid: Pid,
+        pages: u32,
+        committed: bool,
+        prot: Prot,
+        name: Option<Name>,
+    ) -> Result<u32, NoMemory>
+        requires fits { Fits self.old (G.contents g.old) (G.store g.old) }
+        requires kind { (G.store g.old).kind ≡ line_kind.Call }
+        requires lives { is_some (process_of self.old pid.0) ≡ true }
+        requires few { IsFew self.old }
+        requires some { 1 ≤ pages }
+        requires unnamed { IfSome name (λ n. section_named self.old n ≡ None) }
+        requires room { charge self.old + (if committed then pages else 0) ≤ limit self.old }
+        ensures ok { IfOk result (λ handle. (p : ProcessOf (Unit {0})) → process_of self.old pid.0 ≡ Some p →
+            new_section (record self.old { areas = self.old.areas ++ record { file_block = None; pages = replicate pages (page_if committed) } ∷ [] }) pid.0 p (record { prot = prot.0; name = name; area = length self.old.areas })
+            ≡ record { answer = answer.Created handle false; world = self.new }) }
+        ensures err { OnErr result ((self.new ≡ self.old) × (G.contents g.new ≡ G.contents g.old)) }
+        ensures settled { Settled self.new (G.contents g.old) (G.contents g.new) (G.store g.old) (G.store g.new) }
+        ensures loans { G.loans g.new ≡ G.loans g.old }
+    {
+        let area = Area(self.areas.len() as u32);
+        let n = pages_if(pages, committed);
+        let total = self.commit.now() + n;
+        let made = grow_for_paging(
+            alloc,
+            &mut self.directory,
+            &mut self.processes,
+            &mut self.areas,
+            pid,
+            pages,
+            committed,
+        )?;
+        open_paging_area(g, area, pages, n, total)?;
+        let handle = list_section(
+            &mut self.directory,
+            &mut self.processes,
+            pid,
+            area,
+            prot,
+            name,
+        );
+        push_area(&mut self.areas, made);
+        take(&mut self.commit, n);
+        Ok(handle)
+    }
+
+    /// Makes a section of a file, and a handle to it, which is answered. No section has the name, if one is given. After `NoMemory`
+    /// the tables are as before.
+    pub fn add_file_section(
+        &mut self,
+        pid: Pid,
+        area: Area,
+        prot: Prot,
+        name: Option<Name>,
+    ) -> Result<u32, NoMemory>
+        requires lives { is_some (process_of self.old pid.0) ≡ true }
+        requires few { IsFew self.old }
+        requires file { is_some (area_at self.old area.0).file_block ≡ true }
+        requires unnamed { IfSome name (λ n. section_named self.old n ≡ None) }
+        ensures ok { IfOk result (λ handle. (p : ProcessOf (Unit {0})) → process_of self.old pid.0 ≡ Some p →
+            new_section self.old pid.0 p (record { prot = prot.0; name = name; area = area.0 }) ≡ record { answer = answer.Created handle false; world = self.new }) }
+        ensures err { OnErr result (self.new ≡ self.old) }
+        ensures settled { (c : Key → Option Page) (s : StoreOf) → Fits self.old c s → Settled self.new c c s s }
+    {
+        grow_for_section(&mut self.directory, &mut self.processes, pid)?;
+        Ok(list_section(
+            &mut self.directory,
+            &mut self.processes,
+            pid,
+            area,
+            prot,
+            name,
+        ))
+    }
+
+    /// A new handle to a section that lives. After `NoMemory` the tables are as before.
+    pub fn add_handle(&mut self, pid: Pid, id: SectionId) -> Result<u32, NoMemory>
+        requires lives { is_some (process_of self.old pid.0) ≡ true }
+        requires few { IsFew self.old }
+        requires section { is_some (section_of self.old id.0) ≡ true }
+        ensures ok { IfOk result (λ handle. (p : ProcessOf (Unit {0})) → process_of self.old pid.0 ≡ Some p →
+            (handle ≡ next_handle p) × (self.new ≡ with_handle self.old pid.0 p id.0)) }
+        ensures err { OnErr result (self.new ≡ self.old) }
+        ensures settled { (c : Key → Option Page) (s : StoreOf) → Fits self.old c s → Settled self.new c c s s }
+    {
+        grow_handles_of(&mut self.processes, pid)?;
+        self.directory.add_handle(id);
+        Ok(give_handle_of(&mut self.processes, pid, id))
+    }
+}

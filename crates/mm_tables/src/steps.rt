@@ -1,0 +1,322 @@
+ghost use Rattle.std.specs.Prelude.{◌≡◌, ◌≤◌, ◌+◌, ◌-◌, ◌%◌, ◌==◌, ◌++◌, [], ◌∷◌, ℕ, true, false, is_some, Some, IsOk, OnOk, OnErr, option_map, slice_set, remove};
+ghost use Rattle.mm_types.specs.Address.{end_of, end_of_user_pages, are_user_pages, is_free, holds_page};
+ghost use Rattle.mm_types.specs.Machine.{limit_of};
+ghost use Rattle.mm_world.specs.World.{RowOf, RegionOf, pages_of};
+ghost use Rattle.mm_world.specs.Find.{Found, region_with, region_around, ranges_of, add_region, is_private};
+ghost use Rattle.mm_world.specs.Alloc.{private_region, reserve_type};
+ghost use Rattle.mm_world.specs.Contents.{blank};
+ghost use Rattle.mm_world.specs.Free.{private_at};
+ghost use Rattle.mm_world.specs.Rows.{row_at, is_protection_among, private_protections, all_protections, every_page, accepts, commit, reserved_row, protected, change_rows};
+ghost use Rattle.mm_pages.specs.Conditions.{AllBound};
+ghost use Rattle.mm_spaces.specs.Tables.{owned_in};
+ghost use Rattle.mm_tables.specs.Effects.{Makes, Ends, Leaves, Stored, Roomier, CanMake, keys_of};
+ghost use Rattle.mm_tables.specs.Fits.{new_pages};
+ghost use Rattle.mm_tables.specs.Ranges.{CanAdd, CanRemove, passing, is_dead, is_live};
+ghost use Rattle.mm_tables.specs.Shown.{shown_processes};
+ghost use Rattle.mm_tables.specs.Spaces.{regions_of, Became};
+ghost use Rattle.mm_types.specs.declared.moves.LineKind.TheVariants as line_kind;
+ghost use Rattle.mm_pages.specs.Store.{changed};
+ghost use Rattle.mm_world.specs.Processes.{no_regions, with_slots, most_slots};
+
+use crate::keys::{add_pages, remove_pages};
+use crate::tables::Process;
+use mm_commit::Commit;
+use mm_pages::Pages;
+use mm_sections::Handles;
+use mm_spaces::{AddressSpace, NewRegion, PageRange};
+use mm_types::{Machine, NoMemory, Pid, Vpn};
+use std::alloc::Global;
+
+/// MEM_RESERVE.
+const RESERVE_TYPE: u32 = 0x2000;
+
+/// Takes the guard off a page that lies in a region of a living process.
+pub(crate) fn take_guard_off(process: &mut Option<Process>, page: u32)
+    requires lives { is_some process.old ≡ true }
+    requires there { is_some (region_with (regions_of process.old) page) ≡ true }
+    ensures changed { (r : Found (RegionOf (Unit {0}))) (row : RowOf (Unit {0})) → region_with (regions_of process.old) page ≡ Some r → row_at r.thing page ≡ Some row
+        → Became process.old process.new (slice_set (regions_of process.old) r.place (record r.thing { rows = slice_set r.thing.rows (page - r.thing.base) (record row { guard = false }) })) }
+{
+    match process {
+        Some(process) => process.space.take_guard_off(page),
+        None => unreachable!(),
+    }
+}
+
+/// Gives a page of a view, which has a mark and was not copied, bytes of its own and the protection READWRITE.
+pub(crate) fn copy_page(process: &mut Option<Process>, page: u32)
+    requires lives { is_some process.old ≡ true }
+    requires there { is_some (region_with (regions_of process.old) page) ≡ true }
+    requires marked { (r : Found (RegionOf (Unit {0}))) (row : RowOf (Unit {0})) → region_with (regions_of process.old) page ≡ Some r → row_at r.thing page ≡ Some row
+        → (is_private r.thing.kind ≡ false) × (row.marked ≡ true) }
+    ensures changed { (r : Found (RegionOf (Unit {0}))) (row : RowOf (Unit {0})) → region_with (regions_of process.old) page ≡ Some r → row_at r.thing page ≡ Some row
+        → Became process.old process.new (slice_set (regions_of process.old) r.place (record r.thing { rows = slice_set r.thing.rows (page - r.thing.base) (record row { own = Some tt; prot = 0x04 }) })) }
+{
+    match process {
+        Some(process) => process.space.copy_page(page),
+        None => unreachable!(),
+    }
+}
+
+/// Commits pages of one private region of a living process, and adds their keys. `total` is what all keys then come to at most.
+/// After `NoMemory` there may be more room.
+pub(crate) fn commit_pages<G: Pages>(
+    process: &mut Option<Process>,
+    g: &mut G,
+    pid: Pid,
+    range: PageRange,
+    prot: u32,
+    total: u32,
+) -> Result<(), NoMemory>
+    requires lives { is_some process.old ≡ true }
+    requires within { total ≤ limit_of (G.store g.old).machine }
+    requires end { end_of range ≤ end_of_user_pages }
+    requires inside { is_some (region_around (regions_of process.old) range) ≡ true }
+    requires private { (r : Found (RegionOf (Unit {0}))) → region_around (regions_of process.old) range ≡ Some r → is_private r.thing.kind ≡ true }
+    requires prot { is_protection_among private_protections prot ≡ true }
+    requires can { CanAdd pid range (regions_of process.old) (G.contents g.old) (record (G.store g.old) { room = total }) }
+    ensures changed { OnOk result ((r : Found (RegionOf (Unit {0}))) → region_around (regions_of process.old) range ≡ Some r → Became process.old process.new (slice_set (regions_of process.old) r.place (change_rows (commit tt prot) range r.thing))) }
+    ensures stored { OnOk result (Stored pid range Makes Leaves false (G.contents g.old) (G.contents g.new) (G.store g.old) (G.store g.new)) }
+    ensures counted { OnOk result ((G.store g.new).paging_keys ≡ (G.store g.old).paging_keys + passing (is_dead pid (G.contents g.old)) range.first range.count) }
+    ensures room { OnOk result (total ≤ (G.store g.new).room) }
+    ensures kept { OnErr result (Became process.old process.new (regions_of process.old)) }
+    ensures err { OnErr result (Roomier (G.contents g.old) (G.contents g.new) (G.store g.old) (G.store g.new)) }
+    ensures loans { G.loans g.new ≡ G.loans g.old }
+{
+    let Some(process) = process else {
+        unreachable!()
+    };
+    g.reserve(total)?;
+    add_pages(g, &process.space, pid, range);
+    process.space.commit(range, prot);
+    Ok(())
+}
+
+/// Decommits pages of one private region of a living process, and removes their keys. Tells how many were committed.
+pub(crate) fn decommit_pages<G: Pages>(
+    process: &mut Option<Process>,
+    g: &mut G,
+    pid: Pid,
+    range: PageRange,
+) -> u32
+    requires lives { is_some process.old ≡ true }
+    requires end { end_of range ≤ end_of_user_pages }
+    requires inside { is_some (region_around (regions_of process.old) range) ≡ true }
+    requires private { (r : Found (RegionOf (Unit {0}))) → region_around (regions_of process.old) range ≡ Some r → is_private r.thing.kind ≡ true }
+    requires can { CanRemove pid range (regions_of process.old) (G.contents g.old) (G.store g.old) }
+    ensures owned { result ≡ owned_in (regions_of process.old) range }
+    ensures changed { (r : Found (RegionOf (Unit {0}))) → region_around (regions_of process.old) range ≡ Some r → Became process.old process.new (slice_set (regions_of process.old) r.place (change_rows (λ row. reserved_row) range r.thing)) }
+    ensures stored { Stored pid range Ends Leaves true (G.contents g.old) (G.contents g.new) (G.store g.old) (G.store g.new) }
+    ensures counted { (G.store g.new).paging_keys ≡ (G.store g.old).paging_keys - passing (is_live pid (G.contents g.old)) range.first range.count }
+    ensures room { (G.store g.new).room ≡ (G.store g.old).room }
+    ensures loans { G.loans g.new ≡ G.loans g.old }
+{
+    let Some(process) = process else {
+        unreachable!()
+    };
+    let owned = process.space.owned(range);
+    remove_pages(g, &process.space, pid, range);
+    process.space.decommit(range);
+    owned
+}
+
+/// Releases the private region of a living process that begins at the address and has these pages: their keys and their places go.
+/// Tells how many were committed.
+pub(crate) fn release_pages<G: Pages>(
+    process: &mut Option<Process>,
+    g: &mut G,
+    pid: Pid,
+    addr: u32,
+    range: PageRange,
+) -> u32
+    requires lives { is_some process.old ≡ true }
+    requires end { end_of range ≤ end_of_user_pages }
+    requires there { option_map (λ r. pages_of r.thing) (private_at (regions_of process.old) addr) ≡ Some range }
+    requires inside { is_some (region_around (regions_of process.old) range) ≡ true }
+    requires bound { AllBound (G.store g.old) pid range true }
+    requires can { CanRemove pid range (regions_of process.old) (G.contents g.old) (G.store g.old) }
+    ensures owned { result ≡ owned_in (regions_of process.old) range }
+    ensures changed { (r : Found (RegionOf (Unit {0}))) → private_at (regions_of process.old) addr ≡ Some r → Became process.old process.new (remove (regions_of process.old) r.place) }
+    ensures stored { Stored pid range Ends Ends true (G.contents g.old) (G.contents g.new) (G.store g.old) (G.store g.new) }
+    ensures counted { (G.store g.new).paging_keys ≡ (G.store g.old).paging_keys - passing (is_live pid (G.contents g.old)) range.first range.count }
+    ensures room { (G.store g.new).room ≡ (G.store g.old).room }
+    ensures loans { G.loans g.new ≡ G.loans g.old }
+{
+    let Some(process) = process else {
+        unreachable!()
+    };
+    let owned = process.space.owned(range);
+    remove_pages(g, &process.space, pid, range);
+    g.unbind(pid, Vpn(range.first), range.count);
+    process.space.remove(addr);
+    owned
+}
+
+/// What a new region takes: room for it and its keys, and its places.
+fn grow_for_region<G: Pages>(
+    space: &mut AddressSpace,
+    g: &mut G,
+    pid: Pid,
+    range: PageRange,
+    total: u32,
+) -> Result<(), NoMemory>
+    requires user { are_user_pages range ≡ true }
+    requires within { total ≤ limit_of (G.store g.old).machine }
+    requires opened { (G.store g.old).is_open pid.0 ≡ true }
+    requires unbound { AllBound (G.store g.old) pid range false }
+    ensures regions { space.new.regions ≡ space.old.regions }
+    ensures spare { OnOk result (1 ≤ space.new.spare) }
+    ensures stored { OnOk result (Stored pid range Leaves Makes true (G.contents g.old) (G.contents g.new) (G.store g.old) (G.store g.new)) }
+    ensures counted { (G.store g.new).paging_keys ≡ (G.store g.old).paging_keys }
+    ensures room { OnOk result (total ≤ (G.store g.new).room) }
+    ensures err { OnErr result (Roomier (G.contents g.old) (G.contents g.new) (G.store g.old) (G.store g.new)) }
+    ensures loans { G.loans g.new ≡ G.loans g.old }
+{
+    space.reserve()?;
+    g.reserve(total)?;
+    g.bind(pid, Vpn(range.first), range.count)?;
+    Ok(())
+}
+
+/// Adds the keys of a new region's pages, where its pages are committed.
+fn fill_region<G: Pages>(space: &AddressSpace, g: &mut G, pid: Pid, range: PageRange, kind: u32)
+    requires end { end_of range ≤ end_of_user_pages }
+    requires can { (kind == reserve_type) ≡ false → CanAdd pid range space.now.regions (G.contents g.old) (G.store g.old) }
+    requires dead { (page : ℕ) → holds_page range page ≡ true → is_live pid (G.contents g.old) page ≡ false }
+    ensures stored { Stored pid range (keys_of kind) Leaves false (G.contents g.old) (G.contents g.new) (G.store g.old) (G.store g.new) }
+    ensures counted { (G.store g.new).paging_keys ≡ (G.store g.old).paging_keys + new_pages kind range }
+    ensures room { (G.store g.new).room ≡ (G.store g.old).room }
+    ensures loans { G.loans g.new ≡ G.loans g.old }
+{
+    if kind != RESERVE_TYPE {
+        add_pages(g, space, pid, range);
+    }
+}
+
+/// Makes a private region of free pages in a living process, and adds its keys where it is committed. `total` is what all keys then
+/// come to at most. After `NoMemory` there may be more room.
+pub(crate) fn make_region<G: Pages>(
+    alloc: Global,
+    process: &mut Option<Process>,
+    g: &mut G,
+    pid: Pid,
+    range: PageRange,
+    kind: u32,
+    prot: u32,
+    total: u32,
+) -> Result<(), NoMemory>
+    requires lives { is_some process.old ≡ true }
+    requires free { is_free (ranges_of (regions_of process.old)) range ≡ true }
+    requires granule { range.first % 16 ≡ 0 }
+    requires some { 1 ≤ range.count }
+    requires prot { is_protection_among private_protections prot ≡ true }
+    requires can { CanMake pid range kind total (regions_of process.old) (G.contents g.old) (G.store g.old) }
+    ensures changed { OnOk result (Became process.old process.new (add_region (private_region blank kind prot range) (regions_of process.old))) }
+    ensures stored { OnOk result (Stored pid range (keys_of kind) Makes true (G.contents g.old) (G.contents g.new) (G.store g.old) (G.store g.new)) }
+    ensures counted { OnOk result ((G.store g.new).paging_keys ≡ (G.store g.old).paging_keys + new_pages kind range) }
+    ensures room { OnOk result (total ≤ (G.store g.new).room) }
+    ensures kept { OnErr result (Became process.old process.new (regions_of process.old)) }
+    ensures err { OnErr result (Roomier (G.contents g.old) (G.contents g.new) (G.store g.old) (G.store g.new)) }
+    ensures loans { G.loans g.new ≡ G.loans g.old }
+{
+    let Some(process) = process else {
+        unreachable!()
+    };
+    let region = NewRegion::private(alloc, kind, prot, range)?;
+    grow_for_region(&mut process.space, g, pid, range, total)?;
+    fill_region(&process.space, g, pid, range, kind);
+    process.space.add(region);
+    Ok(())
+}
+
+/// Sees that there is room for `total` keys, as there was where `n` is 0. After `NoMemory`, which comes only where it is not, there may
+/// be more room.
+pub(crate) fn grow_for_marks<G: Pages>(g: &mut G, n: u32, total: u32) -> Result<(), NoMemory>
+    requires within { total ≤ limit_of (G.store g.old).machine }
+    requires enough { n ≡ 0 → total ≤ (G.store g.old).room }
+    ensures room { OnOk result (total ≤ (G.store g.new).room) }
+    ensures some { n ≡ 0 → IsOk result }
+    ensures more { Roomier (G.contents g.old) (G.contents g.new) (G.store g.old) (G.store g.new) }
+    ensures loans { G.loans g.new ≡ G.loans g.old }
+{
+    if n > 0 {
+        g.reserve(total)?;
+    }
+    Ok(())
+}
+
+/// Gives pages of one region of a living process another protection, which they accept.
+pub(crate) fn protect_pages(process: &mut Option<Process>, range: PageRange, prot: u32)
+    requires lives { is_some process.old ≡ true }
+    requires inside { is_some (region_around (regions_of process.old) range) ≡ true }
+    requires prot { is_protection_among all_protections prot ≡ true }
+    requires accepted { (r : Found (RegionOf (Unit {0}))) → region_around (regions_of process.old) range ≡ Some r → every_page (accepts r.thing prot) range ≡ true }
+    requires committed { (r : Found (RegionOf (Unit {0}))) → region_around (regions_of process.old) range ≡ Some r → is_private r.thing.kind ≡ true → owned_in (regions_of process.old) range ≡ range.count }
+    ensures changed { (r : Found (RegionOf (Unit {0}))) → region_around (regions_of process.old) range ≡ Some r → Became process.old process.new (slice_set (regions_of process.old) r.place (change_rows (protected r.thing.kind prot) range r.thing)) }
+{
+    match process {
+        Some(process) => process.space.protect(range, prot),
+        None => unreachable!(),
+    }
+}
+
+/// Makes a process without regions in the store, at the end of those that there are. After `NoMemory` nothing has changed.
+pub(crate) fn push_process<G: Pages>(
+    processes: &mut Vec<Option<Process>>,
+    allocator: Global,
+    g: &mut G,
+    pid: Pid,
+    min: u32,
+    max: u32,
+) -> Result<(), NoMemory>
+    requires new { (G.store g.old).is_open pid.0 ≡ false }
+    requires kind { (G.store g.old).kind ≡ line_kind.Process pid min max }
+    ensures added { OnOk result (shown_processes processes.new.items ≡ shown_processes processes.old.items ++ Some no_regions ∷ []) }
+    ensures same { OnErr result (processes.new.items ≡ processes.old.items) }
+    ensures store { OnOk result (G.store g.new ≡ record (G.store g.old) { is_open = changed ◌==◌ (G.store g.old).is_open pid.0 true }) }
+    ensures kept { OnErr result (G.store g.new ≡ G.store g.old) }
+    ensures contents { G.contents g.new ≡ G.contents g.old }
+    ensures loans { G.loans g.new ≡ G.loans g.old }
+{
+    processes.push(Some(Process {
+        space: AddressSpace::new(allocator),
+        handles: Handles::new(allocator),
+    }))?;
+    let opened = g.open_process(pid, min, max);
+    if opened.is_err() {
+        let _ = processes.pop();
+    }
+    opened
+}
+
+/// Charges pages for which there is room.
+pub(crate) fn take(commit: &mut Commit, n: u32)
+    requires { commit.old.charge + n ≤ commit.old.limit }
+    ensures { commit.new ≡ record commit.old { charge = commit.old.charge + n } }
+{
+    match commit.charge(n) {
+        Ok(()) => {}
+        Err(_) => unreachable!(),
+    }
+}
+
+/// How many pages of a new region are committed.
+pub(crate) fn new_pages(kind: u32, range: PageRange) -> u32
+    ensures { result ≡ new_pages kind range }
+{
+    if kind == RESERVE_TYPE { 0 } else { range.count }
+}
+
+/// The machine with `n` page-file slots more.
+pub(crate) fn with_slots(machine: Machine, n: u32) -> Machine
+    requires most { machine.slots + n ≤ most_slots }
+    ensures made { result ≡ with_slots machine n }
+    ensures limit { limit_of (with_slots machine n) ≡ limit_of machine + n }
+{
+    Machine::new(
+        machine.frames(),
+        machine.slots() + n,
+        machine.depth(),
+        machine.blocks(),
+    )
+}

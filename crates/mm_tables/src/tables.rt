@@ -1,0 +1,96 @@
+ghost use Rattle.std.specs.Prelude.{◌≡◌, ◌≤◌, ◌+◌, nat_le};
+ghost use Rattle.mm_world.specs.Charge.{charge, limit};
+ghost use Rattle.mm_world.specs.Step.{first_world};
+ghost use Rattle.mm_world.specs.WellFormed.{WellFormed};
+ghost use Rattle.mm_tables.specs.References.{IsTidy};
+
+use mm_commit::Commit;
+use mm_sections::{Directory, Handles, SectionPages};
+use mm_spaces::AddressSpace;
+use mm_types::Machine;
+use std::alloc::Global;
+use std::marker::Model;
+
+/// The regions and the handles of a living process.
+#[derive(Drop)]
+pub(crate) struct Process {
+    pub(crate) space: AddressSpace,
+    pub(crate) handles: Handles,
+}
+
+/// What the calls go by: a machine, its processes with their regions and handles, its sections, control areas and files, and the
+/// commit charge. Pages' bytes are not here.
+///
+/// Contracts see it as the tables of a world.
+#[derive(Drop)]
+pub struct Tables {
+    pub(crate) machine: Machine,
+    // That of pid 1 comes first; none where it has ended.
+    pub(crate) processes: Vec<Option<Process>>,
+    pub(crate) directory: Directory,
+    pub(crate) areas: Vec<SectionPages>,
+    pub(crate) blocks_used: u32,
+    pub(crate) fails_taken: u32,
+    pub(crate) commit: Commit,
+}
+
+impl Model for Tables {
+    ghost use Rattle.mm_world.specs.Contents.{Tables};
+    ghost use Rattle.mm_tables.specs.Shown.{shown_processes, tables_with};
+    ghost use Rattle.mm_tables.specs.Sound.{IsKept};
+
+    ghost Value = { Tables };
+
+    ghost view = { λ t. tables_with t.machine (shown_processes t.processes.items) t.directory.entries t.areas.items t.directory.files t.blocks_used t.fails_taken };
+
+    ghost invariant = { λ t. IsKept (tables_with t.machine (shown_processes t.processes.items) t.directory.entries t.areas.items t.directory.files t.blocks_used t.fails_taken) t.directory.entries t.commit };
+}
+
+impl Tables {
+    /// A machine without processes, sections and files.
+    pub fn new(alloc: Global, machine: Machine) -> Tables
+        ensures { result ≡ first_world machine }
+    {
+        Tables {
+            machine,
+            processes: Vec::new(alloc),
+            directory: Directory::new(alloc),
+            areas: Vec::new(alloc),
+            blocks_used: 0,
+            fails_taken: 0,
+            commit: Commit::new(machine.limit()),
+        }
+    }
+
+    /// The machine, with the page-file slots that there are now.
+    pub fn machine(&self) -> Machine
+        ensures { result ≡ self.now.machine }
+    {
+        self.machine
+    }
+
+    /// Does nothing: tables are always sound.
+    pub fn sound(&self)
+        ensures sound { WellFormed self.now }
+        ensures tidy { IsTidy self.now }
+        ensures within { charge self.now ≤ limit self.now }
+    {
+        let _ = &self.machine;
+    }
+
+    /// The commit charge and the commit limit, in pages.
+    pub fn charge(&self) -> (u32, u32)
+        ensures charge { result.0 ≡ charge self.now }
+        ensures limit { result.1 ≡ limit self.now }
+        ensures within { charge self.now ≤ limit self.now }
+    {
+        (self.commit.now(), self.commit.limit())
+    }
+
+    /// Whether the commit limit allows `n` pages more.
+    pub fn can_charge(&self, n: u32) -> bool
+        ensures { result ≡ nat_le (charge self.now + n) (limit self.now) }
+    {
+        u64::from(self.commit.now()) + u64::from(n) <= u64::from(self.commit.limit())
+    }
+}

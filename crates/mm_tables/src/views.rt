@@ -1,0 +1,325 @@
+ghost use Rattle.std.specs.Prelude.{◌≡◌, ◌≤◌, ◌<◌, ◌+◌, ◌-◌, ◌%◌, ◌^◌, true, false, is_some, if◌then◌else◌, Some, None, OnOk, OnErr, length, slice_set};
+ghost use Rattle.mm_types.specs.declared.moves.LineKind.TheVariants as line_kind;
+ghost use Rattle.mm_types.specs.declared.views.View.{View};
+ghost use Rattle.mm_types.specs.declared.views.Kind.TheVariants as kind;
+ghost use Rattle.mm_types.specs.Address.{are_user_pages, is_free};
+ghost use Rattle.mm_types.specs.Machine.{limit_of};
+ghost use Rattle.mm_world.specs.World.{RegionOf, ProcessOf, SectionOf};
+ghost use Rattle.mm_world.specs.Find.{Found, process_of, section_of, region_around, ranges_of, add_region, set_region, set_regions, set_area, area_at, is_private};
+ghost use Rattle.mm_world.specs.Alloc.{commit_shared};
+ghost use Rattle.mm_world.specs.Charge.{charge, limit};
+ghost use Rattle.mm_world.specs.Contents.{blank};
+ghost use Rattle.mm_world.specs.Rows.{is_protection_among, all_protections, private_protections, every_page, accepts, protected, change_rows};
+ghost use Rattle.mm_world.specs.Views.{view_region, is_copy};
+ghost use Rattle.mm_world.specs.WellFormed.{ViewFits};
+ghost use Rattle.mm_pages.specs.Conditions.{AllBound};
+ghost use Rattle.mm_sections.specs.Pages.{uncommitted_in};
+ghost use Rattle.mm_tables.specs.Fits.{Fits, Settled};
+ghost use Rattle.mm_tables.specs.Shown.{shown_processes};
+ghost use Rattle.mm_tables.specs.ViewChanges.{region_of_view, living, area_in, MoreRoom, NewPlaces, CanShare, Shares, CanProtect};
+
+use crate::Tables;
+use crate::tables::Process;
+use mm_commit::Commit;
+use mm_pages::Pages;
+use mm_sections::SectionPages;
+use mm_spaces::{AddressSpace, NewRegion, PageRange};
+use mm_types::{Area, Key, Kind, NoMemory, Pid, View, ViewAccess, Vpn};
+use std::alloc::Global;
+
+/// Charges pages for which there is room.
+fn take(commit: &mut Commit, n: u32)
+    requires { commit.old.charge + n ≤ commit.old.limit }
+    ensures { commit.new ≡ record commit.old { charge = commit.old.charge + n } }
+{
+    match commit.charge(n) {
+        Ok(()) => {}
+        Err(_) => unreachable!(),
+    }
+}
+
+/// How many pages of a new view are charged: all of a copy view, each of which has a mark.
+fn marked_pages(view: View, range: PageRange) -> u32
+    ensures charged { result ≡ (if is_copy view.access then range.count else 0) }
+    ensures some { 1 ≤ range.count }
+{
+    let pages = range.count;
+    match view.access {
+        ViewAccess::Copy => pages,
+        ViewAccess::Read | ViewAccess::Write => 0,
+    }
+}
+
+/// What a new view takes of an address space and of the store: room for it and for all keys, and its places.
+fn grow_for_view<G: Pages>(
+    space: &mut AddressSpace,
+    g: &mut G,
+    pid: Pid,
+    range: PageRange,
+    total: u32,
+) -> Result<(), NoMemory>
+    requires user { are_user_pages range ≡ true }
+    requires within { total ≤ limit_of (G.store g.old).machine }
+    requires opened { (G.store g.old).is_open pid.0 ≡ true }
+    requires unbound { AllBound (G.store g.old) pid range false }
+    ensures regions { space.new.regions ≡ space.old.regions }
+    ensures spare { OnOk result (1 ≤ space.new.spare) }
+    ensures bound { OnOk result (NewPlaces pid range (G.store g.old) (G.store g.new)) }
+    ensures room { OnOk result (total ≤ (G.store g.new).room) }
+    ensures contents { G.contents g.new ≡ G.contents g.old }
+    ensures err { OnErr result (MoreRoom (G.store g.old) (G.store g.new)) }
+    ensures loans { G.loans g.new ≡ G.loans g.old }
+{
+    space.reserve()?;
+    g.reserve(total)?;
+    g.bind(pid, Vpn(range.first), range.count)?;
+    Ok(())
+}
+
+/// Makes a view of free pages in an address space. `total` is what all keys come to at most. After `NoMemory` there may be more
+/// room, and nothing else is other.
+fn make_view<G: Pages>(
+    alloc: Global,
+    space: &mut AddressSpace,
+    g: &mut G,
+    pid: Pid,
+    range: PageRange,
+    view: View,
+    total: u32,
+) -> Result<(), NoMemory>
+    requires free { is_free (ranges_of space.old.regions) range ≡ true }
+    requires granule { range.first % 16 ≡ 0 }
+    requires within { total ≤ limit_of (G.store g.old).machine }
+    requires opened { (G.store g.old).is_open pid.0 ≡ true }
+    requires unbound { AllBound (G.store g.old) pid range false }
+    ensures regions { OnOk result (space.new.regions ≡ add_region (region_of_view view range) space.old.regions) }
+    ensures bound { OnOk result (NewPlaces pid range (G.store g.old) (G.store g.new)) }
+    ensures room { OnOk result (total ≤ (G.store g.new).room) }
+    ensures contents { G.contents g.new ≡ G.contents g.old }
+    ensures kept { OnErr result (space.new.regions ≡ space.old.regions) }
+    ensures err { OnErr result (MoreRoom (G.store g.old) (G.store g.new)) }
+    ensures loans { G.loans g.new ≡ G.loans g.old }
+{
+    let region = NewRegion::view(alloc, view, range)?;
+    grow_for_view(space, g, pid, range, total)?;
+    space.add(region);
+    Ok(())
+}
+
+/// Makes a view in the address space of a living process.
+fn make_view_in<G: Pages>(
+    alloc: Global,
+    processes: &mut Vec<Option<Process>>,
+    g: &mut G,
+    pid: Pid,
+    range: PageRange,
+    view: View,
+    total: u32,
+) -> Result<(), NoMemory>
+    requires lives { is_some (living processes.old.items pid.0) ≡ true }
+    requires free { (p : ProcessOf (Unit {0})) → living processes.old.items pid.0 ≡ Some p → is_free (ranges_of p.regions) range ≡ true }
+    requires granule { range.first % 16 ≡ 0 }
+    requires within { total ≤ limit_of (G.store g.old).machine }
+    requires opened { (G.store g.old).is_open pid.0 ≡ true }
+    requires unbound { AllBound (G.store g.old) pid range false }
+    ensures made { OnOk result ((p : ProcessOf (Unit {0})) → living processes.old.items pid.0 ≡ Some p →
+        shown_processes processes.new.items ≡ slice_set (shown_processes processes.old.items) pid.0 (Some (record p { regions = add_region (region_of_view view range) p.regions }))) }
+    ensures bound { OnOk result (NewPlaces pid range (G.store g.old) (G.store g.new)) }
+    ensures room { OnOk result (total ≤ (G.store g.new).room) }
+    ensures contents { G.contents g.new ≡ G.contents g.old }
+    ensures kept { OnErr result (shown_processes processes.new.items ≡ shown_processes processes.old.items) }
+    ensures err { OnErr result (MoreRoom (G.store g.old) (G.store g.new)) }
+    ensures loans { G.loans g.new ≡ G.loans g.old }
+{
+    match &mut processes[pid.0 as usize - 1] {
+        Some(process) => make_view(alloc, &mut process.space, g, pid, range, view, total),
+        None => unreachable!(),
+    }
+}
+
+/// The view in which the pages of a range of a living process lie, and how many of its pages stand before them.
+fn view_around(processes: &Vec<Option<Process>>, pid: Pid, range: PageRange) -> (View, u32)
+    requires lives { is_some (living processes.now.items pid.0) ≡ true }
+    requires inside { (p : ProcessOf (Unit {0})) → living processes.now.items pid.0 ≡ Some p → is_some (region_around p.regions range) ≡ true }
+    requires view { (p : ProcessOf (Unit {0})) (r : Found (RegionOf (Unit {0}))) → living processes.now.items pid.0 ≡ Some p → region_around p.regions range ≡ Some r → is_private r.thing.kind ≡ false }
+    ensures { (p : ProcessOf (Unit {0})) (r : Found (RegionOf (Unit {0}))) → living processes.now.items pid.0 ≡ Some p → region_around p.regions range ≡ Some r →
+        (r.thing.kind ≡ kind.View result.0) × (result.1 ≡ range.first - r.thing.base) }
+{
+    match &processes[pid.0 as usize - 1] {
+        Some(process) => view_of(&process.space, range),
+        None => unreachable!(),
+    }
+}
+
+/// How many pages of a region stand before a range of it.
+fn pages_before(pages: PageRange, range: PageRange) -> u32
+    requires { pages.first ≤ range.first }
+    ensures { result ≡ range.first - pages.first }
+{
+    range.first - pages.first
+}
+
+/// The view in which the pages of a range lie, and how many of its pages stand before them.
+fn view_of(space: &AddressSpace, range: PageRange) -> (View, u32)
+    requires inside { is_some (region_around space.now.regions range) ≡ true }
+    requires view { (r : Found (RegionOf (Unit {0}))) → region_around space.now.regions range ≡ Some r → is_private r.thing.kind ≡ false }
+    ensures { (r : Found (RegionOf (Unit {0}))) → region_around space.now.regions range ≡ Some r →
+        (r.thing.kind ≡ kind.View result.0) × (result.1 ≡ range.first - r.thing.base) }
+{
+    match space.region_around(range) {
+        Some(region) => match region.kind {
+            Kind::View(view) => (view, pages_before(region.pages, range)),
+            Kind::Private => unreachable!(),
+        },
+        None => unreachable!(),
+    }
+}
+
+/// Adds the key of a section's page if it is not committed.
+fn share_page<G: Pages>(g: &mut G, pages: &SectionPages, area: Area, index: u32)
+    requires inside { index < length pages.now.pages }
+    requires can { CanShare area index 1 pages.now (G.contents g.old) (G.store g.old) }
+    ensures shares { Shares area index 1 pages.now (G.contents g.old) (G.contents g.new) (G.store g.old) (G.store g.new) }
+    ensures loans { G.loans g.new ≡ G.loans g.old }
+{
+    if !pages.is_committed(index) {
+        g.add(Key::Shared(area, index));
+    }
+}
+
+/// Adds the keys of those of a section's pages that are not committed, in rising order.
+fn share_range<G: Pages>(g: &mut G, pages: &SectionPages, area: Area, first: u32, count: u32)
+    requires end { first + count < 2 ^ 32 }
+    requires can { CanShare area first count pages.now (G.contents g.old) (G.store g.old) }
+    ensures shares { Shares area first count pages.now (G.contents g.old) (G.contents g.new) (G.store g.old) (G.store g.new) }
+    ensures loans { G.loans g.new ≡ G.loans g.old }
+{
+    for i in 0..count {
+        share_page(g, pages, area, first + i);
+    }
+}
+
+/// The index of the section's page that stands `offset` pages behind another.
+fn index_behind(pages: &SectionPages, first: u32, offset: u32) -> u32
+    requires inside { first + offset < length pages.now.pages }
+    ensures index { result ≡ first + offset }
+    ensures few { length pages.now.pages < 2 ^ 32 }
+{
+    let pages = pages.len();
+    // So the sum passes no u32.
+    prove!(offset < pages - first);
+    first + offset
+}
+
+/// Commits pages of a section, from the page that stands `offset` pages behind the first of a view.
+fn share_in<G: Pages>(pages: &mut SectionPages, g: &mut G, view: View, offset: u32, count: u32)
+    requires some { 1 ≤ count }
+    requires can { CanShare view.area (view.first + offset) count pages.old (G.contents g.old) (G.store g.old) }
+    ensures pages { pages.new ≡ commit_shared blank (view.first + offset) count pages.old }
+    ensures shares { Shares view.area (view.first + offset) count pages.old (G.contents g.old) (G.contents g.new) (G.store g.old) (G.store g.new) }
+    ensures loans { G.loans g.new ≡ G.loans g.old }
+{
+    let first = index_behind(pages, view.first, offset);
+    share_range(g, pages, view.area, first, count);
+    pages.commit(first, count);
+}
+
+/// Commits pages of the control area of a view.
+fn share_pages<G: Pages>(
+    areas: &mut Vec<SectionPages>,
+    g: &mut G,
+    view: View,
+    offset: u32,
+    count: u32,
+)
+    requires some { 1 ≤ count }
+    requires can { CanShare view.area (view.first + offset) count (area_in areas.old.items view.area.0) (G.contents g.old) (G.store g.old) }
+    ensures areas { areas.new.items ≡ slice_set areas.old.items view.area.0 (commit_shared blank (view.first + offset) count (area_in areas.old.items view.area.0)) }
+    ensures shares { Shares view.area (view.first + offset) count (area_in areas.old.items view.area.0) (G.contents g.old) (G.contents g.new) (G.store g.old) (G.store g.new) }
+    ensures loans { G.loans g.new ≡ G.loans g.old }
+{
+    share_in(&mut areas[view.area.0 as usize], g, view, offset, count);
+}
+
+/// Gives pages of a view of a living process the protection, which they accept.
+fn protect_view(processes: &mut Vec<Option<Process>>, pid: Pid, range: PageRange, prot: u32)
+    requires lives { is_some (living processes.old.items pid.0) ≡ true }
+    requires inside { (p : ProcessOf (Unit {0})) → living processes.old.items pid.0 ≡ Some p → CanProtect p.regions range prot }
+    requires prot { is_protection_among all_protections prot ≡ true }
+    ensures { (p : ProcessOf (Unit {0})) (r : Found (RegionOf (Unit {0}))) → living processes.old.items pid.0 ≡ Some p → region_around p.regions range ≡ Some r →
+        shown_processes processes.new.items ≡ slice_set (shown_processes processes.old.items) pid.0 (Some (record p { regions = slice_set p.regions r.place (change_rows (protected r.thing.kind prot) range r.thing) })) }
+{
+    match &mut processes[pid.0 as usize - 1] {
+        Some(process) => process.space.protect(range, prot),
+        None => unreachable!(),
+    }
+}
+
+impl Tables {
+    /// Commits the section pages under a range of one view of a page-file section, and gives the view's rows the protection, which
+    /// they accept. `n` of the section pages are not committed, and the limit allows them. After `NoMemory` tables and bytes are as
+    /// before.
+    pub fn commit_view<G: Pages>(
+        &mut self,
+        g: &mut G,
+        pid: Pid,
+        range: PageRange,
+        prot: u32,
+        n: u32,
+    ) -> Result<(), NoMemory>
+        requires fits { Fits self.old (G.contents g.old) (G.store g.old) }
+        requires kind { (G.store g.old).kind ≡ line_kind.Call }
+        requires lives { is_some (process_of self.old pid.0) ≡ true }
+        requires inside { (p : ProcessOf (Unit {0})) → process_of self.old pid.0 ≡ Some p → is_some (region_around p.regions range) ≡ true }
+        requires view { (p : ProcessOf (Unit {0})) (r : Found (RegionOf (Unit {0}))) → process_of self.old pid.0 ≡ Some p → region_around p.regions range ≡ Some r → is_private r.thing.kind ≡ false }
+        requires paging { (p : ProcessOf (Unit {0})) (r : Found (RegionOf (Unit {0}))) (v : View) → process_of self.old pid.0 ≡ Some p → region_around p.regions range ≡ Some r → r.thing.kind ≡ kind.View v → (area_at self.old v.area.0).file_block ≡ None }
+        requires prot { is_protection_among private_protections prot ≡ true }
+        requires accepted { (p : ProcessOf (Unit {0})) (r : Found (RegionOf (Unit {0}))) → process_of self.old pid.0 ≡ Some p → region_around p.regions range ≡ Some r → every_page (accepts r.thing prot) range ≡ true }
+        requires counted { (p : ProcessOf (Unit {0})) (r : Found (RegionOf (Unit {0}))) (v : View) → process_of self.old pid.0 ≡ Some p → region_around p.regions range ≡ Some r → r.thing.kind ≡ kind.View v → n ≡ uncommitted_in (area_at self.old v.area.0) (v.first + (range.first - r.thing.base)) range.count }
+        requires room { charge self.old + n ≤ limit self.old }
+        ensures ok { OnOk result ((p : ProcessOf (Unit {0})) (r : Found (RegionOf (Unit {0}))) (v : View) → process_of self.old pid.0 ≡ Some p → region_around p.regions range ≡ Some r → r.thing.kind ≡ kind.View v →
+            self.new ≡ set_area (set_region self.old pid.0 p r.place (change_rows (protected r.thing.kind prot) range r.thing)) v.area.0 (commit_shared blank (v.first + (range.first - r.thing.base)) range.count (area_at self.old v.area.0))) }
+        ensures err { OnErr result ((self.new ≡ self.old) × (G.contents g.new ≡ G.contents g.old)) }
+        ensures settled { Settled self.new (G.contents g.old) (G.contents g.new) (G.store g.old) (G.store g.new) }
+        ensures loans { G.loans g.new ≡ G.loans g.old }
+    {
+        let (view, offset) = view_around(&self.processes, pid, range);
+        let total = self.commit.now() + n;
+        g.reserve(total)?;
+        share_pages(&mut self.areas, g, view, offset, range.count);
+        protect_view(&mut self.processes, pid, range, prot);
+        take(&mut self.commit, n);
+        Ok(())
+    }
+
+    /// Makes a view of free pages, which lies within its section; a copy view's pages are charged, and the limit allows them. After
+    /// `NoMemory` tables and bytes are as before.
+    pub fn add_view<G: Pages>(
+        &mut self,
+        alloc: Global,
+        g: &mut G,
+        pid: Pid,
+        range: PageRange,
+        view: View,
+    ) -> Result<(), NoMemory>
+        requires fits { Fits self.old (G.contents g.old) (G.store g.old) }
+        requires kind { (G.store g.old).kind ≡ line_kind.Call }
+        requires lives { is_some (process_of self.old pid.0) ≡ true }
+        requires free { (p : ProcessOf (Unit {0})) → process_of self.old pid.0 ≡ Some p → is_free (ranges_of p.regions) range ≡ true }
+        requires granule { range.first % 16 ≡ 0 }
+        requires section { ViewFits self.old view range.count }
+        requires room { charge self.old + (if is_copy view.access then range.count else 0) ≤ limit self.old }
+        ensures ok { OnOk result ((p : ProcessOf (Unit {0})) (s : Found SectionOf) → process_of self.old pid.0 ≡ Some p → s.place ≡ view.section.0 → section_of self.old s.place ≡ Some s.thing →
+            self.new ≡ set_regions self.old pid.0 p (add_region (view_region s view.access view.first range) p.regions)) }
+        ensures err { OnErr result ((self.new ≡ self.old) × (G.contents g.new ≡ G.contents g.old)) }
+        ensures settled { Settled self.new (G.contents g.old) (G.contents g.new) (G.store g.old) (G.store g.new) }
+        ensures loans { G.loans g.new ≡ G.loans g.old }
+    {
+        let charged = marked_pages(view, range);
+        let total = self.commit.now() + charged;
+        make_view_in(alloc, &mut self.processes, g, pid, range, view, total)?;
+        self.directory.add_view(view.section);
+        take(&mut self.commit, charged);
+        Ok(())
+    }
+}

@@ -1,0 +1,7 @@
+mod Tests
+mod Outcomes
+mod FlushServed
+mod Flushing
+mod Named
+mod Placing
+mod NewFiles

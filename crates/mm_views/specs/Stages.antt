@@ -1,0 +1,48 @@
+-- What is left of a call once its first tests were passed.
+use Rattle.std.specs.Prelude.{ℕ, ◌-◌, ◌+◌, ◌≡◌, ◌≤◌, ◌<◌, ◌&&◌, ◌==◌, nat_lt, nat_le, if◌then◌else◌, Option, Some, None, slice_get, List, length}
+use Rattle.mm_types.specs.declared.answers.Answer.TheVariants as answer
+use Rattle.mm_types.specs.declared.codes.Code.TheVariants as code
+use Rattle.mm_types.specs.declared.numbers.Key.{Key}
+use Rattle.mm_types.specs.declared.views.ViewAccess.{ViewAccess}
+use Rattle.mm_types.specs.Address.{page_of, pages_for, address_of, is_granule_address}
+use Rattle.mm_world.specs.World.{Page, ProcessOf, SectionOf}
+use Rattle.mm_world.specs.Find.{Found, add_region, ranges_of, set_regions, area_at, placed}
+use Rattle.mm_world.specs.Contents.{Tables}
+use Rattle.mm_world.specs.Keys.{shared_key}
+use Rattle.mm_world.specs.Outcome.{OutcomeOf, done, need, find_or, within_limit}
+use Rattle.mm_world.specs.Views.{may_view, view_region}
+
+-- the pages of a view of a section of `total` pages, from the page `first` on; length 0 means to the section's end
+abbrev pub viewed : ℕ → ℕ → ℕ → ℕ
+viewed total first size = if size == 0 then total - first else pages_for size
+
+abbrev pub are_viewed : ℕ → ℕ → ℕ → Option ℕ
+are_viewed total first size =
+    let count = viewed total first size in if nat_lt first total && nat_le (first + count) total then Some count else None
+
+-- `map`: a view of `count` pages of a section is placed
+abbrev pub place_view : Tables → ℕ → ProcessOf (Unit {0}) → Found SectionOf → ViewAccess → ℕ → ℕ → ℕ → OutcomeOf (Unit {0})
+place_view t pid p s view first count addr =
+    find_or t code.InvalidAddress (placed (ranges_of p.regions) addr (record { first = page_of addr; count = count }) count) (λ range.
+    within_limit t (done (answer.At (address_of range.first))
+    (set_regions t pid p (add_region (view_region s view first range) p.regions))))
+
+-- `map`: a section was found
+abbrev pub map_section : Tables → ℕ → ProcessOf (Unit {0}) → Found SectionOf → ViewAccess → ℕ → ℕ → ℕ → OutcomeOf (Unit {0})
+map_section t pid p s view offset size addr =
+    let total = length (area_at t s.thing.area).pages in
+    let first = page_of offset in
+    let count = viewed total first size in
+    need t code.AccessDenied (may_view view s.thing.prot) (
+    need t code.Misaligned (is_granule_address offset && is_granule_address addr) (
+    need t code.InvalidAddress (nat_lt first total && nat_le (first + count) total) (
+    place_view t pid p s view first count addr)))
+
+-- `flush`: the blocks of some pages of a file hold their bytes
+abbrev pub AreHeld : (Key → Option ℕ) → (Key → Option Page) → List Page → ℕ → ℕ → ℕ → Type 0
+AreHeld block_of contents blocks area first count =
+    (index block : ℕ) → first ≤ index → index < first + count → block_of (shared_key area index) ≡ Some block → slice_get blocks block ≡ contents (shared_key area index)
+
+-- some pages of a file, which have blocks in a row
+pub record InBlocks (block_of : Key → Option ℕ) (area first count block : ℕ) : Type 0 where
+  pub at : (index : ℕ) → first ≤ index → index < first + count → block_of (shared_key area index) ≡ Some (block + index)
