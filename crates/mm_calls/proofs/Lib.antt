@@ -5,3 +5,4 @@ mod Counts
 mod Decided
 mod Areas
 mod Pages
+mod Beginning

@@ -111,3 +111,6 @@ impl<G: Pages> World<G> {
         result
     }
 }
+
+#[cfg(test)]
+mod tests;
