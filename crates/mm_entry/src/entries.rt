@@ -1,5 +1,6 @@
-ghost use Rattle.std.specs.Prelude.{◌≡◌, ◌+◌, ◌*◌, ◌^◌, ◌<◌, Some, IfSome, is_none};
+ghost use Rattle.std.specs.Prelude.{◌≡◌, ◌+◌, ◌*◌, ◌^◌, ◌<◌, Some, IfSome, MatchOption, is_none};
 ghost use Rattle.mm_entry.specs.Words.{word_of, first_of, IsEntry, is_no_entry};
+ghost use Rattle.mm_entry.specs.Entries.{entry_in};
 
 use mm_types::{Area, Block, Frame, Slot};
 
@@ -50,7 +51,9 @@ pub fn encode(entry: Entry) -> u64
 
 /// The entry of a word. `None` comes exactly where the tag is above 6, or a number that an entry of
 /// that tag does not have is not 0.
+#[tactic(auto, unfolding(crate::specs::Entries::entry_in))]
 pub fn decode(word: u64) -> Option<Entry>
+    ensures value { MatchOption result (entry_in word ≡ Entry.Empty) (λ e. e ≡ entry_in word) }
     ensures entry { (e : Entry) → IsEntry e → word ≡ word_of e → result ≡ Some e }
     ensures word_again { IfSome result (λ e. IsEntry e × (word_of e ≡ word)) }
     ensures none { is_none result ≡ is_no_entry word }

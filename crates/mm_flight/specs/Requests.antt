@@ -1,5 +1,5 @@
 -- The requests in flight, and what the threads wait for.
-use Rattle.std.specs.Prelude.{◌≡◌, ℕ, ◌+◌, ◌≤◌, ◌<◌, ◌^◌, Bool, not, ◌==◌, if◌then◌else◌, List, filter, Option, option_map}
+use Rattle.std.specs.Prelude.{◌≡◌, ℕ, zero, suc, ◌+◌, ◌≤◌, ◌<◌, ◌^◌, Bool, true, false, not, ◌==◌, if◌then◌else◌, List, [], ◌∷◌, filter, Option, Some, None, option_map, slice_get}
 use Rattle.std.specs.List.{list_any, position}
 use Rattle.mm_types.specs.declared.numbers.Frame.{Frame}
 use Rattle.mm_types.specs.declared.answers.Wait.{Wait}
@@ -24,6 +24,11 @@ is_in f frames = list_any (λ x. x == f) frames
 abbrev pub without : ℕ → List ℕ → List ℕ
 without f frames = filter (λ x. not (x == f)) frames
 
+-- the frame of the i-th oldest request, counted from 1
+abbrev pub nth_oldest : ℕ → List ℕ → Option ℕ
+nth_oldest zero frames = None
+nth_oldest (suc i) frames = slice_get frames i
+
 -- how old the frame's request is: 1 is the oldest
 abbrev pub place_in : ℕ → List ℕ → Option ℕ
 place_in f frames = option_map (λ i. i + 1) (position (λ x. x == f) frames)
@@ -47,3 +52,22 @@ pub record HasRoom (depth frames room threads : ℕ) : Type 0 where
   pub within : frames ≤ depth
   pub enough : depth ≤ room
   pub all : threads ≡ 256
+
+-- no frame is in the list twice
+abbrev pub AreDistinct : List ℕ → Type 0
+AreDistinct [] = Unit {0}
+AreDistinct (f ∷ fs) = (is_in f fs ≡ false) × AreDistinct fs
+
+-- each thread that waits waits for a frame in flight
+abbrev pub AreAwaited : List ℕ → List Waiting → Type 0
+AreAwaited frames waits = (t : ℕ) (f : Frame) → slice_get waits t ≡ Some (waiting.For f) → is_in f.0 frames ≡ true
+
+-- what the type keeps
+pub record IsKept (frames : List ℕ) (waits : List Waiting) : Type 0 where
+  pub distinct : AreDistinct frames
+  pub awaited : AreAwaited frames waits
+
+-- no frame has two requests, and no thread waits for a frame that has none
+pub record Holds (v : FlightOf) : Type 0 where
+  pub distinct : (i j f : ℕ) → slice_get v.frames i ≡ Some f → slice_get v.frames j ≡ Some f → i ≡ j
+  pub awaited : AreAwaited v.frames v.waits

@@ -1,5 +1,5 @@
 ghost use Rattle.std.specs.Prelude.{◌≡◌, ◌-◌, ◌<◌, ◌≤◌, [], ◌∷◌, ◌++◌, length, map, not, replicate, IsTrue, IfOk, slice_get, slice_set, Some, option_map, true, false, filter, ◌==◌, vec_len, vec_capacity};
-ghost use Rattle.mm_flight.specs.Requests.{FlightOf, is_in, without, place_in, ended, wait_of, number_of};
+ghost use Rattle.mm_flight.specs.Requests.{FlightOf, Holds, is_in, without, nth_oldest, place_in, ended, wait_of, number_of};
 
 use mm_types::{Frame, NoMemory, Tid, Wait};
 use std::alloc::Global;
@@ -31,13 +31,16 @@ pub struct Flight {
 
 impl Model for Flight {
     ghost use Rattle.std.specs.Prelude.{map, length, vec_len, vec_capacity};
-    ghost use Rattle.mm_flight.specs.Requests.{FlightOf, number_of, HasRoom};
+    ghost use Rattle.mm_flight.specs.Requests.{FlightOf, number_of, HasRoom, IsKept};
 
     ghost Value = { FlightOf };
 
     ghost view = { λ f. record { depth = f.depth; frames = map number_of f.frames.items; waits = f.waits.items } };
 
-    ghost invariant = { λ f. HasRoom f.depth (vec_len f.frames) (vec_capacity f.frames) (length f.waits.items) };
+    ghost invariant = { λ f. record {
+      room : HasRoom f.depth (vec_len f.frames) (vec_capacity f.frames) (length f.waits.items);
+      kept : IsKept (map number_of f.frames.items) f.waits.items;
+    } };
 }
 
 impl Flight {
@@ -82,12 +85,21 @@ impl Flight {
         self.frames.is_empty()
     }
 
-    /// The frame of the i-th oldest request, counted from 1.
+    /// The frame of the i-th oldest request, counted from 1. `None` comes at 0 and past the last.
     pub fn nth(&self, i: u32) -> Option<Frame>
-        requires { 0 < i }
-        ensures { option_map number_of result ≡ slice_get self.now.frames (i - 1) }
+        ensures { option_map number_of result ≡ nth_oldest i self.now.frames }
     {
-        self.frames.get(i as usize - 1).copied()
+        if i == 0 {
+            return None;
+        }
+        frame_at(&self.frames, i - 1)
+    }
+
+    /// That no frame has two requests, and that each thread that waits waits for a frame in flight. It does nothing.
+    pub fn requests_hold(&self)
+        ensures { Holds self.now }
+    {
+        let _frames = &self.frames;
     }
 
     /// How old the frame's request is: the i of `nth`. `None` comes exactly where it has none.
@@ -137,6 +149,13 @@ impl Flight {
     {
         self.waits[t.0 as usize] = Waiting::Nothing;
     }
+}
+
+/// The frame at a place of the list, counted from 0.
+fn frame_at(frames: &[Frame], i: u32) -> Option<Frame>
+    ensures { option_map number_of result ≡ slice_get (map number_of frames.now) i }
+{
+    frames.get(i as usize).copied()
 }
 
 /// What a thread waits for once the request of frame `f` has ended.

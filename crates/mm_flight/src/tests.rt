@@ -9,6 +9,7 @@ fn requests_are_oldest_first(rt: HostRuntime) -> Result<(), Fail> {
     flight.begin(Frame(5));
     flight.begin(Frame(3));
     assert_eq!(rt; flight.len(), 2);
+    assert_eq!(rt; flight.nth(0), None);
     assert_eq!(rt; flight.nth(1), Some(Frame(5)));
     assert_eq!(rt; flight.nth(3), None);
     assert_eq!(rt; flight.place_of(Frame(3)), Some(2));

@@ -1,18 +1,19 @@
 -- What the frames on each list hold, and on which list a page at rest is.
-use Rattle.std.proofs.Common.{◌≡◌, ℕ, ◌<◌, ◌≤◌, Bool, true, false, cond, List, get_or, Option, Some, None, refl, sym, ap, ◌∙◌, arith}
-use Rattle.std.specs.Prelude.{◌==◌, ◌&&◌, not, length, is_some}
+use Rattle.std.proofs.Common.{◌≡◌, ℕ, ◌<◌, ◌≤◌, Bool, true, false, cond, List, get_or, Option, Some, None, refl, sym, ap, ◌∙◌, inl, inr, arith}
+use Rattle.std.specs.Prelude.{◌==◌, ◌&&◌, ◌||◌, slice_get, not, length, is_some}
 use Rattle.std.specs.Cmp.{unsigned_Decides}
 use Rattle.mm_types.specs.declared.frames.Record.{Record}
 use Rattle.mm_life.specs.Frames.{blank, has_request, is_idle, is_on}
+use Rattle.mm_lists.proofs.Cuts.{place_of}
 use Rattle.mm_lists.specs.Lists.{ListsOf, list_at, number_at}
 use Rattle.mm_ram.specs.Ram.{page_at, zero_page}
 use Rattle.mm_frames.specs.declared.standing.Standing.{Standing}
 use Rattle.mm_frames.specs.declared.standing.Standing.TheVariants.{Zeroed, Free, Bound, Cleared, Taken}
 use Rattle.mm_frames.specs.Base.{standing_at}
-use Rattle.mm_frames.specs.Placing.{list_for, AreFrames, is_kept, is_zero, IsAtRest}
+use Rattle.mm_frames.specs.Placing.{list_for, AreFrames, Holds, is_kept, is_bound, is_zero, IsAtRest}
 use Rattle.mm_frames.proofs.Placings.{zeroed_stands, free_stands, kept_owned, frame_low, frame_bound, idle_list}
-use Rattle.mm_frames.proofs.Departures.{no_request, owned_if}
-use Rattle.mm_frames.proofs.OnePlace.{on_if}
+use Rattle.mm_frames.proofs.Departures.{no_request, owned_if, requested_kept}
+use Rattle.mm_frames.proofs.OnePlace.{on_if, off_if}
 
 same_list : (i j : ℕ) → Some i ≡ Some j → i ≡ j
 same_list i j e = cc
@@ -47,11 +48,29 @@ both : (z h : Bool) → (z && not h) ≡ true → z ≡ true
 both true h e = refl
 both false h e = e
 
-idle_if : (r : Record) → r.shares ≡ 0 → has_request r.request ≡ false → is_idle r ≡ true
+pub idle_if : (r : Record) → r.shares ≡ 0 → has_request r.request ≡ false → is_idle r ≡ true
 idle_if r z h = ap (λ (n : ℕ). (n == 0) && not (has_request r.request)) z ∙ ap not h
 
+pub on_place : (f : ℕ) (xs : List ℕ) → is_on f xs ≡ true → (k : ℕ) × (slice_get xs k ≡ Some f)
+on_place f xs e = elim (place_of f xs) [
+  | inl h ↦ h
+  | inr none ↦ let bad : true ≡ false = sym e ∙ off_if f xs none in cc
+]
+
+changed_kept : (s : Standing) (r : Record) (page : Option (List ℕ)) → Holds s r page → r.changed ≡ true → is_kept r ≡ true
+changed_kept Zeroed r page h c = let bad : true ≡ false = sym c ∙ ap (λ (q : Record). q.changed) (h.empty (λ e. cc)) in cc
+changed_kept Free r page h c = let bad : true ≡ false = sym c ∙ ap (λ (q : Record). q.changed) (h.empty (λ e. cc)) in cc
+changed_kept Bound r page h c = h.kept refl
+changed_kept Cleared r page h c = let bad : true ≡ false = sym c ∙ ap (λ (q : Record). q.changed) (h.empty (λ e. cc)) in cc
+changed_kept Taken r page h c = let bad : true ≡ false = sym c ∙ ap (λ (q : Record). q.changed) (h.empty (λ e. cc)) in cc
+
+parts : (a b : Bool) → (a && b) ≡ true → (a ≡ true) × (b ≡ true)
+parts true true e = (refl, refl)
+parts true false e = let bad : false ≡ true = e in cc
+parts false b e = let bad : false ≡ true = e in cc
+
 module _ (records : List Record) (standing : List Standing) (lists : ListsOf) (bytes : List (Option (List ℕ))) (a : AreFrames records standing lists bytes) (f : ℕ) where
-  on_low : (j k : ℕ) → number_at lists.lists j k ≡ Some f → f < length records
+  pub on_low : (j k : ℕ) → number_at lists.lists j k ≡ Some f → f < length records
   on_low j k e = omega (arith, a.apart.below j k f e, a.numbers)
 
   pub zeroed_blank : (k : ℕ) → number_at lists.lists 0 k ≡ Some f → get_or records f blank ≡ blank
@@ -97,3 +116,39 @@ module _ (records : List Record) (standing : List Standing) (lists : ListsOf) (b
       ∙ idle_list r true (idle_if r h.unshared h.no_request) ∙ ap (λ (b : Bool). Some (cond b 3 2)) h.same in
       let there = a.listed.there f (cond c 3 2) low refl at in
       on_if f (list_at lists.lists (cond c 3 2)) there.0 there.1
+
+  -- a frame is on modified exactly where it is idle and changed
+  changed_on : f < length records → (is_idle (get_or records f blank) && (get_or records f blank).changed) ≡ true → is_on f (list_at lists.lists 3) ≡ true
+  changed_on low e =
+      let r = get_or records f blank in
+      let p = parts (is_idle r) r.changed e in
+      let kept = changed_kept (standing_at standing f) r (page_at bytes f) (a.holds f low) p.1 in
+      let none : has_request r.request ≡ false = no_request (r.shares == 0) (has_request r.request) p.0 in
+      rests_listed true (record {
+        owned = owned_if (is_some r.owner) (has_request r.request) (r.shares == 0) none kept;
+        unshared = (unsigned_Decides r.shares 0).0 (both (r.shares == 0) (has_request r.request) p.0);
+        no_request = none;
+        same = p.1;
+      })
+
+  on_changed : is_on f (list_at lists.lists 3) ≡ true → (is_idle (get_or records f blank) && (get_or records f blank).changed) ≡ true
+  on_changed e =
+      let k = on_place f (list_at lists.lists 3) e in
+      let rest = listed_rests true k.0 k.1 in
+      ap (λ (b : Bool). b && (get_or records f blank).changed) (idle_if (get_or records f blank) rest.unshared rest.no_request) ∙ rest.same
+
+  pub modified_is : f < length records → (is_idle (get_or records f blank) && (get_or records f blank).changed) ≡ is_on f (list_at lists.lists 3)
+  modified_is low = same_truth (is_idle (get_or records f blank) && (get_or records f blank).changed) (is_on f (list_at lists.lists 3)) (changed_on low) on_changed
+    where
+      same_truth : (x y : Bool) → (x ≡ true → y ≡ true) → (y ≡ true → x ≡ true) → x ≡ y
+      same_truth true y h k = sym (h refl)
+      same_truth false true h k = k refl
+      same_truth false false h k = refl
+
+  pub bound_kept : is_bound (get_or records f blank) ≡ true → is_kept (get_or records f blank) ≡ true
+  bound_kept e = at (is_some (get_or records f blank).owner) (has_request (get_or records f blank).request) refl refl e
+    where
+      at : (o h : Bool) → is_some (get_or records f blank).owner ≡ o → has_request (get_or records f blank).request ≡ h → (o || h) ≡ true → is_kept (get_or records f blank) ≡ true
+      at true h x y e = kept_owned (get_or records f blank) x
+      at false true x y e = requested_kept records standing lists bytes a f y
+      at false false x y e = let bad : false ≡ true = e in cc

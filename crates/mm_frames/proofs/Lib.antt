@@ -5,3 +5,4 @@ pub mod Fresh
 pub mod Departures
 pub mod OnePlace
 pub mod AtRest
+pub mod WithBlock

@@ -23,7 +23,7 @@ on_if f [] k e = let bad : None ≡ Some f = e in cc
 on_if f (x ∷ xs) zero e = ap (λ (b : Bool). b || is_on f xs) ((unsigned_Decides x f).1 (same x f e))
 on_if f (x ∷ xs) (suc k) e = or_true (x == f) (is_on f xs) (on_if f xs k e)
 
-off_if : (f : ℕ) (xs : List ℕ) → ((k : ℕ) → slice_get xs k ≡ Some f → ⊥) → is_on f xs ≡ false
+pub off_if : (f : ℕ) (xs : List ℕ) → ((k : ℕ) → slice_get xs k ≡ Some f → ⊥) → is_on f xs ≡ false
 off_if f [] none = refl
 off_if f (x ∷ xs) none = ap (λ (b : Bool). b || is_on f xs) (differ x f (λ e. none 0 (ap (λ (y : ℕ). Some y) e))) ∙ off_if f xs (λ k. none (suc k))
 

@@ -1,10 +1,10 @@
 -- What contracts see of the frame database.
-use Rattle.std.specs.Prelude.{◌≡◌, ℕ, Bool, true, false, not, ◌&&◌, ◌||◌, ◌==◌, if◌then◌else◌, is_some, List, [], ◌∷◌, ◌++◌, Option, Some, None, slice_get, slice_set, slice_index_or}
+use Rattle.std.specs.Prelude.{◌≡◌, ℕ, Bool, true, false, not, ◌&&◌, ◌||◌, ◌==◌, if◌then◌else◌, is_some, filter, List, [], ◌∷◌, ◌++◌, Option, Some, None, slice_get, slice_set, slice_index_or}
 use Rattle.mm_types.specs.declared.frames.Record.{Record}
 use Rattle.mm_types.specs.declared.numbers.Key.{Key}
 use Rattle.mm_types.specs.declared.frames.Backing.{Backing}
 use Rattle.mm_types.specs.declared.frames.Backing.TheVariants as backing
-use Rattle.mm_life.specs.Frames.{FrameTable, blank, record_at, has_request, is_write, is_again, rest, with_record, bound, being_read, off_lists, to_free, settled, after_got, after_bad, after_wrote, after_lost, after_drop, slot_after_wrote, slot_after_lost, write_done, write_lost}
+use Rattle.mm_life.specs.Frames.{FrameTable, blank, record_at, is_idle, has_request, is_write, is_again, rest, with_record, bound, being_read, off_lists, to_free, settled, after_got, after_bad, after_wrote, after_lost, after_drop, slot_after_wrote, slot_after_lost, write_done, write_lost}
 use Rattle.mm_life.specs.Legal.{is_block}
 use Rattle.mm_ram.specs.Ram.{with_page, zero_page}
 use Rattle.mm_frames.specs.declared.standing.Standing.{Standing}
@@ -77,6 +77,14 @@ abbrev pub has_block : Backing → Bool
 has_block backing.None = false
 has_block (backing.Slot s) = false
 has_block (backing.Block b) = true
+
+-- a modified page that is written to a block of its own
+abbrev pub is_modified_with_block : Record → Bool
+is_modified_with_block r = is_idle r && (r.changed && has_block r.backing)
+
+-- the modified frames whose page has a block, in the order of the modified list
+abbrev pub modified_with_block : FrameTable → List ℕ
+modified_with_block d = filter (λ f. has_block (record_at d f).backing) d.modified
 
 -- a page without a block is written to a slot, while no valid entry names its frame; a page with a block to that block
 abbrev pub can_go_to : Backing → Record → Bool

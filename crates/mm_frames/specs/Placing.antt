@@ -1,5 +1,5 @@
 -- Each frame is on one list, active, in transition or in one token in hand.
-use Rattle.std.specs.Prelude.{cond, ◌≡◌, ◌≢◌, ℕ, ◌+◌, ◌<◌, ◌^◌, Bool, true, false, ◌&&◌, ◌||◌, ◌==◌, if◌then◌else◌, is_some, List, [], ◌∷◌, length, Option, Some, None, slice_index_or}
+use Rattle.std.specs.Prelude.{cond, ◌≡◌, ◌≢◌, ℕ, ◌+◌, ◌<◌, ◌^◌, Bool, true, false, ◌&&◌, ◌||◌, ◌==◌, if◌then◌else◌, is_some, filter, List, [], ◌∷◌, length, Option, Some, None, slice_index_or}
 use Rattle.mm_types.specs.declared.frames.Record.{Record}
 use Rattle.mm_life.specs.Frames.{FrameTable, blank, record_at, is_idle, has_request, is_read, is_on}
 use Rattle.mm_life.specs.Life.{is_active, is_in_transition}
@@ -7,7 +7,7 @@ use Rattle.mm_lists.specs.Lists.{ListsOf, AreApart, list_at, number_at}
 use Rattle.mm_ram.specs.Ram.{page_at, zero_page}
 use Rattle.mm_frames.specs.declared.standing.Standing.{Standing}
 use Rattle.mm_frames.specs.declared.standing.Standing.TheVariants.{Zeroed, Free, Bound, Cleared, Taken}
-use Rattle.mm_frames.specs.Base.{FramesOf, standing_at}
+use Rattle.mm_frames.specs.Base.{FramesOf, standing_at, has_block}
 
 -- the list that a frame is on: zeroed, free, standby, modified are lists 0 to 3
 abbrev pub list_for : Standing → Record → Option ℕ
@@ -23,6 +23,10 @@ table_of records lists = record { records = records; zeroed = list_at lists 0; f
 -- a bound frame has an owner, or a request and no shares
 abbrev pub is_kept : Record → Bool
 is_kept r = is_some r.owner || (has_request r.request && (r.shares == 0))
+
+-- a frame holds a page, or a request holds it
+abbrev pub is_bound : Record → Bool
+is_bound r = is_some r.owner || has_request r.request
 
 abbrev pub is_zero : Standing → Bool
 is_zero Zeroed = true
@@ -55,6 +59,22 @@ pub record AreFrames (records : List Record) (standing : List Standing) (lists :
   pub apart : AreApart lists
   pub listed : Listed none_but records standing lists.lists
   pub holds : (f : ℕ) → f < length records → Holds (standing_at standing f) (slice_index_or records f blank) (page_at bytes f)
+
+-- of these frames those whose page has a block
+abbrev pub backed_in : List Record → List ℕ → List ℕ
+backed_in records xs = filter (λ f. has_block (slice_index_or records f blank).backing) xs
+
+abbrev pub backed_list : List Record → List ℕ → ListsOf
+backed_list records xs = record { numbers = length records; lists = backed_in records xs ∷ [] }
+
+-- a second list has the modified frames whose page has a block
+pub record AreBacked (records : List Record) (lists : List (List ℕ)) (with_block : ListsOf) : Type 0 where
+  pub apart : AreApart with_block
+  pub same : with_block ≡ backed_list records (list_at lists 3)
+
+pub record AreKept (records : List Record) (standing : List Standing) (lists with_block : ListsOf) (bytes : List (Option (List ℕ))) : Type 0 where
+  pub placed : AreFrames records standing lists bytes
+  pub backed : AreBacked records lists.lists with_block
 
 -- four lists, with numbers on the second alone
 abbrev pub free_only : List ℕ → List (List ℕ)

@@ -1,14 +1,15 @@
-ghost use Rattle.std.specs.Prelude.{◌≡◌, ◌≢◌, ℕ, ◌≤◌, ◌^◌, true, false, Some, IsSome, IfSome, ◌<◌, ◌+◌, ◌++◌, ◌∷◌, [], length, replicate, count_by, None, IfOk, option_map, slice_get, slice_set};
-ghost use Rattle.mm_life.specs.Frames.{blank, record_at, is_idle, is_on, is_read, is_write, has_request, with_record, off_lists, settled, after_map, after_unmap, after_soil, after_write, slot_after_soil, slot_after_read, slot_after_drop};
+ghost use Rattle.std.specs.Prelude.{◌≡◌, ◌≢◌, ℕ, List, ◌≤◌, ◌^◌, true, false, Some, IsSome, IfSome, ◌<◌, ◌+◌, ◌++◌, ◌∷◌, [], length, replicate, count_by, None, IfOk, option_map, slice_get, slice_set, slice_index, IsNone};
+ghost use Rattle.mm_life.specs.Frames.{blank, record_at, is_idle, is_on, is_read, is_write, has_request, with_record, off_lists, settled, after_map, after_unmap, after_soil, after_write, after_got, after_bad, after_wrote, after_lost, slot_after_soil, slot_after_read, slot_after_drop};
 ghost use Rattle.mm_life.specs.Life.{free_table, is_active, is_in_transition, numbers_from};
 ghost use Rattle.mm_lists.specs.Lists.{AreApart};
-ghost use Rattle.mm_frames.specs.Placing.{free_only, is_kept, ArePlaced, IsAtRest, places};
+ghost use Rattle.mm_frames.specs.Placing.{free_only, is_kept, is_bound, ArePlaced, IsAtRest, places};
 ghost use Rattle.mm_ram.specs.Ram.{bytes_of, bytes_from, overwritten, page_at, with_page, zero_page, page_size};
-ghost use Rattle.mm_frames.specs.Base.{FramesOf, zeroed_taken, free_taken, standby_taken, zeroed_put, free_put, now_cleared, given_to, reading_into, IsBlank, IsDirty, can_be_soiled, can_go_to, read_ended, write_ended, slot_after_write, forgotten, stands_with, gone_free, ended_with};
+ghost use Rattle.mm_frames.specs.Base.{FramesOf, has_block, modified_with_block, zeroed_taken, free_taken, standby_taken, zeroed_put, free_put, now_cleared, given_to, reading_into, IsBlank, IsDirty, can_be_soiled, can_go_to, read_ended, write_ended, slot_after_write, forgotten, stands_with, gone_free, ended_with};
 
 use crate::placing::{
-    FREE, MODIFIED, STANDBY, ZEROED, has_request, is_idle, leave, settle, slot_after_read,
-    slot_after_soil, slot_after_write, slot_of, soiled, written,
+    FREE, MODIFIED, STANDBY, WITH_BLOCK, ZEROED, has_request, is_idle, is_modified,
+    is_modified_with_block, leave, settle, settle_with_block, slot_after_read, slot_after_soil,
+    slot_after_write, slot_of, soiled, written,
 };
 use crate::records::{BLANK, Records};
 use crate::{Blank, Dirty, Ended, Standing, Stolen};
@@ -24,18 +25,20 @@ pub struct Frames {
     records: Records,
     standing: Vec<Standing>,
     lists: Lists,
+    /// One list: the modified frames whose page has a block, in the order of modified.
+    with_block: Lists,
     ram: Ram,
 }
 
 impl Model for Frames {
     ghost use Rattle.mm_frames.specs.Base.{FramesOf};
-    ghost use Rattle.mm_frames.specs.Placing.{AreFrames, table_of};
+    ghost use Rattle.mm_frames.specs.Placing.{AreKept, table_of};
 
     ghost Value = { FramesOf };
 
     ghost view = { λ s. record { table = table_of s.records s.lists.lists; bytes = s.ram; standing = s.standing.items } };
 
-    ghost invariant = { λ s. AreFrames s.records s.standing.items s.lists s.ram };
+    ghost invariant = { λ s. AreKept s.records s.standing.items s.lists s.with_block s.ram };
 }
 
 /// How many frames stand where.
@@ -99,15 +102,61 @@ impl Frames {
 
     /// The first modified frame, `None` exactly where none is modified.
     pub fn front_modified(&self) -> Option<Frame>
-        ensures { option_map (λ f. f.0) result ≡ slice_get self.now.table.modified 0 }
+        ensures first { option_map (λ f. f.0) result ≡ slice_get self.now.table.modified 0 }
+        ensures there { IfSome result (λ f. f.0 < length self.now.table.records) }
+        ensures rests { IfSome result (λ f. IsAtRest true (record_at self.now.table f.0)) }
     {
         Some(Frame(self.lists.front(MODIFIED)?))
+    }
+
+    /// How many modified frames have a block as backing. The others are written to slots.
+    pub fn modified_with_block(&self) -> u32
+        ensures count { result ≡ length (modified_with_block self.now.table) }
+        ensures most { result ≤ length self.now.table.modified }
+    {
+        self.with_block.len(WITH_BLOCK)
+    }
+
+    /// The first modified frame that has a block as backing, `None` exactly where none has.
+    pub fn front_modified_with_block(&self) -> Option<Frame>
+        ensures first { option_map (λ f. f.0) result ≡ slice_get (modified_with_block self.now.table) 0 }
+        ensures there { IfSome result (λ f. f.0 < length self.now.table.records) }
+        ensures rests { IfSome result (λ f. IsAtRest true (record_at self.now.table f.0)) }
+        ensures block { IfSome result (λ f. has_block (record_at self.now.table f.0).backing ≡ true) }
+    {
+        Some(Frame(self.with_block.front(WITH_BLOCK)?))
+    }
+
+    /// The modified frame that has a block and is the next such one behind `f`, which is one; `None` exactly
+    /// where `f` is the last of them.
+    pub fn next_modified_with_block(&self, f: Frame) -> Option<Frame>
+        requires { (k : ℕ) × (slice_get (modified_with_block self.now.table) k ≡ Some f.0) }
+        ensures behind { (k : ℕ) → slice_get (modified_with_block self.now.table) k ≡ Some f.0
+            → option_map (λ g. g.0) result
+            ≡ slice_get (modified_with_block self.now.table) (k + 1) }
+        ensures there { IfSome result (λ g. g.0 < length self.now.table.records) }
+        ensures rests { IfSome result (λ g. IsAtRest true (record_at self.now.table g.0)) }
+        ensures block { IfSome result (λ g. has_block (record_at self.now.table g.0).backing ≡ true) }
+    {
+        let behind = self.with_block.next(f.0)?;
+        Some(Frame(behind))
+    }
+
+    /// Whether the frame is on modified.
+    pub fn is_modified(&self, f: Frame) -> bool
+        requires { f.0 < length self.now.table.records }
+        ensures { result ≡ is_on f.0 self.now.table.modified }
+    {
+        is_modified(&self.records.get(f.0))
     }
 
     /// Takes the first zeroed frame, `None` exactly where none is zeroed. Its bytes are all zero.
     pub fn take_zeroed(&mut self) -> Option<Blank>
         ensures first { result ≡ slice_get self.old.table.zeroed 0 }
+        ensures front { IfSome result (λ f. f ≡ slice_index self.old.table.zeroed 0) }
         ensures zero { IfSome result (λ f. page_at self.new.bytes f ≡ Some zero_page) }
+        ensures there { IfSome result (λ f. f < length self.old.table.records) }
+        ensures in_hand { IfSome result (λ f. IsBlank self.new f) }
         ensures taken { self.new ≡ zeroed_taken self.old }
     {
         let f = self.lists.pop_front(ZEROED)?;
@@ -118,6 +167,9 @@ impl Frames {
     /// Takes the first free frame, `None` exactly where none is free.
     pub fn take_free(&mut self) -> Option<Dirty>
         ensures first { result ≡ slice_get self.old.table.free 0 }
+        ensures front { IfSome result (λ f. f ≡ slice_index self.old.table.free 0) }
+        ensures there { IfSome result (λ f. f < length self.old.table.records) }
+        ensures in_hand { IfSome result (λ f. IsDirty self.new f) }
         ensures taken { self.new ≡ free_taken self.old }
     {
         let f = self.lists.pop_front(FREE)?;
@@ -129,8 +181,12 @@ impl Frames {
     /// free); `None` exactly where none is on standby.
     pub fn take_standby(&mut self) -> Option<Stolen>
         ensures first { option_map (λ s. s.dirty) result ≡ slice_get self.old.table.standby 0 }
+        ensures front { IfSome result (λ s. s.dirty ≡ slice_index self.old.table.standby 0) }
+        ensures rests { IfSome result (λ s. IsAtRest false (record_at self.old.table s.dirty)) }
         ensures key { IfSome result (λ s. (record_at self.old.table s.dirty).owner ≡ Some s.key) }
         ensures backing { IfSome result (λ s. (record_at self.old.table s.dirty).backing ≡ s.backing) }
+        ensures there { IfSome result (λ s. s.dirty < length self.old.table.records) }
+        ensures in_hand { IfSome result (λ s. IsDirty self.new s.dirty) }
         ensures taken { self.new ≡ standby_taken self.old }
     {
         let f = self.lists.pop_front(STANDBY)?;
@@ -169,6 +225,7 @@ impl Frames {
     pub fn clear(&mut self, d: Dirty) -> Blank
         requires { IsDirty self.old d }
         ensures same { result ≡ d }
+        ensures in_hand { IsBlank self.new result }
         ensures cleared { self.new ≡ now_cleared self.old d }
     {
         let Dirty { frame } = d;
@@ -181,6 +238,7 @@ impl Frames {
     pub fn soil_blank(&mut self, b: Blank) -> Dirty
         requires { IsBlank self.old b }
         ensures same { result ≡ b }
+        ensures in_hand { IsDirty self.new result }
         ensures soiled { self.new
             ≡ record self.old { standing = slice_set self.old.standing b Standing.Taken } }
     {
@@ -243,6 +301,7 @@ impl Frames {
             records: Records::new(alloc, n)?,
             standing: all_free(alloc, n)?,
             lists,
+            with_block: Lists::new(alloc, n, 1)?,
             ram: Ram::new(alloc, n)?,
         })
     }
@@ -250,28 +309,35 @@ impl Frames {
     /// The modified frame behind `f`, `None` exactly where `f` is the last.
     pub fn next_modified(&self, f: Frame) -> Option<Frame>
         requires { (k : ℕ) × (slice_get self.now.table.modified k ≡ Some f.0) }
-        ensures { (k : ℕ) → slice_get self.now.table.modified k ≡ Some f.0
+        ensures behind { (k : ℕ) → slice_get self.now.table.modified k ≡ Some f.0
             → option_map (λ g. g.0) result ≡ slice_get self.now.table.modified (k + 1) }
+        ensures there { IfSome result (λ g. g.0 < length self.now.table.records) }
+        ensures rests { IfSome result (λ g. IsAtRest true (record_at self.now.table g.0)) }
     {
         let behind = self.lists.next(f.0)?;
         Some(Frame(behind))
     }
 
-    /// Reads bytes of a frame that has an owner and no read request.
+    /// Reads bytes of a frame that has an owner and no read request: its page has 4,096 bytes.
     pub fn read(&self, f: Frame, off: u16, out: &mut [u8])
         requires owned { IsSome (record_at self.now.table f.0).owner }
         requires not_read { is_read (record_at self.now.table f.0).request ≡ false }
         requires inside { off + length out.old ≤ page_size }
-        ensures { out.new ≡ bytes_from (bytes_of self.now.bytes f.0) off (length out.old) }
+        ensures bytes { out.new ≡ bytes_from (bytes_of self.now.bytes f.0) off (length out.old) }
+        ensures page { (page : List ℕ) → page_at self.now.bytes f.0 ≡ Some page
+            → out.new ≡ bytes_from page off (length out.old) }
+        ensures written { page_at self.now.bytes f.0 ≡ Some (bytes_of self.now.bytes f.0) }
+        ensures whole { length (bytes_of self.now.bytes f.0) ≡ page_size }
     {
         self.ram.read(f, off, out);
     }
 
     /// Reads all bytes of a frame that has an owner or a write request, and no read request.
     pub fn take(&self, f: Frame, out: &mut [u8; 4096])
-        requires kept { is_kept (record_at self.now.table f.0) ≡ true }
+        requires kept { is_bound (record_at self.now.table f.0) ≡ true }
         requires not_read { is_read (record_at self.now.table f.0).request ≡ false }
-        ensures { out.new ≡ bytes_of self.now.bytes f.0 }
+        ensures bytes { out.new ≡ bytes_of self.now.bytes f.0 }
+        ensures page { page_at self.now.bytes f.0 ≡ Some out.new }
     {
         self.ram.take(f, out);
     }
@@ -281,10 +347,15 @@ impl Frames {
         requires owned { IsSome (record_at self.old.table f.0).owner }
         requires not_read { is_read (record_at self.old.table f.0).request ≡ false }
         requires inside { off + length bytes.now ≤ page_size }
-        ensures { self.new ≡ record self.old {
+        ensures wrote { self.new ≡ record self.old {
           bytes = with_page self.old.bytes f.0
               (overwritten (bytes_of self.old.bytes f.0) off bytes.now);
         } }
+        ensures page { (page : List ℕ) → page_at self.old.bytes f.0 ≡ Some page
+            → page_at self.new.bytes f.0 ≡ Some (overwritten page off bytes.now) }
+        ensures written { page_at self.old.bytes f.0 ≡ Some (bytes_of self.old.bytes f.0) }
+        ensures others { (g : ℕ) → g ≢ f.0
+            → page_at self.new.bytes g ≡ page_at self.old.bytes g }
     {
         self.ram.write(f, off, bytes);
     }
@@ -296,10 +367,14 @@ impl Frames {
         requires to_owned { IsSome (record_at self.old.table to.0).owner }
         requires to_not_read { is_read (record_at self.old.table to.0).request ≡ false }
         requires other { from.0 ≢ to.0 }
-        ensures { self.new ≡ record self.old {
+        ensures copied { self.new ≡ record self.old {
           bytes = with_page self.old.bytes to.0
               (bytes_of self.old.bytes from.0);
         } }
+        ensures page { page_at self.new.bytes to.0 ≡ page_at self.old.bytes from.0 }
+        ensures written { page_at self.old.bytes from.0 ≡ Some (bytes_of self.old.bytes from.0) }
+        ensures others { (g : ℕ) → g ≢ to.0
+            → page_at self.new.bytes g ≡ page_at self.old.bytes g }
     {
         self.ram.copy(from, to);
     }
@@ -313,6 +388,7 @@ impl Frames {
     {
         let r = self.records.get(f.0);
         leave(&mut self.lists, f.0, is_idle(&r));
+        leave(&mut self.with_block, f.0, is_modified_with_block(&r));
         let shared = Record {
             shares: r.shares + 1,
             ..r
@@ -332,6 +408,7 @@ impl Frames {
         };
         self.records.set(f.0, unshared);
         settle(&mut self.lists, f.0, &unshared);
+        settle_with_block(&mut self.with_block, f.0, &unshared);
     }
 
     /// The page of a frame with shares is changed (the move `soil`): a slot that backed it is given back. It
@@ -358,6 +435,7 @@ impl Frames {
     {
         let r = self.records.get(f.0);
         leave(&mut self.lists, f.0, is_idle(&r));
+        leave(&mut self.with_block, f.0, is_modified_with_block(&r));
         let written = Record {
             backing,
             request: Request::Write,
@@ -375,6 +453,7 @@ impl Frames {
     {
         let r = self.records.get(f.0);
         leave(&mut self.lists, f.0, is_idle(&r));
+        leave(&mut self.with_block, f.0, is_modified_with_block(&r));
         self.records.set(f.0, BLANK);
         self.lists.push_back(FREE, f.0);
         self.standing[f.0 as usize] = Standing::Free;
@@ -391,6 +470,7 @@ impl Frames {
     {
         self.records.set(f.0, r);
         settle(&mut self.lists, f.0, &r);
+        settle_with_block(&mut self.with_block, f.0, &r);
     }
 
     /// The request of a frame ends and leaves this record: without an owner the frame goes to free.
@@ -420,6 +500,10 @@ impl Frames {
         ensures slot { option_map (λ s. s.0) result.slot ≡ slot_after_read (record_at self.old.table f.0) }
         ensures home { result.home ≡ (record_at self.old.table f.0).backing }
         ensures ended { self.new ≡ read_ended self.old f.0 (option_map (λ page. page.now) bytes.entry) }
+        ensures got { IsSome bytes.entry → self.new.table ≡ after_got self.old.table f.0 }
+        ensures page { IfSome bytes.entry (λ page. self.new.bytes ≡ with_page self.old.bytes f.0 page.now) }
+        ensures bad { IsNone bytes.entry
+            → (self.new.table ≡ after_bad self.old.table f.0) × (self.new.bytes ≡ self.old.bytes) }
     {
         let r = self.records.get(f.0);
         let ended = Ended {
@@ -452,6 +536,9 @@ impl Frames {
             ≡ slot_after_write ok (record_at self.old.table f.0) }
         ensures home { result.home ≡ (record_at self.old.table f.0).backing }
         ensures ended { self.new ≡ write_ended self.old f.0 ok }
+        ensures wrote { ok ≡ true → self.new.table ≡ after_wrote self.old.table f.0 }
+        ensures lost { ok ≡ false → self.new.table ≡ after_lost self.old.table f.0 }
+        ensures bytes { self.new.bytes ≡ self.old.bytes }
     {
         let r = self.records.get(f.0);
         self.end_request(f, written(&r, ok));
@@ -498,6 +585,10 @@ impl Frames {
             → IsAtRest false (record_at self.now.table f) }
         ensures modified { (k f : ℕ) → slice_get self.now.table.modified k ≡ Some f
             → IsAtRest true (record_at self.now.table f) }
+        ensures on_standby { (f : ℕ) → is_on f self.now.table.standby ≡ true
+            → IsAtRest false (record_at self.now.table f) }
+        ensures on_modified { (f : ℕ) → is_on f self.now.table.modified ≡ true
+            → IsAtRest true (record_at self.now.table f) }
         ensures clean { (f : ℕ) → IsAtRest false (record_at self.now.table f)
             → is_on f self.now.table.standby ≡ true }
         ensures changed { (f : ℕ) → IsAtRest true (record_at self.now.table f)
@@ -510,8 +601,25 @@ impl Frames {
     pub fn zeroed_frames_are_zero(&self)
         ensures zeroed { (k f : ℕ) → slice_get self.now.table.zeroed k ≡ Some f
             → page_at self.now.bytes f ≡ Some zero_page }
+        ensures on_zeroed { (f : ℕ) → is_on f self.now.table.zeroed ≡ true
+            → page_at self.now.bytes f ≡ Some zero_page }
         ensures blank { (f : ℕ) → IsBlank self.now f → page_at self.now.bytes f ≡ Some zero_page }
     {
         let _ = &self.records;
     }
+
+    /// A law, which does nothing: each frame that was written has 4,096 bytes; a frame that has an owner or a
+    /// write request, and no read request, was written.
+    pub fn written_frames_are_whole(&self)
+        ensures whole { (f : ℕ) (page : List ℕ) → page_at self.now.bytes f ≡ Some page
+            → length page ≡ page_size }
+        ensures written { (f : ℕ) → is_bound (record_at self.now.table f) ≡ true
+            → is_read (record_at self.now.table f).request ≡ false
+            → page_at self.now.bytes f ≡ Some (bytes_of self.now.bytes f) }
+    {
+        self.ram.pages_are_whole();
+    }
 }
+
+#[cfg(test)]
+mod tests;

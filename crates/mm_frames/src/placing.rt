@@ -1,7 +1,7 @@
-ghost use Rattle.std.specs.Prelude.{◌≡◌, ◌≢◌, ◌+◌, ◌<◌, ◌++◌, ◌∷◌, [], true, false, length, map, if◌then◌else◌, option_map};
+ghost use Rattle.std.specs.Prelude.{◌≡◌, ◌≢◌, ◌+◌, ◌<◌, ◌++◌, ◌∷◌, [], true, false, length, map, if◌then◌else◌, ◌&&◌, option_map};
 ghost use Rattle.mm_lists.specs.Lists.{IsOnOne, IsOnNone, AreApart, list_at, with_list, without};
 ghost use Rattle.mm_life.specs.Frames.{is_idle, has_request, is_write, soiled, write_done, write_lost, without_slot, slot_of, slot_after_soil, slot_after_read};
-ghost use Rattle.mm_frames.specs.Base.{record_written, slot_after_write};
+ghost use Rattle.mm_frames.specs.Base.{has_block, is_modified_with_block, record_written, slot_after_write};
 
 use mm_lists::Lists;
 use mm_types::{Backing, Record, Request, Slot};
@@ -14,6 +14,9 @@ pub const FREE: u32 = 1;
 pub const STANDBY: u32 = 2;
 
 pub const MODIFIED: u32 = 3;
+
+/// The one list of the second lists.
+pub const WITH_BLOCK: u32 = 0;
 
 /// Whether a frame has neither shares nor a request.
 pub fn is_idle(r: &Record) -> bool
@@ -34,15 +37,38 @@ pub fn has_request(r: &Record) -> bool
     }
 }
 
+/// Whether the record is that of a frame on modified.
+pub fn is_modified(r: &Record) -> bool
+    ensures { result ≡ (is_idle r.now && r.now.changed) }
+{
+    is_idle(r) && r.changed
+}
+
+fn has_block(backing: Backing) -> bool
+    ensures { result ≡ has_block backing }
+{
+    match backing {
+        Backing::Block(_) => true,
+        Backing::None | Backing::Slot(_) => false,
+    }
+}
+
+/// Whether a frame is on modified, and its page is written to a block of its own.
+pub fn is_modified_with_block(r: &Record) -> bool
+    ensures { result ≡ is_modified_with_block r.now }
+{
+    is_idle(r) && r.changed && has_block(r.backing)
+}
+
 /// The frame leaves its list, if it is on one.
-pub fn leave(lists: &mut Lists, f: u32, idle: bool)
-    requires on_one { idle ≡ true → IsOnOne lists.old.lists f }
-    requires on_none { idle ≡ false → IsOnNone lists.old.lists f }
+pub fn leave(lists: &mut Lists, f: u32, listed: bool)
+    requires on_one { listed ≡ true → IsOnOne lists.old.lists f }
+    requires on_none { listed ≡ false → IsOnNone lists.old.lists f }
     requires apart { AreApart lists.old }
     ensures left { lists.new ≡ record lists.old { lists = map (without f) lists.old.lists } }
     ensures apart { AreApart lists.new }
 {
-    if idle {
+    if listed {
         lists.unlink(f);
     }
 }
@@ -62,6 +88,22 @@ pub fn settle(lists: &mut Lists, f: u32, r: &Record)
     if is_idle(r) {
         let list = if r.changed { MODIFIED } else { STANDBY };
         lists.push_back(list, f);
+    }
+}
+
+/// A frame that goes to modified goes behind the second list too, where its page has a block.
+pub fn settle_with_block(with_block: &mut Lists, f: u32, r: &Record)
+    requires one { length with_block.old.lists ≡ 1 }
+    requires below { f < with_block.old.numbers }
+    requires on_none { IsOnNone with_block.old.lists f }
+    requires apart { AreApart with_block.old }
+    ensures apart { AreApart with_block.new }
+    ensures pushed { is_modified_with_block r.now ≡ true
+        → with_block.new ≡ with_list with_block.old 0 (list_at with_block.old.lists 0 ++ f ∷ []) }
+    ensures other { is_modified_with_block r.now ≡ false → with_block.new ≡ with_block.old }
+{
+    if is_modified_with_block(r) {
+        with_block.push_back(WITH_BLOCK, f);
     }
 }
 

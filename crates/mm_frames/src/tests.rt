@@ -153,3 +153,28 @@ fn page_is_copied_to_a_second_frame(rt: HostRuntime) -> Result<(), Fail> {
     assert_eq!(rt; page[1], 0x5B);
     Ok(())
 }
+
+/// The first modified frame has no block: the walk begins at the second.
+#[test]
+fn modified_frames_with_a_block_are_walked(rt: HostRuntime) -> Result<(), Fail> {
+    let mut frames = Frames::new(rt.alloc(), 2)?;
+    let dirty = frames.take_free().expect(&rt, "first");
+    assert_eq!(rt; dirty.frame(), Frame(0));
+    let blank = frames.clear(dirty);
+    assert_eq!(rt; blank.frame(), Frame(0));
+    let plain = frames.bind(blank, PAGE);
+    let dirty = frames.take_free().expect(&rt, "second");
+    let backed = frames.bind_read(dirty, SHARED, Backing::Block(Block(2)));
+    assert_eq!(rt; frames.end_read(backed, Some(&[7; 4096])).slot, None);
+    frames.share(backed);
+    assert_eq!(rt; frames.soil(backed), None);
+    frames.unshare(backed);
+    assert_eq!(rt; frames.front_modified(), Some(plain));
+    assert_eq!(rt; frames.modified_with_block(), 1);
+    let first = frames
+        .front_modified_with_block()
+        .expect(&rt, "one has a block");
+    assert_eq!(rt; first, backed);
+    assert_eq!(rt; frames.next_modified_with_block(first), None);
+    Ok(())
+}

@@ -1,3 +1,5 @@
+ghost use Rattle.std.specs.Prelude.{◌≡◌};
+
 use mm_types::{Backing, Frame, Key, Slot};
 use std::marker::Model;
 
@@ -16,6 +18,15 @@ impl Model for Blank {
     ghost view = { λ b. b.frame.0 };
 }
 
+impl Blank {
+    /// The frame in hand, as it is named in the log of moves.
+    pub fn frame(&self) -> Frame
+        ensures { result.0 ≡ self.now }
+    {
+        self.frame
+    }
+}
+
 /// A page frame in hand with any bytes. It must be spent: `clear`, `bind_read`, `put_free`.
 ///
 /// Contracts see its frame's number.
@@ -29,6 +40,15 @@ impl Model for Dirty {
     ghost Value = { ℕ };
 
     ghost view = { λ d. d.frame.0 };
+}
+
+impl Dirty {
+    /// The frame in hand, as it is named in the log of moves.
+    pub fn frame(&self) -> Frame
+        ensures { result.0 ≡ self.now }
+    {
+        self.frame
+    }
 }
 
 /// A frame taken from standby, with the page that it held and where that page's bytes stand.

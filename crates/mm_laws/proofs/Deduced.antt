@@ -1,13 +1,9 @@
--- The laws, from what holds of each state that a replay reaches.
-use Rattle.std.proofs.Common.{◌≡◌, ◌≢◌, ℕ, ◌+◌, ◌<◌, ◌≤◌, Bool, true, false, not, List, [], ◌∷◌, ◌++◌, length, Option, Some, None, refl, sym, ap, ◌∙◌, inl, inr, arith}
-use Rattle.std.specs.Prelude.{◌==◌, ◌&&◌, ◌||◌, is_some, slice_get, count_by}
-use Rattle.std.proofs.lemmas.Bool.{and_parts, and_from, or_cases, or_left, or_right, not-true, lt-ltb, le-ltb, eqb-true}
-use Rattle.mm_types.proofs.Cells.{get_within}
+-- What follows of states that a log reaches.
+use Rattle.std.proofs.Common.{◌≡◌, ℕ, ◌+◌, ◌<◌, ◌≤◌, Bool, true, false, not, List, [], ◌∷◌, ◌++◌, length, Option, Some, None, refl, sym, ap, ◌∙◌, inl, inr, arith}
+use Rattle.std.specs.Prelude.{◌&&◌, ◌||◌, is_some}
+use Rattle.std.proofs.lemmas.Bool.{and_parts, and_from, or_cases, or_left, or_right}
 use Rattle.mm_types.specs.declared.numbers.Frame.{Frame}
 use Rattle.mm_types.specs.declared.numbers.Key.{Key}
-use Rattle.mm_types.specs.declared.numbers.Key.TheVariants.{Private}
-use Rattle.mm_types.specs.declared.numbers.Pid.{Pid}
-use Rattle.mm_types.specs.declared.numbers.Vpn.{Vpn}
 use Rattle.mm_types.specs.declared.numbers.Place.{Place}
 use Rattle.mm_types.specs.declared.frames.Held.{Held}
 use Rattle.mm_types.specs.declared.frames.Held.TheVariants as held
@@ -16,146 +12,56 @@ use Rattle.mm_types.specs.declared.moves.LineKind.TheVariants as kind
 use Rattle.mm_types.specs.declared.moves.Stored.TheVariants as stored
 use Rattle.mm_types.specs.declared.moves.Move.{Move}
 use Rattle.mm_types.specs.declared.moves.Move.TheVariants as move
-use Rattle.mm_life.specs.Frames.{blank, record_at, has_request, is_on, is_first, is_empty, without}
-use Rattle.mm_life.specs.Life.{FrameLife, counts_of, is_live, is_dead, key_of_place}
+use Rattle.mm_life.specs.Frames.{record_at, has_request, is_on, is_first, is_empty, without}
+use Rattle.mm_life.specs.Life.{FrameLife, set_of, unstarted}
 use Rattle.mm_life.specs.Legal.{IsLegal, is_access, is_call, is_thread, is_writer, has_depth, is_stored, owner_is, is_lowest, is_block, may_write_block}
 use Rattle.mm_life.specs.Effect.{after_move, after_at, dropped_at, after_unmap_at}
 use Rattle.mm_life.specs.Replay.{Replays}
 use Rattle.mm_laws.specs.Tally.{one_if}
 use Rattle.mm_laws.specs.Reached.{Reached}
-use Rattle.mm_laws.specs.Standing.{standings, counted_frames, IsStandby, IsModified}
 use Rattle.mm_laws.specs.Holders.{Holder, slot_held}
-use Rattle.mm_laws.specs.Places.{CountsPlaces}
-use Rattle.mm_laws.specs.PagingKeys.{CountsKeys, is_file_key}
+use Rattle.mm_laws.specs.PagingKeys.{is_file_key}
 use Rattle.mm_laws.specs.FileBlocks.{block_held}
 use Rattle.mm_laws.specs.Requests.{may_begin}
-use Rattle.mm_laws.specs.Sights.{sight}
-use Rattle.mm_laws.specs.Sound.{Sound, frame}
-use Rattle.mm_laws.proofs.Tallies.{times_on}
-use Rattle.mm_laws.proofs.Sights.{on_fresh, on_standby, on_modified, kept_inside}
-use Rattle.mm_laws.proofs.Taking.{idle_is}
-use Rattle.mm_laws.proofs.PlaceCounts.{has_shares}
+use Rattle.mm_laws.specs.Sound.{Sound}
 use Rattle.mm_laws.proofs.Sound.{ended_few, begun_long}
 use Rattle.mm_laws.proofs.LineMoves.{at_depth}
 use Rattle.mm_laws.proofs.Kept.{replay_sound}
-use Rattle.mm_laws.proofs.Totals.{stands_once, total, requests_total}
+use Rattle.mm_laws.proofs.Machines.{in_range}
+use Rattle.mm_laws.proofs.SetSizes.{share_within, places_most}
+use Rattle.mm_life.specs.declared.sets.ResidentSet.{ResidentSet}
+use Rattle.mm_life.proofs.Replays.{replays_then}
+use Rattle.mm_laws.proofs.FromSound.{slot_one as sound_slot_one, slot_there as sound_slot_there}
 use Rattle.mm_laws.proofs.FileKeys.{in_line, file_along}
 use Rattle.mm_laws.proofs.BlocksApart.{Apart, replay_apart, file_block_along}
 
 pub reached_sound : (l : FrameLife) → Reached l → Sound l
 reached_sound l r = replay_sound r.moves l r.replays
 
-module _ (l : FrameLife) (reached : Reached l) where
-  s : Sound l
-  s = reached_sound l reached
+pub reached_start : Reached unstarted
+reached_start = record { moves = []; replays = refl }
 
-  -- ---- frames
+pub reached_along : (moves : List Move) (l m : FrameLife) → Reached l → Replays moves l m → Reached m
+reached_along moves l m r more = record { moves = r.moves ++ moves; replays = replays_then r.moves moves unstarted l m r.replays more }
 
-  pub once : (f : ℕ) → f < l.machine.frames → standings l.frames f ≡ 1
-  once f low =
-      let size = s.framed in
-      stands_once l.frames l.flight f (s.standing f) ∙ ap one_if (lt-ltb f (length l.frames.records) (omega (arith, low, size)))
+pub reached_next : (x : Move) (l : FrameLife) → Reached l → IsLegal x l → Reached (after_move l x)
+reached_next x l r legal = reached_along (x ∷ []) l (after_move l x) r (legal, refl)
 
-  pub no_other : (f : ℕ) → l.machine.frames ≤ f → standings l.frames f ≡ 0
-  no_other f high =
-      let size = s.framed in
-      stands_once l.frames l.flight f (s.standing f) ∙ ap one_if (le-ltb f (length l.frames.records) (omega (arith, high, size)))
+-- two holders of a slot are one, and a held slot is there
+pub slot_one : (l : FrameLife) → Reached l → (t : ℕ) (g h : Holder) → slot_held l g ≡ Some t → slot_held l h ≡ Some t → g ≡ h
+slot_one l reached = sound_slot_one l (reached_sound l reached)
 
-  pub counted : counted_frames (counts_of l) ≡ l.machine.frames
-  counted = total l.frames l.flight s.standing ∙ s.framed
+pub slot_there : (l : FrameLife) → Reached l → (t : ℕ) (h : Holder) → slot_held l h ≡ Some t → t < l.machine.slots
+slot_there l reached = sound_slot_there l (reached_sound l reached)
 
-  pub zeroed_bare : (f : ℕ) → is_on f l.frames.zeroed ≡ true → record_at l.frames f ≡ blank
-  zeroed_bare f on = let m = times_on f l.frames.zeroed on in (on_fresh (sight l.frames l.flight f) (s.standing f) (omega (arith, m))).0
-
-  pub free_bare : (f : ℕ) → is_on f l.frames.free ≡ true → record_at l.frames f ≡ blank
-  free_bare f on = let m = times_on f l.frames.free on in (on_fresh (sight l.frames l.flight f) (s.standing f) (omega (arith, m))).0
-
-  pub standby_is : (f : ℕ) → is_on f l.frames.standby ≡ true → IsStandby (record_at l.frames f)
-  standby_is f on =
-      let known = on_standby (sight l.frames l.flight f) (s.standing f) (times_on f l.frames.standby on) in
-      let idle = idle_is (record_at l.frames f) known.0 known.1.0 in
-      let clean = not-true (record_at l.frames f).changed known.1.1 in
-      record { owned = known.0; unshared = idle.unshared; quiet = idle.quiet; unchanged = clean; backed = (s.standing f).fit.clean idle.kept clean }
-
-  pub modified_is : (f : ℕ) → is_on f l.frames.modified ≡ true → IsModified (record_at l.frames f)
-  modified_is f on =
-      let known = on_modified (sight l.frames l.flight f) (s.standing f) (times_on f l.frames.modified on) in
-      let idle = idle_is (record_at l.frames f) known.0 known.1.0 in
-      record { owned = known.0; unshared = idle.unshared; quiet = idle.quiet; changed = known.1.1; slotless = (s.standing f).fit.dirty known.1.1 idle.quiet }
-
-  -- ---- slots
-
-  pub slot_free : (t : ℕ) (h : Holder) → slice_get l.free_slots t ≡ Some true → slot_held l h ≢ Some t
-  slot_free t h e g =
-      let bad : true ≡ false = sym (ap is_some (s.held.found h t g)) ∙ s.held.taken t true e in cc
-
-  pub slot_has : (t : ℕ) → slice_get l.free_slots t ≡ Some false → (h : Holder) × (slot_held l h ≡ Some t)
-  slot_has t e = at (s.held.holder t) refl (s.held.taken t false e)
-    where
-      at : (o : Option Holder) → s.held.holder t ≡ o → is_some o ≡ true → (h : Holder) × (slot_held l h ≡ Some t)
-      at None g i = cc
-      at (Some h) g i = (h, s.held.held t h g)
-
-  pub slot_one : (t : ℕ) (g h : Holder) → slot_held l g ≡ Some t → slot_held l h ≡ Some t → g ≡ h
-  slot_one t g h a b = let both : Some g ≡ Some h = sym (s.held.found g t a) ∙ s.held.found h t b in cc
-
-  pub slot_there : (t : ℕ) (h : Holder) → slot_held l h ≡ Some t → t < l.machine.slots
-  slot_there t h e = at (slice_get l.free_slots t) refl
-    where
-      at : (o : Option Bool) → slice_get l.free_slots t ≡ o → t < l.machine.slots
-      at None g = let bad : None ≡ Some h = sym (s.held.past t g) ∙ s.held.found h t e in cc
-      at (Some b) g = let low = get_within l.free_slots t b g in let size = s.slotted in omega (arith, low, size)
-
-  -- ---- keys
-
-  pub one_frame : (k : Key) (f g : ℕ) → (record_at l.frames f).owner ≡ Some k → (record_at l.frames g).owner ≡ Some k → f ≡ g
-  one_frame k f g a b =
-      let both : held.Frame (frame f) ≡ held.Frame (frame g) = sym (s.owned.owned f k a) ∙ s.owned.owned g k b in
-      ap number both
-    where
-      number : Held → ℕ
-      number (held.Frame f) = f.0
-      number (held.Slot t) = 0
-      number (held.Block b) = 0
-      number held.Zero = 0
-      number held.Dead = 0
-
-  pub owner_lives : (k : Key) (f : ℕ) → (record_at l.frames f).owner ≡ Some k → is_live l k ≡ true
-  owner_lives k f e = ap (λ (h : Held). not (is_dead h)) (s.owned.owned f k e)
-
-  pub frame_there : (k : Key) (f : Frame) → l.stands k ≡ held.Frame f → f.0 < l.machine.frames
-  frame_there k f e =
-      let size = s.framed in
-      let low = kept_inside l.frames f.0 (or_left (is_some (record_at l.frames f.0).owner) (has_request (record_at l.frames f.0).request) (ap is_some (s.owned.owner k f e))) in
-      omega (arith, size, low)
-
-  -- ---- places
-
-  pub places_counted : CountsPlaces l
-  places_counted = record { places = s.shown.places; once = s.shown.once; shares = s.shown.shares; resident = s.shown.resident }
-
-  pub place_shares : (p : Place) (f : Frame) → l.valid p ≡ Some f → 1 ≤ (record_at l.frames f.0).shares
-  place_shares p f e = has_shares l.valid l.frames l.sets s.shown p f e
-
-  pub place_owned : (p : Place) (f : Frame) → l.valid p ≡ Some f → is_some (record_at l.frames f.0).owner ≡ true
-  place_owned p f e = let some = place_shares p f e in (s.standing f.0).fit.shown (lt-ltb 0 (record_at l.frames f.0).shares (omega (arith, some)))
-
-  pub place_own : (p : Place) (f : Frame) (q : Pid) (v : Vpn) → l.valid p ≡ Some f → (record_at l.frames f.0).owner ≡ Some (Private q v) → Private q v ≡ key_of_place p
-  place_own p f q v e o =
-      let h = and_parts (q.0 == p.pid.0) (v.0 == p.vpn.0) (s.shown.fits p f (Private q v) e o) in
-      let a : q.0 ≡ p.pid.0 = eqb-true q.0 p.pid.0 h.0 in
-      let b : v.0 ≡ p.vpn.0 = eqb-true v.0 p.vpn.0 h.1 in
-      λ i. Private (record { 0 = a i }) (record { 0 = b i })
-
-  -- ---- requests
-
-  pub requests_counted : length l.flight ≡ count_by (λ r. has_request r.request) l.frames.records
-  requests_counted = requests_total l.frames l.flight s.standing
-
-  -- ---- page-file keys
-
-  pub keys_counted : CountsKeys l
-  keys_counted = record { keys = s.paged.keys; once = s.paged.once; count = s.paged.long }
+-- the most shares of a frame, where no working set has room for more than 65,536 pages
+pub share_most : (l : FrameLife) → Reached l → ((pid : ℕ) (s : ResidentSet) → set_of l pid ≡ Some s → s.max ≤ 65536) → (f : ℕ) → (record_at l.frames f).shares ≤ 4194304
+share_most l reached small f =
+    let s = reached_sound l reached in
+    let a = share_within l s f in
+    let b = places_most l s 65536 small in
+    let c = (in_range l reached).sets in
+    omega (arith, a, b, c)
 
 -- right after a line has begun
 begun_flight : (l : FrameLife) (n : ℕ) (k : LineKind) → length l.flight ≤ l.machine.depth → length (after_at l n k).flight ≤ (after_at l n k).machine.depth
@@ -171,8 +77,8 @@ begun_flight l n kind.Io h = h
 begun_flight l n kind.Call h = h
 begun_flight l n (kind.Grow count) h = h
 
-pub line_flight : (l : FrameLife) → Reached l → (n : ℕ) (k : LineKind) → IsLegal (move.At n k) l → length (after_move l (move.At n k)).flight ≤ (after_move l (move.At n k)).machine.depth
-line_flight l reached n k h = begun_flight l n k (at_depth l (reached_sound l reached) n k h)
+pub line_flight : (l : FrameLife) → Sound l → (n : ℕ) (k : LineKind) → IsLegal (move.At n k) l → length (after_move l (move.At n k)).flight ≤ (after_move l (move.At n k)).machine.depth
+line_flight l s n k h = begun_flight l n k (at_depth l s n k h)
 
 -- a move and the requests in flight
 at_flight : (l : FrameLife) (n : ℕ) (k : LineKind) → length (after_at l n k).flight ≤ length l.flight

@@ -9,16 +9,17 @@ use Rattle.mm_types.specs.declared.frames.Backing.TheVariants as backing
 use Rattle.mm_types.specs.declared.frames.Request.{Request}
 use Rattle.mm_types.specs.declared.frames.Request.TheVariants as request
 use Rattle.mm_life.specs.Frames.{blank, has_request, is_read, is_write, is_again, slot_of, without_slot, given, being_read, shared, unshared, disowned, being_written, read_done, write_done, write_lost}
+use Rattle.mm_laws.specs.FileBlocks.{block_of}
 use Rattle.mm_laws.specs.Fits.{is_backed, Fit}
 
 pub fit_blank : Fit blank
-fit_blank = record { bare = λ h. refl; shown = λ h. cc; reading = λ h. cc; dirty = λ h g. refl; writing = λ h. cc; clean = λ h g. cc }
+fit_blank = record { bare = λ h. refl; shown = λ h. cc; reading = λ h. cc; dirty = λ h g. refl; writing = λ h. cc; clean = λ h g. cc; ownerless = λ h. refl }
 
 pub fit_given : (k : Key) → Fit (given k)
-fit_given k = record { bare = λ h. cc; shown = λ h. refl; reading = λ h. cc; dirty = λ h g. refl; writing = λ h. cc; clean = λ h g. cc }
+fit_given k = record { bare = λ h. cc; shown = λ h. refl; reading = λ h. cc; dirty = λ h g. refl; writing = λ h. cc; clean = λ h g. cc; ownerless = λ h. cc }
 
 pub fit_being_read : (k : Key) (b : Backing) → is_backed b ≡ true → Fit (being_read k b)
-fit_being_read k b e = record { bare = λ h. cc; shown = λ h. refl; reading = λ h. (refl, refl); dirty = λ h g. cc; writing = λ h. cc; clean = λ h g. e }
+fit_being_read k b e = record { bare = λ h. cc; shown = λ h. refl; reading = λ h. (refl, refl); dirty = λ h g. cc; writing = λ h. cc; clean = λ h g. e; ownerless = λ h. cc }
 
 pub fit_shared : (r : Record) → Fit r → is_some r.owner ≡ true → is_read r.request ≡ false → Fit (shared r)
 fit_shared r f o n = record {
@@ -28,6 +29,7 @@ fit_shared r f o n = record {
   dirty = f.dirty;
   writing = f.writing;
   clean = f.clean;
+  ownerless = λ h. cc;
 }
 
 pub fit_unshared : (r : Record) → Fit r → is_some r.owner ≡ true → is_read r.request ≡ false → Fit (unshared r)
@@ -38,16 +40,18 @@ fit_unshared r f o n = record {
   dirty = f.dirty;
   writing = f.writing;
   clean = f.clean;
+  ownerless = λ h. cc;
 }
 
-pub fit_disowned : (r : Record) → Fit r → r.shares ≡ 0 → has_request r.request ≡ true → Fit (disowned r)
-fit_disowned r f z q = record {
+pub fit_disowned : (r : Record) → Fit r → r.shares ≡ 0 → has_request r.request ≡ true → block_of r.backing ≡ None → Fit (disowned r)
+fit_disowned r f z q b = record {
   bare = λ h. cc;
   shown = λ h. cc;
   reading = f.reading;
   dirty = λ h g. cc;
   writing = f.writing;
   clean = λ h g. f.clean (or_right (is_some r.owner) (has_request r.request) q) g;
+  ownerless = λ h. b;
 }
 
 pub slot_without : (b : Backing) → slot_of (without_slot b) ≡ None
@@ -70,6 +74,7 @@ fit_dirtied r f o n = record {
   dirty = λ h g. slot_without r.backing;
   writing = λ h. let bad : has_request r.request ≡ true = has_write r.request h in cc;
   clean = λ h g. cc;
+  ownerless = λ h. cc;
 }
   where
     no_read : (q : Request) → has_request q ≡ false → is_read q ≡ true → ⊥
@@ -87,16 +92,18 @@ fit_again r f o w = record {
   dirty = λ h g. cc;
   writing = λ h. f.writing w;
   clean = λ h g. let c = (f.writing w).0 in cc;
+  ownerless = λ h. cc;
 }
 
-pub fit_being_written : (home : Backing) (r : Record) → Fit r → r.changed ≡ true → is_backed home ≡ true → Fit (being_written home r)
-fit_being_written home r f c b = record {
+pub fit_being_written : (home : Backing) (r : Record) → Fit r → is_some r.owner ≡ true → r.changed ≡ true → is_backed home ≡ true → Fit (being_written home r)
+fit_being_written home r f o c b = record {
   bare = λ h. let bad : true ≡ false = sym (or_right (is_some r.owner) true refl) ∙ h in cc;
   shown = f.shown;
   reading = λ h. cc;
   dirty = λ h g. cc;
   writing = λ h. (c, b);
   clean = λ h g. cc;
+  ownerless = λ h. cc;
 }
 
 pub fit_read_done : (r : Record) → Fit r → is_some r.owner ≡ true → is_read r.request ≡ true → Fit (read_done r)
@@ -107,6 +114,7 @@ fit_read_done r f o q = record {
   dirty = λ h g. let c = (f.reading q).1 in cc;
   writing = λ h. cc;
   clean = λ h g. f.clean (or_left (is_some r.owner) (has_request r.request) o) g;
+  ownerless = λ h. cc;
 }
 
 pub fit_write_done : (r : Record) → Fit r → is_some r.owner ≡ true → is_write r.request ≡ true → Fit (write_done r)
@@ -118,6 +126,7 @@ fit_write_done r f o w = elim (is_again r.request) as (λ b. Fit (cond b (record
     dirty = λ h g. slot_without r.backing;
     writing = λ h. cc;
     clean = λ h g. let c = (f.writing w).0 in cc;
+    ownerless = λ h. cc;
   }
   | false ↦ record {
     bare = λ h. cc;
@@ -126,6 +135,7 @@ fit_write_done r f o w = elim (is_again r.request) as (λ b. Fit (cond b (record
     dirty = λ h g. cc;
     writing = λ h. cc;
     clean = λ h g. (f.writing w).1;
+    ownerless = λ h. cc;
   }
 ]
 
@@ -137,4 +147,5 @@ fit_write_lost r f o w = record {
   dirty = λ h g. slot_without r.backing;
   writing = λ h. cc;
   clean = λ h g. let c = (f.writing w).0 in cc;
+  ownerless = λ h. cc;
 }

@@ -1,5 +1,5 @@
 -- The page-file keys, and on which device the bytes of a key stand.
-use Rattle.std.proofs.Common.{◌≡◌, ◌≢◌, ℕ, ◌+◌, ◌-◌, Bool, true, false, not, List, ◌∷◌, Some, refl, sym, ap, ◌∙◌, inl, inr, arith}
+use Rattle.std.proofs.Common.{◌≡◌, ◌≢◌, ℕ, ◌+◌, ◌-◌, Bool, true, false, not, List, ◌∷◌, Some, None, refl, sym, ap, ◌∙◌, inl, inr, arith}
 use Rattle.std.specs.Prelude.{filter}
 use Rattle.mm_types.proofs.Cells.{same_or_not}
 use Rattle.mm_types.specs.declared.numbers.Key.{Key}
@@ -13,6 +13,7 @@ use Rattle.mm_life.specs.Life.{same_key, changed, is_dead}
 use Rattle.mm_life.specs.Effect.{home_at}
 use Rattle.mm_laws.specs.Tally.{one_if, tally}
 use Rattle.mm_laws.specs.PagingKeys.{is_home_for, is_backing_for}
+use Rattle.mm_laws.specs.FileBlocks.{block_of}
 use Rattle.mm_laws.specs.Sights.{Sight}
 use Rattle.mm_laws.specs.Sound.{owner_at, Paged, Homed}
 use Rattle.mm_laws.proofs.Tallies.{tally-without, length-left}
@@ -123,3 +124,10 @@ backing_kept true (backing.Block c) e = e
 backing_kept false backing.None e = e
 backing_kept false (backing.Slot s) e = e
 backing_kept false (backing.Block c) e = refl
+
+-- a page-file page is on no block
+pub paged_unblocked : (b : Bool) (x : Backing) → b ≡ true → is_backing_for b x ≡ true → block_of x ≡ None
+paged_unblocked b backing.None p e = refl
+paged_unblocked b (backing.Slot s) p e = refl
+paged_unblocked true (backing.Block c) p e = cc
+paged_unblocked false (backing.Block c) p e = cc

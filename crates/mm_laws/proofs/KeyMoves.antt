@@ -25,7 +25,7 @@ use Rattle.mm_laws.proofs.Changes.{Changes, stands_kept, Flights, changes_freed}
 use Rattle.mm_laws.proofs.Owners.{is_frame_of, changed_here, owned_leave, owned_rehomed}
 use Rattle.mm_laws.proofs.SlotHolders.{slots_moved, slots_dropped, slots_rehomed, slots_homeless}
 use Rattle.mm_laws.proofs.PlaceCounts.{shown_same}
-use Rattle.mm_laws.proofs.KeyCounts.{homed_frame, homed_key, homed_flag, dead_not_paging, paged_add, paged_drop}
+use Rattle.mm_laws.proofs.KeyCounts.{homed_frame, homed_key, homed_flag, dead_not_paging, paged_add, paged_drop, paged_unblocked}
 use Rattle.mm_laws.proofs.Requests.{requested, length-freed}
 
 dead_no_frame : (h : Held) → is_dead h ≡ true → is_frame_of h ≡ false
@@ -153,7 +153,7 @@ module _ (l : FrameLife) (s : Sound l) where
           elsewhere = λ g n. other-record l.frames l.flight f g n (disowned (record_at l.frames f));
           here = get_or-set_same l.frames.records f (disowned (record_at l.frames f)) blank known.low;
           stand = subst Stand (sym (own-record l.frames l.flight f (disowned (record_at l.frames f)) known.low))
-              (stand_orphan _ refl busy (fit_disowned (record_at l.frames f) (s.standing f).fit unshared busy) known.fresh known.standby known.modified ((s.standing f).flight ∙ ap one_if busy));
+              (stand_orphan _ refl busy (fit_disowned (record_at l.frames f) (s.standing f).fit unshared busy (paged_unblocked (l.paging k) (record_at l.frames f).backing paging (s.homed.backing f k mine))) known.fresh known.standby known.modified ((s.standing f).flight ∙ ap one_if busy));
           size = length-set l.frames.records f (disowned (record_at l.frames f));
         } in
         drops_frame (with_record l.frames f (disowned (record_at l.frames f))) (disowned (record_at l.frames f)) l.free_slots c refl unshared

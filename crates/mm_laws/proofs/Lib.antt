@@ -15,8 +15,16 @@ pub mod PlaceMoves
 pub mod KeyMoves
 pub mod LineMoves
 pub mod Kept
+pub mod Sums
+pub mod Lists
+pub mod Lowest
+pub mod Machines
+pub mod SetSizes
+pub mod Homes
 pub mod Totals
 pub mod FileKeys
 pub mod Blocks
 pub mod BlocksApart
+pub mod FromSound
+pub mod Settling
 pub mod Deduced

@@ -1,6 +1,6 @@
 -- `map`, `unmap`, `soil` and `write` keep what holds.
-use Rattle.std.proofs.Common.{◌≡◌, ℕ, zero, suc, ◌+◌, ◌<◌, ◌≤◌, Bool, true, false, cond, not, List, [], ◌∷◌, ◌++◌, length, Option, Some, None, refl, sym, ap, ◌∙◌, subst, inl, inr, arith, length-set}
-use Rattle.std.specs.Prelude.{◌==◌, ◌&&◌, ◌||◌, is_some, is_none, nat_lt, slice_get, slice_set, option_map, unwrap_or}
+use Rattle.std.proofs.Common.{◌≡◌, ℕ, ◌+◌, ◌<◌, ◌≤◌, Bool, true, false, cond, not, List, [], ◌∷◌, ◌++◌, length, Option, Some, None, refl, sym, ap, ◌∙◌, subst, inl, inr, arith, length-set}
+use Rattle.std.specs.Prelude.{◌==◌, ◌&&◌, ◌||◌, is_some, is_none, nat_lt, slice_set, option_map, unwrap_or}
 use Rattle.std.proofs.lemmas.Bool.{and_parts, or_cases, or_left, ltb-true, lt-ltb, not-true, and_left, and_right}
 use Rattle.mm_types.proofs.Tables.{differ}
 use Rattle.mm_types.specs.declared.numbers.Frame.{Frame}
@@ -35,6 +35,7 @@ use Rattle.mm_laws.proofs.SlotHolders.{slots_still, slots_given_up, slots_taken}
 use Rattle.mm_laws.proofs.PlaceCounts.{has_shares, shown_map, shown_unmap}
 use Rattle.mm_laws.proofs.KeyCounts.{homed_frame, backing_kept}
 use Rattle.mm_laws.proofs.Requests.{length-freed, write_has}
+use Rattle.mm_laws.proofs.Lowest.{lowest_free}
 use Rattle.mm_laws.proofs.Sound.{sound_frame, owner_passes, begun_long}
 
 -- ---- small readings of conditions
@@ -64,11 +65,6 @@ unread r f h = at (is_read r.request) refl
 
 not_zero : (n : ℕ) → 1 ≤ n → (n == 0) ≡ false
 not_zero n h = differ n 0 (λ e. absurd (omega (arith, h, e)))
-
-lowest_free : (s : ℕ) (free : List Bool) → is_lowest s free ≡ true → slice_get free s ≡ Some true
-lowest_free s [] e = cc
-lowest_free zero (b ∷ free) e = ap (λ (x : Bool). Some x) e
-lowest_free (suc s) (b ∷ free) e = lowest_free s free (and_parts (not b) (is_lowest s free) e).1
 
 block_slot : (b : ℕ) (x : Backing) → is_block b x ≡ true → slot_of x ≡ None
 block_slot b backing.None e = cc
@@ -216,7 +212,7 @@ module _ (l : FrameLife) (s : Sound l) where
       let fit = (s.standing f.0).fit in
       let owner = owner_passes l.paging (record_at l.frames f.0) p1.1 in
       writes f.0 (backing.Slot t) (slice_set l.free_slots t.0 false) known.0 known.1.1 idle.quiet
-      (fit_being_written (backing.Slot t) (record_at l.frames f.0) fit known.1.1 refl)
+      (fit_being_written (backing.Slot t) (record_at l.frames f.0) fit known.0 known.1.1 refl)
       (λ k e b. let both : Some owner.key ≡ Some k = sym owner.is ∙ e in let same : owner.key ≡ k = cc in ap l.paging (sym same) ∙ owner.passes)
       (λ c. slots_taken l.frames (after_write l.frames f.0 (backing.Slot t)) l.flight (l.flight ++ f.0 ∷ []) f.0 (being_written (backing.Slot t) (record_at l.frames f.0)) c l.free_slots l.stands t.0
       (lowest_free t.0 l.free_slots p2.1) (fit.dirty known.1.1 idle.quiet) refl s.held)
@@ -241,7 +237,7 @@ module _ (l : FrameLife) (s : Sound l) where
       let p2 = and_parts (changed && owned) quiet p3.0 in
       let p1 = and_parts changed owned p2.0 in
       writes f.0 (backing.Block b) l.free_slots p1.1 p1.0 (not-true (has_request (record_at l.frames f.0).request) p2.1)
-      (fit_being_written (backing.Block b) (record_at l.frames f.0) (s.standing f.0).fit p1.0 refl)
+      (fit_being_written (backing.Block b) (record_at l.frames f.0) (s.standing f.0).fit p1.1 p1.0 refl)
       (λ k e i. block_backing (l.paging k) b.0 b (record_at l.frames f.0).backing p3.1 i)
       (λ c. slots_still l.frames (after_write l.frames f.0 (backing.Block b)) l.flight (l.flight ++ f.0 ∷ []) f.0 (being_written (backing.Block b) (record_at l.frames f.0)) c l.free_slots l.stands
       (sym (block_slot b.0 (record_at l.frames f.0).backing p3.1)) s.held)

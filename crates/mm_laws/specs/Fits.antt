@@ -4,6 +4,7 @@ use Rattle.mm_types.specs.declared.frames.Record.{Record}
 use Rattle.mm_types.specs.declared.frames.Backing.{Backing}
 use Rattle.mm_types.specs.declared.frames.Backing.TheVariants as backing
 use Rattle.mm_life.specs.Frames.{blank, has_request, is_read, is_write, slot_of}
+use Rattle.mm_laws.specs.FileBlocks.{block_of}
 
 -- a frame that holds a page, or did when its request began
 abbrev pub is_kept : Record → Bool
@@ -25,3 +26,5 @@ pub record Fit (r : Record) : Type 0 where
   pub writing : is_write r.request ≡ true → (r.changed ≡ true) × (is_backed r.backing ≡ true)
   -- a page that is not changed is on a device
   pub clean : is_kept r ≡ true → r.changed ≡ false → is_backed r.backing ≡ true
+  -- a frame whose page lives no more is on no block: no file page is dropped
+  pub ownerless : is_some r.owner ≡ false → block_of r.backing ≡ None

@@ -1,4 +1,5 @@
 pub mod Tally
+pub mod Sums
 pub mod Standing
 pub mod Holders
 pub mod Places
@@ -10,3 +11,7 @@ pub mod Reached
 pub mod Requests
 pub mod WorkedBursts
 pub mod FileBlocks
+pub mod Ranges
+pub mod Lowest
+pub mod Homes
+pub mod Settling

@@ -1,5 +1,5 @@
 -- How many places are valid: for a frame, and in a process.
-use Rattle.std.specs.Prelude.{◌≡◌, ℕ, Bool, false, ◌==◌, is_some, List, Option, Some, None}
+use Rattle.std.specs.Prelude.{◌≡◌, ℕ, ◌+◌, Bool, false, ◌==◌, is_some, List, [], ◌∷◌, Option, Some, None}
 use Rattle.mm_types.specs.declared.numbers.Frame.{Frame}
 use Rattle.mm_types.specs.declared.numbers.Place.{Place}
 use Rattle.mm_life.specs.Frames.{record_at}
@@ -22,6 +22,19 @@ is_of pid place = place.pid.0 == pid
 abbrev pub residents : Option ResidentSet → ℕ
 residents None = 0
 residents (Some s) = s.resident
+
+-- how many places are valid, by the working sets
+abbrev pub residents_in : List ResidentSet → ℕ
+residents_in [] = 0
+residents_in (s ∷ rest) = s.resident + residents_in rest
+
+abbrev pub valid_places : FrameLife → ℕ
+valid_places l = residents_in l.sets
+
+-- how many the working sets have room for
+abbrev pub maxima_in : List ResidentSet → ℕ
+maxima_in [] = 0
+maxima_in (s ∷ rest) = s.max + maxima_in rest
 
 -- a list has each valid place once and no other; so many of them show a frame as it has shares, and so many
 -- are of a process as its working set says

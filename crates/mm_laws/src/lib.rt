@@ -5,4 +5,6 @@
 #![tactic(auto)]
 
 pub mod bursts;
+pub mod ends;
 pub mod laws;
+pub mod numbers;

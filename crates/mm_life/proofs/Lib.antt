@@ -1,2 +1,3 @@
 pub mod Replays
 pub mod Noting
+pub mod Start

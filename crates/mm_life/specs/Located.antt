@@ -1,13 +1,15 @@
--- Where a key's bytes stand.
-use Rattle.std.specs.Prelude.{if◌then◌else◌}
+-- Where a key's bytes stand, and how the bytes of frames and of the two devices fit a replay's state.
+use Rattle.std.specs.Prelude.{◌≡◌, ℕ, true, false, if◌then◌else◌, is_some, List, length, replicate, Option, Some, None, slice_get, slice_index_or}
 use Rattle.mm_types.specs.declared.numbers.Frame.{Frame}
 use Rattle.mm_types.specs.declared.numbers.Key.{Key}
 use Rattle.mm_types.specs.declared.frames.Record.{Record}
 use Rattle.mm_types.specs.declared.frames.Held.{Held}
 use Rattle.mm_types.specs.declared.frames.Held.TheVariants as held
-use Rattle.mm_life.specs.Frames.{record_at, is_read}
-use Rattle.mm_life.specs.Life.{FrameLife}
+use Rattle.mm_life.specs.Frames.{record_at, is_read, is_on}
+use Rattle.mm_life.specs.Life.{FrameLife, is_live}
 use Rattle.mm_life.specs.Effect.{home_at}
+
+-- ---- where a key stands
 
 -- in a frame, or in its backing while that is being read
 abbrev pub held_in : Frame → Record → Held
@@ -23,3 +25,47 @@ located l held.Dead = held.Dead
 -- where the bytes of a key stand: its frame, or where that is being read its backing; without a frame its home
 abbrev pub held_at : FrameLife → Key → Held
 held_at l k = located l (l.stands k)
+
+-- ---- the bytes there
+
+-- for each frame its 4,096 bytes, or nothing where it was never written
+abbrev pub FrameBytes : Type 0
+FrameBytes = List (Option (List ℕ))
+
+-- for each block of a device its 4,096 bytes; a page-file slot is a block of the paging device
+abbrev pub BlockBytes : Type 0
+BlockBytes = List (List ℕ)
+
+-- a page of zeros
+abbrev pub zero_page : List ℕ
+zero_page = replicate 4096 0
+
+abbrev pub page_at : FrameBytes → ℕ → Option (List ℕ)
+page_at ram f = slice_index_or ram f None
+
+abbrev pub bytes_at : FrameBytes → BlockBytes → BlockBytes → Held → Option (List ℕ)
+bytes_at ram slots blocks (held.Frame f) = page_at ram f.0
+bytes_at ram slots blocks (held.Slot s) = slice_get slots s.0
+bytes_at ram slots blocks (held.Block b) = slice_get blocks b.0
+bytes_at ram slots blocks held.Zero = Some zero_page
+bytes_at ram slots blocks held.Dead = None
+
+-- the bytes of each live key, where they stand
+abbrev pub contents_of : FrameLife → FrameBytes → BlockBytes → BlockBytes → Key → Option (List ℕ)
+contents_of l ram slots blocks k = bytes_at ram slots blocks (held_at l k)
+
+-- ---- the bytes fit the state
+
+-- the bytes of the frames, and the blocks of the paging device and of the file device, are those of this state
+pub record BytesLocated (l : FrameLife) (ram : FrameBytes) (slots blocks : BlockBytes) : Type 0 where
+  -- a frame with an owner that is neither changed nor being read equals its backing
+  pub clean : (f : ℕ) → is_some (record_at l.frames f).owner ≡ true → (record_at l.frames f).changed ≡ false → is_read (record_at l.frames f).request ≡ false
+      → page_at ram f ≡ bytes_at ram slots blocks (home_at (record_at l.frames f).backing)
+  -- a zeroed frame is all zero
+  pub zeroed : (f : ℕ) → is_on f l.frames.zeroed ≡ true → page_at ram f ≡ Some zero_page
+  -- the live keys have bytes, and no others
+  pub live : (k : Key) → is_some (contents_of l ram slots blocks k) ≡ is_live l k
+  -- as many frames, slots and blocks as the machine has now
+  pub frame_room : length ram ≡ l.machine.frames
+  pub room : length slots ≡ l.machine.slots
+  pub file_room : length blocks ≡ l.machine.blocks

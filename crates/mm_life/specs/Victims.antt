@@ -1,5 +1,5 @@
--- Which page of a working set goes first, and which modified frame can be written.
-use Rattle.std.specs.Prelude.{ℕ, ◌+◌, Bool, not, ◌&&◌, ◌||◌, nat_lt, ◌==◌, if◌then◌else◌, List, [], ◌∷◌, Option, Some, None, min}
+-- Which of two pages of a working set goes first, and which modified frame can be written.
+use Rattle.std.specs.Prelude.{ℕ, ◌+◌, Bool, not, ◌&&◌, ◌||◌, nat_lt, ◌==◌, min}
 use Rattle.std.specs.List.{list_any}
 use Rattle.mm_life.specs.Frames.{record_at}
 use Rattle.mm_life.specs.Life.{FrameLife}
@@ -17,15 +17,6 @@ aged age = min (age + 1) 7
 -- the greatest age goes first, and among equal ages the lowest page
 abbrev pub goes_before : Aged → Aged → Bool
 goes_before a b = nat_lt b.age a.age || ((a.age == b.age) && nat_lt a.page b.page)
-
-abbrev pub first_of : Aged → Option Aged → Aged
-first_of a None = a
-first_of a (Some b) = if goes_before b a then b else a
-
--- the page that goes first
-abbrev pub oldest : List Aged → Option Aged
-oldest [] = None
-oldest (a ∷ rest) = Some (first_of a (oldest rest))
 
 -- a modified frame can be written: its page has a block of its own, or a slot is free
 abbrev pub can_be_written : FrameLife → ℕ → Bool

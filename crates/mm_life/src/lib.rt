@@ -9,5 +9,6 @@ mod worked;
 
 pub use sets::ResidentSet;
 pub use worked::{
-    nothing_but_line_one, other_frame_is_illegal, rewritten_page_replays, smallest_set_replays,
+    any_bytes_fit_at_rest, bytes_stand_in_frames, nothing_but_line_one, other_frame_is_illegal,
+    rewritten_page_replays, smallest_set_replays,
 };

@@ -1,9 +1,12 @@
-ghost use Rattle.std.specs.Prelude.{◌≡◌, option_map, is_some, Some, None, [], ◌∷◌, ◌++◌, true, false, length};
-ghost use Rattle.mm_life.specs.Life.{counts_of, unstarted};
+ghost use Rattle.std.specs.Prelude.{◌≡◌, ℕ, List, option_map, is_some, Some, None, [], ◌∷◌, ◌++◌, true, false, length};
+ghost use Rattle.mm_types.specs.Machine.{MachineOf};
+ghost use Rattle.mm_types.specs.declared.moves.LineKind.{LineKind};
+ghost use Rattle.mm_life.specs.Life.{counts_of, life_at, unstarted};
+ghost use Rattle.mm_life.specs.Located.{FrameBytes, BlockBytes, BytesLocated, contents_of};
 ghost use Rattle.mm_life.specs.Legal.{is_legal};
 ghost use Rattle.mm_life.specs.Replay.{replay_log};
 ghost use Rattle.mm_life.specs.LogCounts.{counts_of_log};
-ghost use Rattle.mm_life.specs.WorkedLogs.{rewritten_log, rewritten_head, rewritten_tail, smallest_set_log, frame};
+ghost use Rattle.mm_life.specs.WorkedLogs.{rewritten_log, rewritten_head, rewritten_tail, smallest_set_log, frame, private};
 
 /// A page rewritten while its write is in flight: the 24 moves replay, and leave one frame active and seven free.
 pub fn rewritten_page_replays()
@@ -29,4 +32,16 @@ pub fn smallest_set_replays()
 pub fn nothing_but_line_one()
     ensures { option_map counts_of (replay_log [])
         ≡ Some (record { zeroed = 0; free = 0; standby = 0; modified = 0; active = 0; transition = 0; free_slots = 0; requests = 0 }) }
+{}
+
+/// A page's bytes are those of its frame, and a key that is not live has none.
+pub fn bytes_stand_in_frames()
+    ensures frame { (a b : List ℕ) → option_map (λ l. contents_of l (Some a ∷ Some b ∷ []) [] [] (private 1 17)) (replay_log smallest_set_log) ≡ Some (Some b) }
+    ensures dead { (a b : List ℕ) → option_map (λ l. contents_of l (Some a ∷ Some b ∷ []) [] [] (private 1 18)) (replay_log smallest_set_log) ≡ Some None }
+{}
+
+/// Right after the machine's line any bytes of its size fit the state.
+pub fn any_bytes_fit_at_rest()
+    ensures { (m : MachineOf) (n : ℕ) (k : LineKind) (ram : FrameBytes) (slots blocks : BlockBytes)
+        → length ram ≡ m.frames → length slots ≡ m.slots → length blocks ≡ m.blocks → BytesLocated (life_at m n k) ram slots blocks }
 {}

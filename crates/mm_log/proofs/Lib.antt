@@ -1,4 +1,4 @@
-pub mod Tallying
+pub mod Marked
 pub mod Counts
 pub mod Stuck
 pub mod Stories

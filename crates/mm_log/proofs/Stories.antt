@@ -1,14 +1,13 @@
 -- How a check goes on and ends.
-use Rattle.std.proofs.Common.{◌≡◌, ℕ, suc, ◌+◌, ◌-◌, ◌≤◌, ◌<◌, Bool, true, false, List, [], ◌∷◌, ◌++◌, length, take, drop, Option, Some, None, refl, sym, ap, ◌∙◌, subst, arith, add-one, append_assoc, length-append}
+use Rattle.std.proofs.Common.{◌≡◌, ℕ, ◌+◌, ◌-◌, ◌≤◌, ◌<◌, List, [], ◌∷◌, ◌++◌, length, take, drop, Option, refl, sym, ap, ◌∙◌, subst, arith, add-one, append_assoc, length-append}
 use Rattle.mm_types.specs.Spelling.{Text}
-use Rattle.mm_types.specs.Outside.{Took, IsEnd}
+use Rattle.mm_types.specs.Outside.{IsEnd}
 use Rattle.mm_types.proofs.Bytes.{took_then, took_none, append_nil}
 use Rattle.mm_types.specs.declared.moves.Move.{Move}
-use Rattle.mm_life.specs.MoveText.{move_onto, move_text, spelling_of_move, spelled_moves, IsMove, AreMoves}
+use Rattle.mm_life.specs.MoveText.{move_text, spelling_of_move, spelled_moves}
 use Rattle.mm_life.specs.Life.{FrameLife, unstarted}
-use Rattle.mm_life.specs.Legal.{is_legal}
 use Rattle.mm_life.specs.Frames.{is_on}
-use Rattle.mm_life.specs.LogCounts.{CountsOfLog, counts_of_log}
+use Rattle.mm_life.specs.LogCounts.{CountsOfLog}
 use Rattle.mm_life.proofs.Replays.{replays_then, spelled-append, moves-append}
 use Rattle.mm_moves.proofs.Lines.{move_onto-is}
 use Rattle.mm_lines.specs.Lines.{IsLine}
@@ -17,23 +16,23 @@ use Rattle.mm_lines.specs.Filling.{Filled, Finds}
 use Rattle.mm_lines.specs.declared.buffers.Found.{Found}
 use Rattle.mm_lines.specs.declared.buffers.Found.TheVariants as found
 use Rattle.std.specs.Prelude.{Ok}
-use Rattle.mm_log.specs.Counting.{TallyOf, no_tally, counted, SameFrames}
-use Rattle.mm_log.specs.Verdict.{most_bytes, IsStuck, StuckBefore, EndsAt, Replayed, Came}
-use Rattle.mm_log.specs.Stepping.{StepsBy, brought_after, Read, Stands}
+use Rattle.mm_log.specs.Counting.{TallyOf, IsNew}
+use Rattle.mm_log.specs.Verdict.{most_bytes, StuckBefore, EndsAt, Replayed, Came}
+use Rattle.mm_log.specs.Stepping.{Made, StepsBy, brought_after, Read, Stands}
 use Rattle.mm_log.specs.declared.endings.Ending.{Ending}
 use Rattle.mm_log.specs.declared.endings.Ending.TheVariants as ending
-use Rattle.mm_log.proofs.Counts.{counts_more, brought_snoc, brought_same}
-use Rattle.mm_log.proofs.Stuck.{stuck_line, stuck_long, stuck_end}
+use Rattle.mm_log.proofs.Counts.{counts_more, brought_snoc}
+use Rattle.mm_log.proofs.Stuck.{stuck_long, stuck_end}
 
 -- nothing was read
-pub stands_none : (left : Option Text) (l : FrameLife) (t : TallyOf) → l ≡ unstarted → t ≡ no_tally → Stands left left [] 0 0 l t
-stands_none left l t e f = record {
+pub stands_none : (left : Option Text) (l : FrameLife) (t : TallyOf) → l ≡ unstarted → IsNew t → Stands left left [] 0 0 l t
+stands_none left l t e new = record {
   read = record {
     moves = [];
     replayed = record { taken = []; took = took_none left; whole = refl; in_range = tt; replays = e; total_is = refl };
     number = refl;
-    counts = ap (λ (s : TallyOf). s.counts) f;
-    brought = λ g. ap (λ (s : TallyOf). is_on g s.brought) f;
+    counts = new.counts;
+    brought = new.brought;
   };
   few = omega arith;
 }
@@ -65,31 +64,36 @@ line_spelled : (m : Move) (line rest : Text) → move_text m ≡ line → spelli
 line_spelled m line rest e =
     ap (λ xs. xs ++ rest) (move_onto-is m (10 ∷ [])) ∙ append_assoc (move_text m) (10 ∷ []) rest ∙ ap (λ xs. xs ++ 10 ∷ rest) e
 
+-- the moves so far, and one more
+module _ (left left' : Option Text) (held : Text) (len total : ℕ) (m : Move) (ms : List Move) (l l' : FrameLife) (a : Replayed left left' held ms l total) (h : HasLine held len) (s : Made m l (take len held) l') where
+  replayed_more : Replayed left left' (drop (len + 1) held) (ms ++ m ∷ []) l' total
+  replayed_more =
+      let rest : Text = drop (len + 1) held in
+      let front : held ≡ take len held ++ 10 ∷ rest = h.feed.whole ∙ ap (λ k. take len held ++ 10 ∷ drop k held) (sym (add-one len)) in
+      record {
+        taken = a.taken;
+        took = a.took;
+        whole =
+            a.whole ∙ ap (λ xs. spelled_moves ms ++ xs) (front ∙ sym (line_spelled m (take len held) rest s.text))
+            ∙ sym (append_assoc (spelled_moves ms) (spelling_of_move m) rest)
+            ∙ ap (λ xs. (spelled_moves ms ++ xs) ++ rest) (sym (append_nil (spelling_of_move m)))
+            ∙ ap (λ xs. xs ++ rest) (sym (spelled-append ms (m ∷ [])));
+        in_range = moves-append ms (m ∷ []) a.in_range (s.in_range, tt);
+        replays = replays_then ms (m ∷ []) unstarted l l' a.replays (s.legal, s.after);
+        total_is = a.total_is;
+      }
+
 pub stands_more : (left left' : Option Text) (held : Text) (len n total : ℕ) (m : Move) (l : FrameLife) (t : TallyOf) (l' : FrameLife) (t' : TallyOf)
     → Read left left' held n total l t → total ≤ most_bytes → HasLine held len → StepsBy m l t (take len held) l' t' → Stands left left' (drop (len + 1) held) (n + 1) total l' t'
 stands_more left left' held len n total m l t l' t' r few h s =
-    let a = r.replayed in
     let ms = r.moves in
-    let rest : Text = drop (len + 1) held in
-    let front : held ≡ take len held ++ 10 ∷ rest = h.feed.whole ∙ ap (λ k. take len held ++ 10 ∷ drop k held) (sym (add-one len)) in
     record {
       read = record {
         moves = ms ++ m ∷ [];
-        replayed = record {
-          taken = a.taken;
-          took = a.took;
-          whole =
-              a.whole ∙ ap (λ xs. spelled_moves ms ++ xs) (front ∙ sym (line_spelled m (take len held) rest s.text))
-              ∙ sym (append_assoc (spelled_moves ms) (spelling_of_move m) rest)
-              ∙ ap (λ xs. (spelled_moves ms ++ xs) ++ rest) (sym (append_nil (spelling_of_move m)))
-              ∙ ap (λ xs. xs ++ rest) (sym (spelled-append ms (m ∷ [])));
-          in_range = moves-append ms (m ∷ []) a.in_range (s.in_range, tt);
-          replays = replays_then ms (m ∷ []) unstarted l l' a.replays (s.legal, s.after);
-          total_is = a.total_is;
-        };
+        replayed = replayed_more left left' held len total m ms l l' r.replayed h s.made;
         number = omega (arith, r.number, length-append ms (m ∷ []));
-        counts = s.counts ∙ counts_more ms m t.counts t.brought r.counts r.brought;
-        brought = λ g. s.brought g ∙ brought_same t.brought (brought_after [] ms) m r.brought g ∙ ap (is_on g) (sym (brought_snoc [] ms m));
+        counts = s.counts.counts (brought_after [] ms) r.brought ∙ counts_more ms m t.counts r.counts;
+        brought = λ g. s.counts.brought (brought_after [] ms) r.brought g ∙ ap (is_on g) (sym (brought_snoc [] ms m));
       };
       few = few;
     }
@@ -112,6 +116,17 @@ came_read left left' held n total l t l' c r same = came_here left left' held n 
 
 pub came_memory : (left left' : Option Text) (held : Text) (n total : ℕ) (l : FrameLife) (t : TallyOf) (l' : FrameLife) (c : CountsOfLog) → Read left left' held n total l t → l' ≡ l → Came left left' ending.NoMemory l' c
 came_memory left left' held n total l t l' c r same = came_here left left' held n total l t l' c ending.NoMemory r same (λ h. cc) tt
+
+-- memory was refused once the move was made
+pub came_made : (left left' : Option Text) (held : Text) (len n total : ℕ) (m : Move) (l : FrameLife) (t : TallyOf) (l' : FrameLife) (c : CountsOfLog) → Read left left' held n total l t → HasLine held len → Made m l (take len held) l' → Came left left' ending.NoMemory l' c
+came_made left left' held len n total m l t l' c r h s = record {
+  moves = r.moves ++ m ∷ [];
+  held = drop (len + 1) held;
+  total = total;
+  replayed = replayed_more left left' held len total m r.moves l l' r.replayed h s;
+  counts = λ e. cc;
+  ends = tt;
+}
 
 pub came_long : (left left' : Option Text) (held : Text) (n total : ℕ) (l : FrameLife) (t : TallyOf) (l' : FrameLife) (c : CountsOfLog) → Read left left' held n total l t → l' ≡ l → most_bytes < total → Came left left' ending.TooLong l' c
 came_long left left' held n total l t l' c r same many = came_here left left' held n total l t l' c ending.TooLong r same (λ h. cc) many

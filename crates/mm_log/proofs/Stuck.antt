@@ -1,9 +1,9 @@
 -- Bytes in front of which no legal move stands.
-use Rattle.std.proofs.Common.{◌≡◌, ℕ, suc, ◌+◌, ◌≤◌, ◌<◌, Bool, true, false, List, [], ◌∷◌, ◌++◌, length, take, drop, Option, Some, None, refl, sym, ap, ◌∙◌, subst, arith, append_assoc, length-append}
+use Rattle.std.proofs.Common.{◌≡◌, ℕ, suc, ◌≤◌, ◌<◌, false, ◌∷◌, ◌++◌, length, take, drop, Option, Some, None, sym, ap, ◌∙◌, arith, append_assoc, length-append}
 use Rattle.mm_types.specs.Spelling.{Text}
 use Rattle.mm_types.specs.Outside.{IsEnd}
 use Rattle.mm_types.specs.declared.moves.Move.{Move}
-use Rattle.mm_life.specs.MoveText.{move_onto, move_text, IsMove}
+use Rattle.mm_life.specs.MoveText.{move_text, IsMove}
 use Rattle.mm_life.specs.Life.{FrameLife}
 use Rattle.mm_life.specs.Legal.{is_legal}
 use Rattle.mm_moves.proofs.Lines.{NoFeed, move_onto-is, move_no_feed, move_short, one_line, no_line}

@@ -1,18 +1,20 @@
 -- Counting one move more.
 use Rattle.std.specs.Prelude.{◌≡◌, ℕ, ◌+◌, Bool, if◌then◌else◌, List, []}
 use Rattle.mm_types.specs.declared.moves.Move.{Move}
-use Rattle.mm_life.specs.Frames.{is_on}
 use Rattle.mm_life.specs.LogCounts.{CountsOfLog, is_give, is_read_in, is_steal, is_wrote, soft_fault, brought_in}
+use Rattle.mm_log.specs.Marking.{MarksOf, AreMarked}
 
 pub record TallyOf : Type 0 where
   pub counts : CountsOfLog
-  pub brought : List ℕ
+  pub brought : MarksOf
 
 abbrev pub no_counts : CountsOfLog
 no_counts = record { moves = 0; zero_fills = 0; soft_faults = 0; hard_faults = 0; steals = 0; write_outs = 0 }
 
-abbrev pub no_tally : TallyOf
-no_tally = record { counts = no_counts; brought = [] }
+-- nothing was counted
+pub record IsNew (t : TallyOf) : Type 0 where
+  pub counts : t.counts ≡ no_counts
+  pub brought : AreMarked t.brought []
 
 abbrev pub one_if : Bool → ℕ
 one_if b = if b then 1 else 0
@@ -28,6 +30,7 @@ counted c frames m = record {
   write_outs = c.write_outs + one_if (is_wrote m);
 }
 
--- the same frames
-abbrev pub SameFrames : List ℕ → List ℕ → Type 0
-SameFrames xs ys = (f : ℕ) → is_on f xs ≡ is_on f ys
+-- a move was counted, whichever frames it is that were brought in before it
+pub record Counts (m : Move) (t t' : TallyOf) : Type 0 where
+  pub counts : (frames : List ℕ) → AreMarked t.brought frames → t'.counts ≡ counted t.counts frames m
+  pub brought : (frames : List ℕ) → AreMarked t.brought frames → AreMarked t'.brought (brought_in frames m)

@@ -1,3 +1,4 @@
+pub mod Marking
 pub mod Counting
 pub mod LogText
 pub mod Verdict

@@ -1,5 +1,5 @@
 -- How a check goes on, line by line.
-use Rattle.std.specs.Prelude.{◌≡◌, ℕ, ◌+◌, ◌≤◌, Bool, false, List, [], ◌∷◌, length, Option, Result, Ok, Err}
+use Rattle.std.specs.Prelude.{◌≡◌, ◌⊎◌, ℕ, ◌≤◌, false, List, [], ◌∷◌, length, Option}
 use Rattle.mm_types.specs.Spelling.{Text}
 use Rattle.mm_types.specs.declared.moves.Move.{Move}
 use Rattle.mm_life.specs.MoveText.{move_text, IsMove}
@@ -7,26 +7,28 @@ use Rattle.mm_life.specs.Life.{FrameLife}
 use Rattle.mm_life.specs.Legal.{is_legal, IsLegal}
 use Rattle.mm_life.specs.Effect.{after_move}
 use Rattle.mm_life.specs.LogCounts.{counts_of_log, brought_in}
-use Rattle.mm_log.specs.Counting.{TallyOf, counted, SameFrames}
+use Rattle.mm_log.specs.Marking.{AreMarked}
+use Rattle.mm_log.specs.Counting.{TallyOf, Counts}
 use Rattle.mm_log.specs.Verdict.{most_bytes, Replayed}
 use Rattle.mm_log.specs.declared.checks.Step.{Step}
 use Rattle.mm_log.specs.declared.checks.Step.TheVariants as step
-use Rattle.mm_log.specs.declared.endings.Ending.{Ending}
-use Rattle.mm_log.specs.declared.endings.Ending.TheVariants as ending
 
--- the line is a legal move, which was made and counted
-pub record StepsBy (m : Move) (l : FrameLife) (t : TallyOf) (line : Text) (l' : FrameLife) (t' : TallyOf) : Type 0 where
+-- the line is a legal move, which was made
+pub record Made (m : Move) (l : FrameLife) (line : Text) (l' : FrameLife) : Type 0 where
   pub in_range : IsMove m
   pub text : move_text m ≡ line
   pub legal : IsLegal m l
   pub after : l' ≡ after_move l m
-  pub counts : t'.counts ≡ counted t.counts t.brought m
-  pub brought : SameFrames t'.brought (brought_in t.brought m)
+
+-- and counted
+pub record StepsBy (m : Move) (l : FrameLife) (t : TallyOf) (line : Text) (l' : FrameLife) (t' : TallyOf) : Type 0 where
+  pub made : Made m l line l'
+  pub counts : Counts m t t'
 
 abbrev pub Steps : Step → FrameLife → TallyOf → Text → FrameLife → TallyOf → Type 0
 Steps step.Legal l t line l' t' = (m : Move) × StepsBy m l t line l' t'
 Steps step.Illegal l t line l' t' = ((m : Move) → IsMove m → move_text m ≡ line → is_legal l m ≡ false) × (l' ≡ l)
-Steps step.NoMemory l t line l' t' = l' ≡ l
+Steps step.NoMemory l t line l' t' = (l' ≡ l) ⊎ ((m : Move) × Made m l line l')
 
 -- the frames that are brought in after some moves
 abbrev pub brought_after : List ℕ → List Move → List ℕ
@@ -39,7 +41,7 @@ pub record Read (left left' : Option Text) (held : Text) (n total : ℕ) (l : Fr
   pub replayed : Replayed left left' held moves l total
   pub number : n ≡ length moves
   pub counts : t.counts ≡ counts_of_log moves
-  pub brought : SameFrames t.brought (brought_after [] moves)
+  pub brought : AreMarked t.brought (brought_after [] moves)
 
 -- and no more bytes than a log may have
 pub record Stands (left left' : Option Text) (held : Text) (n total : ℕ) (l : FrameLife) (t : TallyOf) : Type 0 where

@@ -2,7 +2,7 @@ ghost use Rattle.std.specs.Prelude.{◌≡◌, ◌+◌, ◌<◌, ◌≤◌, ◌^
 ghost use Rattle.mm_types.specs.Outside.{Rose, HasCause};
 ghost use Rattle.mm_life.specs.Life.{unstarted};
 ghost use Rattle.mm_moves.specs.Standing.{life};
-ghost use Rattle.mm_log.specs.Counting.{no_tally};
+ghost use Rattle.mm_log.specs.Counting.{IsNew};
 ghost use Rattle.mm_log.specs.Verdict.{most_bytes, Came};
 ghost use Rattle.mm_log.specs.Stepping.{Steps, Read, Stands};
 ghost use Rattle.mm_lines.specs.Looking.{HasLine};
@@ -24,6 +24,7 @@ pub(crate) enum Step {
     /// It is a legal move, and was made and counted.
     Legal,
     Illegal,
+    /// Memory was refused for it, or for its count where it was made.
     NoMemory,
 }
 
@@ -37,7 +38,7 @@ pub(crate) struct Checker {
 impl Checker {
     pub(crate) fn new(alloc: Global) -> Checker
         ensures life { life result.life ≡ unstarted }
-        ensures tally { result.tally ≡ no_tally }
+        ensures tally { IsNew result.tally }
     {
         Checker {
             life: Life::new(alloc),
@@ -47,17 +48,17 @@ impl Checker {
 
     /// Takes the next line, without its line feed.
     fn take_line(&mut self, line: &[u8]) -> Step
-        requires { self.old.tally.counts.moves + 1 < 2 ^ 64 }
+        requires { self.old.tally.counts.moves + 1 < 2 ^ 63 }
         ensures { Steps result (life self.old.life) self.old.tally line.now (life self.new.life) self.new.tally }
     {
         match read_move(line) {
             None => Step::Illegal,
-            Some(m) => match self.tally.count(&m) {
-                Err(NoMemory) => Step::NoMemory,
-                Ok(()) => match self.life.apply(&m) {
+            Some(m) => match self.life.apply(&m) {
+                Err(ApplyFault::Illegal) => Step::Illegal,
+                Err(ApplyFault::Memory) => Step::NoMemory,
+                Ok(()) => match self.tally.count(&m) {
                     Ok(()) => Step::Legal,
-                    Err(ApplyFault::Illegal) => Step::Illegal,
-                    Err(ApplyFault::Memory) => Step::NoMemory,
+                    Err(NoMemory) => Step::NoMemory,
                 },
             },
         }
@@ -149,7 +150,7 @@ const MOST_LINES: u64 = 1_000_000_000_001;
 #[tactic(auto, using(crate::proofs::Stories::stories))]
 pub(crate) fn check_log<S: Source>(checker: &mut Checker, source: &mut S) -> Ending
     requires life { life checker.old.life ≡ unstarted }
-    requires tally { checker.old.tally ≡ no_tally }
+    requires tally { IsNew checker.old.tally }
     ensures came { Came (S.left source.old) (S.left source.new) result (life checker.new.life) checker.new.tally.counts }
     ensures later { S.faults source.old ≤ S.faults source.new }
     ensures blame { result ≡ Ending.ReadFault → Rose (S.faults source.old) (S.faults source.new) }

@@ -3,6 +3,7 @@
 
 mod checks;
 mod endings;
+mod marks;
 mod tallies;
 mod texts;
 mod top;

@@ -1,13 +1,14 @@
-ghost use Rattle.std.specs.Prelude.{◌≡◌, ◌+◌, ◌<◌, ◌≤◌, ◌^◌, [], ◌∷◌, OnOk, OnErr, if◌then◌else◌};
-ghost use Rattle.mm_life.specs.Frames.{is_on};
+ghost use Rattle.std.specs.Prelude.{◌≡◌, ℕ, ◌+◌, ◌<◌, ◌≤◌, ◌^◌, List, OnOk, OnErr, if◌then◌else◌};
 ghost use Rattle.mm_life.specs.LogCounts.{is_give, is_read_in, is_steal, is_wrote, soft_fault, brought_in};
-ghost use Rattle.mm_log.specs.Counting.{no_tally, counted, SameFrames};
+ghost use Rattle.mm_log.specs.Marking.{AreMarked};
+ghost use Rattle.mm_log.specs.Counting.{IsNew, Counts};
 
+use crate::marks::Brought;
 use mm_types::{Move, NoMemory};
 use std::alloc::Global;
 use std::marker::Model;
 
-/// The counts of the moves so far, and the frames that have a `give` or a `got` since the line's `at`, each once.
+/// The counts of the moves so far, and the frames that have a `give` or a `got` since the line's `at`.
 #[derive(Drop)]
 pub(crate) struct Tally {
     pub(crate) moves: u64,
@@ -16,21 +17,21 @@ pub(crate) struct Tally {
     pub(crate) hard_faults: u64,
     pub(crate) steals: u64,
     pub(crate) write_outs: u64,
-    brought: Vec<u32>,
+    brought: Brought,
 }
 
 impl Model for Tally {
-    ghost use Rattle.std.specs.Prelude.{◌≤◌};
+    ghost use Rattle.std.specs.Prelude.{◌≤◌, ◌+◌};
     ghost use Rattle.mm_log.specs.Counting.{TallyOf};
 
     ghost Value = { TallyOf };
 
     ghost view = { λ t. record {
       counts = record { moves = t.moves; zero_fills = t.zero_fills; soft_faults = t.soft_faults; hard_faults = t.hard_faults; steals = t.steals; write_outs = t.write_outs };
-      brought = t.brought.items;
+      brought = t.brought;
     } };
 
-    ghost invariant = { λ t. (t.zero_fills ≤ t.moves) × (t.soft_faults ≤ t.moves) × (t.hard_faults ≤ t.moves) × (t.steals ≤ t.moves) × (t.write_outs ≤ t.moves) };
+    ghost invariant = { λ t. (t.zero_fills ≤ t.moves) × (t.soft_faults ≤ t.moves) × (t.hard_faults ≤ t.moves) × (t.steals ≤ t.moves) × (t.write_outs ≤ t.moves) × (t.brought.line ≤ t.moves + 1) };
 }
 
 fn one_if(b: bool) -> u64
@@ -76,48 +77,31 @@ fn is_wrote(m: &Move) -> bool
     }
 }
 
-fn is_on(frames: &[u32], frame: u32) -> bool
-    ensures { result ≡ is_on frame frames.now }
-{
-    frames.iter().any(|x| *x == frame)
-}
-
 /// Whether the move maps a frame that was not brought in by this line.
-fn is_soft(frames: &[u32], m: &Move) -> bool
-    ensures { soft_fault frames.now m.now ≡ (if result then 1 else 0) }
+fn is_soft(brought: &Brought, m: &Move) -> bool
+    ensures { (frames : List ℕ) → AreMarked brought.now frames → soft_fault frames m.now ≡ (if result then 1 else 0) }
 {
     match *m {
-        Move::Map(frame, _) => !is_on(frames, frame.0),
+        Move::Map(frame, _) => !brought.has(frame.0),
         _ => false,
     }
 }
 
-/// Takes a frame among those brought in.
-#[tactic(auto, using(crate::proofs::Tallying::tallying))]
-fn bring_in(frames: &mut Vec<u32>, frame: u32) -> Result<(), NoMemory>
-    ensures ok { OnOk result (SameFrames frames.new.items (frame ∷ frames.old.items)) }
-    ensures err { OnErr result (frames.new.items ≡ frames.old.items) }
-{
-    if is_on(frames, frame) {
-        return Ok(());
-    }
-    frames.push(frame)?;
-    Ok(())
-}
-
-/// The frames that are brought in after a move.
-#[tactic(auto, using(crate::proofs::Tallying::tallying))]
-fn bring(frames: &mut Vec<u32>, m: &Move) -> Result<(), NoMemory>
-    ensures ok { OnOk result (SameFrames frames.new.items (brought_in frames.old.items m.now)) }
-    ensures err { OnErr result (frames.new.items ≡ frames.old.items) }
+/// Marks the frame, if any, that the move brings in.
+#[tactic(auto, using(crate::proofs::Marked::marked))]
+fn bring(brought: &mut Brought, m: &Move) -> Result<(), NoMemory>
+    requires { brought.old.line + 1 < 2 ^ 64 }
+    ensures ok { OnOk result ((frames : List ℕ) → AreMarked brought.old frames → AreMarked brought.new (brought_in frames m.now)) }
+    ensures line { brought.new.line ≤ brought.old.line + 1 }
+    ensures err { OnErr result (brought.new.line ≡ brought.old.line) }
 {
     match *m {
         Move::At(_, _) => {
-            frames.clear();
+            brought.begin_line();
             Ok(())
         }
-        Move::Give(frame, _) => bring_in(frames, frame.0),
-        Move::Got(frame) => bring_in(frames, frame.0),
+        Move::Give(frame, _) => brought.add(frame.0),
+        Move::Got(frame) => brought.add(frame.0),
         _ => Ok(()),
     }
 }
@@ -125,7 +109,7 @@ fn bring(frames: &mut Vec<u32>, m: &Move) -> Result<(), NoMemory>
 impl Tally {
     /// No move was counted.
     pub(crate) fn new(alloc: Global) -> Tally
-        ensures { result ≡ no_tally }
+        ensures { IsNew result }
     {
         Tally {
             moves: 0,
@@ -134,15 +118,14 @@ impl Tally {
             hard_faults: 0,
             steals: 0,
             write_outs: 0,
-            brought: Vec::new(alloc),
+            brought: Brought::new(alloc),
         }
     }
 
     /// Counts a move.
     pub(crate) fn count(&mut self, m: &Move) -> Result<(), NoMemory>
-        requires { self.old.counts.moves + 1 < 2 ^ 64 }
-        ensures counts { OnOk result (self.new.counts ≡ counted self.old.counts self.old.brought m.now) }
-        ensures brought { OnOk result (SameFrames self.new.brought (brought_in self.old.brought m.now)) }
+        requires { self.old.counts.moves + 1 < 2 ^ 63 }
+        ensures { OnOk result (Counts m.now self.old self.new) }
     {
         let soft = one_if(is_soft(&self.brought, m));
         bring(&mut self.brought, m)?;

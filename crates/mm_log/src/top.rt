@@ -58,6 +58,7 @@ fn asked(words: &[String]) -> Option<Asked>
 fn write_text<O: Sink>(out: &mut O, text: &[u8], status: u8) -> u8
     requires { status ≢ 5 }
     ensures shows { Shows (O.taken out.old) (O.taken out.new) text.now status result }
+    ensures later { O.faults out.old ≤ O.faults out.new }
     ensures blame { result ≡ 5 → Rose (O.faults out.old) (O.faults out.new) }
     ensures other { result ≢ 5 → result ≡ status }
 {
@@ -73,6 +74,8 @@ fn write_text<O: Sink>(out: &mut O, text: &[u8], status: u8) -> u8
 /// Checks the log and answers what is asked.
 fn answer<S: Source, O: Sink>(alloc: Global, asked: Asked, source: &mut S, out: &mut O) -> u8
     ensures ran { Ran asked (S.left source.old) (S.left source.new) (O.taken out.old) (O.taken out.new) result }
+    ensures source_later { S.faults source.old ≤ S.faults source.new }
+    ensures out_later { O.faults out.old ≤ O.faults out.new }
     ensures read_fault { result ≡ 4 → Rose (S.faults source.old) (S.faults source.new) }
     ensures out_fault { result ≡ 5 → Rose (O.faults out.old) (O.faults out.new) }
     ensures no_usage { result ≢ 2 }
@@ -103,6 +106,10 @@ pub fn run_log<S: Source, O: Sink>(
     ensures usage { (IsForm (map string_bytes words.now) → ⊥) → Shows (O.taken out.old) (O.taken out.new) usage_text 2 result }
     ensures unread { (IsForm (map string_bytes words.now) → ⊥) → S.left source.new ≡ S.left source.old }
     ensures form { IsForm (map string_bytes words.now) → result ≢ 2 }
+
+    // The counts of faults never fall, and a fault is blamed only where its count rose.
+    ensures source_later { S.faults source.old ≤ S.faults source.new }
+    ensures out_later { O.faults out.old ≤ O.faults out.new }
     ensures read_fault { result ≡ 4 → Rose (S.faults source.old) (S.faults source.new) }
     ensures out_fault { result ≡ 5 → Rose (O.faults out.old) (O.faults out.new) }
 {

@@ -1,8 +1,12 @@
 -- A log that grows by what a sink took.
-use Rattle.std.proofs.Common.{◌≡◌, ℕ, ◌≤◌, Bool, true, false, List, [], ◌∷◌, ◌++◌, Option, Some, None, length, refl, sym, ap, ◌∙◌, inl, inr, arith, length-append}
+use Rattle.std.proofs.Common.{◌≡◌, ℕ, ◌-◌, ◌≤◌, ◌<◌, Bool, true, false, List, [], ◌∷◌, ◌++◌, Option, Some, None, length, take, drop, refl, sym, ap, subst, ◌∙◌, inl, inr, arith, append_assoc, length-append, length-drop}
+use Rattle.std.proofs.Math.Seq.{take-length}
+use Rattle.std.proofs.lemmas.List.{take-append-drop}
 use Rattle.mm_types.specs.Outside.{Rose, Appended}
+use Rattle.mm_types.proofs.Bytes.{append_nil, appended_then}
 use Rattle.mm_io.specs.Io.{Wrote}
 use Rattle.mm_life.specs.Logs.{Log, Told, Grew}
+use Rattle.mm_moves.specs.Recorded.{IsCut, FailsExactly, WroteOrCut}
 
 no_more : (xs ys : List ℕ) → xs ≡ xs ++ ys → ys ≡ []
 no_more xs [] e = refl
@@ -38,6 +42,95 @@ told_failed (Some a) text = record { front = []; behind = text; whole = refl; wr
     append_none [] = refl
     append_none (x ∷ xs) = ap (λ ys. x ∷ ys) (append_none xs)
 
+-- ---- a line that is written by calls of a sink
+
+rest_of : (rest : List ℕ) (n : ℕ) → take n rest ++ take (length rest - n) (drop n rest) ≡ rest
+rest_of rest n =
+    ap (λ k. take n rest ++ take k (drop n rest)) (sym (length-drop n rest))
+    ∙ ap (λ xs. take n rest ++ xs) (take-length (drop n rest)) ∙ take-append-drop n rest
+
+-- one piece more was taken
+pub piece_more : (done rest line : List ℕ) (n : ℕ) → done ++ rest ≡ line → (done ++ take n rest) ++ take (length rest - n) (drop n rest) ≡ line
+piece_more done rest line n e =
+    append_assoc done (take n rest) (take (length rest - n) (drop n rest)) ∙ ap (λ xs. done ++ xs) (rest_of rest n) ∙ e
+
+none_behind : (done rest line : List ℕ) → done ++ rest ≡ line → length rest ≡ 0 → done ≡ line
+none_behind done [] line e none = sym (append_nil done) ∙ e
+none_behind done (x ∷ xs) line e none = absurd (omega arith)
+
+cut_here : (a b : Option (List ℕ)) (line done rest : List ℕ) → done ++ rest ≡ line → 0 < length rest → Appended a b done → IsCut a b line
+cut_here None None line done rest e some written = tt
+cut_here None (Some b) line done rest e some written = written
+cut_here (Some a) None line done rest e some written = written
+cut_here (Some a) (Some b) line done rest e some written =
+    omega (arith, ap length written, length-append a done, ap length e, length-append done rest)
+
+-- all pieces were taken
+pub line_whole : (a b : Option (List ℕ)) (line done rest : List ℕ) → done ++ rest ≡ line → length rest ≡ 0 → Appended a b done → WroteOrCut a b line false
+line_whole a b line done rest e none written = record {
+  wrote = record { front = done; rest = rest; whole = sym e; written = written; all = λ h. none_behind done rest line e none };
+  cut = λ h. cc;
+}
+
+-- a call failed, before all pieces were taken
+pub line_cut : (a b : Option (List ℕ)) (line done rest : List ℕ) → done ++ rest ≡ line → 0 < length rest → Appended a b done → WroteOrCut a b line true
+line_cut a b line done rest e some written = record {
+  wrote = record { front = done; rest = rest; whole = sym e; written = written; all = λ h. cc };
+  cut = λ h. cut_here a b line done rest e some written;
+}
+
+-- ---- a recorder fails exactly where a line is cut
+
+pub exact_by : (a b : Option (List ℕ)) (m n : ℕ) (text : List ℕ) (failed : Bool) → WroteOrCut a b text failed → FailsExactly (record { bytes = a; failed = false; faults = m }) (record { bytes = b; failed = failed; faults = n }) text
+exact_by a b m n text failed w = record {
+  cut = w.cut;
+  fresh = λ h. refl;
+  whole = λ h. subst (λ (t : List ℕ). Appended a b t) (w.wrote.all h) w.wrote.written;
+}
+
+cut_all : (a : Option (List ℕ)) (text : List ℕ) → 0 < length text → IsCut a a text
+cut_all None text some = tt
+cut_all (Some a) text some = omega arith
+
+pub exact_failed : (a : Log) (text : List ℕ) → a.failed ≡ true → 0 < length text → FailsExactly a a text
+exact_failed a text e some = record {
+  cut = λ h. cut_all a.bytes text some;
+  fresh = λ h. cc;
+  whole = λ h. let bad : true ≡ false = sym e ∙ h in cc;
+}
+
+-- ---- two pieces, one behind the other
+
+cut_before : (a b c : Option (List ℕ)) (s t : List ℕ) (failed : Bool) → IsCut a b s → Told b c t true failed → IsCut a c (s ++ t)
+cut_before None None None s t failed cut told = tt
+cut_before None None (Some c) s t failed cut told = told
+cut_before None (Some b) c s t failed cut told = absurd cut
+cut_before (Some a) None c s t failed cut told = absurd cut
+cut_before (Some a) (Some b) None s t failed cut told = told
+cut_before (Some a) (Some b) (Some c) s t failed cut told =
+    let same : length c ≡ length b = omega (arith, ap length told.written, ap length (told.none refl), length-append b told.front) in
+    omega (arith, same, cut, length-append s t)
+
+cut_behind : (a b c : Option (List ℕ)) (s t : List ℕ) → Appended a b s → IsCut b c t → IsCut a c (s ++ t)
+cut_behind None None None s t whole cut = tt
+cut_behind None None (Some c) s t whole cut = cut
+cut_behind None (Some b) c s t whole cut = absurd whole
+cut_behind (Some a) None c s t whole cut = absurd whole
+cut_behind (Some a) (Some b) None s t whole cut = cut
+cut_behind (Some a) (Some b) (Some c) s t whole cut = omega (arith, cut, ap length whole, length-append a s, length-append s t)
+
+-- where each of two pieces fails exactly where it is cut, the two together do
+pub exact_then : (a b c : Log) (s t : List ℕ) → FailsExactly a b s → FailsExactly b c t → Grew b c t → FailsExactly a c (s ++ t)
+exact_then a b c s t first second grew = record {
+  cut = λ h. by_first b.failed refl h;
+  fresh = λ h. first.fresh (second.fresh h);
+  whole = λ h. appended_then a.bytes b.bytes c.bytes s t (first.whole (second.fresh h)) (second.whole h);
+}
+  where
+    by_first : (was : Bool) → b.failed ≡ was → c.failed ≡ true → IsCut a.bytes c.bytes (s ++ t)
+    by_first true e h = cut_before a.bytes b.bytes c.bytes s t c.failed (first.cut e) (subst (λ (w : Bool). Told b.bytes c.bytes t w c.failed) e grew.told)
+    by_first false e h = cut_behind a.bytes b.bytes c.bytes s t (first.whole e) (second.cut h)
+
 -- after a failure nothing is written
 pub grew_failed : (a : Log) (text : List ℕ) → a.failed ≡ true → Grew a a text
 grew_failed a text e = record {
@@ -51,4 +144,4 @@ grew_failed a text e = record {
     told_at true e = told_failed a.bytes text
     told_at false e = cc
 
-pub ruleset growing = (grew_by, grew_failed)
+pub ruleset growing = (grew_by, grew_failed, exact_by, exact_failed)

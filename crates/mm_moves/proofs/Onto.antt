@@ -2,6 +2,7 @@
 use Rattle.std.proofs.Common.{◌≡◌, ℕ, zero, suc, ◌+◌, ◌/◌, ◌%◌, ◌≤◌, Bool, true, false, cond, List, [], ◌∷◌, ◌++◌, length, refl, sym, ap, ◌∙◌, arith, append_assoc, length-append}
 use Rattle.std.specs.Prelude.{nat_lt}
 use Rattle.mm_types.specs.Spelling.{Text, glyph, decimal, decimal_onto}
+use Rattle.mm_text.proofs.Spelled.{length-decimal-32}
 
 longer_of : (b : Bool) (last more : Text) (k : ℕ) → length last ≤ k → length more ≤ k → length (cond b last more) ≤ k
 longer_of true last more k p q = p
@@ -19,3 +20,6 @@ pub length-decimal : (n : ℕ) → length (decimal n) ≤ 20
 length-decimal n = length-decimal_onto 20 n []
 
 pub ruleset onto = (append_assoc, length-append, length-decimal)
+
+-- a number below 2^32 has at most ten digits
+pub ruleset onto_short = (append_assoc, length-append, length-decimal-32)

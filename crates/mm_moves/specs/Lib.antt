@@ -7,3 +7,4 @@ pub mod Slotted
 pub mod Sound
 pub mod Replaying
 pub mod Flying
+pub mod Recorded

@@ -1,10 +1,11 @@
-ghost use Rattle.std.specs.Prelude.{◌≡◌, false};
-ghost use Rattle.mm_types.specs.Outside.{Loans, Loan};
+ghost use Rattle.std.specs.Prelude.{◌≡◌, false, is_err};
+ghost use Rattle.mm_types.specs.Outside.{Loans, Loan, HasCause};
 ghost use Rattle.mm_life.specs.Logs.{Log, Grew};
 ghost use Rattle.mm_life.specs.MoveText.{spelling_of_move, IsMove};
+ghost use Rattle.mm_moves.specs.Recorded.{FailsExactly, WroteOrCut};
 
 use crate::spell;
-use mm_io::{Sink, write_all};
+use mm_io::Sink;
 use mm_text::LineBuf;
 use mm_types::{Failed, Move};
 
@@ -16,9 +17,11 @@ pub trait Moves {
     /// The references that it holds.
     ghost loans: { Self → Loans };
 
-    /// Writes the move's line. Where that fails a front of the line is written, and from then on nothing.
+    /// Writes the move's line. Where a call of the sink fails a front of the line is written that is not all of
+    /// it, and the recorder has failed: from then on nothing is written.
     fn note(&mut self, m: Move)
         ensures grew { Grew (log self.old) (log self.new) (spelling_of_move m) }
+        ensures exact { FailsExactly (log self.old) (log self.new) (spelling_of_move m) }
         ensures in_range { IsMove m }
         ensures loans { loans self.new ≡ loans self.old };
 
@@ -28,9 +31,26 @@ pub trait Moves {
 }
 
 /// Writes the moves that it is told to a sink that was lent to it. It keeps none of them.
+#[derive(Drop)]
 pub struct Recorder<'a, K: Sink> {
     sink: &'a mut K,
     failed: bool,
+}
+
+/// Writes a line. Where a call of the sink fails, the front that it took is not all of the line: `write_all` does
+/// not say that.
+#[tactic(auto, using(crate::proofs::Growing::growing))]
+fn write_line<K: Sink>(sink: &mut K, line: &[u8]) -> Result<(), Failed>
+    ensures wrote { WroteOrCut (K.taken sink.old) (K.taken sink.new) line.now (is_err result) }
+    ensures cause { HasCause (K.faults sink.old) (K.faults sink.new) result }
+    ensures loans { K.loans sink.new ≡ K.loans sink.old }
+{
+    let mut rest = line;
+    while !rest.is_empty() {
+        let n = sink.write(rest)?;
+        rest = &rest[n..];
+    }
+    Ok(())
 }
 
 impl<'a, K: Sink> Recorder<'a, K> {
@@ -66,7 +86,7 @@ impl<'a, K: Sink> Moves for Recorder<'a, K> {
         let mut line = LineBuf::new();
         spell(&m, &mut line);
         if !self.failed {
-            match write_all(self.sink, line.as_slice()) {
+            match write_line(self.sink, line.as_slice()) {
                 Ok(()) => {}
                 Err(Failed) => self.failed = true,
             }

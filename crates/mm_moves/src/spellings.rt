@@ -4,15 +4,15 @@ ghost use Rattle.mm_life.specs.MoveText.{numbered, place_onto, key_onto, kind_on
 use mm_text::{LineBuf, put_decimal};
 use mm_types::{Block, Frame, Key, LineKind, Move, Place, Stored};
 
-/// A word and a number, of at most 20 digits.
-#[tactic(auto, using(crate::proofs::Onto::onto))]
-fn put_numbered(out: &mut LineBuf, word: &[u8], n: u64)
-    requires { length out.old + length word.now + 20 ≤ 256 }
+/// A word and a number, of at most 10 digits.
+#[tactic(auto, using(crate::proofs::Onto::onto_short))]
+fn put_numbered(out: &mut LineBuf, word: &[u8], n: u32)
+    requires { length out.old + length word.now + 10 ≤ 256 }
     ensures text { (behind : List ℕ) → out.new ++ behind ≡ out.old ++ numbered word.now n behind }
-    ensures few { length out.new ≤ length out.old + length word.now + 20 }
+    ensures few { length out.new ≤ length out.old + length word.now + 10 }
 {
     out.push_slice(word);
-    put_decimal(out, n);
+    put_decimal(out, u64::from(n));
 }
 
 /// Some words.
@@ -27,107 +27,107 @@ fn put_words(out: &mut LineBuf, words: &[u8])
 
 /// A word and the number of a frame.
 fn put_frame(out: &mut LineBuf, word: &[u8], frame: Frame)
-    requires { length out.old + length word.now + 20 ≤ 256 }
+    requires { length out.old + length word.now + 10 ≤ 256 }
     ensures text { (behind : List ℕ) → out.new ++ behind ≡ out.old ++ numbered word.now frame.0 behind }
-    ensures few { length out.new ≤ length out.old + length word.now + 20 }
+    ensures few { length out.new ≤ length out.old + length word.now + 10 }
     ensures in_range { frame.0 < 2 ^ 32 }
 {
-    put_numbered(out, word, u64::from(frame.0));
+    put_numbered(out, word, frame.0);
 }
 
 fn put_place(out: &mut LineBuf, place: Place)
-    requires { length out.old + 41 ≤ 256 }
+    requires { length out.old + 21 ≤ 256 }
     ensures text { (behind : List ℕ) → out.new ++ behind ≡ out.old ++ place_onto place behind }
-    ensures few { length out.new ≤ length out.old + 41 }
+    ensures few { length out.new ≤ length out.old + 21 }
     ensures in_range { IsPlace place }
 {
-    put_numbered(out, b"", u64::from(place.pid.0));
-    put_numbered(out, b".", u64::from(place.vpn.0));
+    put_numbered(out, b"", u32::from(place.pid.0));
+    put_numbered(out, b".", place.vpn.0);
 }
 
 /// Writes a key.
 pub(crate) fn put_key(out: &mut LineBuf, key: Key)
-    requires { length out.old + 42 ≤ 256 }
+    requires { length out.old + 22 ≤ 256 }
     ensures text { (behind : List ℕ) → out.new ++ behind ≡ out.old ++ key_onto key behind }
-    ensures few { length out.new ≤ length out.old + 42 }
+    ensures few { length out.new ≤ length out.old + 22 }
     ensures in_range { IsKey key }
 {
     match key {
         Key::Private(pid, vpn) => {
-            put_numbered(out, b"p", u64::from(pid.0));
-            put_numbered(out, b".", u64::from(vpn.0));
+            put_numbered(out, b"p", u32::from(pid.0));
+            put_numbered(out, b".", vpn.0);
         }
         Key::Shared(area, index) => {
-            put_numbered(out, b"s", u64::from(area.0));
-            put_numbered(out, b".", u64::from(index));
+            put_numbered(out, b"s", area.0);
+            put_numbered(out, b".", index);
         }
     }
 }
 
 fn put_kind(out: &mut LineBuf, kind: LineKind)
-    requires { length out.old + 91 ≤ 256 }
+    requires { length out.old + 51 ≤ 256 }
     ensures text { (behind : List ℕ) → out.new ++ behind ≡ out.old ++ kind_onto kind behind }
-    ensures few { length out.new ≤ length out.old + 91 }
+    ensures few { length out.new ≤ length out.old + 51 }
     ensures in_range { IsKind kind }
 {
     match kind {
         LineKind::Machine(frames, slots, depth, blocks) => {
-            put_numbered(out, b"machine ", u64::from(frames));
-            put_numbered(out, b" ", u64::from(slots));
-            put_numbered(out, b" ", u64::from(depth));
-            put_numbered(out, b" ", u64::from(blocks));
+            put_numbered(out, b"machine ", frames);
+            put_numbered(out, b" ", slots);
+            put_numbered(out, b" ", depth);
+            put_numbered(out, b" ", blocks);
         }
         LineKind::Process(pid, min, max) => {
-            put_numbered(out, b"process ", u64::from(pid.0));
-            put_numbered(out, b" ", u64::from(min));
-            put_numbered(out, b" ", u64::from(max));
+            put_numbered(out, b"process ", u32::from(pid.0));
+            put_numbered(out, b" ", min);
+            put_numbered(out, b" ", max);
         }
-        LineKind::Unbind(pid) => put_numbered(out, b"unbind ", u64::from(pid.0)),
-        LineKind::Access(pid) => put_numbered(out, b"access ", u64::from(pid.0)),
-        LineKind::Thread(pid) => put_numbered(out, b"thread ", u64::from(pid.0)),
-        LineKind::Trim(pid) => put_numbered(out, b"trim ", u64::from(pid.0)),
+        LineKind::Unbind(pid) => put_numbered(out, b"unbind ", u32::from(pid.0)),
+        LineKind::Access(pid) => put_numbered(out, b"access ", u32::from(pid.0)),
+        LineKind::Thread(pid) => put_numbered(out, b"thread ", u32::from(pid.0)),
+        LineKind::Trim(pid) => put_numbered(out, b"trim ", u32::from(pid.0)),
         LineKind::Writer => put_words(out, b"writer"),
         LineKind::Zeroer => put_words(out, b"zeroer"),
         LineKind::Io => put_words(out, b"io"),
         LineKind::Call => put_words(out, b"call"),
-        LineKind::Grow(count) => put_numbered(out, b"grow ", u64::from(count)),
+        LineKind::Grow(count) => put_numbered(out, b"grow ", count),
     }
 }
 
 fn put_stored(out: &mut LineBuf, stored: Stored)
-    requires { length out.old + 27 ≤ 256 }
+    requires { length out.old + 17 ≤ 256 }
     ensures text { (behind : List ℕ) → out.new ++ behind ≡ out.old ++ stored_onto stored behind }
-    ensures few { length out.new ≤ length out.old + 27 }
+    ensures few { length out.new ≤ length out.old + 17 }
     ensures in_range { IsStored stored }
 {
     match stored {
-        Stored::Slot(slot) => put_numbered(out, b" slot ", u64::from(slot.0)),
-        Stored::Block(block) => put_numbered(out, b" block ", u64::from(block.0)),
+        Stored::Slot(slot) => put_numbered(out, b" slot ", slot.0),
+        Stored::Block(block) => put_numbered(out, b" block ", block.0),
     }
 }
 
 fn put_home(out: &mut LineBuf, home: Option<Block>)
-    requires { length out.old + 27 ≤ 256 }
+    requires { length out.old + 17 ≤ 256 }
     ensures text { (behind : List ℕ) → out.new ++ behind ≡ out.old ++ home_onto home behind }
-    ensures few { length out.new ≤ length out.old + 27 }
+    ensures few { length out.new ≤ length out.old + 17 }
     ensures in_range { IsBlock home }
 {
     match home {
         None => put_words(out, b" zero"),
-        Some(block) => put_numbered(out, b" block ", u64::from(block.0)),
+        Some(block) => put_numbered(out, b" block ", block.0),
     }
 }
 
 /// Writes a move without its line feed.
 pub(crate) fn put_move(m: &Move, out: &mut LineBuf)
-    requires { length out.old + 115 ≤ 256 }
+    requires { length out.old + 65 ≤ 256 }
     ensures text { (behind : List ℕ) → out.new ++ behind ≡ out.old ++ move_onto m.now behind }
-    ensures few { length out.new ≤ length out.old + 115 }
+    ensures few { length out.new ≤ length out.old + 65 }
     ensures in_range { IsMove m.now }
 {
     match *m {
         Move::At(line, kind) => {
-            put_numbered(out, b"at ", u64::from(line));
+            put_numbered(out, b"at ", line);
             put_words(out, b" ");
             put_kind(out, kind);
         }
@@ -173,11 +173,11 @@ pub(crate) fn put_move(m: &Move, out: &mut LineBuf)
     }
 }
 
-/// Writes a move's line, with its line feed, at the end of `out`. The longest has 116 bytes.
+/// Writes a move's line, with its line feed, at the end of `out`. The longest has 66 bytes.
 pub fn spell(m: &Move, out: &mut LineBuf)
-    requires { length out.old + 116 ≤ 256 }
+    requires { length out.old + 66 ≤ 256 }
     ensures line { out.new ≡ out.old ++ spelling_of_move m.now }
-    ensures few { length out.new ≤ length out.old + 116 }
+    ensures few { length out.new ≤ length out.old + 66 }
     ensures in_range { IsMove m.now }
 {
     put_move(m, out);

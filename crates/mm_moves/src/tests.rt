@@ -1,6 +1,7 @@
-use crate::{ApplyFault, Life, Moves, Recorder, read_move};
+use crate::{ApplyFault, Life, Moves, Recorder, read_move, spell};
 use mm_io::MemSink;
-use mm_types::{Frame, Held, Key, Move, Pid, Vpn};
+use mm_text::LineBuf;
+use mm_types::{Frame, Held, Key, LineKind, Move, Pid, Vpn};
 use std::test::Fail;
 
 /// A page rewritten while its write is in flight.
@@ -142,4 +143,15 @@ fn what_is_no_spelling(rt: HostRuntime) {
     assert!(rt; read_move(b"clear 4294967296").is_none());
     assert!(rt; read_move(b"at 1 access 256").is_none());
     assert!(rt; read_move(b"at 2 grow 3").is_some());
+}
+
+#[test]
+fn the_longest_line(rt: HostRuntime) {
+    let most = u32::MAX;
+    let mut line = LineBuf::new();
+    spell(
+        &Move::At(most, LineKind::Machine(most, most, most, most)),
+        &mut line,
+    );
+    assert_eq!(rt; line.len(), 66);
 }

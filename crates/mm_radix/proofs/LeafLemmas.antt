@@ -1,11 +1,10 @@
 -- The words of leaves as a finite map from pages.
 use Rattle.std.proofs.Common.{◌≡◌, ◌≢◌, ◌⊎◌, ℕ, zero, suc, ◌+◌, ◌*◌, ◌/◌, ◌%◌, ◌<◌, ◌≤◌, List, [], length, get_or, set, Option, Some, None, refl, sym, ap, ◌∙◌, subst, inl, inr, arith, true, false, get_or-set_same, get_or-set_other}
 use Rattle.std.proofs.lemmas.List.{get_or_past, get_or_default}
-use Rattle.std.proofs.lemmas.Option.{get_or_from_slice_get}
 use Rattle.std.proofs.lemmas.Bool.Decides.{nat_tests}
 use Rattle.std.proofs.lemmas.Bool.{cases_lt, cases_eq}
 use Rattle.std.proofs.Math.ListN.{length-set}
-use Rattle.std.specs.Prelude.{slice_get, IsSome, is_some, if◌then◌else◌, ◌++◌}
+use Rattle.std.specs.Prelude.{slice_get, IsSome, is_some, if◌then◌else◌}
 use Rattle.std.specs.Ordering.{nat_cmp}
 use Rattle.std.specs.FinMap as finite
 use Rattle.std.specs.FinMap.{FinMap}
@@ -13,12 +12,12 @@ use Rattle.mm_types.specs.Table.{found}
 use Rattle.mm_types.proofs.Tables.{get_table, is_insert}
 use Rattle.mm_types.proofs.Finite.{same}
 use Rattle.std.specs.Prelude.{replicate, ◌-◌, Result, Ok, Err, OnErr}
-use Rattle.std.proofs.Common.{take}
-use Rattle.std.proofs.lemmas.Grind.{common_steps}
 use Rattle.mm_types.specs.Address.{holds_page}
 use Rattle.mm_radix.specs.Pages.{pages, Reserves, Releases, AreReserved, reserved_word}
-use Rattle.mm_radix.specs.Directory.{Changes, PlacesMore, no_word}
-use Rattle.mm_radix.specs.Directory.{Leaves, leaf_of, word_in, numbers_from, end_of_pages, words_of, IsDirectory, HasPlace, with_leaf, with_word, SameWords}
+use Rattle.mm_radix.specs.LeafWords.{leaf_word, Changed, no_word}
+use Rattle.mm_radix.specs.Directory.{Leaves, leaf_of, word_in, numbers_from, end_of_pages, words_of, IsWhole, IsDirectory, HasPlace, with_leaf, with_word, SameWords, Changes, IsPart, HaveWords, PlacesMore}
+use Rattle.mm_radix.proofs.WordLemmas.{none_after}
+use Rattle.std.proofs.lemmas.List.{length-replicate}
 
 numbers_within : (start count i : ℕ) → i < count → slice_get (numbers_from start count) i ≡ Some (start + i)
 unfolding numbers_from
@@ -91,7 +90,7 @@ module _ (leaves : Leaves) (page : ℕ) (word : Option ℕ) (place : HasPlace le
   ]
 
 -- where a leaf is put in another's place, the directory keeps its form
-pub is_directory-with_leaf : (leaves : Leaves) (page : ℕ) (leaf : List (Option ℕ)) → (0 < length leaf → length leaf ≡ 1024) → IsDirectory leaves → IsDirectory (with_leaf leaves page leaf)
+pub is_directory-with_leaf : (leaves : Leaves) (page : ℕ) (leaf : List (Option ℕ)) → IsWhole leaf → IsDirectory leaves → IsDirectory (with_leaf leaves page leaf)
 is_directory-with_leaf leaves page leaf whole directory = record {
   few = omega (arith, length-set leaves (page / 1024) leaf, directory.few);
   full = λ i. elim (cases_eq i (page / 1024)) [
@@ -129,25 +128,9 @@ words_of-none =
     let none : IsDirectory [] = record { few = omega arith; full = λ i some. absurd (omega arith) } in
     same (words_of []) finite.empty (λ q. get-words_of [] none q ∙ sym (finite.get-empty nat_cmp q))
 
--- a word read from its leaf
-pub word_read : (leaves : Leaves) (page : ℕ) (leaf : List (Option ℕ)) (word : Option ℕ) → HasPlace leaves page → leaf ≡ get_or leaves (page / 1024) leaf → slice_get leaf (page % 1024) ≡ Some word → word ≡ word_in leaves page
-word_read leaves page leaf word place is read =
-    sym (get_or_from_slice_get leaf (page % 1024) word None read)
-    ∙ ap (λ (l : List (Option ℕ)). get_or l (page % 1024) None) (is ∙ get_or_default leaves (page / 1024) leaf [] (leaf_of_place leaves page place))
-
--- a page that the map knows has a place
-pub placed : (leaves : Leaves) (m : FinMap nat_cmp ℕ) (page : ℕ) → words_of leaves ≡ m → IsDirectory leaves → IsSome (finite.get m page) → HasPlace leaves page
-placed leaves m page view directory some =
-    let P : Option ℕ → Type 0 = λ o. IsSome o in
-    place_of_some leaves page (subst P (ap (λ (n : FinMap nat_cmp ℕ). finite.get n page) (sym view) ∙ get-words_of leaves directory page) some)
-
 -- maps of the same words are the same
 pub words_of-same : (old new : Leaves) → IsDirectory old → IsDirectory new → SameWords old new → words_of new ≡ words_of old
 words_of-same old new before after is = same (words_of new) (words_of old) (λ q. get-words_of new after q ∙ is q ∙ sym (get-words_of old before q))
-
--- a fresh list that was filled up
-pub filled : (x : Option ℕ) (xs : List (Option ℕ)) (n count : ℕ) → xs ≡ [] → count ≡ 0 → take n xs ++ replicate (n - count) x ≡ replicate n x
-filled x xs n count none zero_count = grind (arith, common_steps)
 
 inside : (q first n : ℕ) (v u : Option ℕ) → first ≤ q → q < first + n → (if holds_page (pages first n) q then v else u) ≡ v
 inside q first n v u l h = grind (arith, nat_tests)
@@ -155,66 +138,97 @@ inside q first n v u l h = grind (arith, nat_tests)
 outside : (q first n : ℕ) (v u : Option ℕ) → (q < first) ⊎ (first + n ≤ q) → (if holds_page (pages first n) q then v else u) ≡ u
 outside q first n v u h = grind (arith, nat_tests)
 
--- a word's change leaves each page its place
-has_place-with_word : (leaves : Leaves) (page : ℕ) (word : Option ℕ) → HasPlace leaves page → (q : ℕ) → HasPlace leaves q → HasPlace (with_word leaves page word) q
-has_place-with_word leaves page word place q had = elim (cases_eq (q / 1024) (page / 1024)) [
-  | inl same_leaf ↦
-      let new_leaf : leaf_of (with_word leaves page word) q ≡ set (leaf_of leaves page) (page % 1024) word = leaf_of-same leaves page q (set (leaf_of leaves page) (page % 1024) word) (leaf_of_place leaves page place) same_leaf in
-      let old_leaf : leaf_of leaves q ≡ leaf_of leaves page = ap (λ (i : ℕ). get_or leaves i []) same_leaf in
-      omega (arith, had, ap length new_leaf, ap length old_leaf, length-set (leaf_of leaves page) (page % 1024) word)
-  | inr other_leaf ↦
-      omega (arith, had, ap length (leaf_of-other leaves page q (set (leaf_of leaves page) (page % 1024) word) other_leaf))
-]
+-- ---- a part of one leaf is changed
 
--- one directory after another, page by page
+in_part : (q page end : ℕ) → IsPart page end → page ≤ q → q < end → q / 1024 ≡ page / 1024
+in_part q page end part l u = omega (arith, part.same_leaf)
+
+module _ (leaves : Leaves) (page end : ℕ) (leaf : List (Option ℕ)) (part : IsPart page end) (present : page / 1024 < length leaves) where
+  changed_page : (f : Option ℕ → Option ℕ) → Changed f (leaf_word (leaf_of leaves page)) (leaf_word leaf) (page % 1024) (page % 1024 + (end - page)) →
+      Changed f (word_in leaves) (word_in (with_leaf leaves page leaf)) page end
+  changed_page f is =
+      let here : (q : ℕ) → q / 1024 ≡ page / 1024 → word_in (with_leaf leaves page leaf) q ≡ leaf_word leaf (q % 1024) =
+      λ q e. ap (λ (l : List (Option ℕ)). leaf_word l (q % 1024)) (leaf_of-same leaves page q leaf present e) in
+      let there : (q : ℕ) → q / 1024 ≡ page / 1024 → leaf_word (leaf_of leaves page) (q % 1024) ≡ word_in leaves q =
+      λ q e. ap (λ (i : ℕ). leaf_word (get_or leaves i []) (q % 1024)) (sym e) in
+      let away : (q : ℕ) → q / 1024 ≢ page / 1024 → word_in (with_leaf leaves page leaf) q ≡ word_in leaves q =
+      λ q other. ap (λ (l : List (Option ℕ)). leaf_word l (q % 1024)) (leaf_of-other leaves page q leaf other) in
+      record {
+        within = λ q l u.
+            let e = in_part q page end part l u in
+            here q e ∙ is.within (q % 1024) (omega (arith, e)) (omega (arith, e)) ∙ ap f (there q e);
+        below = λ q u. elim (cases_eq (q / 1024) (page / 1024)) [
+          | inl e ↦ here q e ∙ is.below (q % 1024) (omega (arith, e)) ∙ there q e
+          | inr other ↦ away q other
+        ];
+        above = λ q l. elim (cases_eq (q / 1024) (page / 1024)) [
+          | inl e ↦ here q e ∙ is.above (q % 1024) (omega (arith, e)) ∙ there q e
+          | inr other ↦ away q other
+        ];
+      }
+
+  pub changes_part : (f : Option ℕ → Option ℕ) → IsWhole leaf → IsDirectory leaves → Changed f (leaf_word (leaf_of leaves page)) (leaf_word leaf) (page % 1024) (page % 1024 + (end - page)) →
+      Changes f leaves (with_leaf leaves page leaf) page end
+  changes_part f whole directory is = record {
+    words = changed_page f is;
+    directory = is_directory-with_leaf leaves page leaf whole directory;
+  }
+
+-- reserved pages of one leaf, as the leaf itself sees them
+module _ (leaves : Leaves) (page end : ℕ) (leaf : List (Option ℕ)) (part : IsPart page end) (reserved : HaveWords leaves page end) (is : leaf ≡ get_or leaves (page / 1024) leaf) where
+  present : page / 1024 < length leaves
+  present = leaf_of_place leaves page (place_of_some leaves page (reserved page (omega arith) part.some))
+
+  is_leaf : leaf ≡ leaf_of leaves page
+  is_leaf = is ∙ get_or_default leaves (page / 1024) leaf [] present
+
+  pub part_reserved : (i : ℕ) → page % 1024 ≤ i → i < page % 1024 + (end - page) → IsSome (leaf_word leaf i)
+  part_reserved i l u =
+      let P : Option ℕ → Type 0 = λ w. IsSome w in
+      let q = 1024 * (page / 1024) + i in
+      let quotient : q / 1024 ≡ page / 1024 = omega (arith, part.same_leaf) in
+      let rest : q % 1024 ≡ i = omega (arith, part.same_leaf) in
+      let word : word_in leaves q ≡ leaf_word leaf i =
+      ap (λ (k : ℕ). leaf_word (get_or leaves k []) (q % 1024)) quotient ∙ ap (leaf_word (leaf_of leaves page)) rest ∙ ap (λ (ws : List (Option ℕ)). leaf_word ws i) (sym is_leaf) in
+      subst P word (reserved q (omega arith) (omega arith))
+
+  pub released_part : (new : List (Option ℕ)) → IsDirectory leaves → Changed no_word (leaf_word leaf) (leaf_word new) (page % 1024) (page % 1024 + (end - page)) → (new ≡ []) ⊎ (length new ≡ length leaf) →
+      Changes no_word leaves (with_leaf leaves page new) page end
+  released_part new directory changed room =
+      let whole : IsWhole new = elim room [
+        | inl none ↦ λ some. absurd (omega (arith, some, ap length none))
+        | inr kept ↦ λ some. kept ∙ ap length is_leaf ∙ directory.full (page / 1024) (omega (arith, some, kept, ap length is_leaf))
+      ] in
+      changes_part leaves page end new part present no_word whole directory
+      (subst (λ (ws : List (Option ℕ)). Changed no_word (leaf_word ws) (leaf_word new) (page % 1024) (page % 1024 + (end - page))) is_leaf changed)
+
+-- a leaf with room comes where none was
+pub placed_leaf : (leaves : Leaves) (page : ℕ) (old leaf : List (Option ℕ)) → IsDirectory leaves → page / 1024 < length leaves → old ≡ get_or leaves (page / 1024) old → (0 < length old → ⊥) → leaf ≡ replicate 1024 None →
+    PlacesMore leaves (with_leaf leaves page leaf)
+placed_leaf leaves page old leaf directory present is absent fresh =
+    let none : length (leaf_of leaves page) ≤ 0 = elim (cases_lt 0 (length old)) [
+      | inl some ↦ absurd (absent some)
+      | inr none ↦ omega (arith, none, ap length (is ∙ get_or_default leaves (page / 1024) old [] present))
+    ] in
+    let old_leaf : (q : ℕ) → q / 1024 ≡ page / 1024 → leaf_of leaves q ≡ leaf_of leaves page = λ q e. ap (λ (i : ℕ). get_or leaves i []) e in
+    record {
+      words = λ q. elim (cases_eq (q / 1024) (page / 1024)) [
+        | inl e ↦
+            ap (λ (l : List (Option ℕ)). leaf_word l (q % 1024)) (leaf_of-same leaves page q leaf present e ∙ fresh) ∙ none_after 1024 (q % 1024)
+            ∙ sym (get_or_past (leaf_of leaves q) (q % 1024) None (omega (arith, none, ap length (old_leaf q e))))
+        | inr other ↦ ap (λ (l : List (Option ℕ)). leaf_word l (q % 1024)) (leaf_of-other leaves page q leaf other)
+      ];
+      directory = is_directory-with_leaf leaves page leaf (λ some. ap length fresh ∙ length-replicate {A = Option ℕ} 1024 None) directory;
+      places = λ q place. elim (cases_eq (q / 1024) (page / 1024)) [
+        | inl e ↦ absurd (omega (arith, place, none, ap length (old_leaf q e)))
+        | inr other ↦ omega (arith, place, ap length (leaf_of-other leaves page q leaf other))
+      ];
+      count = omega (arith, length-set leaves (page / 1024) leaf);
+    }
+
+-- ---- one directory after another
+
 module _ (f : Option ℕ → Option ℕ) where
-  pub changes_none : (leaves : Leaves) (first : ℕ) → Changes f leaves leaves first 0
-  changes_none leaves first = record {
-    within = λ q l u. absurd (omega arith);
-    below = λ q u. refl;
-    above = λ q l. refl;
-    places = λ q place. place;
-    directory = λ directory. directory;
-    count_kept = refl;
-  }
-
-  pub changes_more : (old mid new : Leaves) (first n : ℕ) → Changes f old mid first n → Changes f mid new (first + n) 1 → Changes f old new first (n + 1)
-  changes_more old mid new first n a b = record {
-    within = λ q l u. elim (cases_lt q (first + n)) [
-      | inl earlier ↦ b.below q earlier ∙ a.within q l earlier
-      | inr here ↦ b.within q here (omega arith) ∙ ap f (a.above q here)
-    ];
-    below = λ q u. b.below q (omega arith) ∙ a.below q u;
-    above = λ q l. b.above q (omega arith) ∙ a.above q (omega arith);
-    places = λ q place. b.places q (a.places q place);
-    directory = λ directory. b.directory (a.directory directory);
-    count_kept = b.count_kept ∙ a.count_kept;
-  }
-
-  pub changes_one : (old : Leaves) (page : ℕ) (word : Option ℕ) → HasPlace old page → word ≡ f (word_in old page) → Changes f old (with_word old page word) page 1
-  changes_one old page word place is = record {
-    within = λ q l u.
-        let e : q ≡ page = omega arith in
-        ap (λ (k : ℕ). word_in (with_word old page word) k) e ∙ word_in-same old page word place ∙ is ∙ ap (λ (k : ℕ). f (word_in old k)) (sym e);
-    below = λ q u. word_in-other old page word place q (λ e. absurd (omega (arith, e)));
-    above = λ q l. word_in-other old page word place q (λ e. absurd (omega (arith, e)));
-    places = λ q had. has_place-with_word old page word place q had;
-    directory = λ directory. is_directory-with_word old page word place directory;
-    count_kept = length-set old (page / 1024) (set (leaf_of old page) (page % 1024) word);
-  }
-
-  pub changes_stays : (old : Leaves) (page : ℕ) → f (word_in old page) ≡ word_in old page → Changes f old old page 1
-  changes_stays old page is = record {
-    within = λ q l u.
-        let e : q ≡ page = omega arith in
-        ap (word_in old) e ∙ sym is ∙ ap (λ (k : ℕ). f (word_in old k)) (sym e);
-    below = λ q u. refl;
-    above = λ q l. refl;
-    places = λ q had. had;
-    directory = λ directory. directory;
-    count_kept = refl;
-  }
-
   chosen : (q first n : ℕ) (w v u : Option ℕ) → (first ≤ q → q < first + n → w ≡ v) → (q < first → w ≡ u) → (first + n ≤ q → w ≡ u) → w ≡ (if holds_page (pages first n) q then v else u)
   chosen q first n w v u within below above =
       elim (cases_lt q first) [
@@ -226,34 +240,38 @@ module _ (f : Option ℕ → Option ℕ) where
       ]
 
   -- what a change of the leaves is to the map
-  pub changes_map : (old new : Leaves) (first n : ℕ) → IsDirectory old → Changes f old new first n →
+  pub changes_map : (old new : Leaves) (first n : ℕ) → IsDirectory old → Changes f old new first (first + n) →
       (q : ℕ) → finite.get (words_of new) q ≡ (if holds_page (pages first n) q then f (finite.get (words_of old) q) else finite.get (words_of old) q)
   changes_map old new first n before is q =
       let at_old : finite.get (words_of old) q ≡ word_in old q = get-words_of old before q in
-      get-words_of new (is.directory before) q
+      get-words_of new is.directory q
       ∙ chosen q first n (word_in new q) (f (finite.get (words_of old) q)) (finite.get (words_of old) q)
-      (λ l u. is.within q l u ∙ ap f (sym at_old))
-      (λ u. is.below q u ∙ sym at_old)
-      (λ l. is.above q l ∙ sym at_old)
+      (λ l u. is.words.within q l u ∙ ap f (sym at_old))
+      (λ u. is.words.below q u ∙ sym at_old)
+      (λ l. is.words.above q l ∙ sym at_old)
 
 pub on_err : {T E : Type 0} {P : Type 0} (r : Result T E) → P → OnErr r P
 on_err (Ok x) p = tt
 on_err (Err e) p = p
 
+-- a page that the map knows has a word
+pub worded : (leaves : Leaves) (m : FinMap nat_cmp ℕ) (page : ℕ) → words_of leaves ≡ m → IsDirectory leaves → IsSome (finite.get m page) → IsSome (word_in leaves page)
+worded leaves m page view directory some =
+    let P : Option ℕ → Type 0 = λ o. IsSome o in
+    subst P (ap (λ (n : FinMap nat_cmp ℕ). finite.get n page) (sym view) ∙ get-words_of leaves directory page) some
+
 -- reserved pages end before the last leaf does
-pub reserved_end : (leaves : Leaves) (m : FinMap nat_cmp ℕ) (first n : ℕ) → words_of leaves ≡ m → IsDirectory leaves → AreReserved m (pages first n) → 0 < n → first + n ≤ 1024 * length leaves
+pub reserved_end : (leaves : Leaves) (m : FinMap nat_cmp ℕ) (first n : ℕ) → words_of leaves ≡ m → IsDirectory leaves → AreReserved m (pages first n) → 0 < n → first + n ≤ end_of_pages
 reserved_end leaves m first n view directory reserved some =
-    let place : HasPlace leaves (first + n - 1) = placed leaves m (first + n - 1) view directory (reserved (first + n - 1) (omega arith) (omega arith)) in
-    omega (arith, leaf_of_place leaves (first + n - 1) place)
+    let word : IsSome (word_in leaves (first + n - 1)) = worded leaves m (first + n - 1) view directory (reserved (first + n - 1) (omega arith) (omega arith)) in
+    omega (arith, directory.few, leaf_of_place leaves (first + n - 1) (place_of_some leaves (first + n - 1) word))
 
-pub release_map : (old cleared new : Leaves) (m : FinMap nat_cmp ℕ) (first n : ℕ) → words_of old ≡ m → IsDirectory old → Changes no_word old cleared first n → SameWords cleared new → IsDirectory new → Releases m (words_of new) (pages first n)
-release_map old cleared new m first n view directory changes same_words after =
+pub release_map : (old new : Leaves) (m : FinMap nat_cmp ℕ) (first n : ℕ) → words_of old ≡ m → IsDirectory old → Changes no_word old new first (first + n) → Releases m (words_of new) (pages first n)
+release_map old new m first n view directory changes =
     let P : FinMap nat_cmp ℕ → Type 0 = λ k. Releases k (words_of new) (pages first n) in
-    subst P view (λ q.
-    ap (λ (k : FinMap nat_cmp ℕ). finite.get k q) (words_of-same cleared new (changes.directory directory) after same_words)
-    ∙ changes_map no_word old cleared first n directory changes q)
+    subst P view (changes_map no_word old new first n directory changes)
 
-pub reserve_map : (old whole room new : Leaves) (m : FinMap nat_cmp ℕ) (first n : ℕ) → words_of old ≡ m → IsDirectory old → PlacesMore old whole → PlacesMore whole room → Changes reserved_word room new first n → Reserves m (words_of new) (pages first n)
+pub reserve_map : (old whole room new : Leaves) (m : FinMap nat_cmp ℕ) (first n : ℕ) → words_of old ≡ m → IsDirectory old → PlacesMore old whole → PlacesMore whole room → Changes reserved_word room new first (first + n) → Reserves m (words_of new) (pages first n)
 reserve_map old whole room new m first n view directory a b changes =
     let P : FinMap nat_cmp ℕ → Type 0 = λ k. Reserves k (words_of new) (pages first n) in
     let is : words_of room ≡ m = words_of-same whole room a.directory b.directory b.words ∙ words_of-same old whole directory a.directory a.words ∙ view in

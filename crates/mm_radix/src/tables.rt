@@ -3,7 +3,8 @@ ghost use Rattle.std.specs.Ordering.{nat_cmp};
 ghost use Rattle.std.specs.FinMap as finite;
 ghost use Rattle.mm_types.specs.Address.{first_user_page, end_of_user_pages};
 ghost use Rattle.mm_radix.specs.Pages.{pages, Reserves, Releases, AreReserved, reserved_word};
-ghost use Rattle.mm_radix.specs.Directory.{word_in, HasPlace, HavePlaces, SameWords, PlacesMore, Changes, no_word, with_word, IsDirectory, end_of_pages};
+ghost use Rattle.mm_radix.specs.LeafWords.{no_word};
+ghost use Rattle.mm_radix.specs.Directory.{word_in, HasPlace, HavePlaces, HaveWords, KeepsPlaces, PlacesMore, Changes, IsPart, with_word, IsDirectory, end_of_pages};
 
 use crate::leaves::{LEAF_PAGES, Leaf};
 use mm_types::{NoMemory, Vpn};
@@ -37,62 +38,87 @@ impl Model for Table {
     ghost invariant = { λ t. IsDirectory t.leaves.items };
 }
 
-/// The word at a page that has a place in its leaf.
+/// The word at a page, if it is reserved.
 fn word_at(leaves: &[Leaf], page: u32) -> Option<u64>
     requires { HasPlace leaves.now page }
     ensures { result ≡ word_in leaves.now page }
 {
-    let leaf = &leaves[page as usize / LEAF_PAGES];
-    leaf.word(page as usize % LEAF_PAGES)
+    leaves[page as usize / LEAF_PAGES].word(page as usize % LEAF_PAGES)
 }
 
-/// Sets the word at a page that has a place in its leaf.
+/// Sets the word at a reserved page.
 fn set_at(leaves: &mut Vec<Leaf>, page: u32, word: u64)
-    requires { HasPlace leaves.old.items page }
+    requires { IsSome (word_in leaves.old.items page) }
     ensures { leaves.new.items ≡ with_word leaves.old.items page (Some word) }
 {
     let leaf = &mut leaves[page as usize / LEAF_PAGES];
     leaf.set(page as usize % LEAF_PAGES, word);
 }
 
-/// Takes the word away at a page that has a place in its leaf.
-fn clear_at(leaves: &mut Vec<Leaf>, page: u32)
-    requires { HasPlace leaves.old.items page }
-    ensures { leaves.new.items ≡ with_word leaves.old.items page None }
+/// Where those of the pages from `page` up to `end` end that lie in the leaf of `page`.
+fn end_in_leaf(page: u32, end: u32) -> u32
+    requires some { page < end }
+    requires within { end ≤ end_of_pages }
+    ensures part { IsPart page result }
+    ensures within { result ≤ end }
 {
+    end.min((page / LEAF_PAGES as u32 + 1) * LEAF_PAGES as u32)
+}
+
+/// Gives each page of a part of one leaf a word of 0 if it has none.
+fn reserve_part(leaves: &mut Vec<Leaf>, page: u32, end: u32)
+    requires part { IsPart page end }
+    requires place { HasPlace leaves.old.items page }
+    requires directory { IsDirectory leaves.old.items }
+    ensures changes { Changes reserved_word leaves.old.items leaves.new.items page end }
+    ensures places { KeepsPlaces leaves.old.items leaves.new.items }
+{
+    let from = page as usize % LEAF_PAGES;
     let leaf = &mut leaves[page as usize / LEAF_PAGES];
-    leaf.clear(page as usize % LEAF_PAGES);
+    leaf.reserve(from, from + (end - page) as usize);
 }
 
-/// Gives the page a word of 0 if it has none.
-fn reserve_at(leaves: &mut Vec<Leaf>, page: u32)
-    requires { HasPlace leaves.old.items page }
-    ensures { Changes reserved_word leaves.old.items leaves.new.items page 1 }
+/// Gives each page from `first` up to `end` a word of 0 if it has none.
+fn reserve_words(leaves: &mut Vec<Leaf>, first: u32, end: u32)
+    requires order { first ≤ end }
+    requires end { end ≤ end_of_pages }
+    requires places { HavePlaces leaves.old.items first end }
+    requires directory { IsDirectory leaves.old.items }
+    ensures { Changes reserved_word leaves.old.items leaves.new.items first end }
 {
-    if word_at(leaves, page).is_none() {
-        set_at(leaves, page, 0);
+    let mut page = first;
+    while page < end {
+        let next = end_in_leaf(page, end);
+        reserve_part(leaves, page, next);
+        page = next;
     }
 }
 
-/// Gives each of `n` pages from `first` on a word of 0 if it has none.
-fn reserve_words(leaves: &mut Vec<Leaf>, first: u32, n: u32)
-    requires end { first + n ≤ end_of_pages }
-    requires places { HavePlaces leaves.old.items first n }
-    ensures { Changes reserved_word leaves.old.items leaves.new.items first n }
+/// Takes the words of the pages of a part of one leaf away, and its memory back if no other is reserved.
+fn release_part(alloc: Global, leaves: &mut Vec<Leaf>, page: u32, end: u32)
+    requires part { IsPart page end }
+    requires reserved { HaveWords leaves.old.items page end }
+    requires directory { IsDirectory leaves.old.items }
+    ensures { Changes no_word leaves.old.items leaves.new.items page end }
 {
-    for i in 0..n {
-        reserve_at(leaves, first + i);
-    }
+    let from = page as usize % LEAF_PAGES;
+    let leaf = &mut leaves[page as usize / LEAF_PAGES];
+    leaf.release(alloc, from, from + (end - page) as usize);
 }
 
-/// Takes the words of `n` pages from `first` on away.
-fn clear_words(leaves: &mut Vec<Leaf>, first: u32, n: u32)
-    requires end { first + n ≤ end_of_pages }
-    requires places { HavePlaces leaves.old.items first n }
-    ensures { Changes no_word leaves.old.items leaves.new.items first n }
+/// Takes the words of the pages from `first` up to `end` away, and the memory of leaves of which no page is left.
+fn release_words(alloc: Global, leaves: &mut Vec<Leaf>, first: u32, end: u32)
+    requires order { first ≤ end }
+    requires end { end ≤ end_of_pages }
+    requires reserved { HaveWords leaves.old.items first end }
+    requires directory { IsDirectory leaves.old.items }
+    ensures { Changes no_word leaves.old.items leaves.new.items first end }
 {
-    for i in 0..n {
-        clear_at(leaves, first + i);
+    let mut page = first;
+    while page < end {
+        let next = end_in_leaf(page, end);
+        release_part(alloc, leaves, page, next);
+        page = next;
     }
 }
 
@@ -112,16 +138,19 @@ fn place_leaf(alloc: Global, leaves: &mut Vec<Leaf>, page: u32) -> Result<(), No
     Ok(())
 }
 
-/// Makes the leaves of `n` pages from `first` on present.
-fn place_leaves(alloc: Global, leaves: &mut Vec<Leaf>, first: u32, n: u32) -> Result<(), NoMemory>
-    requires end { first + n ≤ end_of_pages }
+/// Makes the leaves of the pages from `first` up to `end` present.
+fn place_leaves(alloc: Global, leaves: &mut Vec<Leaf>, first: u32, end: u32) -> Result<(), NoMemory>
+    requires order { first ≤ end }
+    requires end { end ≤ end_of_pages }
     requires directory { IsDirectory leaves.old.items }
     requires whole { length leaves.old.items ≡ 512 }
     ensures placed { PlacesMore leaves.old.items leaves.new.items }
-    ensures places { OnOk result (HavePlaces leaves.new.items first n) }
+    ensures places { OnOk result (HavePlaces leaves.new.items first end) }
 {
-    for i in 0..n {
-        place_leaf(alloc, leaves, first + i)?;
+    let mut page = first;
+    while page < end {
+        place_leaf(alloc, leaves, page)?;
+        page = end_in_leaf(page, end);
     }
     Ok(())
 }
@@ -136,32 +165,6 @@ fn take_directory(alloc: Global, leaves: &mut Vec<Leaf>) -> Result<(), NoMemory>
         leaves.push(Leaf::absent(alloc))?;
     }
     Ok(())
-}
-
-/// Gives the memory of the page's leaf back if no page of it is reserved.
-fn give_leaf_back(alloc: Global, leaves: &mut Vec<Leaf>, page: u32)
-    requires within { page / 1024 < length leaves.old.items }
-    requires directory { IsDirectory leaves.old.items }
-    ensures words { SameWords leaves.old.items leaves.new.items }
-    ensures directory { IsDirectory leaves.new.items }
-    ensures count { length leaves.new.items ≡ length leaves.old.items }
-{
-    let at = page as usize / LEAF_PAGES;
-    if leaves[at].is_unreserved() {
-        leaves[at] = Leaf::absent(alloc);
-    }
-}
-
-/// Gives the memory of leaves back, among those of `n` pages from `first` on, that have no reserved page.
-fn give_leaves_back(alloc: Global, leaves: &mut Vec<Leaf>, first: u32, n: u32)
-    requires end { first + n ≤ 1024 * length leaves.old.items }
-    requires directory { IsDirectory leaves.old.items }
-    ensures words { SameWords leaves.old.items leaves.new.items }
-    ensures directory { IsDirectory leaves.new.items }
-{
-    for i in 0..n {
-        give_leaf_back(alloc, leaves, first + i);
-    }
 }
 
 impl Table {
@@ -203,8 +206,9 @@ impl Table {
         ensures err { OnErr result (self.new ≡ self.old) }
     {
         take_directory(self.alloc, &mut self.leaves)?;
-        place_leaves(self.alloc, &mut self.leaves, first.0, n)?;
-        reserve_words(&mut self.leaves, first.0, n);
+        let end = first.0 + n;
+        place_leaves(self.alloc, &mut self.leaves, first.0, end)?;
+        reserve_words(&mut self.leaves, first.0, end);
         Ok(())
     }
 
@@ -216,7 +220,6 @@ impl Table {
         if n == 0 {
             return;
         }
-        clear_words(&mut self.leaves, first.0, n);
-        give_leaves_back(self.alloc, &mut self.leaves, first.0, n);
+        release_words(self.alloc, &mut self.leaves, first.0, first.0 + n);
     }
 }

@@ -1,4 +1,4 @@
-ghost use Rattle.std.specs.Prelude.{◌≡◌, ◌≢◌, ◌+◌, ◌<◌, ◌≤◌, false, length, replicate, None, IfOk, IsSome};
+ghost use Rattle.std.specs.Prelude.{◌≡◌, ◌≢◌, ℕ, List, ◌+◌, ◌<◌, ◌≤◌, false, length, replicate, Some, None, IfOk, IsSome};
 ghost use Rattle.mm_ram.specs.Ram.{page_at, bytes_of, bytes_from, overwritten, with_page, zero_page, page_size};
 
 use crate::bytes::{PAGE, copy_bytes, get_bytes, put_bytes, put_zeros};
@@ -106,5 +106,12 @@ impl Ram {
         ensures { out.new ≡ bytes_of self.now f.0 }
     {
         get_bytes(&self.bytes, f.0 as usize * PAGE, out);
+    }
+
+    /// A law, which does nothing: each frame that was written has 4,096 bytes.
+    pub fn pages_are_whole(&self)
+        ensures { (f : ℕ) (page : List ℕ) → page_at self.now f ≡ Some page → length page ≡ page_size }
+    {
+        let _ = &self.bytes;
     }
 }

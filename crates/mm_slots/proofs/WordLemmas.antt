@@ -1,5 +1,5 @@
 -- Sets of numbers in words: one bit of one word changes, words are added, the lowest number is found.
-use Rattle.std.proofs.Common.{◌≡◌, ◌≢◌, ℕ, ◌+◌, ◌-◌, ◌*◌, ◌/◌, ◌%◌, ◌^◌, ◌<◌, Bool, true, false, List, length, get_or, set, sym, ap, ◌∙◌, inl, inr, arith, get_or-set_same, get_or-set_other}
+use Rattle.std.proofs.Common.{◌≡◌, ◌≢◌, ℕ, ◌+◌, ◌-◌, ◌*◌, ◌/◌, ◌%◌, ◌^◌, ◌<◌, Bool, true, false, List, length, get_or, set, refl, sym, ap, ◌∙◌, inl, inr, arith, get_or-set_same, get_or-set_other}
 use Rattle.std.specs.Prelude.{◌==◌, not, bit_or, bit_and}
 use Rattle.std.specs.Cmp.{unsigned_Decides}
 use Rattle.std.proofs.lemmas.List.{get_or_past, get_or_read}
@@ -7,7 +7,7 @@ use Rattle.std.specs.Int.{bit_not, trailing_zeros, w64}
 use Rattle.mm_types.proofs.Cells.{same_or_not}
 use Rattle.mm_types.proofs.Tables.{differ}
 use Rattle.mm_slots.specs.Bits.{has_bit, have_bit, IsLeast, ChangesOne}
-use Rattle.mm_slots.proofs.BitLemmas.{zero_has_none, lowest_bit, set_same, set_other, clear_same, clear_other}
+use Rattle.mm_slots.proofs.BitLemmas.{zero_has_none, none_above, lowest_bit, set_same, set_other, clear_same, clear_other}
 
 -- the word of a number, and its place there, are the number
 split_apart : (i j : ℕ) → j ≢ i → j / 64 ≡ i / 64 → j % 64 ≢ i % 64
@@ -105,3 +105,38 @@ above_kept above words i word h e some summary k =
           ∙ sym (ap (λ (n : ℕ). not (get_or (set words (i / 64) new) n 0 == 0)) q ∙ ap (λ (n : ℕ). not (n == 0)) (get_or-set_same words (i / 64) new 0 (omega arith)) ∙ not_zero new still)
       | inr d ↦ summary k ∙ sym (ap (λ (n : ℕ). not (n == 0)) (get_or-set_other words (i / 64) k new 0 d))
     ]
+
+-- ---- a word becomes the first of a level
+
+module _ (words : List ℕ) (bits : ℕ) (zero : (k : ℕ) → get_or words k 0 ≡ 0) (some : 0 < length words) where
+  pub raised_same : bits < 2 ^ 64 → (i : ℕ) → have_bit (set words 0 bits) i ≡ has_bit bits i
+  unfolding have_bit
+  raised_same fits i = elim (same_or_not (i / 64) 0) [
+    | inl e ↦
+        let here : i % 64 ≡ i = omega (arith, e) in
+        ap (λ (q : ℕ). has_bit (get_or (set words 0 bits) q 0) (i % 64)) e
+        ∙ ap (λ (w : ℕ). has_bit w (i % 64)) (get_or-set_same words 0 bits 0 some)
+        ∙ ap (has_bit bits) here
+    | inr d ↦
+        ap (λ (w : ℕ). has_bit w (i % 64)) (get_or-set_other words 0 (i / 64) bits 0 d ∙ zero (i / 64))
+        ∙ zero_has_none (i % 64) ∙ sym (none_above bits i fits (omega (arith, d)))
+  ]
+
+  pub raised_above : (above above' : ℕ → Bool) → bits ≢ 0 → ((k : ℕ) → above k ≡ false) → ChangesOne above above' 0 true → (k : ℕ) → above' k ≡ not (get_or (set words 0 bits) k 0 == 0)
+  raised_above above above' there none c k = elim (same_or_not k 0) [
+    | inl e ↦
+        ap above' e ∙ c.at
+        ∙ sym (ap (λ (q : ℕ). not (get_or (set words 0 bits) q 0 == 0)) e ∙ ap (λ (w : ℕ). not (w == 0)) (get_or-set_same words 0 bits 0 some) ∙ not_zero bits there)
+    | inr d ↦
+        c.others k d ∙ none k
+        ∙ sym (ap (λ (w : ℕ). not (w == 0)) (get_or-set_other words 0 k bits 0 d ∙ zero k) ∙ is_zero 0 refl)
+  ]
+
+  pub raised_none : (above : ℕ → Bool) → bits ≡ 0 → ((k : ℕ) → above k ≡ false) → (k : ℕ) → above k ≡ not (get_or (set words 0 bits) k 0 == 0)
+  raised_none above e none k = none k ∙ sym (ap (λ (w : ℕ). not (w == 0)) (at_zero k) ∙ is_zero 0 refl)
+    where
+      at_zero : (j : ℕ) → get_or (set words 0 bits) j 0 ≡ 0
+      at_zero j = elim (same_or_not j 0) [
+        | inl h ↦ ap (λ (q : ℕ). get_or (set words 0 bits) q 0) h ∙ get_or-set_same words 0 bits 0 some ∙ e
+        | inr d ↦ get_or-set_other words 0 j bits 0 d ∙ zero j
+      ]

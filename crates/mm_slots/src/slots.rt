@@ -1,13 +1,13 @@
-ghost use Rattle.std.specs.Prelude.{◌≡◌, ℕ, ◌+◌, ◌-◌, ◌^◌, ◌<◌, ◌≤◌, ◌++◌, Bool, true, false, length, replicate, Some, IfOk, OnOk, OnErr, IfSome, IfNone, slice_get, slice_set};
+ghost use Rattle.std.specs.Prelude.{◌≡◌, ◌≢◌, ◌↔◌, ℕ, ◌+◌, ◌-◌, ◌^◌, ◌<◌, ◌≤◌, ◌++◌, Bool, true, false, length, replicate, Some, None, IfOk, OnOk, OnErr, IfSome, IfNone, slice_get, slice_set};
 ghost use Rattle.mm_slots.specs.Slots.{SlotsOf, free_count, IsLowest};
 
-use crate::tree::{Level, Numbers, Word};
+use crate::tree::{Level, Numbers, Top, Word};
 use mm_types::{NoMemory, Slot};
 use std::alloc::Global;
 use std::marker::Model;
 
-/// Six levels hold 2^36 numbers; of 262,144 slots three have more than a word at most.
-type Tree = Level<Level<Level<Level<Level<Word>>>>>;
+/// Of at most six levels, which hold 2^36 numbers: 262,144 slots stand in three.
+type Tree = Level<Top<Top<Top<Top<Word>>>>>;
 
 /// The slots of a paging file, each free or taken.
 ///
@@ -62,6 +62,14 @@ impl Slots {
         Ok(slots)
     }
 
+    /// How many slots there are.
+    pub fn len(&self) -> u32
+        ensures value { result ≡ length self.now.free }
+        ensures fits { length self.now.free < 2 ^ 32 }
+    {
+        self.slots
+    }
+
     /// How many slots are free.
     pub fn free_count(&self) -> u32
         ensures { result ≡ free_count self.now.free }
@@ -75,6 +83,8 @@ impl Slots {
         ensures taken { IfSome result (λ s. self.new
             ≡ record self.old { free = slice_set self.old.free s.0 false }) }
         ensures none_free { IfNone result (free_count self.old.free ≡ 0) }
+        ensures exact { (result ≡ None) ↔ (free_count self.old.free ≡ 0) }
+        ensures all_taken { IfNone result ((s : ℕ) → slice_get self.old.free s ≢ Some true) }
         ensures none { IfNone result (self.new ≡ self.old) }
     {
         if self.free == 0 {

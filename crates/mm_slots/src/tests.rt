@@ -32,3 +32,15 @@ fn new_slots_stand_behind(rt: HostRuntime) -> Result<(), Fail> {
     assert_eq!(rt; slots.take(), Some(Slot(1)));
     Ok(())
 }
+
+/// More slots than two levels hold.
+#[test]
+fn a_level_comes_with_more_slots(rt: HostRuntime) -> Result<(), Fail> {
+    let mut slots = Slots::new(rt.alloc(), 4096)?;
+    assert_eq!(rt; slots.take(), Some(Slot(0)));
+    slots.reserve(200_000)?;
+    slots.grow(200_000);
+    assert_eq!(rt; slots.len(), 204_096);
+    assert_eq!(rt; slots.take(), Some(Slot(1)));
+    Ok(())
+}

@@ -1,4 +1,4 @@
-ghost use Rattle.std.specs.Prelude.{◌≡◌, ◌≢◌, ℕ, ◌+◌, ◌*◌, ◌/◌, ◌^◌, ◌<◌, ◌≤◌, Bool, true, false, not, ◌==◌, length, slice_index, OnOk, max};
+ghost use Rattle.std.specs.Prelude.{◌≡◌, ◌≢◌, ℕ, ◌+◌, ◌*◌, ◌/◌, ◌^◌, ◌<◌, ◌≤◌, Bool, true, false, not, ◌==◌, length, slice_index, OnOk, IfOk, max};
 ghost use Rattle.mm_slots.specs.Bits.{has_bit, have_bit, IsLeast, ChangesOne};
 
 use mm_types::NoMemory;
@@ -81,6 +81,13 @@ impl Numbers for Word {
     }
 }
 
+/// As many levels as the numbers want: one word where they are below 64, else words with levels above.
+#[derive(Drop)]
+pub enum Top<A: Numbers> {
+    One(Global, Word),
+    More(Level<A>),
+}
+
 /// Numbers as the bits of words. The words that are not zero are the numbers of the level above.
 #[derive(Drop)]
 pub struct Level<A: Numbers> {
@@ -160,5 +167,74 @@ impl<A: Numbers> Numbers for Level<A> {
         let at = self.first_word();
         let word = self.words[at];
         at * BITS + word.trailing_zeros() as usize
+    }
+}
+
+/// A level with room for the numbers below `end`, in which the numbers of a word are.
+fn raised<A: Numbers>(alloc: Global, word: &Word, end: usize) -> Result<Level<A>, NoMemory>
+    requires most { end ≤ 64 * A.most }
+    requires small { end ≤ 2 ^ 32 }
+    requires some { 64 < end }
+    ensures same { IfOk result (λ l. (i : ℕ) → have_bit l.words.items i ≡ has_bit word.now.bits i) }
+    ensures room { IfOk result (λ l. end ≤ 64 * length l.words.items) }
+{
+    let n = (end + (BITS - 1)) / BITS;
+    let mut above = A::new(alloc);
+    above.reserve(n)?;
+    let mut words = Vec::new(alloc);
+    fill(&mut words, n)?;
+    let bits = word.bits;
+    words[0] = bits;
+    if bits != 0 {
+        above.insert(0);
+    }
+    Ok(Level { words, above })
+}
+
+impl<A: Numbers> Numbers for Top<A> {
+    ghost use Rattle.mm_slots.specs.Tops.{has_in, room_in};
+
+    ghost has = { has_in };
+
+    ghost room = { room_in };
+
+    ghost most = { 64 * A.most };
+
+    fn new(alloc: Global) -> Self {
+        Top::One(alloc, Word::new(alloc))
+    }
+
+    fn reserve(&mut self, end: usize) -> Result<(), NoMemory> {
+        match self {
+            Top::One(alloc, word) => {
+                if end > BITS {
+                    let level = raised(*alloc, word, end)?;
+                    *self = Top::More(level);
+                }
+                Ok(())
+            }
+            Top::More(level) => level.reserve(end),
+        }
+    }
+
+    fn insert(&mut self, i: usize) {
+        match self {
+            Top::One(_, word) => word.insert(i),
+            Top::More(level) => level.insert(i),
+        }
+    }
+
+    fn remove(&mut self, i: usize) {
+        match self {
+            Top::One(_, word) => word.remove(i),
+            Top::More(level) => level.remove(i),
+        }
+    }
+
+    fn lowest(&self) -> usize {
+        match self {
+            Top::One(_, word) => word.lowest(),
+            Top::More(level) => level.lowest(),
+        }
     }
 }

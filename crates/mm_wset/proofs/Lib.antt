@@ -1,4 +1,8 @@
-pub mod RankLemmas
-pub mod HeldLemmas
-pub mod SetLemmas
+pub mod PageLemmas
+pub mod FirstLemmas
+pub mod ForkLemmas
 pub mod UserLemmas
+pub mod AgeLemmas
+pub mod MapLemmas
+pub mod SetLemmas
+pub mod OldestLemmas

@@ -1,24 +1,25 @@
 -- What a working set means: the age of each valid page, the page at each place, and which page goes first.
-use Rattle.std.specs.Prelude.{◌≡◌, ◌⊎◌, ℕ, ◌+◌, ◌<◌, ◌≤◌, Option, Some, None, IsSome, option_map, min, refl}
-use Rattle.std.specs.Coded.{Coded, code_by, coded×, coded_ℕ}
+use Rattle.std.specs.Prelude.{◌≡◌, ◌⊎◌, ℕ, Bool, ◌+◌, ◌<◌, ◌≤◌, Option, Some, None, IsSome, option_map, min, refl}
+use Rattle.std.specs.Coded.{Coded, code_by, coded×, coded_ℕ, coded_bool}
 use Rattle.std.specs.Ordering.{nat_cmp}
 use Rattle.std.specs.FinMap as finite
 use Rattle.std.specs.FinMap.{FinMap}
 
--- the fewest and the most pages; from each page its age, 0 to 7; from each place in use its page
+-- the fewest and the most pages; whether there is room for them; from each page its age, 0 to 7; from each place in use its page
 pub record WorkingSetOf : Type 0 where
   pub min : ℕ
   pub max : ℕ
+  pub reserved : Bool
   pub ages : FinMap nat_cmp ℕ
   pub places : FinMap nat_cmp ℕ
 
 abbrev pub working_set_code : Coded WorkingSetOf
 working_set_code =
     code_by
-    ((ℕ × ℕ) × (FinMap nat_cmp ℕ × FinMap nat_cmp ℕ))
-    (coded× (coded× coded_ℕ coded_ℕ) (coded× (finite.code coded_ℕ coded_ℕ) (finite.code coded_ℕ coded_ℕ)))
-    (λ s. ((s.min, s.max), (s.ages, s.places)))
-    (λ p. record { min = p.0.0; max = p.0.1; ages = p.1.0; places = p.1.1 })
+    ((ℕ × (ℕ × Bool)) × (FinMap nat_cmp ℕ × FinMap nat_cmp ℕ))
+    (coded× (coded× coded_ℕ (coded× coded_ℕ coded_bool)) (coded× (finite.code coded_ℕ coded_ℕ) (finite.code coded_ℕ coded_ℕ)))
+    (λ s. ((s.min, (s.max, s.reserved)), (s.ages, s.places)))
+    (λ p. record { min = p.0.0; max = p.0.1.0; reserved = p.0.1.1; ages = p.1.0; places = p.1.1 })
     (λ _. refl)
 
 -- each page is at one place, and each page that has an age is at a place

@@ -1,53 +1,53 @@
--- A working set as its places.
-use Rattle.std.specs.Prelude.{◌≡◌, ℕ, ◌^◌, ◌<◌, ◌≤◌, List, [], ◌∷◌, length, Option, Some, None, is_some}
+-- A working set as its places and its tree of pages.
+use Rattle.std.specs.Prelude.{◌≡◌, ℕ, ◌+◌, ◌-◌, ◌^◌, ◌<◌, ◌≤◌, Bool, false, if◌then◌else◌, List, length, map, Some, slice_index}
 use Rattle.std.specs.Ordering.{nat_cmp}
 use Rattle.std.specs.FinMap as finite
 use Rattle.std.specs.FinMap.{FinMap}
 use Rattle.mm_types.specs.Table.{table}
-use Rattle.slab.specs.Slab.{Slab, get, slab_len}
-use Rattle.mm_wset.specs.declared.tournaments.Aged.{Aged}
-use Rattle.mm_wset.specs.Ages.{older}
-use Rattle.mm_wset.specs.Ranks.{Places, at}
+use Rattle.slab.specs.Slab.{Slab, slab_len}
+use Rattle.mm_wset.specs.declared.trees.Aged.{Aged}
+use Rattle.mm_wset.specs.Ages.{WorkingSetOf, EachAtOnePlace}
+use Rattle.mm_wset.specs.AgedPages.{IsSorted}
 
-abbrev pub page_of : Option Aged → Option ℕ
-page_of None = None
-page_of (Some a) = Some a.page.0
+abbrev pub entry_of : Aged → ℕ × ℕ
+entry_of x = (x.page, x.age)
 
-abbrev pub add_age : Option Aged → List (ℕ × ℕ) → List (ℕ × ℕ)
-add_age None rest = rest
-add_age (Some a) rest = (a.page.0, a.age) ∷ rest
+-- from each page its age
+unfoldable pub ages_of : List Aged → FinMap nat_cmp ℕ
+ages_of pages = finite.from_entries (map entry_of pages)
 
-abbrev pub ages_in : Places → List (ℕ × ℕ)
-ages_in [] = []
-ages_in (w ∷ rest) = add_age w (ages_in rest)
+-- from each place in use its page
+abbrev pub places_of : Slab ℕ → FinMap nat_cmp ℕ
+places_of places = table (λ page. page) places.slots
 
-unfoldable pub ages_of : Places → FinMap nat_cmp ℕ
-ages_of places = finite.from_entries (ages_in places)
+-- for how many pages a set has room
+abbrev pub room_of : Bool → ℕ → ℕ
+room_of reserved max = if reserved then max else 0
 
-abbrev pub pages_of : Places → FinMap nat_cmp ℕ
-pages_of places = table page_of places
+-- only the two maps, for what speaks of them alone
+abbrev pub maps : FinMap nat_cmp ℕ → FinMap nat_cmp ℕ → WorkingSetOf
+maps ages places = record { min = 0; max = 0; reserved = false; ages = ages; places = places }
 
-abbrev pub older_aged : Aged → Aged
-older_aged a = record a { age = older a.age }
+-- a round after which no other is told apart from it: no page is known to be used in it
+abbrev pub last_round : ℕ
+last_round = 2 ^ 64 - 1
 
-abbrev pub older_place : Option Aged → Option Aged
-older_place None = None
-older_place (Some a) = Some (older_aged a)
+-- a page whose place was used in this round has age 0
+pub record KnowsUses (ages places : FinMap nat_cmp ℕ) (rounds : ℕ) (used_in : List ℕ) : Type 0 where
+  pub early : (p : ℕ) → slice_index used_in p ≤ rounds
+  pub never_last : (p : ℕ) → slice_index used_in p < last_round
+  pub fresh : (p v : ℕ) → finite.get places p ≡ Some v → slice_index used_in p ≡ rounds → finite.get ages v ≡ Some 0
 
-abbrev pub IsOnce : Places → Type 0
-IsOnce places = (p q : ℕ) (a b : Aged) → at places p ≡ Some a → at places q ≡ Some b → a.page.0 ≡ b.page.0 → p ≡ q
-
-abbrev pub IsEach : (Aged → Type 0) → Places → Type 0
-IsEach P places = (p : ℕ) (a : Aged) → at places p ≡ Some a → P a
-
--- the places in use are those of the slab, there is room for `max`, each page is at one place, ages are at most 7
-pub record IsWorkingSet (max : ℕ) (slab : Slab (Unit {0})) (places : Places) : Type 0 where
-  pub counted : finite.len (pages_of places) ≡ slab_len slab
-  pub within : slab_len slab ≤ max
-  pub room : max ≤ slab.capacity
-  pub fits : length places < 2 ^ 32
-  pub enough : slab.capacity ≤ length places
-  pub held : (p : ℕ) → is_some (get slab p) ≡ is_some (at places p)
-  pub once : IsOnce places
-  pub young : IsEach (λ a. a.age ≤ 7) places
-  pub small : IsEach (λ a. a.page.0 < 2 ^ 32) places
+-- there are as many places in use as pages, and a spare node for each page that may yet come
+pub record IsWorkingSet (most : ℕ) (places : Slab ℕ) (pages : List Aged) (spare spare_room rounds : ℕ) (used_in : List ℕ) : Type 0 where
+  pub counted : finite.len (places_of places) ≡ slab_len places
+  pub as_many : length pages ≡ slab_len places
+  pub stocked : slab_len places + spare ≡ most
+  pub room_for_spare : most ≤ spare_room
+  pub room : most ≤ places.capacity
+  pub fits : places.capacity < 2 ^ 32
+  pub enough : places.capacity ≤ length used_in
+  pub in_range : (p v : ℕ) → finite.get (places_of places) p ≡ Some v → p < places.capacity
+  pub sorted : IsSorted 0 pages
+  pub each : EachAtOnePlace (maps (ages_of pages) (places_of places))
+  pub uses : KnowsUses (ages_of pages) (places_of places) rounds used_in

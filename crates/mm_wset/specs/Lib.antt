@@ -1,3 +1,5 @@
-pub mod Ranks
 pub mod Ages
+pub mod AgedPages
+pub mod Shape
+pub mod Nodes
 pub mod Held

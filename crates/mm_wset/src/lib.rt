@@ -2,7 +2,7 @@
 #![tactic(auto)]
 
 mod sets;
-mod tournaments;
+mod trees;
 
 pub use sets::WorkingSet;
 

@@ -1,124 +1,175 @@
-ghost use Rattle.std.specs.Prelude.{◌≡◌, ◌^◌, ◌<◌, ◌≤◌, Some, None, IsOk, IfOk, MatchOption, IsSome, option_map, ℕ, map, ◌==◌};
+ghost use Rattle.std.specs.Prelude.{◌≡◌, ◌==◌, ◌+◌, ◌-◌, ◌^◌, ◌<◌, ◌≤◌, ℕ, true, false, min, length, Some, None, IfOk, OnOk, OnErr, MatchOption, IsSome, option_map, vec_len, vec_capacity};
 ghost use Rattle.std.specs.Option.{ForSome};
 ghost use Rattle.std.specs.FinMap as finite;
 ghost use Rattle.mm_wset.specs.Ages.{EachAtOnePlace, AgesBy, older, IsOldest, NoneFollows};
-ghost use Rattle.mm_wset.specs.declared.tournaments.Aged.{Aged};
-ghost use Rattle.mm_wset.specs.Ranks.{at, rank_of, IsFirst};
-ghost use Rattle.mm_wset.specs.Held.{older_place, IsOnce};
+ghost use Rattle.mm_wset.specs.AgedPages.{IsSorted, age_in, add_page, remove_page};
+ghost use Rattle.mm_wset.specs.Held.{last_round};
 
-use crate::tournaments::{Aged, Tournament};
+use crate::trees::{AGES, Aged, Node, Tree};
 use mm_types::{NoMemory, Vpn};
 use slab::Slab;
 use std::alloc::Global;
 use std::marker::Model;
-
-/// The greatest age of a page.
-const GREATEST_AGE: u8 = 7;
+use std::mem;
 
 /// A process's working set: its valid pages, each at a place of its own and with an age.
 ///
-/// A page's age is 0 when it becomes valid and at each use, and one more at each `age_all`, up to 7. All
-/// room is taken when the set is made: no later call takes memory.
+/// A page's age is 0 when it becomes valid and at each use, and one more at each `age_all`, up to 7. The room
+/// for all pages is taken at once, by `reserve` or when the set is made: no other call takes memory.
 #[derive(Drop)]
 pub struct WorkingSet {
+    alloc: Global,
     min: u32,
     max: u32,
-    used: Slab<()>,
-    places: Tournament,
+    is_reserved: bool,
+    /// The page at each place in use.
+    places: Slab<u32>,
+    pages: Tree,
+    /// Nodes for pages to come.
+    stock: Vec<Box<Node>>,
+    /// How often all pages became older.
+    rounds: u64,
+    /// For each place the round in which its page was last used.
+    used_in: Vec<u64>,
 }
 
 impl Model for WorkingSet {
+    ghost use Rattle.std.specs.Prelude.{vec_len, vec_capacity};
     ghost use Rattle.mm_wset.specs.Ages.{WorkingSetOf, working_set_code};
-    ghost use Rattle.mm_wset.specs.Held.{ages_of, pages_of, IsWorkingSet};
+    ghost use Rattle.mm_wset.specs.Held.{ages_of, places_of, room_of, IsWorkingSet};
 
     ghost Value = { WorkingSetOf };
 
     ghost coded = { working_set_code };
 
-    ghost view = { λ s. record { min = s.min; max = s.max; ages = ages_of s.places; places = pages_of s.places } };
+    ghost view = { λ s. record { min = s.min; max = s.max; reserved = s.is_reserved; ages = ages_of s.pages.pages; places = places_of s.places } };
 
-    ghost invariant = { λ s. IsWorkingSet s.max s.used s.places };
+    ghost invariant = { λ s. IsWorkingSet (room_of s.is_reserved s.max) s.places s.pages.pages (vec_len s.stock) (vec_capacity s.stock) s.rounds s.used_in.items };
 }
 
-/// The page, just used.
-fn just_used(v: Vpn) -> Aged
-    ensures value { result ≡ record { page = v; age = 0 } }
-    ensures small { v.0 < 2 ^ 32 }
+/// So many nodes that hold no page yet.
+fn take_nodes(alloc: Global, n: u32) -> Result<Vec<Box<Node>>, NoMemory>
+    ensures count { IfOk result (λ s. vec_len s ≡ n) }
+    ensures room { IfOk result (λ s. n ≤ vec_capacity s) }
 {
-    Aged {
-        page: Vpn(v.0),
-        age: 0,
+    let mut nodes = Vec::with_capacity(alloc, n as usize)?;
+    for _ in 0..n {
+        let node = Box::new(alloc, Node::blank())?;
+        nodes.push_reserved(node);
     }
+    Ok(nodes)
 }
 
-/// One more than the age of the page, if there is one, up to the greatest.
-fn older(w: Option<Aged>) -> Option<Aged>
-    ensures { result ≡ older_place w }
+/// Takes a page in, of age 0, with one of the spare nodes.
+fn put_in(pages: &mut Tree, stock: &mut Vec<Box<Node>>, page: u32)
+    requires stocked { 0 < vec_len stock.old }
+    requires sorted { IsSorted 0 pages.old.pages }
+    requires few { length pages.old.pages + 1 < 2 ^ 32 }
+    ensures pages { pages.new.pages ≡ add_page (record { page = page; age = 0 }) pages.old.pages }
+    ensures spare { vec_len stock.new + 1 ≡ vec_len stock.old }
+    ensures room { vec_capacity stock.new ≡ vec_capacity stock.old }
 {
-    match w {
-        Some(aged) if aged.age < GREATEST_AGE => Some(Aged {
-            page: aged.page,
-            age: aged.age + 1,
-        }),
-        Some(aged) => Some(Aged {
-            page: aged.page,
-            age: GREATEST_AGE,
-        }),
-        None => None,
-    }
+    let mut node = stock.take_last();
+    node.aged = Aged { page, age: 0 };
+    let others = mem::replace(pages, Tree::new());
+    *pages = others.insert(node);
 }
 
-/// Makes each page older.
-fn age_places(places: &mut Tournament)
-    ensures { places.new ≡ map older_place places.old }
+/// Takes a page out; its node is spare from now on.
+fn take_out(pages: &mut Tree, stock: &mut Vec<Box<Node>>, page: u32)
+    requires room { vec_len stock.old < vec_capacity stock.old }
+    requires sorted { IsSorted 0 pages.old.pages }
+    requires held { IsSome (age_in pages.old.pages page) }
+    requires few { length pages.old.pages < 2 ^ 32 }
+    ensures pages { pages.new.pages ≡ remove_page page pages.old.pages }
+    ensures spare { vec_len stock.new ≡ vec_len stock.old + 1 }
+    ensures room { vec_capacity stock.new ≡ vec_capacity stock.old }
 {
-    for place in 0..places.len() {
-        let older = older(places.at(place));
-        places.set(place, older);
-    }
+    let all = mem::replace(pages, Tree::new());
+    let (node, others) = all.remove(page);
+    *pages = others;
+    stock.push_reserved(node);
 }
 
-/// The page that goes next after a page of the places.
-fn next_after(places: &Tournament, v: Vpn) -> Option<Aged>
-    requires held { (p : ℕ) × ((a : Aged) × (at places.now p ≡ Some a) × (a.page.0 ≡ v.0)) }
-    requires once { IsOnce places.now }
-    ensures { (p : ℕ) (a : Aged) → at places.now p ≡ Some a → a.page.0 ≡ v.0 → IsFirst places.now (Some (rank_of a)) result }
+/// What is kept for a place whose page is used in a round; in the last round it is an earlier one.
+fn use_in(round: u64) -> u64
+    ensures { result ≡ min round (last_round - 1) }
 {
-    match places.find(v) {
-        Some(aged) => places.next(aged),
-        None => unreachable!(),
-    }
+    round.min(u64::MAX - 1)
 }
 
 impl WorkingSet {
+    /// An empty set without room: it takes no memory, and no page until `reserve`.
+    pub fn unreserved(alloc: Global, min: u32, max: u32) -> WorkingSet
+        ensures { result ≡ record { min = min; max = max; reserved = false; ages = finite.empty; places = finite.empty } }
+    {
+        WorkingSet {
+            alloc,
+            min,
+            max,
+            is_reserved: false,
+            places: Slab::new(alloc),
+            pages: Tree::new(),
+            stock: Vec::new(alloc),
+            rounds: 0,
+            used_in: Vec::new(alloc),
+        }
+    }
+
     /// An empty set, with room for `max` pages. `NoMemory` also comes where places could not be numbered by a `u32`.
     pub fn new(alloc: Global, min: u32, max: u32) -> Result<WorkingSet, NoMemory>
-        ensures { IfOk result (λ s. s ≡ record { min = min; max = max; ages = finite.empty; places = finite.empty }) }
+        ensures { IfOk result (λ s. s ≡ record { min = min; max = max; reserved = true; ages = finite.empty; places = finite.empty }) }
     {
-        let used = Slab::with_capacity(alloc, max as usize)?;
-        let room = used.capacity();
+        let mut set = WorkingSet::unreserved(alloc, min, max);
+        set.reserve()?;
+        Ok(set)
+    }
+
+    /// Takes the room for `max` pages, where the set has none yet. After `NoMemory`, which also comes where
+    /// places could not be numbered by a `u32`, nothing has changed.
+    pub fn reserve(&mut self) -> Result<(), NoMemory>
+        ensures ok { OnOk result (self.new ≡ record self.old { reserved = true }) }
+        ensures err { OnErr result (self.new ≡ self.old) }
+    {
+        if self.is_reserved {
+            return Ok(());
+        }
+        let places = Slab::with_capacity(self.alloc, self.max as usize)?;
+        let room = places.capacity();
         if room > u32::MAX as usize {
             return Err(NoMemory);
         }
-        let places = Tournament::new(alloc, room.max(1))?;
-        Ok(WorkingSet {
-            min,
-            max,
-            used,
-            places,
-        })
+        let used_in = vec![in self.alloc; 0; room]?;
+        let stock = take_nodes(self.alloc, self.max)?;
+        self.places = places;
+        self.stock = stock;
+        self.used_in = used_in;
+        self.is_reserved = true;
+        Ok(())
     }
 
-    /// Takes a page in that is not in the set, which has fewer than `max` pages, and answers its place.
+    /// Gives the room of a set without a page back.
+    pub fn release(&mut self)
+        requires { finite.len self.old.places ≡ 0 }
+        ensures { self.new ≡ record self.old { reserved = false } }
+    {
+        self.places = Slab::new(self.alloc);
+        self.stock = Vec::new(self.alloc);
+        self.used_in = Vec::new(self.alloc);
+        self.is_reserved = false;
+    }
+
+    /// Takes a page in that is not in the set, which has room and fewer than `max` pages, and answers its place.
     pub fn insert(&mut self, v: Vpn) -> u32
+        requires reserved { self.old.reserved ≡ true }
         requires room { finite.len self.old.places < self.old.max }
         requires absent { finite.get self.old.ages v.0 ≡ None }
         ensures vacant { finite.get self.old.places result ≡ None }
         ensures set { self.new ≡ record self.old { ages = finite.insert self.old.ages v.0 0; places = finite.insert self.old.places result v.0 } }
     {
-        let page = just_used(v);
-        let place = self.used.insert_reserved(());
-        self.places.set(place, Some(page));
+        let place = self.places.insert_reserved(v.0);
+        put_in(&mut self.pages, &mut self.stock, v.0);
+        self.used_in[place] = use_in(self.rounds);
         place as u32
     }
 
@@ -128,14 +179,9 @@ impl WorkingSet {
         ensures page { finite.get self.old.places place ≡ Some result.0 }
         ensures set { self.new ≡ record self.old { ages = finite.remove self.old.ages result.0; places = finite.remove self.old.places place } }
     {
-        match self.places.at(place as usize) {
-            Some(aged) => {
-                self.used.remove(place as usize);
-                self.places.set(place as usize, None);
-                aged.page
-            }
-            None => unreachable!(),
-        }
+        let page = self.places.remove(place as usize);
+        take_out(&mut self.pages, &mut self.stock, page);
+        Vpn(page)
     }
 
     /// The page at a place in use was used: its age is 0.
@@ -143,10 +189,16 @@ impl WorkingSet {
         requires { IsSome (finite.get self.old.places place) }
         ensures { (v : ℕ) → finite.get self.old.places place ≡ Some v → self.new ≡ record self.old { ages = finite.insert self.old.ages v 0 } }
     {
-        match self.places.at(place as usize) {
-            Some(aged) => self.places.set(place as usize, Some(just_used(aged.page))),
-            None => unreachable!(),
+        let place = place as usize;
+        if self.used_in[place] == self.rounds {
+            return;
         }
+        let Some(page) = self.places.get(place).copied() else {
+            unreachable!()
+        };
+        let pages = mem::replace(&mut self.pages, Tree::new());
+        self.pages = pages.touch(page);
+        self.used_in[place] = use_in(self.rounds);
     }
 
     /// Each page's age is one more, up to 7.
@@ -154,41 +206,48 @@ impl WorkingSet {
         ensures ages { AgesBy older self.old.ages self.new.ages }
         ensures rest { self.new ≡ record self.old { ages = self.new.ages } }
     {
-        age_places(&mut self.places);
+        let pages = mem::replace(&mut self.pages, Tree::new());
+        self.pages = pages.older();
+        self.rounds = self.rounds.saturating_add(1);
     }
 
     /// The page that goes first: the greatest age, and among equal ages the lowest page. With a page of the
     /// set, the one that goes next after it. `None` comes exactly where there is none.
-    ///
-    /// The first is at hand in constant time; the next after a page goes through all places.
     pub fn oldest(&self, after: Option<Vpn>) -> Option<Vpn>
         requires { ForSome after (λ v. IsSome (finite.get self.now.ages v.0)) }
         ensures { MatchOption result (NoneFollows self.now.ages (option_map (λ w. w.0) after)) (λ v. IsOldest self.now.ages (option_map (λ w. w.0) after) v.0) }
     {
         let found = match after {
-            None => self.places.first(),
-            Some(v) => next_after(&self.places, v),
+            None => self.pages.oldest_below(AGES),
+            Some(v) => self.pages.next_after(v.0),
         };
         match found {
-            Some(aged) => Some(aged.page),
+            Some(aged) => Some(Vpn(aged.page)),
             None => None,
         }
+    }
+
+    /// Each page is at one place, no age is above 7, and a set without room has no page.
+    pub fn every_page_has_one_place(&self)
+        ensures each { EachAtOnePlace self.now }
+        ensures none { self.now.reserved ≡ false → finite.len self.now.places ≡ 0 }
+    {
+        let _whole = &self.places;
     }
 
     /// How many pages the set has.
     pub fn len(&self) -> u32
         ensures value { result ≡ finite.len self.now.places }
         ensures within { result ≤ self.now.max }
-        ensures each { EachAtOnePlace self.now }
     {
-        self.used.len() as u32
+        self.places.len() as u32
     }
 
     /// Whether the set has no page.
     pub fn is_empty(&self) -> bool
         ensures { result ≡ (finite.len self.now.places == 0) }
     {
-        self.used.is_empty()
+        self.places.is_empty()
     }
 
     /// The fewest pages, down to which the set is trimmed.

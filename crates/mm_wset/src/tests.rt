@@ -31,3 +31,15 @@ fn places_are_used_again(rt: HostRuntime) -> Result<(), Fail> {
     assert_eq!(rt; set.len(), 0);
     Ok(())
 }
+
+#[test]
+fn room_is_taken_and_given_back(rt: HostRuntime) -> Result<(), Fail> {
+    let mut set = WorkingSet::unreserved(rt.alloc(), 0, 1);
+    set.reserve()?;
+    let place = set.insert(Vpn(0x10));
+    assert_eq!(rt; set.remove(place), Vpn(0x10));
+    assert!(rt; set.is_empty());
+    set.release();
+    assert_eq!(rt; (set.len(), set.max()), (0, 1));
+    Ok(())
+}

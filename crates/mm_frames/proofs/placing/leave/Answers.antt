@@ -2,8 +2,8 @@ use Rattle.std.proofs.Common.{sym, ap, List, ℕ}
 use Rattle.mm_frames.proofs.Members.{without_none}
 use Rattle.mm_frames.proofs.placing.leave.Goals as goal
 
-pub returns-else-idle : goal.returns-else-idle
-returns-else-idle c = record {
+pub returns-else-listed : goal.returns-else-listed
+returns-else-listed c = record {
   apart = c.requires.apart;
-  left = ap (λ (ls : List (List ℕ)). record c.args.lists.now { lists = ls }) (sym (without_none c.args.f c.args.lists.now.lists (c.requires.on_none c.if-idle.false)));
+  left = ap (λ (ls : List (List ℕ)). record c.args.lists.now { lists = ls }) (sym (without_none c.args.f c.args.lists.now.lists (c.requires.on_none c.if-listed.false)));
 }

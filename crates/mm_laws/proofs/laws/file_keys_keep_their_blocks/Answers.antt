@@ -1,16 +1,16 @@
 use Rattle.mm_laws.proofs.Blocks.{paging_block}
 use Rattle.mm_laws.proofs.BlocksApart.{file_has_block}
-use Rattle.mm_laws.proofs.Deduced.{reached_sound, block_kept, blocks_apart}
+use Rattle.mm_laws.proofs.Deduced.{block_kept, blocks_apart}
 use Rattle.mm_laws.proofs.laws.file_keys_keep_their_blocks.Goals as goal
 
 pub returns-clause-has : goal.returns-clause-has
-returns-clause-has c = λ l reached. file_has_block l (reached_sound l reached)
+returns-clause-has c = file_has_block
 
 pub returns-clause-stays : goal.returns-clause-stays
 returns-clause-stays c = block_kept
 
 pub returns-clause-none : goal.returns-clause-none
-returns-clause-none c = λ l reached. paging_block l (reached_sound l reached)
+returns-clause-none c = paging_block
 
 pub returns-clause-one : goal.returns-clause-one
 returns-clause-one c = λ l reached. (blocks_apart l reached).one

@@ -1,11 +1,11 @@
-use Rattle.mm_laws.proofs.Deduced.{reached_sound, one_frame, owner_lives, frame_there}
+use Rattle.mm_laws.proofs.FromSound.{one_frame, owner_lives, frame_there}
 use Rattle.mm_laws.proofs.laws.keys_stand_once.Goals as goal
 
 pub returns-clause-in_frame : goal.returns-clause-in_frame
-returns-clause-in_frame c = λ l reached. (reached_sound l reached).owned.owner
+returns-clause-in_frame c = λ l s. s.owned.owner
 
 pub returns-clause-of_frame : goal.returns-clause-of_frame
-returns-clause-of_frame c = λ l reached k f e. (reached_sound l reached).owned.owned f.0 k e
+returns-clause-of_frame c = λ l s k f e. s.owned.owned f.0 k e
 
 pub returns-clause-one : goal.returns-clause-one
 returns-clause-one c = one_frame

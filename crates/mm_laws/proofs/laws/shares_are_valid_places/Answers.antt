@@ -1,4 +1,4 @@
-use Rattle.mm_laws.proofs.Deduced.{reached_sound, places_counted, place_shares, place_owned, place_own}
+use Rattle.mm_laws.proofs.FromSound.{places_counted, place_shares, place_owned, place_own}
 use Rattle.mm_laws.proofs.laws.shares_are_valid_places.Goals as goal
 
 pub returns-clause-counted : goal.returns-clause-counted
@@ -14,4 +14,4 @@ pub returns-clause-own : goal.returns-clause-own
 returns-clause-own c = place_own
 
 pub returns-clause-within : goal.returns-clause-within
-returns-clause-within c = λ l reached. (reached_sound l reached).shown.below
+returns-clause-within c = λ l s. s.shown.below

@@ -1,4 +1,4 @@
-use Rattle.mm_laws.proofs.Deduced.{reached_sound, slot_free, slot_has, slot_one, slot_there}
+use Rattle.mm_laws.proofs.FromSound.{slot_free, slot_has, slot_one, slot_there, slot_taken}
 use Rattle.mm_laws.proofs.laws.slots_have_one_holder.Goals as goal
 
 pub returns-clause-free : goal.returns-clause-free
@@ -13,5 +13,8 @@ returns-clause-one c = slot_one
 pub returns-clause-there : goal.returns-clause-there
 returns-clause-there c = slot_there
 
+pub returns-clause-taken : goal.returns-clause-taken
+returns-clause-taken c = slot_taken
+
 pub returns-clause-slots : goal.returns-clause-slots
-returns-clause-slots c = λ l reached. (reached_sound l reached).slotted
+returns-clause-slots c = λ l s. s.slotted

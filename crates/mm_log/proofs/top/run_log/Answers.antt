@@ -1,4 +1,4 @@
-use Rattle.std.proofs.Common.{◌≡◌, Option, Some, subst}
+use Rattle.std.proofs.Common.{◌≡◌, Some, subst}
 use Rattle.mm_log.specs.declared.endings.Asked.{Asked}
 use Rattle.mm_log.specs.Verdict.{Ran}
 use Rattle.mm_log.proofs.Exactly.{says_yes, says_no}

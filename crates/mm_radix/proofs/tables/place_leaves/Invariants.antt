@@ -1,10 +1,15 @@
-use Rattle.std.proofs.Common.{◌≡◌, length}
+use Rattle.std.proofs.Common.{◌≡◌, ◌-◌, ◌≤◌, length}
 use Rattle.mm_radix.specs.Directory.{PlacesMore, HavePlaces}
 use Rattle.mm_radix.proofs.tables.place_leaves.Given as goal
 
-abbrev pub invariant-loop-i : goal.invariant-loop-i
-invariant-loop-i l = record {
+abbrev pub invariant-loop-page : goal.invariant-loop-page
+invariant-loop-page l = record {
+  low : l.first ≤ l.page;
+  high : l.page ≤ l.end;
   placed : PlacesMore l.fn.leaves.items l.leaves.items;
-  places : HavePlaces l.leaves.items l.first l.i;
+  places : HavePlaces l.leaves.items l.first l.page;
   count : length l.leaves.items ≡ length l.fn.leaves.items;
 }
+
+abbrev pub decreases-loop-page : goal.decreases-loop-page
+decreases-loop-page l = l.end - l.page

@@ -11,11 +11,16 @@ invariant_of-self c =
     let i = c.self.inside in
     let f = c.d.inside.frame.0 in
     let held : slice_get i.standing.items f ≡ Some Taken = ap (λ (w : FramesOf). slice_get w.standing f) c.self.view_is ∙ ap (λ (q : ℕ). slice_get c.args.self.now.standing q) c.d.view_is ∙ c.requires in
-    let low = token_low i.records i.standing.items i.lists i.ram c.self.invariant f Taken held in
-    let old = token_holds i.records i.standing.items i.lists i.ram c.self.invariant f Taken held in
+    let low = token_low i.records i.standing.items i.lists i.ram c.self.invariant.placed f Taken held in
+    let old = token_holds i.records i.standing.items i.lists i.ram c.self.invariant.placed f Taken held in
     let new = c.zero.ensures in
-    let page : page_at c.zero.new.self f ≡ Some zero_page = ap (λ (m : List (Option (List ℕ))). page_at m f) new ∙ get_or-set_same i.ram f (Some zero_page) _ (omega (arith, low, c.self.invariant.pages)) in
-    token_changed i.records i.standing.items i.lists i.ram c.self.invariant f Taken Cleared c.zero.new.self held refl refl
-    (ap length new ∙ length-set i.ram f (Some zero_page))
-    (λ g d. ap (λ (m : List (Option (List ℕ))). page_at m g) new ∙ get_or-set_other i.ram f g (Some zero_page) _ d)
-    (as_empty Cleared _ _ (λ e. cc) (old.empty (λ e. cc)) (λ e. page))
+    let page : page_at c.zero.new.self f ≡ Some zero_page = ap (λ (m : List (Option (List ℕ))). page_at m f) new ∙ get_or-set_same i.ram f (Some zero_page) _ (omega (arith, low, c.self.invariant.placed.pages)) in
+    record {
+      placed =
+          token_changed i.records i.standing.items i.lists i.ram c.self.invariant.placed f Taken Cleared c.zero.new.self held refl refl
+          (ap length new ∙ length-set i.ram f (Some zero_page))
+          (λ g d. ap (λ (m : List (Option (List ℕ))). page_at m g) new ∙ get_or-set_other i.ram f g (Some zero_page) _ d)
+          (as_empty Cleared _ _ (λ e. cc) (old.empty (λ e. cc)) (λ e. page));
+      backed =
+          c.self.invariant.backed;
+    }

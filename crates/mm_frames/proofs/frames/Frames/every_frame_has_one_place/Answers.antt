@@ -8,4 +8,4 @@ pub returns-clause-one : goal.returns-clause-one
 returns-clause-one c = λ f low.
     let i = c.self.inside in
     ap (λ (w : FramesOf). places w f) (sym c.self.view_is)
-    ∙ one_place i.records i.standing.items i.lists i.ram c.self.invariant f (subst (λ (w : FramesOf). f < length w.table.records) (sym c.self.view_is) low)
+    ∙ one_place i.records i.standing.items i.lists i.ram c.self.invariant.placed f (subst (λ (w : FramesOf). f < length w.table.records) (sym c.self.view_is) low)

@@ -5,9 +5,10 @@ use Rattle.mm_life.specs.Frames.{blank, record_at, has_request, disowned}
 use Rattle.mm_ram.specs.Ram.{page_at}
 use Rattle.mm_frames.specs.declared.standing.Standing.TheVariants.{Bound}
 use Rattle.mm_frames.specs.Base.{FramesOf}
-use Rattle.mm_frames.specs.Placing.{AreFrames, Holds, is_kept}
-use Rattle.mm_frames.proofs.Placings.{kept_owned, frame_written, busy_stays, busy_list}
+use Rattle.mm_frames.specs.Placing.{AreFrames, AreBacked, Holds, is_kept}
+use Rattle.mm_frames.proofs.Placings.{kept_owned, frame_written, busy_on_none, busy_stays, busy_list}
 use Rattle.mm_frames.proofs.Departures.{request_busy, disowned_kept}
+use Rattle.mm_frames.proofs.WithBlock.{backed_record}
 use Rattle.mm_frames.proofs.frames.Frames.forget.Goals as goal
 
 pub invariant_of-self : goal.invariant_of-self
@@ -24,7 +25,14 @@ invariant_of-self c =
       empty = λ d. absurd (d refl);
       kept = λ e. gone;
       zero = λ e. cc;
-      written = λ e d. frame_written i.records i.standing.items i.lists i.ram c.self.invariant f kept d;
+      written = λ e d. frame_written i.records i.standing.items i.lists i.ram c.self.invariant.placed f kept d;
     } in
-    subst (λ (rs : List Record). AreFrames rs i.standing.items i.lists i.ram) (sym now)
-    (busy_stays i.records i.standing.items i.lists i.ram c.self.invariant f kept (disowned r) (request_busy r requested) (busy_list (disowned r) (request_busy r requested)) holds)
+    record {
+      placed =
+          subst (λ (rs : List Record). AreFrames rs i.standing.items i.lists i.ram) (sym now)
+          (busy_stays i.records i.standing.items i.lists i.ram c.self.invariant.placed f kept (disowned r) (request_busy r requested) (busy_list (disowned r) (request_busy r requested)) holds);
+      backed =
+          subst (λ (rs : List Record). AreBacked rs i.lists.lists i.with_block) (sym now)
+          (backed_record i.records i.lists.lists i.with_block c.self.invariant.backed f (disowned r)
+          (busy_on_none i.records i.standing.items i.lists i.ram c.self.invariant.placed f kept (request_busy r requested) 3));
+    }

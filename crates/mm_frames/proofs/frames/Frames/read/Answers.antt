@@ -11,4 +11,4 @@ read-requires-clause-written c =
     let i = c.self.inside in
     let kept : is_kept (get_or i.records c.args.f.0 blank) ≡ true = kept_owned (get_or i.records c.args.f.0 blank) (ap (λ (w : FramesOf). is_some (record_at w.table c.args.f.0).owner) c.self.view_is ∙ c.requires.owned) in
     let not_read : is_read (get_or i.records c.args.f.0 blank).request ≡ false = ap (λ (w : FramesOf). is_read (record_at w.table c.args.f.0).request) c.self.view_is ∙ c.requires.not_read in
-    frame_written i.records i.standing.items i.lists i.ram c.self.invariant c.args.f.0 kept not_read
+    frame_written i.records i.standing.items i.lists i.ram c.self.invariant.placed c.args.f.0 kept not_read

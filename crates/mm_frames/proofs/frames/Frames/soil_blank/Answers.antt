@@ -10,7 +10,12 @@ invariant_of-self c =
     let i = c.self.inside in
     let f = c.b.inside.frame.0 in
     let held : slice_get i.standing.items f ≡ Some Cleared = ap (λ (w : FramesOf). slice_get w.standing f) c.self.view_is ∙ ap (λ (q : ℕ). slice_get c.args.self.now.standing q) c.b.view_is ∙ c.requires in
-    let low = token_low i.records i.standing.items i.lists i.ram c.self.invariant f Cleared held in
-    let old = token_holds i.records i.standing.items i.lists i.ram c.self.invariant f Cleared held in
-    token_changed i.records i.standing.items i.lists i.ram c.self.invariant f Cleared Taken i.ram held refl refl refl (λ g d. refl)
-    (as_empty Taken _ _ (λ e. cc) (old.empty (λ e. cc)) (λ e. cc))
+    let low = token_low i.records i.standing.items i.lists i.ram c.self.invariant.placed f Cleared held in
+    let old = token_holds i.records i.standing.items i.lists i.ram c.self.invariant.placed f Cleared held in
+    record {
+      placed =
+          token_changed i.records i.standing.items i.lists i.ram c.self.invariant.placed f Cleared Taken i.ram held refl refl refl (λ g d. refl)
+          (as_empty Taken _ _ (λ e. cc) (old.empty (λ e. cc)) (λ e. cc));
+      backed =
+          c.self.invariant.backed;
+    }

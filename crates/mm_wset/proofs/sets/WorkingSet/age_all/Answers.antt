@@ -1,25 +1,21 @@
-use Rattle.std.proofs.Common.{sym, ap, ◌∙◌, subst, map}
+use Rattle.std.proofs.Common.{◌≡◌, List, map, sym, ap, ◌∙◌, subst}
+use Rattle.mm_wset.specs.declared.trees.Aged.{Aged}
 use Rattle.mm_wset.specs.Ages.{WorkingSetOf, AgesBy, older}
-use Rattle.mm_wset.specs.Ranks.{Places}
-use Rattle.mm_wset.specs.Held.{IsWorkingSet, ages_of, older_place}
-use Rattle.mm_wset.proofs.HeldLemmas.{ages_older}
-use Rattle.mm_wset.proofs.SetLemmas.{set_of, older_keeps, older_view}
+use Rattle.mm_wset.specs.AgedPages.{older_aged}
+use Rattle.mm_wset.specs.Held.{ages_of}
+use Rattle.mm_wset.proofs.AgeLemmas.{ages_older}
+use Rattle.mm_wset.proofs.SetLemmas.{older_keeps}
 use Rattle.mm_wset.proofs.sets.WorkingSet.age_all.Goals as goal
 
 pub invariant_of-self : goal.invariant_of-self
 invariant_of-self c =
-    subst (λ (w : Places). IsWorkingSet c.self.inside.max c.self.inside.used w) (sym c.age_places.ensures)
-    (older_keeps c.self.inside.max c.self.inside.used c.self.inside.places c.self.invariant)
+    let s = c.self.inside in
+    older_keeps _ s.places s.pages.pages c.older.result.pages _ _ s.rounds c.saturating_add-self-inside.result s.used_in.items c.self.invariant
+    (c.older.ensures.pages ∙ ap (λ t. map older_aged t.pages) c.replace-pages.ensures.value) c.saturating_add-self-inside.ensures
 
 pub returns-clause-ages : goal.returns-clause-ages
 returns-clause-ages c =
-    subst (λ (w : Places). AgesBy older c.args.self.now.ages (ages_of w)) (sym c.age_places.ensures)
-    (subst (λ (s : WorkingSetOf). AgesBy older s.ages (ages_of (map older_place c.self.inside.places))) c.self.view_is
-    (ages_older c.self.inside.places c.self.invariant.once))
-
-pub returns-clause-rest : goal.returns-clause-rest
-returns-clause-rest c =
-    ap (set_of c.self.inside.min c.self.inside.max) c.age_places.ensures
-    ∙ older_view c.self.inside.min c.self.inside.max c.self.inside.places
-    ∙ ap (λ (w : Places). record (set_of c.self.inside.min c.self.inside.max c.self.inside.places) { ages = ages_of w }) (sym c.age_places.ensures)
-    ∙ ap (λ (s : WorkingSetOf). record s { ages = ages_of c.age_places.new.places }) c.self.view_is
+    let s = c.self.inside in
+    let is : c.older.result.pages ≡ map older_aged s.pages.pages = c.older.ensures.pages ∙ ap (λ t. map older_aged t.pages) c.replace-pages.ensures.value in
+    subst (λ (w : WorkingSetOf). AgesBy older w.ages (ages_of c.older.result.pages)) c.self.view_is
+    (subst (λ (xs : List Aged). AgesBy older (ages_of s.pages.pages) (ages_of xs)) (sym is) (ages_older s.pages.pages))

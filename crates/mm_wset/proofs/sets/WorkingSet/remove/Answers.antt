@@ -1,32 +1,36 @@
-use Rattle.std.proofs.Common.{sym, ap, ◌∙◌, subst}
-use Rattle.std.specs.Prelude.{IsSome}
+use Rattle.std.proofs.Common.{sym, ap, ◌∙◌}
 use Rattle.std.specs.FinMap as finite
 use Rattle.mm_wset.specs.Ages.{WorkingSetOf}
-use Rattle.mm_wset.specs.Ranks.{Places}
-use Rattle.mm_wset.specs.Held.{IsWorkingSet}
-use Rattle.mm_wset.proofs.SetLemmas.{set_of, placed_within, placed_some, remove_keeps, remove_view, remove_page}
+use Rattle.mm_wset.proofs.SetLemmas.{in_use, remove_page_at, remove_held, remove_keeps, remove_view}
 use Rattle.mm_wset.proofs.sets.WorkingSet.remove.Goals as goal
 
-pub at-requires : goal.at-requires
-at-requires c = placed_within c.self.inside.places c.args.place (subst (λ (s : WorkingSetOf). IsSome (finite.get s.places c.args.place)) (sym c.self.view_is) c.requires)
+pub remove-page-requires : goal.remove-page-requires
+remove-page-requires c = in_use c.self.inside.places c.args.self.now.places c.args.place (ap (λ (w : WorkingSetOf). w.places) c.self.view_is) c.requires
 
-pub unreachable-requires : goal.unreachable-requires
-unreachable-requires c =
-    placed_some c.self.inside.places c.args.place (subst (λ (s : WorkingSetOf). IsSome (finite.get s.places c.args.place)) (sym c.self.view_is) c.requires)
-    (sym c.at.ensures ∙ c.in-None.is)
+pub take_out-requires-clause-held : goal.take_out-requires-clause-held
+take_out-requires-clause-held c =
+    let s = c.self.inside in
+    let r = c.remove-page in
+    remove_held _ s.places r.new.self s.pages.pages _ _ s.rounds s.used_in.items c.args.place r.result c.self.invariant r.ensures.value r.ensures.updates
 
 pub invariant_of-self : goal.invariant_of-self
 invariant_of-self c =
-    subst (λ (w : Places). IsWorkingSet c.self.inside.max c.remove.new.self w) (sym c.set.ensures)
-    (remove_keeps c.self.inside.min c.self.inside.max c.self.inside.used c.remove.new.self c.self.inside.places c.args.place c.in-Some.aged c.self.invariant (sym c.at.ensures ∙ c.in-Some.is) c.remove.ensures.updates c.remove.ensures.len c.remove.ensures.capacity)
+    let s = c.self.inside in
+    let r = c.remove-page in
+    remove_keeps _ s.places r.new.self s.pages.pages _ _ s.rounds s.used_in.items c.args.place r.result c.self.invariant r.ensures.value r.ensures.updates
+    c.take_out.new.pages.pages _ _ r.ensures.len r.ensures.capacity c.take_out.ensures.pages c.take_out.ensures.spare c.take_out.ensures.room
 
 pub returns-clause-page : goal.returns-clause-page
 returns-clause-page c =
-    ap (λ (s : WorkingSetOf). finite.get s.places c.args.place) (sym c.self.view_is)
-    ∙ remove_page c.self.inside.min c.self.inside.max c.self.inside.used c.remove.new.self c.self.inside.places c.args.place c.in-Some.aged c.self.invariant (sym c.at.ensures ∙ c.in-Some.is) c.remove.ensures.updates
+    let s = c.self.inside in
+    let r = c.remove-page in
+    ap (λ (w : WorkingSetOf). finite.get w.places c.args.place) (sym c.self.view_is)
+    ∙ remove_page_at _ s.places r.new.self s.pages.pages _ _ s.rounds s.used_in.items c.args.place r.result c.self.invariant r.ensures.value r.ensures.updates
 
 pub returns-clause-set : goal.returns-clause-set
 returns-clause-set c =
-    ap (set_of c.self.inside.min c.self.inside.max) c.set.ensures
-    ∙ remove_view c.self.inside.min c.self.inside.max c.self.inside.used c.remove.new.self c.self.inside.places c.args.place c.in-Some.aged c.self.invariant (sym c.at.ensures ∙ c.in-Some.is) c.remove.ensures.updates
-    ∙ ap (λ (s : WorkingSetOf). record s { ages = finite.remove s.ages c.in-Some.aged.page.0; places = finite.remove s.places c.args.place }) c.self.view_is
+    let s = c.self.inside in
+    let r = c.remove-page in
+    remove_view _ s.places r.new.self s.pages.pages _ _ s.rounds s.used_in.items c.args.place r.result c.self.invariant r.ensures.value r.ensures.updates
+    s.min s.max s.is_reserved c.take_out.new.pages.pages c.take_out.ensures.pages
+    ∙ ap (λ (w : WorkingSetOf). record w { ages = finite.remove w.ages r.result; places = finite.remove w.places c.args.place }) c.self.view_is

@@ -1,37 +1,41 @@
-use Rattle.std.proofs.Common.{◌≡◌, ℕ, Some, sym, ap, ◌∙◌, subst, arith}
-use Rattle.std.specs.Prelude.{IsSome}
+use Rattle.std.proofs.Common.{◌≡◌, ℕ, Some, None, map, sym, ap, ◌∙◌}
+use Rattle.std.specs.Prelude.{is_some, true, false}
 use Rattle.std.specs.FinMap as finite
+use Rattle.slab.specs.Slab as slabs
 use Rattle.mm_wset.specs.Ages.{WorkingSetOf}
-use Rattle.mm_wset.specs.Ranks.{Places, at}
-use Rattle.mm_wset.specs.Held.{IsWorkingSet, page_of, ages_of}
-use Rattle.mm_wset.specs.declared.tournaments.Aged.{Aged}
-use Rattle.mm_wset.proofs.HeldLemmas.{pages_at}
-use Rattle.mm_wset.proofs.SetLemmas.{set_of, placed_within, placed_some, touch_keeps, touch_view}
+use Rattle.mm_wset.specs.AgedPages.{just_used}
+use Rattle.mm_wset.specs.Held.{places_of}
+use Rattle.mm_wset.proofs.SetLemmas.{in_use, get-places, touch_keeps, touch_view, used_already}
 use Rattle.mm_wset.proofs.sets.WorkingSet.touch.Goals as goal
 
-pub at-requires : goal.at-requires
-at-requires c = placed_within c.self.inside.places c.args.place (subst (λ (s : WorkingSetOf). IsSome (finite.get s.places c.args.place)) (sym c.self.view_is) c.requires)
+pub returns-then-index-self : goal.returns-then-index-self
+returns-then-index-self c = λ v held.
+    let s = c.self.inside in
+    let there : finite.get (places_of s.places) c.args.place ≡ Some v = ap (λ (w : WorkingSetOf). finite.get w.places c.args.place) c.self.view_is ∙ held in
+    sym c.self.view_is
+    ∙ used_already _ s.places s.pages.pages _ _ s.rounds s.used_in.items c.args.place v c.self.invariant there s.min s.max s.is_reserved c.index.result.now c.index.ensures c.if-index-self.true
+    ∙ ap (λ (w : WorkingSetOf). record w { ages = finite.insert w.ages v 0 }) c.self.view_is
 
 pub unreachable-requires : goal.unreachable-requires
 unreachable-requires c =
-    placed_some c.self.inside.places c.args.place (subst (λ (s : WorkingSetOf). IsSome (finite.get s.places c.args.place)) (sym c.self.view_is) c.requires)
-    (sym c.at.ensures ∙ c.in-None.is)
+    let none : slabs.get c.self.inside.places c.args.place ≡ None = sym c.get.ensures ∙ sym c.copied.ensures ∙ c.in_default.is in
+    let bad : false ≡ true = sym (ap is_some none) ∙ in_use c.self.inside.places c.args.self.now.places c.args.place (ap (λ (w : WorkingSetOf). w.places) c.self.view_is) c.requires in
+    cc
 
 pub invariant_of-self : goal.invariant_of-self
 invariant_of-self c =
-    let page_is : c.just_used.result.page.0 ≡ c.in-Some.aged.page.0 = ap (λ (a : Aged). a.page.0) c.just_used.ensures.value in
-    let age_is : c.just_used.result.age ≡ 0 = ap (λ (a : Aged). a.age) c.just_used.ensures.value in
-    subst (λ (w : Places). IsWorkingSet c.self.inside.max c.self.inside.used w) (sym c.set.ensures)
-    (touch_keeps c.self.inside.min c.self.inside.max c.self.inside.used c.self.inside.places c.args.place c.in-Some.aged c.just_used.result c.self.invariant (sym c.at.ensures ∙ c.in-Some.is) page_is (omega (arith, age_is)))
+    let s = c.self.inside in
+    let there : finite.get (places_of s.places) c.args.place ≡ Some c.in-Some.page = get-places s.places c.args.place ∙ sym c.get.ensures ∙ sym c.copied.ensures ∙ c.in-Some.is in
+    touch_keeps _ s.places s.pages.pages _ _ s.rounds s.used_in.items c.args.place c.in-Some.page c.self.invariant there c.touch.result.pages c.use_in.result
+    (c.touch.ensures.pages ∙ ap (λ t. map (just_used c.in-Some.page) t.pages) c.replace-pages.ensures.value) c.use_in.ensures
 
 pub returns : goal.returns
 returns c = λ v held.
-    let page_is : c.just_used.result.page.0 ≡ c.in-Some.aged.page.0 = ap (λ (a : Aged). a.page.0) c.just_used.ensures.value in
-    let there : at c.self.inside.places c.args.place ≡ Some c.in-Some.aged = sym c.at.ensures ∙ c.in-Some.is in
-    let number : Some c.in-Some.aged.page.0 ≡ Some v = sym (ap (λ (s : WorkingSetOf). finite.get s.places c.args.place) (sym c.self.view_is) ∙ pages_at c.self.inside.places c.args.place ∙ ap page_of there) ∙ held in
-    let same : c.in-Some.aged.page.0 ≡ v = cc in
-    ap (set_of c.self.inside.min c.self.inside.max) c.set.ensures
-    ∙ touch_view c.self.inside.min c.self.inside.max c.self.inside.used c.self.inside.places c.args.place c.in-Some.aged c.just_used.result c.self.invariant there page_is
-    ∙ ap (λ (a : Aged). record (set_of c.self.inside.min c.self.inside.max c.self.inside.places) { ages = finite.insert (ages_of c.self.inside.places) a.page.0 a.age }) c.just_used.ensures.value
-    ∙ ap (λ (n : ℕ). record (set_of c.self.inside.min c.self.inside.max c.self.inside.places) { ages = finite.insert (ages_of c.self.inside.places) n 0 }) same
-    ∙ ap (λ (s : WorkingSetOf). record s { ages = finite.insert s.ages v 0 }) c.self.view_is
+    let s = c.self.inside in
+    let there : finite.get (places_of s.places) c.args.place ≡ Some c.in-Some.page = get-places s.places c.args.place ∙ sym c.get.ensures ∙ sym c.copied.ensures ∙ c.in-Some.is in
+    let both : Some c.in-Some.page ≡ Some v = sym there ∙ ap (λ (w : WorkingSetOf). finite.get w.places c.args.place) c.self.view_is ∙ held in
+    let same : c.in-Some.page ≡ v = cc in
+    touch_view _ s.places s.pages.pages _ _ s.rounds s.used_in.items c.args.place c.in-Some.page c.self.invariant there s.min s.max s.is_reserved c.touch.result.pages
+    (c.touch.ensures.pages ∙ ap (λ t. map (just_used c.in-Some.page) t.pages) c.replace-pages.ensures.value)
+    ∙ ap (λ (w : WorkingSetOf). record w { ages = finite.insert w.ages c.in-Some.page 0 }) c.self.view_is
+    ∙ ap (λ (n : ℕ). record c.args.self.now { ages = finite.insert c.args.self.now.ages n 0 }) same

@@ -1,0 +1,162 @@
+-- The frames in flight stay distinct, and each thread that waits waits for one of them.
+use Rattle.std.proofs.Common.{◌≡◌, ◌≢◌, ℕ, zero, suc, ◌-◌, Bool, true, false, not, cond, List, [], ◌∷◌, ◌++◌, length, map, replicate, Option, Some, None, refl, sym, ap, ◌∙◌, ◌<◌, inl, inr, arith}
+use Rattle.std.specs.Prelude.{◌==◌, ◌||◌, slice_get, slice_set, option_map}
+use Rattle.std.specs.Cmp.{unsigned_Decides}
+use Rattle.std.proofs.lemmas.Option.{slice_get-map}
+use Rattle.std.proofs.lemmas.List.Folds.{list_any-append}
+use Rattle.mm_types.specs.declared.numbers.Frame.{Frame}
+use Rattle.mm_types.proofs.Cells.{set_cases}
+use Rattle.mm_types.proofs.Tables.{differ}
+use Rattle.mm_flight.specs.declared.flights.Waiting.{Waiting}
+use Rattle.mm_flight.specs.declared.flights.Waiting.TheVariants as waiting
+use Rattle.mm_flight.specs.Requests.{FlightOf, Holds, IsKept, AreDistinct, is_in, without, nth_oldest, ended, number_of}
+
+-- ---- membership
+
+or_true : (b : Bool) → (b || true) ≡ true
+or_true true = refl
+or_true false = refl
+
+or_false : (b c : Bool) → (b || c) ≡ false → (b ≡ false) × (c ≡ false)
+or_false true c e = cc
+or_false false c e = (refl, e)
+
+itself : (x f : ℕ) → x ≡ f → (x == f) ≡ true
+itself x f e = (unsigned_Decides x f).1 e
+
+other : (x f : ℕ) → (x == f) ≡ false → x ≢ f
+other x f e same = let t = itself x f same in cc
+
+in_at : (frames : List ℕ) (k f : ℕ) → slice_get frames k ≡ Some f → is_in f frames ≡ true
+in_at [] k f e = cc
+in_at (x ∷ xs) zero f e = let same : x ≡ f = cc in ap (λ b. b || is_in f xs) (itself x f same)
+in_at (x ∷ xs) (suc k) f e = ap (λ b. (x == f) || b) (in_at xs k f e) ∙ or_true (x == f)
+
+-- a frame stands at one place alone
+pub apart_at : (frames : List ℕ) → AreDistinct frames → (i j f : ℕ) → slice_get frames i ≡ Some f → slice_get frames j ≡ Some f → i ≡ j
+apart_at [] d i j f e h = cc
+apart_at (x ∷ xs) d zero zero f e h = refl
+apart_at (x ∷ xs) d zero (suc j) f e h =
+    let same : x ≡ f = cc in let bad : true ≡ false = sym (in_at xs j f h) ∙ ap (λ k. is_in k xs) (sym same) ∙ d.0 in cc
+apart_at (x ∷ xs) d (suc i) zero f e h =
+    let same : x ≡ f = cc in let bad : true ≡ false = sym (in_at xs i f e) ∙ ap (λ k. is_in k xs) (sym same) ∙ d.0 in cc
+apart_at (x ∷ xs) d (suc i) (suc j) f e h = ap suc (apart_at xs d.1 i j f e h)
+
+-- ---- a request begins
+
+pub distinct_more : (frames : List ℕ) (f : ℕ) → AreDistinct frames → is_in f frames ≡ false → AreDistinct (frames ++ f ∷ [])
+distinct_more [] f d new = (refl, tt)
+distinct_more (x ∷ xs) f d new =
+    let parts = or_false (x == f) (is_in f xs) new in
+    let back : (f == x) ≡ false = differ f x (λ e. other x f parts.0 (sym e)) in
+    let here : is_in x (xs ++ f ∷ []) ≡ false =
+    list_any-append (λ y. y == x) xs (f ∷ []) ∙ ap (λ b. b || is_in x (f ∷ [])) d.0 ∙ ap (λ b. b || false) back in
+    (here, distinct_more xs f d.1 parts.1)
+
+in_more : (frames : List ℕ) (f g : ℕ) → is_in g frames ≡ true → is_in g (frames ++ f ∷ []) ≡ true
+in_more frames f g e = list_any-append (λ y. y == g) frames (f ∷ []) ∙ ap (λ b. b || is_in g (f ∷ [])) e
+
+-- ---- a request ends
+
+by_first : (b : Bool) (x f g : ℕ) (xs : List ℕ) → (x == f) ≡ b → g ≢ f → is_in g (cond (not b) (x ∷ xs) xs) ≡ ((x == g) || is_in g xs)
+by_first false x f g xs e apart = refl
+by_first true x f g xs e apart =
+    let same = (unsigned_Decides x f).0 e in
+    sym (ap (λ b. b || is_in g xs) (differ x g (λ h. apart (sym h ∙ same))))
+
+in_without : (frames : List ℕ) (f g : ℕ) → g ≢ f → is_in g (without f frames) ≡ is_in g frames
+in_without [] f g apart = refl
+in_without (x ∷ xs) f g apart = by_first (x == f) x f g (without f xs) refl apart ∙ ap (λ b. (x == g) || b) (in_without xs f g apart)
+
+none_without : (frames : List ℕ) (f g : ℕ) → is_in g frames ≡ false → is_in g (without f frames) ≡ false
+none_without [] f g none = refl
+none_without (x ∷ xs) f g none =
+    let parts = or_false (x == g) (is_in g xs) none in
+    none_first (x == f) x g (without f xs) parts.0 (none_without xs f g parts.1)
+  where
+    none_first : (b : Bool) (y h : ℕ) (ys : List ℕ) → (y == h) ≡ false → is_in h ys ≡ false → is_in h (cond (not b) (y ∷ ys) ys) ≡ false
+    none_first true y h ys apart e = e
+    none_first false y h ys apart e = ap (λ b. b || is_in h ys) apart ∙ e
+
+pub distinct_without : (frames : List ℕ) (f : ℕ) → AreDistinct frames → AreDistinct (without f frames)
+distinct_without [] f d = tt
+distinct_without (x ∷ xs) f d = kept_first (x == f) x (without f xs) (none_without xs f x d.0) (distinct_without xs f d.1)
+  where
+    kept_first : (b : Bool) (y : ℕ) (ys : List ℕ) → is_in y ys ≡ false → AreDistinct ys → AreDistinct (cond (not b) (y ∷ ys) ys)
+    kept_first true y ys new e = e
+    kept_first false y ys new e = (new, e)
+
+-- a wait that is left was one for another frame
+by_wait : (b : Bool) (h g : Frame) (f : ℕ) (ok : Bool) → (h.0 == f) ≡ b → cond b (cond ok waiting.Done waiting.Failed) (waiting.For h) ≡ waiting.For g → (waiting.For h ≡ waiting.For g) × (g.0 ≢ f)
+by_wait true h g f true e left = cc
+by_wait true h g f false e left = cc
+by_wait false h g f ok e left =
+    let same : h ≡ g = cc in (left, λ k. other h.0 f e (ap (λ (q : Frame). q.0) same ∙ k))
+
+wait_left : (w : Waiting) (g : Frame) (f : ℕ) (ok : Bool) → ended f ok w ≡ waiting.For g → (w ≡ waiting.For g) × (g.0 ≢ f)
+wait_left waiting.Nothing g f ok e = cc
+wait_left (waiting.For h) g f ok e = by_wait (h.0 == f) h g f ok refl e
+wait_left waiting.Done g f ok e = cc
+wait_left waiting.Failed g f ok e = cc
+
+wait_before : (o : Option Waiting) (g : Frame) (f : ℕ) (ok : Bool) → option_map (ended f ok) o ≡ Some (waiting.For g) → (o ≡ Some (waiting.For g)) × (g.0 ≢ f)
+wait_before None g f ok e = cc
+wait_before (Some w) g f ok e =
+    let here : ended f ok w ≡ waiting.For g = cc in let h = wait_left w g f ok here in (ap (λ (v : Waiting). Some v) h.0, h.1)
+
+-- ---- frames and their numbers
+
+pub numbers_more : (xs : List Frame) (f : Frame) → map number_of (xs ++ f ∷ []) ≡ map number_of xs ++ f.0 ∷ []
+numbers_more [] f = refl
+numbers_more (x ∷ xs) f = ap (λ ys. x.0 ∷ ys) (numbers_more xs f)
+
+pub nth_at : (i : ℕ) (frames : List ℕ) → i ≢ 0 → nth_oldest i frames ≡ slice_get frames (i - 1)
+nth_at zero frames some = absurd (some refl)
+nth_at (suc i) frames some = let before : i ≡ suc i - 1 = omega arith in ap (slice_get frames) before
+
+-- ---- what the type keeps
+
+pub none_waits : (n : ℕ) → IsKept [] (replicate n waiting.Nothing)
+none_waits n = record { distinct = tt; awaited = λ t f e. absurd (nothing n t f e) }
+  where
+    nothing : (k t : ℕ) (f : Frame) → slice_get (replicate k waiting.Nothing) t ≡ Some (waiting.For f) → ⊥
+    nothing zero t f e = cc
+    nothing (suc k) zero f e = cc
+    nothing (suc k) (suc t) f e = nothing k t f e
+
+module _ (frames : List ℕ) (waits : List Waiting) (h : IsKept frames waits) where
+  pub kept_begun : (f : ℕ) → is_in f frames ≡ false → IsKept (frames ++ f ∷ []) waits
+  kept_begun f new = record {
+    distinct = distinct_more frames f h.distinct new;
+    awaited = λ t g e. in_more frames f g.0 (h.awaited t g e);
+  }
+
+  pub kept_ended : (f : ℕ) (ok : Bool) → IsKept (without f frames) (map (ended f ok) waits)
+  kept_ended f ok = record {
+    distinct = distinct_without frames f h.distinct;
+    awaited = λ t g e.
+        let was = wait_before (slice_get waits t) g f ok (sym (slice_get-map (ended f ok) waits t) ∙ e) in
+        in_without frames f g.0 was.1 ∙ h.awaited t g was.0;
+  }
+
+  -- a thread waits for a frame in flight, or for none
+  pub kept_wait : (t : ℕ) (f : Frame) → t < length waits → is_in f.0 frames ≡ true → IsKept frames (slice_set waits t (waiting.For f))
+  kept_wait t f inside there = record {
+    distinct = h.distinct;
+    awaited = λ u g e. elim (set_cases waits t u (waiting.For f) (waiting.For g) inside e) [
+      | inl here ↦ let same : f ≡ g = cc in ap (λ (q : Frame). is_in q.0 frames) (sym same) ∙ there
+      | inr apart ↦ h.awaited u g apart.1
+    ];
+  }
+
+  pub kept_forget : (t : ℕ) → t < length waits → IsKept frames (slice_set waits t waiting.Nothing)
+  kept_forget t inside = record {
+    distinct = h.distinct;
+    awaited = λ u g e. elim (set_cases waits t u waiting.Nothing (waiting.For g) inside e) [
+      | inl here ↦ cc
+      | inr apart ↦ h.awaited u g apart.1
+    ];
+  }
+
+pub holds_at : (v : FlightOf) → IsKept v.frames v.waits → Holds v
+holds_at v h = record { distinct = apart_at v.frames h.distinct; awaited = h.awaited }

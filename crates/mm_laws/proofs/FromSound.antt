@@ -1,0 +1,254 @@
+-- What follows of one state from `Sound` alone.
+use Rattle.std.proofs.Common.{◌≡◌, ◌≢◌, ℕ, ◌<◌, ◌≤◌, Bool, true, false, not, List, [], ◌∷◌, length, Option, Some, None, refl, sym, ap, ◌∙◌, arith}
+use Rattle.std.specs.Prelude.{◌&&◌, ◌==◌, is_some, slice_get, count_by}
+use Rattle.std.proofs.lemmas.Bool.{and_parts, or_left, not-true, lt-ltb, le-ltb, eqb-true}
+use Rattle.mm_types.proofs.Cells.{get_within}
+use Rattle.mm_types.specs.declared.numbers.Frame.{Frame}
+use Rattle.mm_types.specs.declared.numbers.Key.{Key}
+use Rattle.mm_types.specs.declared.numbers.Key.TheVariants.{Private}
+use Rattle.mm_types.specs.declared.numbers.Pid.{Pid}
+use Rattle.mm_types.specs.declared.numbers.Vpn.{Vpn}
+use Rattle.mm_types.specs.declared.numbers.Place.{Place}
+use Rattle.mm_types.specs.declared.numbers.Block.{Block}
+use Rattle.mm_types.specs.declared.frames.Backing.{Backing}
+use Rattle.mm_types.specs.declared.frames.Backing.TheVariants as backing
+use Rattle.mm_types.specs.declared.frames.Held.{Held}
+use Rattle.mm_types.specs.declared.frames.Held.TheVariants as held
+use Rattle.mm_life.specs.Frames.{blank, record_at, has_request, is_on, slot_of, is_idle}
+use Rattle.mm_life.specs.Life.{FrameLife, counts_of, is_live, is_dead, key_of_place, same_key}
+use Rattle.mm_laws.specs.Tally.{one_if, tally, times}
+use Rattle.mm_laws.specs.Standing.{standings, counted_frames, IsStandby, IsModified}
+use Rattle.mm_life.specs.Effect.{slot_at}
+use Rattle.mm_laws.specs.Holders.{Holder, Home, Behind, slot_held}
+use Rattle.mm_laws.specs.Places.{CountsPlaces}
+use Rattle.mm_laws.specs.PagingKeys.{CountsKeys, is_home_for, is_backing_for}
+use Rattle.mm_laws.specs.FileBlocks.{block_of}
+use Rattle.mm_laws.specs.Sights.{sight}
+use Rattle.mm_laws.specs.Sound.{Sound, frame}
+use Rattle.mm_laws.proofs.Tallies.{times_on}
+use Rattle.mm_laws.proofs.Sound.{some_owner}
+use Rattle.mm_laws.proofs.Sums.{one_most}
+use Rattle.mm_laws.proofs.Sights.{on_fresh, on_standby, on_modified, kept_inside}
+use Rattle.mm_laws.proofs.Taking.{idle_is}
+use Rattle.mm_laws.proofs.PlaceCounts.{has_shares}
+use Rattle.mm_laws.proofs.Totals.{stands_once, total, requests_total}
+
+module _ (l : FrameLife) (s : Sound l) where
+  -- ---- frames
+
+  pub once : (f : ℕ) → f < l.machine.frames → standings l.frames f ≡ 1
+  once f low =
+      let size = s.framed in
+      stands_once l.frames l.flight f (s.standing f) ∙ ap one_if (lt-ltb f (length l.frames.records) (omega (arith, low, size)))
+
+  pub no_other : (f : ℕ) → l.machine.frames ≤ f → standings l.frames f ≡ 0
+  no_other f high =
+      let size = s.framed in
+      stands_once l.frames l.flight f (s.standing f) ∙ ap one_if (le-ltb f (length l.frames.records) (omega (arith, high, size)))
+
+  pub counted : counted_frames (counts_of l) ≡ l.machine.frames
+  counted = total l.frames l.flight s.standing ∙ s.framed
+
+  pub zeroed_bare : (f : ℕ) → is_on f l.frames.zeroed ≡ true → record_at l.frames f ≡ blank
+  zeroed_bare f on = let m = times_on f l.frames.zeroed on in (on_fresh (sight l.frames l.flight f) (s.standing f) (omega (arith, m))).0
+
+  pub free_bare : (f : ℕ) → is_on f l.frames.free ≡ true → record_at l.frames f ≡ blank
+  free_bare f on = let m = times_on f l.frames.free on in (on_fresh (sight l.frames l.flight f) (s.standing f) (omega (arith, m))).0
+
+  pub standby_is : (f : ℕ) → is_on f l.frames.standby ≡ true → IsStandby (record_at l.frames f)
+  standby_is f on =
+      let known = on_standby (sight l.frames l.flight f) (s.standing f) (times_on f l.frames.standby on) in
+      let idle = idle_is (record_at l.frames f) known.0 known.1.0 in
+      let clean = not-true (record_at l.frames f).changed known.1.1 in
+      record { owned = known.0; unshared = idle.unshared; quiet = idle.quiet; unchanged = clean; backed = (s.standing f).fit.clean idle.kept clean }
+
+  pub modified_is : (f : ℕ) → is_on f l.frames.modified ≡ true → IsModified (record_at l.frames f)
+  modified_is f on =
+      let known = on_modified (sight l.frames l.flight f) (s.standing f) (times_on f l.frames.modified on) in
+      let idle = idle_is (record_at l.frames f) known.0 known.1.0 in
+      record { owned = known.0; unshared = idle.unshared; quiet = idle.quiet; changed = known.1.1; slotless = (s.standing f).fit.dirty known.1.1 idle.quiet }
+
+  -- ---- slots
+
+  pub slot_free : (t : ℕ) (h : Holder) → slice_get l.free_slots t ≡ Some true → slot_held l h ≢ Some t
+  slot_free t h e g =
+      let bad : true ≡ false = sym (ap is_some (s.held.found h t g)) ∙ s.held.taken t true e in cc
+
+  pub slot_has : (t : ℕ) → slice_get l.free_slots t ≡ Some false → (h : Holder) × (slot_held l h ≡ Some t)
+  slot_has t e = at (s.held.holder t) refl (s.held.taken t false e)
+    where
+      at : (o : Option Holder) → s.held.holder t ≡ o → is_some o ≡ true → (h : Holder) × (slot_held l h ≡ Some t)
+      at None g i = cc
+      at (Some h) g i = (h, s.held.held t h g)
+
+  pub slot_one : (t : ℕ) (g h : Holder) → slot_held l g ≡ Some t → slot_held l h ≡ Some t → g ≡ h
+  slot_one t g h a b = let both : Some g ≡ Some h = sym (s.held.found g t a) ∙ s.held.found h t b in cc
+
+  pub slot_there : (t : ℕ) (h : Holder) → slot_held l h ≡ Some t → t < l.machine.slots
+  slot_there t h e = at (slice_get l.free_slots t) refl
+    where
+      at : (o : Option Bool) → slice_get l.free_slots t ≡ o → t < l.machine.slots
+      at None g = let bad : None ≡ Some h = sym (s.held.past t g) ∙ s.held.found h t e in cc
+      at (Some b) g = let low = get_within l.free_slots t b g in let size = s.slotted in omega (arith, low, size)
+
+  -- a held slot is there and is not free
+  pub slot_taken : (t : ℕ) (h : Holder) → slot_held l h ≡ Some t → slice_get l.free_slots t ≡ Some false
+  slot_taken t h e = at (slice_get l.free_slots t) refl
+    where
+      at : (o : Option Bool) → slice_get l.free_slots t ≡ o → o ≡ Some false
+      at None g = let bad : None ≡ Some h = sym (s.held.past t g) ∙ s.held.found h t e in cc
+      at (Some false) g = refl
+      at (Some true) g = absurd (slot_free t h g e)
+
+  -- two frames with one slot are one, as are two keys, and no frame has the slot of a key
+  pub behind_one : (t f g : ℕ) → slot_of (record_at l.frames f).backing ≡ Some t → slot_of (record_at l.frames g).backing ≡ Some t → f ≡ g
+  behind_one t f g a b = let both = slot_one t (Behind f) (Behind g) a b in cc
+
+  pub home_one : (t : ℕ) (j k : Key) → slot_at (l.stands j) ≡ Some t → slot_at (l.stands k) ≡ Some t → j ≡ k
+  home_one t j k a b = let both = slot_one t (Home j) (Home k) a b in cc
+
+  pub behind_no_home : (t f : ℕ) (k : Key) → slot_of (record_at l.frames f).backing ≡ Some t → slot_at (l.stands k) ≢ Some t
+  behind_no_home t f k a b = let both = slot_one t (Behind f) (Home k) a b in cc
+
+  -- ---- keys
+
+  pub one_frame : (k : Key) (f g : ℕ) → (record_at l.frames f).owner ≡ Some k → (record_at l.frames g).owner ≡ Some k → f ≡ g
+  one_frame k f g a b =
+      let both : held.Frame (frame f) ≡ held.Frame (frame g) = sym (s.owned.owned f k a) ∙ s.owned.owned g k b in
+      ap number both
+    where
+      number : Held → ℕ
+      number (held.Frame f) = f.0
+      number (held.Slot t) = 0
+      number (held.Block b) = 0
+      number held.Zero = 0
+      number held.Dead = 0
+
+  pub owner_lives : (k : Key) (f : ℕ) → (record_at l.frames f).owner ≡ Some k → is_live l k ≡ true
+  owner_lives k f e = ap (λ (h : Held). not (is_dead h)) (s.owned.owned f k e)
+
+  pub frame_there : (k : Key) (f : Frame) → l.stands k ≡ held.Frame f → f.0 < l.machine.frames
+  frame_there k f e =
+      let size = s.framed in
+      let low = kept_inside l.frames f.0 (or_left (is_some (record_at l.frames f.0).owner) (has_request (record_at l.frames f.0).request) (ap is_some (s.owned.owner k f e))) in
+      omega (arith, size, low)
+
+  -- ---- places
+
+  pub places_counted : CountsPlaces l
+  places_counted = record { places = s.shown.places; once = s.shown.once; shares = s.shown.shares; resident = s.shown.resident }
+
+  pub place_shares : (p : Place) (f : Frame) → l.valid p ≡ Some f → 1 ≤ (record_at l.frames f.0).shares
+  place_shares p f e = has_shares l.valid l.frames l.sets s.shown p f e
+
+  pub place_owned : (p : Place) (f : Frame) → l.valid p ≡ Some f → is_some (record_at l.frames f.0).owner ≡ true
+  place_owned p f e = let some = place_shares p f e in (s.standing f.0).fit.shown (lt-ltb 0 (record_at l.frames f.0).shares (omega (arith, some)))
+
+  pub place_own : (p : Place) (f : Frame) (q : Pid) (v : Vpn) → l.valid p ≡ Some f → (record_at l.frames f.0).owner ≡ Some (Private q v) → Private q v ≡ key_of_place p
+  place_own p f q v e o =
+      let h = and_parts (q.0 == p.pid.0) (v.0 == p.vpn.0) (s.shown.fits p f (Private q v) e o) in
+      let a : q.0 ≡ p.pid.0 = eqb-true q.0 p.pid.0 h.0 in
+      let b : v.0 ≡ p.vpn.0 = eqb-true v.0 p.vpn.0 h.1 in
+      λ i. Private (record { 0 = a i }) (record { 0 = b i })
+
+  -- ---- requests
+
+  pub requests_counted : length l.flight ≡ count_by (λ r. has_request r.request) l.frames.records
+  requests_counted = requests_total l.frames l.flight s.standing
+
+  -- ---- page-file keys
+
+  pub keys_counted : CountsKeys l
+  keys_counted = record { keys = s.paged.keys; once = s.paged.once; count = s.paged.long }
+
+  paged_lives : (b : Bool) (h : Held) → b ≡ true → is_home_for b h ≡ true → not (is_dead h) ≡ true
+  paged_lives b (held.Frame f) p e = refl
+  paged_lives b (held.Slot t) p e = refl
+  paged_lives b (held.Block c) p e = refl
+  paged_lives b held.Zero p e = refl
+  paged_lives b held.Dead p e = let bad : not b ≡ false = ap not p in cc
+
+  -- a page-file key lives
+  pub paging_lives : (k : Key) → l.paging k ≡ true → is_live l k ≡ true
+  paging_lives k e = paged_lives (l.paging k) (l.stands k) e (s.homed.home k)
+
+  tally_long : (test : Key → Bool) (xs : List Key) → tally test xs ≤ length xs
+  tally_long test [] = omega arith
+  tally_long test (x ∷ xs) = let a = tally_long test xs in let b = one_most (test x) in omega (arith, a, b)
+
+  -- where there is a page-file key there is at least one
+  pub some_keys : (k : Key) → l.paging k ≡ true → 1 ≤ l.paging_keys
+  some_keys k e =
+      let one : tally (same_key k) s.paged.keys ≡ 1 = s.paged.once k ∙ ap one_if e in
+      let most = tally_long (same_key k) s.paged.keys in
+      let long = s.paged.long in
+      omega (arith, one, most, long)
+
+  -- ---- backings
+
+  file_on : (b : Bool) (x : Backing) → b ≡ false → is_backing_for b x ≡ true → (c : Block) × (x ≡ backing.Block c)
+  file_on b backing.None p e = let bad : false ≡ true = sym p ∙ e in cc
+  file_on b (backing.Slot t) p e = let bad : false ≡ true = sym p ∙ e in cc
+  file_on b (backing.Block c) p e = (c, refl)
+
+  paged_on : (b : Bool) (x : Backing) → b ≡ true → is_backing_for b x ≡ true → slot_of x ≡ None → x ≡ backing.None
+  paged_on b backing.None p e n = refl
+  paged_on b (backing.Slot t) p e n = cc
+  paged_on b (backing.Block c) p e n = let bad : not b ≡ false = ap not p in cc
+
+  -- a file page in a frame has a block
+  pub file_backed : (f : ℕ) (k : Key) → (record_at l.frames f).owner ≡ Some k → l.paging k ≡ false → (b : Block) × ((record_at l.frames f).backing ≡ backing.Block b)
+  file_backed f k o e = file_on (l.paging k) (record_at l.frames f).backing e (s.homed.backing f k o)
+
+  -- a changed page-file page without a request is on no device
+  pub changed_slotless : (f : ℕ) (k : Key) → (record_at l.frames f).owner ≡ Some k → l.paging k ≡ true → (record_at l.frames f).changed ≡ true → has_request (record_at l.frames f).request ≡ false → (record_at l.frames f).backing ≡ backing.None
+  changed_slotless f k o e c q = paged_on (l.paging k) (record_at l.frames f).backing e (s.homed.backing f k o) ((s.standing f).fit.dirty c q)
+
+  -- a frame without an owner is on no block
+  pub ownerless_unblocked : (f : ℕ) → (record_at l.frames f).owner ≡ None → (b : Block) → (record_at l.frames f).backing ≢ backing.Block b
+  ownerless_unblocked f o b e = let bad : None ≡ Some b.0 = sym ((s.standing f).fit.ownerless (ap is_some o)) ∙ ap block_of e in cc
+
+-- ---- a frame on the modified list
+
+three_fail : (a b c : Bool) → c ≡ false → one_if (a && (b && c)) ≡ 0
+three_fail true true c e = ap one_if e
+three_fail true false c e = refl
+three_fail false b c e = refl
+
+pub three_hold : (a b c : Bool) → a ≡ true → b ≡ true → c ≡ true → one_if (a && (b && c)) ≡ 1
+three_hold a b c x y z = ap (λ t. one_if (t && (b && c))) x ∙ (ap (λ t. one_if (t && c)) y ∙ ap one_if z)
+
+pub record ModifiedFrame (l : FrameLife) (f : ℕ) : Type 0 where
+  pub key : Key
+  pub owner : (record_at l.frames f).owner ≡ Some key
+  pub owned : is_some (record_at l.frames f).owner ≡ true
+  pub unshared : (record_at l.frames f).shares ≡ 0
+  pub quiet : has_request (record_at l.frames f).request ≡ false
+  pub changed : (record_at l.frames f).changed ≡ true
+  pub slotless : slot_of (record_at l.frames f).backing ≡ None
+  pub once : times f l.frames.modified ≡ 1
+  pub off_standby : times f l.frames.standby ≡ 0
+  pub off_flight : times f l.flight ≡ 0
+  pub low : f < length l.frames.records
+  pub fits : is_backing_for (l.paging key) (record_at l.frames f).backing ≡ true
+
+pub modified_frame : (l : FrameLife) → Sound l → (f : ℕ) → is_on f l.frames.modified ≡ true → ModifiedFrame l f
+modified_frame l s f on =
+    let st = s.standing f in
+    let known = on_modified (sight l.frames l.flight f) st (times_on f l.frames.modified on) in
+    let idle = idle_is (record_at l.frames f) known.0 known.1.0 in
+    let o = some_owner (record_at l.frames f) known.0 in
+    record {
+      key = o.0;
+      owner = o.1;
+      owned = known.0;
+      unshared = idle.unshared;
+      quiet = idle.quiet;
+      changed = known.1.1;
+      slotless = st.fit.dirty known.1.1 idle.quiet;
+      once = st.modified ∙ three_hold (is_some (record_at l.frames f).owner) (is_idle (record_at l.frames f)) (record_at l.frames f).changed known.0 known.1.0 known.1.1;
+      off_standby = st.standby ∙ three_fail (is_some (record_at l.frames f).owner) (is_idle (record_at l.frames f)) (not (record_at l.frames f).changed) (ap not known.1.1);
+      off_flight = st.flight ∙ ap one_if idle.quiet;
+      low = kept_inside l.frames f idle.kept;
+      fits = s.homed.backing f o.0 o.1;
+    }

@@ -1,0 +1,28 @@
+-- What a move leaves of the frame database that ends a request, or takes a share away.
+use Rattle.std.specs.Prelude.{◌≡◌, ◌≢◌, ℕ, Bool, not, ◌&&◌, if◌then◌else◌, is_some, List, [], ◌∷◌, ◌++◌, length}
+use Rattle.mm_types.specs.declared.frames.Record.{Record}
+use Rattle.mm_life.specs.Frames.{FrameTable, blank, record_at, is_idle}
+
+-- the frame at the end of the list, if it joins it
+abbrev pub joined : Bool → ℕ → List ℕ → List ℕ
+joined joins f xs = if joins then xs ++ f ∷ [] else xs
+
+-- the four lists of a table
+pub record ListsAre (d : FrameTable) (z u s m : List ℕ) : Type 0 where
+  pub zeroed : d.zeroed ≡ z
+  pub free : d.free ≡ u
+  pub standby : d.standby ≡ s
+  pub modified : d.modified ≡ m
+
+-- the record of a frame whose request ends: changed so where its page lives, else the frame is free
+abbrev pub ended_as : (Record → Record) → Record → Record
+ended_as change r = if is_some r.owner then change r else blank
+
+-- the frame has this record now and is put where it says, behind all others; all else stays
+pub record Settles (d d' : FrameTable) (f : ℕ) (r : Record) : Type 0 where
+  pub here : record_at d' f ≡ r
+  pub others : (g : ℕ) → g ≢ f → record_at d' g ≡ record_at d g
+  pub size : length d'.records ≡ length d.records
+  pub lists : ListsAre d' d.zeroed (joined (not (is_some r.owner)) f d.free)
+      (joined (is_some r.owner && is_idle r && not r.changed) f d.standby)
+      (joined (is_some r.owner && is_idle r && r.changed) f d.modified)

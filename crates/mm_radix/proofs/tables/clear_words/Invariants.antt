@@ -1,6 +1,0 @@
-use Rattle.mm_radix.specs.Directory.{no_word}
-use Rattle.mm_radix.specs.Directory.{Changes}
-use Rattle.mm_radix.proofs.tables.clear_words.Given as goal
-
-abbrev pub invariant-loop-i : goal.invariant-loop-i
-invariant-loop-i l = Changes no_word l.fn.leaves.items l.leaves.items l.first l.i
