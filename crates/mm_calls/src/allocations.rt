@@ -6,6 +6,8 @@ ghost use Rattle.mm_world.specs.Find.{process_of, region_around};
 ghost use Rattle.mm_world.specs.Alloc.{reserve, commit_pages};
 ghost use Rattle.mm_world.specs.Contents.{blank};
 ghost use Rattle.mm_world.specs.Rows.{is_protection_among, private_protections};
+ghost use Rattle.mm_pages.specs.Housekeeping.{Turn, Turns, Makes};
+ghost use Rattle.mm_pages.specs.Passing.{PassesIn};
 ghost use Rattle.mm_spaces.specs.Tables.{found_info};
 ghost use Rattle.mm_tables.specs.Fits.{Fits, Settled};
 
@@ -17,6 +19,7 @@ use mm_types::{Answer, Code, Kind, NoMemory, Pid, View};
 use std::alloc::Global;
 
 /// Reserves pages of a living process, and commits them where the type says so.
+#[tactic(auto, using(mm_pages::proofs::Passed::turns_same))]
 pub(crate) fn reserve<G: Pages>(
     allocator: Global,
     t: &mut Tables,
@@ -35,6 +38,8 @@ pub(crate) fn reserve<G: Pages>(
     ensures ok { IfOk result (λ a. (p : ProcessOf (Unit {0})) → process_of t.old pid.0 ≡ Some p → reserve blank t.old pid.0 p addr size kind prot ≡ record { answer = a; world = t.new }) }
     ensures err { OnErr result ((t.new ≡ t.old) × (G.contents g.new ≡ G.contents g.old)) }
     ensures settled { Settled t.new (G.contents g.old) (G.contents g.new) (G.store g.old) (G.store g.new) }
+    ensures passes { PassesIn G.unpaged (Turns Makes) (G.store g.old) (G.store g.new) (G.behind g.old) (G.behind g.new) }
+    ensures idle { OnErr result ((turn : Turn) → PassesIn G.unpaged (Turns turn) (G.store g.old) (G.store g.new) (G.behind g.old) (G.behind g.new)) }
     ensures loans { G.loans g.new ≡ G.loans g.old }
 {
     let range = match t.space(pid).gap(addr, size) {
@@ -49,6 +54,7 @@ pub(crate) fn reserve<G: Pages>(
 }
 
 /// Commits pages of a living process, in a private region or in a view.
+#[tactic(auto, using(mm_pages::proofs::Passed::turns_same))]
 pub(crate) fn commit<G: Pages>(
     t: &mut Tables,
     g: &mut G,
@@ -63,6 +69,8 @@ pub(crate) fn commit<G: Pages>(
     ensures ok { IfOk result (λ a. (p : ProcessOf (Unit {0})) → process_of t.old pid.0 ≡ Some p → commit_pages blank t.old pid.0 p range prot ≡ record { answer = a; world = t.new }) }
     ensures err { OnErr result ((t.new ≡ t.old) × (G.contents g.new ≡ G.contents g.old)) }
     ensures settled { Settled t.new (G.contents g.old) (G.contents g.new) (G.store g.old) (G.store g.new) }
+    ensures passes { PassesIn G.unpaged (Turns Makes) (G.store g.old) (G.store g.new) (G.behind g.old) (G.behind g.new) }
+    ensures idle { OnErr result ((turn : Turn) → PassesIn G.unpaged (Turns turn) (G.store g.old) (G.store g.new) (G.behind g.old) (G.behind g.new)) }
     ensures loans { G.loans g.new ≡ G.loans g.old }
 {
     let region = match t.space(pid).region_around(range) {
@@ -76,6 +84,7 @@ pub(crate) fn commit<G: Pages>(
 }
 
 /// Commits pages of the private region around them.
+#[tactic(auto, using(mm_pages::proofs::Passed::turns_same))]
 fn commit_private<G: Pages>(
     t: &mut Tables,
     g: &mut G,
@@ -91,6 +100,8 @@ fn commit_private<G: Pages>(
     ensures ok { IfOk result (λ a. (p : ProcessOf (Unit {0})) → process_of t.old pid.0 ≡ Some p → commit_pages blank t.old pid.0 p range prot ≡ record { answer = a; world = t.new }) }
     ensures err { OnErr result ((t.new ≡ t.old) × (G.contents g.new ≡ G.contents g.old)) }
     ensures settled { Settled t.new (G.contents g.old) (G.contents g.new) (G.store g.old) (G.store g.new) }
+    ensures passes { PassesIn G.unpaged (Turns Makes) (G.store g.old) (G.store g.new) (G.behind g.old) (G.behind g.new) }
+    ensures idle { OnErr result ((turn : Turn) → PassesIn G.unpaged (Turns turn) (G.store g.old) (G.store g.new) (G.behind g.old) (G.behind g.new)) }
     ensures loans { G.loans g.new ≡ G.loans g.old }
 {
     t.sound();
@@ -103,6 +114,7 @@ fn commit_private<G: Pages>(
 }
 
 /// Commits section pages under pages of the view around them, which has these pages, and gives the view's rows the protection.
+#[tactic(auto, using(mm_pages::proofs::Passed::turns_same))]
 fn commit_view<G: Pages>(
     t: &mut Tables,
     g: &mut G,
@@ -120,6 +132,8 @@ fn commit_view<G: Pages>(
     ensures ok { IfOk result (λ a. (p : ProcessOf (Unit {0})) → process_of t.old pid.0 ≡ Some p → commit_pages blank t.old pid.0 p range prot ≡ record { answer = a; world = t.new }) }
     ensures err { OnErr result ((t.new ≡ t.old) × (G.contents g.new ≡ G.contents g.old)) }
     ensures settled { Settled t.new (G.contents g.old) (G.contents g.new) (G.store g.old) (G.store g.new) }
+    ensures passes { PassesIn G.unpaged (Turns Makes) (G.store g.old) (G.store g.new) (G.behind g.old) (G.behind g.new) }
+    ensures idle { OnErr result ((turn : Turn) → PassesIn G.unpaged (Turns turn) (G.store g.old) (G.store g.new) (G.behind g.old) (G.behind g.new)) }
     ensures loans { G.loans g.new ≡ G.loans g.old }
 {
     t.sound();

@@ -5,6 +5,9 @@ ghost use Rattle.mm_types.specs.Outside.{Rose};
 ghost use Rattle.mm_world.specs.Processes.{new_process, most_processes};
 ghost use Rattle.mm_world.specs.Step.{is_failed_extension};
 ghost use Rattle.mm_pages.specs.Reports.{begun};
+ghost use Rattle.mm_pages.specs.Housekeeping.{Turn, Turns};
+ghost use Rattle.mm_pages.specs.Passing.{PassesIn, NotesIn};
+ghost use Rattle.mm_calls.specs.Growing.{GrowsBy};
 ghost use Rattle.mm_tables.specs.Fits.{Fits, Called, beside, before_process, extended, grown};
 
 use mm_pages::Pages;
@@ -20,6 +23,7 @@ const SLOTS: u32 = 262_144;
 ///
 /// `Full` exactly where 64 processes were made. After `NoMemory` tables and store are as before, and no call of
 /// this line can follow.
+#[tactic(auto, using(mm_pages::proofs::Passed::turns_same))]
 pub fn new_process<G: Pages>(
     allocator: Global,
     t: &mut Tables,
@@ -34,6 +38,7 @@ pub fn new_process<G: Pages>(
     ensures fits { OnOk result (Fits t.new (G.contents g.new) (G.store g.new)) }
     ensures err { OnErr result ((t.new ≡ t.old) × (G.contents g.new ≡ G.contents g.old) × (G.store g.new ≡ G.store g.old)) }
     ensures beside { G.store g.new ≡ beside (G.store g.old) (G.store g.new) }
+    ensures passes { (turn : Turn) → PassesIn G.unpaged (Turns turn) (G.store g.old) (G.store g.new) (G.behind g.old) (G.behind g.new) }
     ensures loans { G.loans g.new ≡ G.loans g.old }
 {
     let pid = match t.next_pid() {
@@ -67,6 +72,7 @@ pub fn grow_paging<G: Pages>(
     ensures faults { (G.store g.old).paging_device.faults ≤ (G.store g.new).paging_device.faults }
     ensures unpaged { G.unpaged ≡ true → OnOk result (is_failed_extension (G.store g.new).report.extended ≡ false) }
     ensures err { OnErr result ((t.new ≡ t.old) × (G.store g.new ≡ G.store g.old)) }
+    ensures notes { NotesIn G.unpaged (GrowsBy line n result) (G.behind g.old) (G.behind g.new) }
     ensures loans { G.loans g.new ≡ G.loans g.old }
 {
     if n > SLOTS || t.machine().slots() > SLOTS - n {

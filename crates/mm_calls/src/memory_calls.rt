@@ -1,4 +1,5 @@
-ghost use Rattle.std.specs.Prelude.{◌≡◌, ◌==◌, true, false, is_some, IsOk, IfOk, OnErr};
+ghost use Rattle.std.specs.Prelude.{◌≡◌, ◌≤◌, ◌==◌, true, false, is_some, IsOk, IfOk, OnErr, IsSomeAnd};
+ghost use Rattle.mm_types.specs.Address.{end_of_user_pages, range_of};
 ghost use Rattle.mm_types.specs.Protection.{base_of};
 ghost use Rattle.mm_types.specs.declared.moves.LineKind.TheVariants as line_kind;
 ghost use Rattle.mm_world.specs.Find.{process_of};
@@ -6,7 +7,9 @@ ghost use Rattle.mm_world.specs.Alloc.{alloc};
 ghost use Rattle.mm_world.specs.Contents.{blank};
 ghost use Rattle.mm_world.specs.Free.{free};
 ghost use Rattle.mm_world.specs.Protect.{protect};
-ghost use Rattle.mm_tables.specs.Fits.{Fits, Called, beside};
+ghost use Rattle.mm_pages.specs.Housekeeping.{Turn, Turns, Makes, Ends};
+ghost use Rattle.mm_pages.specs.Passing.{PassesIn};
+ghost use Rattle.mm_tables.specs.Fits.{Fits, Called, beside, is_uncommitted, new_marks};
 
 use crate::allocations::{commit, reserve};
 use crate::frees::{decommit_range, decommit_region, release};
@@ -27,6 +30,7 @@ use std::alloc::Global;
 /// committed do not all lie in one private region or one view of a page-file section; `InvalidParameter` where a page of a view does not
 /// accept the protection; `CommitmentLimit` where the charge would pass the limit. After
 /// `NoMemory` tables and pages are as before.
+#[tactic(auto, using(mm_pages::proofs::Passed::turns_same))]
 pub fn valloc<G: Pages>(
     allocator: Global,
     t: &mut Tables,
@@ -43,6 +47,8 @@ pub fn valloc<G: Pages>(
     ensures err { OnErr result ((t.new ≡ t.old) × (G.contents g.new ≡ G.contents g.old)) }
     ensures fits { Fits t.new (G.contents g.new) (G.store g.new) }
     ensures beside { G.store g.new ≡ beside (G.store g.old) (G.store g.new) }
+    ensures passes { PassesIn G.unpaged (Turns Makes) (G.store g.old) (G.store g.new) (G.behind g.old) (G.behind g.new) }
+    ensures idle { OnErr result ((turn : Turn) → PassesIn G.unpaged (Turns turn) (G.store g.old) (G.store g.new) (G.behind g.old) (G.behind g.new)) }
     ensures loans { G.loans g.new ≡ G.loans g.old }
 {
     if !t.has(pid) {
@@ -63,6 +69,7 @@ pub fn valloc<G: Pages>(
 /// In this order: `InvalidHandle` for a process that does not live; `InvalidParameter` for a type that is neither, or a
 /// release with a size; `InvalidAddress` where no private region begins at the address (a release, or size 0), or the
 /// pages do not all lie in one.
+#[tactic(auto, using(mm_pages::proofs::Passed::turns_same))]
 pub fn vfree<G: Pages>(
     t: &mut Tables,
     g: &mut G,
@@ -76,6 +83,7 @@ pub fn vfree<G: Pages>(
     ensures called { Called (free t.old pid.0 addr size kind) t.old (G.contents g.old) result t.new (G.contents g.new) }
     ensures fits { Fits t.new (G.contents g.new) (G.store g.new) }
     ensures beside { G.store g.new ≡ beside (G.store g.old) (G.store g.new) }
+    ensures passes { PassesIn G.unpaged (Turns (Ends (is_uncommitted t.new) 0 end_of_user_pages)) (G.store g.old) (G.store g.new) (G.behind g.old) (G.behind g.new) }
     ensures loans { G.loans g.new ≡ G.loans g.old }
 {
     if !t.has(pid) {
@@ -98,7 +106,9 @@ pub fn vfree<G: Pages>(
 /// In this order: `InvalidHandle` for a process that does not live; `InvalidParameter` for a size of 0 or what is no
 /// protection; `InvalidAddress` where the pages are not all committed in one region; `InvalidParameter` for a
 /// protection that one of them does not accept. `CommitmentLimit` where the charge of
-/// new marks would pass the limit. `NoMemory` comes only where WRITECOPY marks a page; then tables and bytes are as before.
+/// new marks would pass the limit. `NoMemory` comes only where WRITECOPY marks a page of a view that has no mark yet; then tables and
+/// bytes are as before.
+#[tactic(auto, using(mm_pages::proofs::Passed::turns_same))]
 pub fn protect<G: Pages>(
     t: &mut Tables,
     g: &mut G,
@@ -112,8 +122,10 @@ pub fn protect<G: Pages>(
     ensures ok { IfOk result (λ a. Called (protect t.old pid.0 addr size prot) t.old (G.contents g.old) a t.new (G.contents g.new)) }
     ensures err { OnErr result ((t.new ≡ t.old) × (G.contents g.new ≡ G.contents g.old)) }
     ensures unmarked { (base_of prot == 0x08) ≡ false → IsOk result }
+    ensures marks { OnErr result (IsSomeAnd (process_of t.old pid.0) (λ p. 1 ≤ new_marks p.regions (range_of addr size) prot)) }
     ensures fits { Fits t.new (G.contents g.new) (G.store g.new) }
     ensures beside { G.store g.new ≡ beside (G.store g.old) (G.store g.new) }
+    ensures passes { (turn : Turn) → PassesIn G.unpaged (Turns turn) (G.store g.old) (G.store g.new) (G.behind g.old) (G.behind g.new) }
     ensures loans { G.loans g.new ≡ G.loans g.old }
 {
     if !t.has(pid) {

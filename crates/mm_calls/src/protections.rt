@@ -1,4 +1,4 @@
-ghost use Rattle.std.specs.Prelude.{◌≡◌, ◌==◌, true, false, is_some, Some, IsOk, IfOk, OnErr, option_map};
+ghost use Rattle.std.specs.Prelude.{◌≡◌, ◌≤◌, ◌==◌, true, false, is_some, Some, IsOk, IfOk, OnErr, option_map};
 ghost use Rattle.mm_types.specs.declared.answers.Answer.TheVariants as answer;
 ghost use Rattle.mm_types.specs.declared.codes.Code.TheVariants as code;
 ghost use Rattle.mm_types.specs.declared.moves.LineKind.TheVariants as line_kind;
@@ -8,6 +8,8 @@ ghost use Rattle.mm_world.specs.Find.{Found, process_of, region_around, set_regi
 ghost use Rattle.mm_world.specs.Outcome.{done, find_or, need, within_limit};
 ghost use Rattle.mm_world.specs.Protect.{protection_at};
 ghost use Rattle.mm_world.specs.Rows.{is_protection_among, all_protections, is_committed_at, accepts, every_page, protected, change_rows};
+ghost use Rattle.mm_pages.specs.Housekeeping.{Turn, Turns};
+ghost use Rattle.mm_pages.specs.Passing.{PassesIn};
 ghost use Rattle.mm_tables.specs.Fits.{Fits, Settled, new_marks};
 
 use crate::parameters::WRITECOPY;
@@ -17,6 +19,7 @@ use mm_tables::Tables;
 use mm_types::{Answer, Code, Kind, NoMemory, Pid};
 
 /// Gives pages of a living process another protection, which a page can have.
+#[tactic(auto, using(mm_pages::proofs::Passed::turns_same))]
 pub(crate) fn protect_range<G: Pages>(
     t: &mut Tables,
     g: &mut G,
@@ -37,7 +40,9 @@ pub(crate) fn protect_range<G: Pages>(
         ≡ record { answer = a; world = t.new }) }
     ensures err { OnErr result ((t.new ≡ t.old) × (G.contents g.new ≡ G.contents g.old)) }
     ensures unmarked { (base_of prot == 0x08) ≡ false → IsOk result }
+    ensures marks { OnErr result ((p : ProcessOf (Unit {0})) → process_of t.old pid.0 ≡ Some p → 1 ≤ new_marks p.regions range prot) }
     ensures settled { Settled t.new (G.contents g.old) (G.contents g.new) (G.store g.old) (G.store g.new) }
+    ensures passes { (turn : Turn) → PassesIn G.unpaged (Turns turn) (G.store g.old) (G.store g.new) (G.behind g.old) (G.behind g.new) }
     ensures loans { G.loans g.new ≡ G.loans g.old }
 {
     t.sound();

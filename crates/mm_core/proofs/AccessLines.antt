@@ -30,8 +30,8 @@ use Rattle.mm_core.proofs.Lines.{stepped-plain, never-fails}
 
 -- ---- an access of unpaged memory tells no failed device
 
-record Fine (o : OutcomeOf Page) : Type 0 where
-  fine : IsFailure o.answer → ⊥
+pub record Fine (o : OutcomeOf Page) : Type 0 where
+  pub fine : IsFailure o.answer → ⊥
 
 fine_refused : (w : World) (why : Code) → Holds Fine (refused w why)
 fine_refused w why = record { it = record { fine = λ f. f } }
@@ -48,7 +48,7 @@ fine_at : (w : World) (pid : ℕ) (p : ProcessOf Page) (page offset : ℕ) (what
 fine_at w pid p page offset what None = fine_done _ w (λ f. f)
 fine_at w pid p page offset what (Some c) = search (tables, fine_done, fine_perform) depth 12
 
-fine_access : (w : World) (pid addr : ℕ) (what : Attempt) → Holds Fine (access w pid addr what)
+pub fine_access : (w : World) (pid addr : ℕ) (what : Attempt) → Holds Fine (access w pid addr what)
 fine_access w pid addr what = search (tables, fine_refused, fine_at) depth 12
 
 -- ---- how a permitted access ended
@@ -139,7 +139,7 @@ module _ (u : Bool) (e : Event) (n : ℕ) (t : Tables) (old mid : Key → Option
                 ap (stepped w e) (is_told ∙ ap (λ n. failing n z.report) h.needs ∙ ap (λ b. when b (answer.Raised raise.InPageError)) failed)
                 ∙ ap (λ (v : World). done (answer.Raised raise.InPageError) v) (raises ∙ sym l.same)
                 ∙ ap (λ (a : Answer). done a v) (sym l.raised);
-            told = λ never fine. absurd (l.paged never);
+            told = λ never plain fine. absurd (l.paged never);
           }) h.served (λ f. l.blamed)
 
       pub decided-access : Decided u e n t old s a after new z

@@ -32,7 +32,7 @@ use Rattle.mm_world.proofs.Each.{each-at}
 use Rattle.mm_world.proofs.Finding.{found_stands}
 use Rattle.mm_world.proofs.LaidOut.{and-true, less}
 use Rattle.mm_world.proofs.Natural.{first-map}
-use Rattle.mm_pages.specs.Devices.{DeviceOf}
+use Rattle.mm_blocks.specs.Devices.{DeviceOf}
 use Rattle.mm_pages.specs.Store.{StoreOf}
 use Rattle.mm_pages.specs.Reports.{with_named, with_named_paging}
 use Rattle.mm_tables.specs.Fits.{bytes_of, block_in, BlocksHold, IsNamed, filed, flushed}

@@ -51,7 +51,7 @@ module _ (t : Tables) (c : Key → Option Page) (s : StoreOf) (f : Fits t c s) w
         names = names;
         file_blocks = z.file_blocks;
         ready = z.ready;
-        report = record (z.report) { wait = s.report.wait; extended = s.report.extended };
+        report = record (z.report) { extended = s.report.extended };
         paging_device = z.paging_device;
         file_device = z.file_device;
       }

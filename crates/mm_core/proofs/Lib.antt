@@ -11,3 +11,9 @@ pub mod Writing
 pub mod Accesses
 pub mod AccessLines
 pub mod Files
+pub mod PagingLines
+pub mod Readiness
+pub mod Waiting
+pub mod ThreadLines
+pub mod Forgotten
+pub mod Formed

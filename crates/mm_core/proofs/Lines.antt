@@ -54,7 +54,7 @@ bytes-kept t after c old new k = bytes_at (c k) _ _ (old k) (new k)
 -- a line of which the store tells nothing
 pub stepped-plain : (u : Bool) (w : World) (e : Event) (before later : Report) (a : Answer) (v : World) → told w e before later ≡ None → unpaged w e ≡ done a v → Stepped u w e before later a v
 stepped-plain u w e before later a v none outcome =
-    record { decided = ap (stepped w e) none ∙ outcome; told = λ never fine. outcome }
+    record { decided = ap (stepped w e) none ∙ outcome; told = λ never plain fine. outcome }
 
 module _ (u : Bool) (e : Event) (n : ℕ) (t : Tables) (old : Key → Option Page) (s m : StoreOf) (a : Answer) (after : Tables) (new : Key → Option Page) (z : StoreOf) where
   abbrev w : World
@@ -96,7 +96,7 @@ module _ (u : Bool) (e : Event) (n : ℕ) (t : Tables) (old : Key → Option Pag
       let tables : t ≡ after = ap (λ (o : OutcomeOf (Unit {0})). o.world) outcome in
       record {
         decided = ap (stepped w e) is_told ∙ ap (λ (w : World). done answer.Fault w) (kept ∙ sym (same (sym tables))) ∙ ap (λ (a : Answer). done a v) answers;
-        told = λ never fine. absurd (fine (sym answers));
+        told = λ never plain fine. absurd (fine (sym answers));
       }
   stepped-faulted false q outcome is_told kept same across = stepped-plain u w e s.report z.report a v is_told (across outcome)
 

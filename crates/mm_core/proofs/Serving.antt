@@ -1,5 +1,5 @@
 -- What a line did to the devices, from the calls that its store made.
-use Rattle.std.proofs.Common.{◌≡◌, ◌≤◌, ℕ, Bool, List, [], ◌∷◌, ◌++◌, refl, sym, ◌∙◌, ap, subst, arith, length}
+use Rattle.std.proofs.Common.{◌≡◌, ◌≤◌, ◌⊎◌, inl, inr, ℕ, Bool, List, [], ◌∷◌, ◌++◌, refl, sym, ◌∙◌, ap, subst, arith, length}
 use Rattle.std.proofs.lemmas.List.{length-map}
 use Rattle.mm_types.specs.declared.answers.Answer.{Answer}
 use Rattle.mm_types.specs.declared.devices.Direction.{Direction}
@@ -7,11 +7,12 @@ use Rattle.mm_types.specs.declared.devices.Direction.TheVariants as way
 use Rattle.mm_types.specs.declared.events.Event.{Event}
 use Rattle.mm_blocks.specs.Traffic.{one_further}
 use Rattle.mm_world.specs.Report.{Report, Tally}
-use Rattle.mm_pages.specs.Devices.{DeviceOf, Call, AllServed, with_call, tallied}
+use Rattle.mm_blocks.specs.Devices.{DeviceOf, Call, AllServed}
+use Rattle.mm_pages.specs.Tallies.{with_call, tallied}
 use Rattle.mm_pages.specs.Store.{StoreOf}
 use Rattle.mm_pages.specs.Reports.{Served, SomeRose, rearranged}
 use Rattle.mm_tables.specs.Fits.{beside}
-use Rattle.mm_core.specs.Serving.{IsFailure, Named, OneRose}
+use Rattle.mm_core.specs.Serving.{IsFailure, FailedBefore, Named, OneRose}
 use Rattle.mm_core.specs.Deciding.{Begins, Devices}
 
 -- ---- calls behind calls
@@ -95,8 +96,8 @@ served-quiet m z h =
 
 -- ---- a line
 
-pub devices-served : (u : Bool) (e : Event) (n : ℕ) (s m z : StoreOf) (a : Answer) → Begins n s m → Served m z → Named u e a s.paging_device z.paging_device s.file_device z.file_device → (IsFailure a → SomeRose m z) → Devices u e s z a
-devices-served u e n s m z a b h named failed =
+pub devices-told : (u : Bool) (e : Event) (n : ℕ) (s m z : StoreOf) (a : Answer) → Begins n s m → Served m z → Named u e a s.paging_device z.paging_device s.file_device z.file_device → (IsFailure a → FailedBefore e s.report ⊎ SomeRose m z) → Devices u e s z a
+devices-told u e n s m z a b h named failed =
     record {
       asked_files = λ plain.
           record {
@@ -113,12 +114,17 @@ devices-served u e n s m z a b h named failed =
             wrote = h.paging_writes ∙ ap (λ (r : Report). tallied way.Write h.paging_calls r.paging_writes) b.report_is;
           };
       named = named;
-      failed = λ f.
-          subst (λ (d : DeviceOf). OneRose d z.paging_device s.file_device z.file_device) b.paging
-          (subst (λ (d : DeviceOf). OneRose m.paging_device z.paging_device d z.file_device) b.files (failed f));
+      failed = λ f. elim (failed f) [
+        | inl before ↦ inl before
+        | inr rose ↦ inr (subst (λ (d : DeviceOf). OneRose d z.paging_device s.file_device z.file_device) b.paging
+            (subst (λ (d : DeviceOf). OneRose m.paging_device z.paging_device d z.file_device) b.files rose))
+      ];
       paging_later = omega (arith, all-later h.paging_calls m.paging_device z.paging_device h.paging, ap (λ (d : DeviceOf). d.faults) b.paging);
       files_later = omega (arith, all-later h.file_calls m.file_device z.file_device h.files, ap (λ (d : DeviceOf). d.faults) b.files);
     }
+
+pub devices-served : (u : Bool) (e : Event) (n : ℕ) (s m z : StoreOf) (a : Answer) → Begins n s m → Served m z → Named u e a s.paging_device z.paging_device s.file_device z.file_device → (IsFailure a → SomeRose m z) → Devices u e s z a
+devices-served u e n s m z a b h named failed = devices-told u e n s m z a b h named (λ f. inr (failed f))
 
 -- where no device was called, the answer is no failure
 pub devices-quiet : (u : Bool) (e : Event) (n : ℕ) (s m z : StoreOf) (a : Answer) → Begins n s m → Quiet m z → Named u e a s.paging_device z.paging_device s.file_device z.file_device → (IsFailure a → ⊥) → Devices u e s z a

@@ -10,7 +10,8 @@ use Rattle.mm_world.specs.World.{World, ProcessOf}
 use Rattle.mm_world.specs.Find.{process_of}
 use Rattle.mm_world.specs.Keys.{Committed, committed_at}
 use Rattle.mm_world.specs.Access.{Attempt, access}
-use Rattle.mm_world.specs.Failure.{Need, access_fails}
+use Rattle.mm_world.specs.Failure.{Need, access_fails, still_needs_frame}
+use Rattle.mm_world.specs.Report.{Report}
 use Rattle.mm_world.specs.Step.{need_at}
 use Rattle.mm_world.specs.Contents.{Tables}
 use Rattle.mm_pages.specs.Store.{StoreOf}
@@ -47,3 +48,8 @@ pub record Accessed (never_fails : Bool) (w : World) (pid addr : ℕ) (what : At
   pub had : access_fails need z.report ≡ false → access w pid addr what ≡ record { answer = a; world = v }
   pub lost : access_fails need z.report ≡ true → Lost never_fails w m z a v
   pub served : Served m z
+
+-- what an access needs was had: it does not fail, and needs no frame any more
+pub record IsHad (need : Need) (after : Report) : Type 0 where
+  pub fine : access_fails need after ≡ false
+  pub framed : still_needs_frame need after ≡ false

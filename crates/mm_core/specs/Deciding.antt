@@ -1,5 +1,5 @@
 -- What one line does to the tables, to the bytes and to the store.
-use Rattle.std.specs.Prelude.{◌≡◌, ◌≤◌, ℕ, Bool, true, false, Option}
+use Rattle.std.specs.Prelude.{◌≡◌, ◌≤◌, ◌⊎◌, ℕ, Bool, true, false, Option}
 use Rattle.mm_types.specs.declared.answers.Answer.{Answer}
 use Rattle.mm_types.specs.declared.events.Event.{Event}
 use Rattle.mm_types.specs.declared.events.Event.TheVariants as event
@@ -12,7 +12,7 @@ use Rattle.mm_pages.specs.Store.{StoreOf}
 use Rattle.mm_pages.specs.Reports.{begun}
 use Rattle.mm_tables.specs.Fits.{Fits, bytes_of}
 use Rattle.mm_tables.specs.References.{MadeAtMost}
-use Rattle.mm_core.specs.Serving.{AskedFiles, AskedPaging, IsFailure, OneRose, Flushed, Named, is_grow, is_fail}
+use Rattle.mm_core.specs.Serving.{AskedFiles, AskedPaging, IsFailure, OneRose, Flushed, Named, is_grow, is_fail, FailedBefore}
 use Rattle.mm_core.specs.Stepping.{Stepped}
 
 -- a line that names no numbers of its own in its kind
@@ -40,7 +40,7 @@ pub record Devices (never_fails : Bool) (e : Event) (s z : StoreOf) (a : Answer)
   pub asked_files : is_fail e ≡ false → AskedFiles s.file_device z.file_device z.report
   pub asked_paging : is_fail e ≡ false → is_grow e ≡ false → AskedPaging s.paging_device z.paging_device z.report
   pub named : Named never_fails e a s.paging_device z.paging_device s.file_device z.file_device
-  pub failed : IsFailure a → OneRose s.paging_device z.paging_device s.file_device z.file_device
+  pub failed : IsFailure a → FailedBefore e s.report ⊎ OneRose s.paging_device z.paging_device s.file_device z.file_device
   pub paging_later : s.paging_device.faults ≤ z.paging_device.faults
   pub files_later : s.file_device.faults ≤ z.file_device.faults
 
@@ -91,11 +91,16 @@ abbrev pub is_access_line : Event → Bool
 is_access_line (event.Read pid addr len) = true
 is_access_line (event.Write pid addr bytes) = true
 is_access_line (event.Exec pid addr) = true
+is_access_line (event.Begin tid pid what) = true
+is_access_line (event.Resume tid) = true
 is_access_line _ = false
 
 abbrev pub is_paging_line : Event → Bool
 is_paging_line (event.Trim pid n) = true
 is_paging_line (event.Age pid) = true
 is_paging_line (event.Zeroer n) = true
+is_paging_line (event.Writer n) = true
+is_paging_line (event.Io i) = true
+is_paging_line event.Counts = true
 is_paging_line (event.Fail device direction k n) = true
 is_paging_line _ = false

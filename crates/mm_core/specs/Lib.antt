@@ -4,3 +4,5 @@ pub mod Deciding
 pub mod Built
 pub mod Shown
 pub mod Serving
+pub mod Pending
+pub mod Forgetting

@@ -1,5 +1,5 @@
 -- What a line does to devices, and what it leaves in blocks.
-use Rattle.std.specs.Prelude.{◌≡◌, ◌≤◌, ◌⊎◌, ℕ, ◌+◌, ◌-◌, Bool, true, false, List, Some, slice_get}
+use Rattle.std.specs.Prelude.{◌≡◌, ◌≤◌, ◌⊎◌, ℕ, ◌+◌, ◌-◌, Bool, true, false, List, Option, Some, None, slice_get}
 use Rattle.mm_types.specs.declared.answers.Answer.{Answer}
 use Rattle.mm_types.specs.declared.answers.Answer.TheVariants as answer
 use Rattle.mm_types.specs.declared.codes.Raise.TheVariants as raise
@@ -12,9 +12,11 @@ use Rattle.mm_types.specs.Address.{holds_page}
 use Rattle.mm_types.specs.Outside.{Rose}
 use Rattle.mm_world.specs.World.{Page, World, RegionOf, ProcessOf}
 use Rattle.mm_world.specs.Find.{Found, process_of, area_at, shared_page}
+use Rattle.mm_world.specs.Failure.{wait_failed}
 use Rattle.mm_world.specs.Report.{Report, Tally}
 use Rattle.mm_world.specs.Views.{flushed_view, flushed_range}
-use Rattle.mm_pages.specs.Devices.{DeviceOf, Call, AllServed, tallied}
+use Rattle.mm_blocks.specs.Devices.{DeviceOf, Call, AllServed}
+use Rattle.mm_pages.specs.Tallies.{tallied}
 use Rattle.mm_pages.specs.Reports.{no_calls, with_named, with_named_paging}
 use Rattle.mm_blocks.specs.declared.device_calls.NamedCalls.{NamedCalls}
 use Rattle.mm_types.specs.declared.devices.Device.{Device}
@@ -54,6 +56,19 @@ Named unpaged (line.Fail device direction k n) answer.Ok paging paging' files fi
     NamedOn unpaged device (record { direction = direction; passes = k - 1; fails = n }) paging paging' files files'
 Named unpaged (line.Fail device direction k n) _ paging paging' files files' = (paging' ≡ paging) × (files' ≡ files)
 Named unpaged _ _ paging paging' files files' = Unit {0}
+
+-- the thread whose access a line resumes
+abbrev pub resumed_thread : Event → Option ℕ
+resumed_thread (line.Resume tid) = Some tid.0
+resumed_thread _ = None
+
+abbrev pub HasFailed : Option ℕ → Report → Type 0
+HasFailed None before = ⊥
+HasFailed (Some tid) before = wait_failed (before.wait tid) ≡ true
+
+-- the read that a thread waited for has failed before its `resume`
+abbrev pub FailedBefore : Event → Report → Type 0
+FailedBefore e before = HasFailed (resumed_thread e) before
 
 -- an answer that comes only where a device failed
 abbrev pub IsFailure : Answer → Type 0

@@ -5,7 +5,7 @@ use Rattle.mm_world.specs.World.{Page, World}
 use Rattle.mm_world.specs.Contents.{world_with}
 use Rattle.mm_world.specs.Report.{Report}
 use Rattle.mm_pages.specs.declared.pages.Pages.{Ghosts as PagesGhosts}
-use Rattle.mm_pages.specs.Devices.{DeviceOf}
+use Rattle.mm_blocks.specs.Devices.{DeviceOf}
 use Rattle.mm_tables.specs.Fits.{bytes_of}
 use Rattle.mm_core.specs.declared.worlds.World.{World as Kept}
 

@@ -1,15 +1,14 @@
 ghost use Rattle.std.specs.Prelude.{◌≡◌, ◌≤◌, ◌+◌, ◌%◌, true, false, Some, length};
 ghost use Rattle.mm_types.specs.declared.events.Event.TheVariants as event;
-ghost use Rattle.mm_types.specs.declared.moves.LineKind.TheVariants as line_kind;
 ghost use Rattle.mm_types.specs.declared.protections.Access.TheVariants as access_kind;
 ghost use Rattle.mm_types.specs.Address.{page_of};
 ghost use Rattle.mm_world.specs.Access.{ReadOf, WriteOf, Execute};
 ghost use Rattle.mm_world.specs.Contents.{world_with};
 ghost use Rattle.mm_world.specs.WellFormed.{Spaces};
 ghost use Rattle.mm_pages.specs.Reports.{IsBegun};
-ghost use Rattle.mm_pages.specs.Conditions.{place_at};
+ghost use Rattle.mm_pages.specs.Conditions.{place_at, touch, copying, IsReady, MayAccess};
 ghost use Rattle.mm_tables.specs.Fits.{key_at, bytes_of};
-ghost use Rattle.mm_core.specs.Accessing.{Admits, Accessed};
+ghost use Rattle.mm_core.specs.Accessing.{Admits, Accessed, IsHad};
 ghost use Rattle.mm_core.specs.Deciding.{Keeps, Decided};
 
 use crate::beginning::begin_access;
@@ -20,7 +19,8 @@ use mm_tables::{CommittedRow, Tables};
 use mm_types::{Access, Answer, ByteBuf, Code, Pid, Raise};
 
 /// Reads 1 to 64 bytes, which the row of their page permits.
-fn read_at<G: Pages>(
+#[tactic(auto, using(crate::proofs::Readiness::had_ready))]
+pub(crate) fn read_at<G: Pages>(
     t: &Tables,
     g: &mut G,
     pid: Pid,
@@ -32,13 +32,14 @@ fn read_at<G: Pages>(
     requires spaces { Spaces t.now }
     requires admitted { Admits t.now pid.0 addr access_kind.Read row }
     requires at { key_at t.now (place_at pid (page_of addr)) ≡ Some row.key }
-    requires form { (G.store g.old).kind ≡ line_kind.Access pid }
+    requires may { MayAccess (G.store g.old) (place_at pid (page_of addr)) (touch row.key) }
     requires begun { IsBegun (G.store g.old).report }
     requires some { 1 ≤ len }
     requires few { len ≤ 64 }
     requires inside { addr % 4096 + len ≤ 4096 }
     ensures accessed { Accessed G.unpaged (world_with t.now (bytes_of (G.contents g.old))) pid.0 addr (ReadOf len) (G.store g.old) (G.store g.new) result (world_with t.now (bytes_of (G.contents g.new))) }
     ensures keeps { Keeps t.now (G.contents g.new) (G.store g.new) }
+    ensures had { IsReady (G.store g.old) (place_at pid (page_of addr)) (touch row.key) → IsHad (touch row.key) (G.store g.new).report }
     ensures line { (G.store g.new).line ≡ (G.store g.old).line }
     ensures loans { G.loans g.new ≡ G.loans g.old }
 {
@@ -49,15 +50,23 @@ fn read_at<G: Pages>(
 }
 
 /// Executes what the row of a page permits. No byte is read, but a page that cannot be had raises as for a read.
-fn execute_at<G: Pages>(t: &Tables, g: &mut G, pid: Pid, addr: u32, row: CommittedRow) -> Answer
+#[tactic(auto, using(crate::proofs::Readiness::had_ready))]
+pub(crate) fn execute_at<G: Pages>(
+    t: &Tables,
+    g: &mut G,
+    pid: Pid,
+    addr: u32,
+    row: CommittedRow,
+) -> Answer
     requires keeps { Keeps t.now (G.contents g.old) (G.store g.old) }
     requires spaces { Spaces t.now }
     requires admitted { Admits t.now pid.0 addr access_kind.Execute row }
     requires at { key_at t.now (place_at pid (page_of addr)) ≡ Some row.key }
-    requires form { (G.store g.old).kind ≡ line_kind.Access pid }
+    requires may { MayAccess (G.store g.old) (place_at pid (page_of addr)) (touch row.key) }
     requires begun { IsBegun (G.store g.old).report }
     ensures accessed { Accessed G.unpaged (world_with t.now (bytes_of (G.contents g.old))) pid.0 addr Execute (G.store g.old) (G.store g.new) result (world_with t.now (bytes_of (G.contents g.new))) }
     ensures keeps { Keeps t.now (G.contents g.new) (G.store g.new) }
+    ensures had { IsReady (G.store g.old) (place_at pid (page_of addr)) (touch row.key) → IsHad (touch row.key) (G.store g.new).report }
     ensures line { (G.store g.new).line ≡ (G.store g.old).line }
     ensures loans { G.loans g.new ≡ G.loans g.old }
 {
@@ -68,7 +77,8 @@ fn execute_at<G: Pages>(t: &Tables, g: &mut G, pid: Pid, addr: u32, row: Committ
 }
 
 /// Writes bytes where they are, which the row of their page permits.
-fn write_at<G: Pages>(
+#[tactic(auto, using(crate::proofs::Readiness::had_ready))]
+pub(crate) fn write_at<G: Pages>(
     t: &Tables,
     g: &mut G,
     pid: Pid,
@@ -80,12 +90,13 @@ fn write_at<G: Pages>(
     requires spaces { Spaces t.now }
     requires admitted { Admits t.now pid.0 addr access_kind.Write row }
     requires at { key_at t.now (place_at pid (page_of addr)) ≡ Some row.key }
-    requires form { (G.store g.old).kind ≡ line_kind.Access pid }
+    requires may { MayAccess (G.store g.old) (place_at pid (page_of addr)) (touch row.key) }
     requires begun { IsBegun (G.store g.old).report }
     requires stays { row.copies ≡ false }
     requires inside { addr % 4096 + length bytes.now ≤ 4096 }
     ensures accessed { Accessed G.unpaged (world_with t.now (bytes_of (G.contents g.old))) pid.0 addr (WriteOf bytes.now) (G.store g.old) (G.store g.new) result (world_with t.now (bytes_of (G.contents g.new))) }
     ensures keeps { Keeps t.now (G.contents g.new) (G.store g.new) }
+    ensures had { IsReady (G.store g.old) (place_at pid (page_of addr)) (touch row.key) → IsHad (touch row.key) (G.store g.new).report }
     ensures line { (G.store g.new).line ≡ (G.store g.old).line }
     ensures loans { G.loans g.new ≡ G.loans g.old }
 {
@@ -96,7 +107,8 @@ fn write_at<G: Pages>(
 }
 
 /// Writes bytes, which the row of their page permits, to a copy that is the page's own from then on.
-fn write_to_copy<G: Pages>(
+#[tactic(auto, using(crate::proofs::Readiness::had_ready))]
+pub(crate) fn write_to_copy<G: Pages>(
     t: &mut Tables,
     g: &mut G,
     pid: Pid,
@@ -108,12 +120,13 @@ fn write_to_copy<G: Pages>(
     requires spaces { Spaces t.old }
     requires admitted { Admits t.old pid.0 addr access_kind.Write row }
     requires at { key_at t.old (place_at pid (page_of addr)) ≡ Some row.key }
-    requires form { (G.store g.old).kind ≡ line_kind.Access pid }
+    requires may { MayAccess (G.store g.old) (place_at pid (page_of addr)) (copying row.key (place_at pid (page_of addr))) }
     requires begun { IsBegun (G.store g.old).report }
     requires copies { row.copies ≡ true }
     requires inside { addr % 4096 + length bytes.now ≤ 4096 }
     ensures accessed { Accessed G.unpaged (world_with t.old (bytes_of (G.contents g.old))) pid.0 addr (WriteOf bytes.now) (G.store g.old) (G.store g.new) result (world_with t.new (bytes_of (G.contents g.new))) }
     ensures keeps { Keeps t.new (G.contents g.new) (G.store g.new) }
+    ensures had { IsReady (G.store g.old) (place_at pid (page_of addr)) (copying row.key (place_at pid (page_of addr))) → IsHad (copying row.key (place_at pid (page_of addr))) (G.store g.new).report }
     ensures line { (G.store g.new).line ≡ (G.store g.old).line }
     ensures loans { G.loans g.new ≡ G.loans g.old }
 {

@@ -1,5 +1,8 @@
-ghost use Rattle.std.specs.Prelude.{◌≡◌, ◌+◌, true, is_some};
+ghost use Rattle.std.specs.Prelude.{◌≡◌, ◌+◌, true, is_some, if◌then◌else◌};
 ghost use Rattle.mm_types.specs.declared.moves.LineKind.TheVariants as line_kind;
+ghost use Rattle.mm_types.specs.declared.moves.Move.TheVariants as move;
+ghost use Rattle.mm_pages.specs.Housekeeping.{OneMove};
+ghost use Rattle.mm_pages.specs.Passing.{PassesIn};
 ghost use Rattle.mm_world.specs.Find.{process_of};
 ghost use Rattle.mm_world.specs.Contents.{Tables};
 ghost use Rattle.mm_tables.specs.Fits.{Fits};
@@ -17,6 +20,7 @@ pub(crate) fn begin<G: Pages>(g: &mut G, line: u32, form: LineKind)
     ensures begins { Begins line (G.store g.old) (G.store g.new) }
     ensures form { (G.store g.new).kind ≡ form }
     ensures contents { G.contents g.new ≡ G.contents g.old }
+    ensures passes { PassesIn G.unpaged (OneMove (move.At line form)) (G.store g.old) (G.store g.new) (G.behind g.old) (G.behind g.new) }
     ensures loans { G.loans g.new ≡ G.loans g.old }
 {
     g.line(line, form);
@@ -48,6 +52,7 @@ pub(crate) fn begin_access<G: Pages>(t: &Tables, g: &mut G, line: u32, pid: Pid)
     ensures begins { Begins line (G.store g.old) (G.store g.new) }
     ensures form { result ≡ true → (G.store g.new).kind ≡ line_kind.Access pid }
     ensures contents { G.contents g.new ≡ G.contents g.old }
+    ensures passes { PassesIn G.unpaged (OneMove (move.At line (if result then line_kind.Access pid else line_kind.Call))) (G.store g.old) (G.store g.new) (G.behind g.old) (G.behind g.new) }
     ensures loans { G.loans g.new ≡ G.loans g.old }
 {
     let lives = t.has(pid);

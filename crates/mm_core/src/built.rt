@@ -26,9 +26,14 @@ pub fn is_built(event: &Event) -> bool
         | Event::Read(..)
         | Event::Write(..)
         | Event::Exec(..)
+        | Event::Begin(..)
+        | Event::Resume(..)
         | Event::Trim(..)
         | Event::Age(..)
         | Event::Zeroer(..)
+        | Event::Writer(..)
+        | Event::Io(..)
+        | Event::Counts
         | Event::Fail(..)
         | Event::Charge
         | Event::Grow(..) => true,

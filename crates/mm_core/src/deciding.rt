@@ -1,6 +1,8 @@
-ghost use Rattle.std.specs.Prelude.{◌≡◌, ◌≤◌, ◌+◌, true, false, IfOk, OnErr, IsOk};
+ghost use Rattle.std.specs.Prelude.{◌≡◌, ◌≤◌, ◌+◌, ℕ, true, false, IfOk, OnErr, IsOk};
+ghost use Rattle.mm_types.specs.declared.answers.Wait.TheVariants as wait;
 ghost use Rattle.mm_script.specs.Printed.{IsWellFormed};
 ghost use Rattle.mm_core.specs.Built.{is_built, takes_memory};
+ghost use Rattle.mm_core.specs.Forgetting.{EndsWaits};
 ghost use Rattle.mm_core.specs.Deciding.{Keeps, Decided, Idle, is_memory_line, is_section_line, is_view_line, is_access_line, is_paging_line};
 
 use crate::access_lines::{exec_line, read_line, write_line};
@@ -8,11 +10,14 @@ use crate::memory_lines::{
     alloc_line, charge_line, exit_line, free_line, grow_line, process_line, protect_line,
     query_line,
 };
-use crate::paging_lines::{age_line, fail_line, trim_line, zeroer_line};
+use crate::paging_lines::{
+    age_line, counts_line, fail_line, io_line, trim_line, writer_line, zeroer_line,
+};
 use crate::section_lines::{
     close_line, create_file_line, create_line, file_line, flush_line, map_line, open_line,
     unmap_line,
 };
+use crate::thread_lines::{begin_line, resume_line};
 use mm_pages::Pages;
 use mm_tables::Tables;
 use mm_types::{Answer, Event, NoMemory};
@@ -34,6 +39,7 @@ fn decide_memory<G: Pages>(
     ensures ok { IfOk result (λ a. Decided G.unpaged event.now line t.old (G.contents g.old) (G.store g.old) a t.new (G.contents g.new) (G.store g.new)) }
     ensures err { OnErr result (Idle t.old (G.contents g.old) (G.store g.old) t.new (G.contents g.new) (G.store g.new)) }
     ensures no_memory { takes_memory event.now ≡ false → IsOk result }
+    ensures waits { IfOk result (λ a. EndsWaits t.old event.now a (G.store g.new).report) }
     ensures loans { G.loans g.new ≡ G.loans g.old }
 {
     match event {
@@ -123,19 +129,24 @@ fn decide_view<G: Pages>(
 }
 
 /// Decides an access.
+#[tactic(auto, using(crate::proofs::Formed::fits_page))]
 fn decide_access<G: Pages>(t: &mut Tables, g: &mut G, line: u32, event: &Event) -> Answer
     requires well_formed { IsWellFormed event.now }
     requires form { is_access_line event.now ≡ true }
     requires keeps { Keeps t.old (G.contents g.old) (G.store g.old) }
     requires next { line ≡ (G.store g.old).line + 1 }
     requires few { line ≤ 1000000 }
+    requires idle { G.unpaged ≡ true → (tid : ℕ) → (G.store g.old).report.wait tid ≡ wait.None }
     ensures decided { Decided G.unpaged event.now line t.old (G.contents g.old) (G.store g.old) result t.new (G.contents g.new) (G.store g.new) }
+    ensures waits { EndsWaits t.old event.now result (G.store g.new).report }
     ensures loans { G.loans g.new ≡ G.loans g.old }
 {
     match event {
         Event::Read(pid, addr, len) => read_line(t, g, line, *pid, *addr, *len),
         Event::Write(pid, addr, bytes) => write_line(t, g, line, *pid, *addr, bytes),
         Event::Exec(pid, addr) => exec_line(t, g, line, *pid, *addr),
+        Event::Begin(tid, pid, what) => begin_line(t, g, line, *tid, *pid, what),
+        Event::Resume(tid) => resume_line(t, g, line, *tid),
         _ => unreachable!(),
     }
 }
@@ -154,6 +165,9 @@ fn decide_paging<G: Pages>(t: &mut Tables, g: &mut G, line: u32, event: &Event) 
         Event::Trim(pid, n) => trim_line(t, g, line, *pid, *n),
         Event::Age(pid) => age_line(t, g, line, *pid),
         Event::Zeroer(n) => zeroer_line(t, g, line, *n),
+        Event::Writer(n) => writer_line(t, g, line, *n),
+        Event::Io(i) => io_line(t, g, line, *i),
+        Event::Counts => counts_line(t, g, line),
         Event::Fail(device, direction, k, n) => fail_line(t, g, line, *device, *direction, *k, *n),
         _ => unreachable!(),
     }
@@ -172,18 +186,26 @@ pub(crate) fn decide<G: Pages>(
     requires keeps { Keeps t.old (G.contents g.old) (G.store g.old) }
     requires next { line ≡ (G.store g.old).line + 1 }
     requires few { line ≤ 1000000 }
+    requires idle { G.unpaged ≡ true → (tid : ℕ) → (G.store g.old).report.wait tid ≡ wait.None }
     ensures ok { IfOk result (λ a. Decided G.unpaged event.now line t.old (G.contents g.old) (G.store g.old) a t.new (G.contents g.new) (G.store g.new)) }
     ensures err { OnErr result (Idle t.old (G.contents g.old) (G.store g.old) t.new (G.contents g.new) (G.store g.new)) }
     ensures no_memory { takes_memory event.now ≡ false → IsOk result }
+    ensures waits { IfOk result (λ a. EndsWaits t.old event.now a (G.store g.new).report) }
     ensures loans { G.loans g.new ≡ G.loans g.old }
 {
     match event {
-        Event::Read(..) | Event::Write(..) | Event::Exec(..) => Ok(decide_access(
-            t, g, line, event,
-        )),
-        Event::Trim(..) | Event::Age(..) | Event::Zeroer(..) | Event::Fail(..) => Ok(decide_paging(
-            t, g, line, event,
-        )),
+        Event::Read(..)
+        | Event::Write(..)
+        | Event::Exec(..)
+        | Event::Begin(..)
+        | Event::Resume(..) => Ok(decide_access(t, g, line, event)),
+        Event::Trim(..)
+        | Event::Age(..)
+        | Event::Zeroer(..)
+        | Event::Writer(..)
+        | Event::Io(..)
+        | Event::Counts
+        | Event::Fail(..) => Ok(decide_paging(t, g, line, event)),
         Event::Map(..) | Event::Unmap(..) | Event::Flush(..) => {
             decide_view(alloc, t, g, line, event)
         }

@@ -1,5 +1,4 @@
-ghost use Rattle.std.specs.Prelude.{◌≡◌, ◌≤◌, ◌+◌, ◌%◌, true, Some, None, IsOk, IfOk, OnOk, OnErr, length, take, drop};
-ghost use Rattle.mm_types.specs.declared.moves.LineKind.TheVariants as line_kind;
+ghost use Rattle.std.specs.Prelude.{◌≡◌, ◌≤◌, ◌+◌, ◌%◌, true, false, Some, None, IsOk, IfOk, OnOk, OnErr, length, take, drop};
 ghost use Rattle.mm_types.specs.declared.protections.Access.TheVariants as access_kind;
 ghost use Rattle.mm_types.specs.Address.{page_of, page_size};
 ghost use Rattle.mm_world.specs.World.{ProcessOf};
@@ -9,8 +8,10 @@ ghost use Rattle.mm_world.specs.Keys.{Committed, committed_at, private_key, set_
 ghost use Rattle.mm_world.specs.Access.{written};
 ghost use Rattle.mm_world.specs.WellFormed.{Spaces};
 ghost use Rattle.mm_pages.specs.Store.{changed};
+ghost use Rattle.mm_pages.specs.Accesses.{Touches, Copies};
+ghost use Rattle.mm_pages.specs.Passing.{PassesIn};
 ghost use Rattle.mm_pages.specs.Reports.{IsBegun, Ends, Served, SomeRose, eased};
-ghost use Rattle.mm_pages.specs.Conditions.{place_at, touch, copying, IsReady};
+ghost use Rattle.mm_pages.specs.Conditions.{place_at, touch, copying, IsReady, MayAccess};
 ghost use Rattle.mm_tables.specs.Fits.{Fits, bytes_of, key_at};
 ghost use Rattle.mm_core.specs.Accessing.{Admits};
 
@@ -19,7 +20,7 @@ use mm_tables::{CommittedRow, Tables};
 use mm_types::{ByteBuf, Key, PageFault, Pid, Place, Vpn};
 
 /// The page of an address, as a place of a process.
-fn place_of(pid: Pid, addr: u32) -> Place
+pub(crate) fn place_of(pid: Pid, addr: u32) -> Place
     ensures { result ≡ place_at pid (page_of addr) }
 {
     Place {
@@ -53,7 +54,7 @@ pub(crate) fn fetch<G: Pages>(
 ) -> Result<(), PageFault>
     requires fits { Fits t.now (G.contents g.old) (G.store g.old) }
     requires at { key_at t.now (place_at pid (page_of addr)) ≡ Some key }
-    requires form { (G.store g.old).kind ≡ line_kind.Access pid }
+    requires may { MayAccess (G.store g.old) (place_at pid (page_of addr)) (touch key) }
     requires begun { IsBegun (G.store g.old).report }
     requires few { length out.old ≤ 64 }
     requires inside { addr % 4096 + length out.old ≤ 4096 }
@@ -65,7 +66,9 @@ pub(crate) fn fetch<G: Pages>(
     ensures line { (G.store g.new).line ≡ (G.store g.old).line }
     ensures served { Served (G.store g.old) (G.store g.new) }
     ensures blamed { OnErr result (SomeRose (G.store g.old) (G.store g.new)) }
+    ensures ready { IsReady (G.store g.old) (place_at pid (page_of addr)) (touch key) → IsOk result }
     ensures unpaged { G.unpaged ≡ true → IsOk result }
+    ensures passes { PassesIn G.unpaged (Touches (record { place = place_at pid (page_of addr); need = touch key; writes = false; start = (G.behind g.old).life }) (IsReady (G.store g.old) (place_at pid (page_of addr)) (touch key)) result) (G.store g.old) (G.store g.new) (G.behind g.old) (G.behind g.new) }
     ensures loans { G.loans g.new ≡ G.loans g.old }
 {
     g.read(place_of(pid, addr), key, offset_of(addr), out)
@@ -82,7 +85,7 @@ pub(crate) fn read_bytes<G: Pages>(
 ) -> Result<ByteBuf, PageFault>
     requires fits { Fits t.now (G.contents g.old) (G.store g.old) }
     requires at { key_at t.now (place_at pid (page_of addr)) ≡ Some key }
-    requires form { (G.store g.old).kind ≡ line_kind.Access pid }
+    requires may { MayAccess (G.store g.old) (place_at pid (page_of addr)) (touch key) }
     requires begun { IsBegun (G.store g.old).report }
     requires some { 1 ≤ len }
     requires few { len ≤ 64 }
@@ -94,6 +97,7 @@ pub(crate) fn read_bytes<G: Pages>(
     ensures line { (G.store g.new).line ≡ (G.store g.old).line }
     ensures served { Served (G.store g.old) (G.store g.new) }
     ensures blamed { OnErr result (SomeRose (G.store g.old) (G.store g.new)) }
+    ensures ready { IsReady (G.store g.old) (place_at pid (page_of addr)) (touch key) → IsOk result }
     ensures unpaged { G.unpaged ≡ true → IsOk result }
     ensures loans { G.loans g.new ≡ G.loans g.old }
 {
@@ -117,7 +121,7 @@ pub(crate) fn put<G: Pages>(
 ) -> Result<(), PageFault>
     requires fits { Fits t.now (G.contents g.old) (G.store g.old) }
     requires at { key_at t.now (place_at pid (page_of addr)) ≡ Some key }
-    requires form { (G.store g.old).kind ≡ line_kind.Access pid }
+    requires may { MayAccess (G.store g.old) (place_at pid (page_of addr)) (touch key) }
     requires few { length bytes.now ≤ 64 }
     requires inside { addr % 4096 + length bytes.now ≤ 4096 }
     ensures written { OnOk result (G.contents g.new ≡ changed same_key (G.contents g.old) key (Some (written (bytes_of (G.contents g.old) key) (addr % page_size) bytes.now))) }
@@ -130,6 +134,7 @@ pub(crate) fn put<G: Pages>(
     ensures ready { IsReady (G.store g.old) (place_at pid (page_of addr)) (touch key) → IsOk result }
     ensures eased { IsReady (G.store g.old) (place_at pid (page_of addr)) (touch key) → (G.store g.new).report ≡ eased (G.store g.old).report (G.store g.new).report }
     ensures unpaged { G.unpaged ≡ true → IsOk result }
+    ensures passes { PassesIn G.unpaged (Touches (record { place = place_at pid (page_of addr); need = touch key; writes = true; start = (G.behind g.old).life }) (IsReady (G.store g.old) (place_at pid (page_of addr)) (touch key)) result) (G.store g.old) (G.store g.new) (G.behind g.old) (G.behind g.new) }
     ensures loans { G.loans g.new ≡ G.loans g.old }
 {
     g.write(place_of(pid, addr), key, offset_of(addr), bytes)
@@ -147,20 +152,22 @@ fn copy<G: Pages>(
     requires spaces { Spaces t.old }
     requires admitted { Admits t.old pid.0 addr access_kind.Write row }
     requires copies { row.copies ≡ true }
-    requires form { (G.store g.old).kind ≡ line_kind.Access pid }
+    requires may { MayAccess (G.store g.old) (place_at pid (page_of addr)) (copying row.key (place_at pid (page_of addr))) }
     requires begun { IsBegun (G.store g.old).report }
     ensures copied { OnOk result (G.contents g.new ≡ changed same_key (G.contents g.old) (private_key pid.0 (page_of addr)) (G.contents g.old row.key)) }
     ensures row { OnOk result ((p : ProcessOf (Unit {0})) (c : Committed (Unit {0})) → process_of t.old pid.0 ≡ Some p → committed_at t.old p.regions (page_of addr) ≡ Some c → t.new ≡ set_row t.old pid.0 p c.region (page_of addr) (record c.row { own = Some tt; prot = 0x04 })) }
     ensures kept { OnErr result ((t.new ≡ t.old) × (G.contents g.new ≡ G.contents g.old)) }
     ensures at { OnOk result (key_at t.new (place_at pid (page_of addr)) ≡ Some (private_key pid.0 (page_of addr))) }
     ensures ready { OnOk result (IsReady (G.store g.new) (place_at pid (page_of addr)) (touch (private_key pid.0 (page_of addr)))) }
-    ensures form { (G.store g.new).kind ≡ line_kind.Access pid }
+    ensures form { (G.store g.new).kind ≡ (G.store g.old).kind }
     ensures ends { Ends (copying row.key (place_at pid (page_of addr))) (G.store g.new).report result }
     ensures fits { Fits t.new (G.contents g.new) (G.store g.new) }
     ensures line { (G.store g.new).line ≡ (G.store g.old).line }
     ensures served { Served (G.store g.old) (G.store g.new) }
     ensures blamed { OnErr result (SomeRose (G.store g.old) (G.store g.new)) }
+    ensures was_ready { IsReady (G.store g.old) (place_at pid (page_of addr)) (copying row.key (place_at pid (page_of addr))) → IsOk result }
     ensures unpaged { G.unpaged ≡ true → IsOk result }
+    ensures passes { PassesIn G.unpaged (Copies (record { place = place_at pid (page_of addr); need = copying row.key (place_at pid (page_of addr)); writes = true; start = (G.behind g.old).life }) (IsReady (G.store g.old) (place_at pid (page_of addr)) (copying row.key (place_at pid (page_of addr)))) result) (G.store g.old) (G.store g.new) (G.behind g.old) (G.behind g.new) }
     ensures loans { G.loans g.new ≡ G.loans g.old }
 {
     g.copy(place_of(pid, addr), row.key, own_key_of(pid, addr))?;
@@ -169,6 +176,7 @@ fn copy<G: Pages>(
 }
 
 /// Writes bytes from an address on to a copy of its page, which is the page's own from then on.
+#[tactic(auto, using(crate::proofs::Readiness::may_go_on))]
 pub(crate) fn put_copy<G: Pages>(
     t: &mut Tables,
     g: &mut G,
@@ -181,7 +189,7 @@ pub(crate) fn put_copy<G: Pages>(
     requires spaces { Spaces t.old }
     requires admitted { Admits t.old pid.0 addr access_kind.Write row }
     requires copies { row.copies ≡ true }
-    requires form { (G.store g.old).kind ≡ line_kind.Access pid }
+    requires may { MayAccess (G.store g.old) (place_at pid (page_of addr)) (copying row.key (place_at pid (page_of addr))) }
     requires begun { IsBegun (G.store g.old).report }
     requires few { length bytes.now ≤ 64 }
     requires inside { addr % 4096 + length bytes.now ≤ 4096 }
@@ -193,6 +201,7 @@ pub(crate) fn put_copy<G: Pages>(
     ensures line { (G.store g.new).line ≡ (G.store g.old).line }
     ensures served { Served (G.store g.old) (G.store g.new) }
     ensures blamed { OnErr result (SomeRose (G.store g.old) (G.store g.new)) }
+    ensures was_ready { IsReady (G.store g.old) (place_at pid (page_of addr)) (copying row.key (place_at pid (page_of addr))) → IsOk result }
     ensures unpaged { G.unpaged ≡ true → IsOk result }
     ensures loans { G.loans g.new ≡ G.loans g.old }
 {

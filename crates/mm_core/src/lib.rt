@@ -9,10 +9,13 @@ mod beginning;
 mod built;
 mod deciding;
 mod fetching;
+mod forgetting;
 mod memory_lines;
 mod paging_lines;
 mod refusals;
 mod section_lines;
+mod thread_lines;
+mod threads;
 mod worlds;
 
 pub use built::is_built;

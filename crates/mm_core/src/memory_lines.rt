@@ -2,8 +2,10 @@ ghost use Rattle.std.specs.Prelude.{◌≡◌, ◌≤◌, ◌+◌, ◌==◌, fal
 ghost use Rattle.mm_types.specs.declared.events.Event.TheVariants as event;
 ghost use Rattle.mm_types.specs.Protection.{base_of};
 ghost use Rattle.mm_core.specs.Deciding.{Keeps, Decided, Idle};
+ghost use Rattle.mm_core.specs.Forgetting.{EndsWaits};
 
 use crate::beginning::{begin, begin_release};
+use crate::forgetting::forget_waits;
 use mm_calls::{grow_paging, new_process, protect, query, valloc, vfree};
 use mm_pages::Pages;
 use mm_tables::Tables;
@@ -41,14 +43,16 @@ pub(crate) fn process_line<G: Pages>(
     new_process(alloc, t, g, min, max)
 }
 
-/// Decides an `exit` line.
+/// Decides an `exit` line. Threads that keep an access of the process wait no more, before the line begins.
 pub(crate) fn exit_line<G: Pages>(t: &mut Tables, g: &mut G, line: u32, pid: Pid) -> Answer
     requires keeps { Keeps t.old (G.contents g.old) (G.store g.old) }
     requires next { line ≡ (G.store g.old).line + 1 }
     ensures decided { Decided G.unpaged (event.Exit pid) line t.old (G.contents g.old) (G.store g.old) result t.new (G.contents g.new) (G.store g.new) }
+    ensures waits { EndsWaits t.old (event.Exit pid) result (G.store g.new).report }
     ensures loans { G.loans g.new ≡ G.loans g.old }
 {
     t.sound();
+    forget_waits(t, g, pid);
     begin_release(t, g, line, pid);
     end_process(t, g, pid)
 }

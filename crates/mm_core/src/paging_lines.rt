@@ -3,7 +3,7 @@ ghost use Rattle.mm_types.specs.declared.events.Event.TheVariants as event;
 ghost use Rattle.mm_core.specs.Deciding.{Keeps, Decided};
 
 use crate::beginning::{begin, begin_trim};
-use mm_pages::Pages;
+use mm_pages::{Done, Pages};
 use mm_tables::Tables;
 use mm_types::{Answer, Code, Device, Direction, LineKind, Pid};
 
@@ -76,4 +76,43 @@ pub(crate) fn fail_line<G: Pages>(
     g.fail(device, direction, k, n);
     t.take_fail();
     Answer::Ok
+}
+
+/// Decides a `writer` line: modified pages begin to be written, from the front of their list.
+pub(crate) fn writer_line<G: Pages>(t: &mut Tables, g: &mut G, line: u32, n: u32) -> Answer
+    requires keeps { Keeps t.old (G.contents g.old) (G.store g.old) }
+    requires next { line ≡ (G.store g.old).line + 1 }
+    ensures decided { Decided G.unpaged (event.Writer n) line t.old (G.contents g.old) (G.store g.old) result t.new (G.contents g.new) (G.store g.new) }
+    ensures loans { G.loans g.new ≡ G.loans g.old }
+{
+    begin(g, line, LineKind::Writer);
+    g.write_out(n);
+    Answer::Ok
+}
+
+/// Decides an `io` line: the `i`-th oldest request is completed, and its device called.
+pub(crate) fn io_line<G: Pages>(t: &mut Tables, g: &mut G, line: u32, i: u32) -> Answer
+    requires keeps { Keeps t.old (G.contents g.old) (G.store g.old) }
+    requires next { line ≡ (G.store g.old).line + 1 }
+    requires some { 1 ≤ i }
+    ensures decided { Decided G.unpaged (event.Io i) line t.old (G.contents g.old) (G.store g.old) result t.new (G.contents g.new) (G.store g.new) }
+    ensures loans { G.loans g.new ≡ G.loans g.old }
+{
+    begin(g, line, LineKind::Io);
+    match g.complete(i) {
+        Done::None => Answer::Nothing,
+        Done::Ok => Answer::Ok,
+        Done::Failed => Answer::Fault,
+    }
+}
+
+/// Decides a `counts` line: how many frames, slots and requests there are.
+pub(crate) fn counts_line<G: Pages>(t: &mut Tables, g: &mut G, line: u32) -> Answer
+    requires keeps { Keeps t.old (G.contents g.old) (G.store g.old) }
+    requires next { line ≡ (G.store g.old).line + 1 }
+    ensures decided { Decided G.unpaged event.Counts line t.old (G.contents g.old) (G.store g.old) result t.new (G.contents g.new) (G.store g.new) }
+    ensures loans { G.loans g.new ≡ G.loans g.old }
+{
+    begin(g, line, LineKind::Call);
+    Answer::Counts(g.counts())
 }

@@ -1,5 +1,6 @@
-ghost use Rattle.std.specs.Prelude.{◌≡◌, ◌≢◌, ◌≤◌, ◌+◌, true, false, IfOk, OnOk, OnErr, IsOk};
+ghost use Rattle.std.specs.Prelude.{◌≡◌, ◌≢◌, ◌≤◌, ◌⊎◌, ◌+◌, ℕ, true, false, IfOk, OnOk, OnErr, IsOk};
 ghost use Rattle.mm_types.specs.declared.answers.Answer.TheVariants as answer;
+ghost use Rattle.mm_types.specs.declared.answers.Wait.TheVariants as wait;
 ghost use Rattle.mm_world.specs.Step.{first_world, step, unpaged};
 ghost use Rattle.mm_world.specs.Charge.{charge, limit};
 ghost use Rattle.mm_world.specs.Contents.{tables_of};
@@ -9,7 +10,9 @@ ghost use Rattle.mm_script.specs.Printed.{IsWellFormed};
 ghost use Rattle.mm_tables.specs.Fits.{Fits};
 ghost use Rattle.mm_tables.specs.References.{IsTidy, MadeAtMost};
 ghost use Rattle.mm_core.specs.Built.{is_built, takes_memory};
-ghost use Rattle.mm_core.specs.Serving.{AskedFiles, AskedPaging, IsFailure, OneRose, Flushed, Named, is_grow, is_fail};
+ghost use Rattle.mm_core.specs.Forgetting.{EndsWaits};
+ghost use Rattle.mm_core.specs.Stepping.{asks_frames};
+ghost use Rattle.mm_core.specs.Serving.{AskedFiles, AskedPaging, IsFailure, OneRose, Flushed, Named, is_grow, is_fail, FailedBefore};
 
 use crate::deciding::decide;
 use mm_pages::Pages;
@@ -77,8 +80,8 @@ impl<G: Pages> World<G> {
     ///
     /// `NoMemory` comes only from `process`, `file`, `alloc`, `create`, `createfile`, `open`, `map`, `grow`, and a `protect` that
     /// asks for marks. Then the world is as it was, and no further line can be decided. A failed access and a `fault` come only where a
-    /// device's count of faults rose in the line.
-    #[tactic(auto, using(crate::proofs::Charged::charges))]
+    /// device's count of faults rose in the line, or, of a `resume`, where the read that its thread waited for failed before.
+    #[tactic(auto, using(crate::proofs::Charged::charges, crate::proofs::Readiness::idle_in))]
     pub fn step(&mut self, alloc: Global, line: u32, event: &Event) -> Result<Answer, NoMemory>
         requires well_formed { IsWellFormed event.now }
         requires built { is_built event.now ≡ true }
@@ -86,7 +89,7 @@ impl<G: Pages> World<G> {
         requires few { line ≤ 1000000 }
         requires ready { self.old.spent ≡ false }
         ensures step { IfOk result (λ a. step (world self.old) event.now (report self.old) (report self.new) ≡ record { answer = a; world = world self.new }) }
-        ensures told { G.unpaged ≡ true → IfOk result (λ a. a ≢ answer.Fault → unpaged (world self.old) event.now ≡ record { answer = a; world = world self.new }) }
+        ensures told { G.unpaged ≡ true → asks_frames event.now ≡ false → IfOk result (λ a. a ≢ answer.Fault → unpaged (world self.old) event.now ≡ record { answer = a; world = world self.new }) }
         ensures err { OnErr result (world self.new ≡ world self.old) }
         ensures leaves { IfOk result (λ a. LineLeaves (world self.old) event.now (record { answer = a; world = world self.new })) }
         ensures within { charge (world self.new) ≤ limit (world self.new) }
@@ -95,7 +98,9 @@ impl<G: Pages> World<G> {
         ensures asked_paging { is_fail event.now ≡ false → is_grow event.now ≡ false → OnOk result (AskedPaging (paging_device self.old) (paging_device self.new) (report self.new)) }
         ensures named { IfOk result (λ a. Named G.unpaged event.now a (paging_device self.old) (paging_device self.new) (file_device self.old) (file_device self.new)) }
         ensures idle { OnErr result ((paging_device self.new ≡ paging_device self.old) × (file_device self.new ≡ file_device self.old) × (file_blocks self.new ≡ file_blocks self.old)) }
-        ensures failed { IfOk result (λ a. IsFailure a → OneRose (paging_device self.old) (paging_device self.new) (file_device self.old) (file_device self.new)) }
+        ensures failed { IfOk result (λ a. IsFailure a → FailedBefore event.now (report self.old) ⊎ OneRose (paging_device self.old) (paging_device self.new) (file_device self.old) (file_device self.new)) }
+        ensures unwaited { G.unpaged ≡ true → (tid : ℕ) → ((report self.old).wait tid ≡ wait.None) × ((report self.new).wait tid ≡ wait.None) }
+        ensures waits { IfOk result (λ a. EndsWaits (world self.old) event.now a (report self.new)) }
         ensures paging_later { (paging_device self.old).faults ≤ (paging_device self.new).faults }
         ensures files_later { (file_device self.old).faults ≤ (file_device self.new).faults }
         ensures flushed { IfOk result (λ a. Flushed (world self.new) (file_blocks self.new) event.now a) }
@@ -105,9 +110,11 @@ impl<G: Pages> World<G> {
         ensures spent { OnErr result (self.new.spent ≡ true) }
         ensures loans { loans self.new ≡ loans self.old }
     {
+        self.pages.sound();
         let result = decide(alloc, &mut self.tables, &mut self.pages, line, event);
         self.spent = result.is_err();
         self.tables.sound();
+        self.pages.sound();
         result
     }
 }

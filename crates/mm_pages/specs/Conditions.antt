@@ -1,5 +1,5 @@
 -- When a call of a store may be made: which lines make it, and what its keys and places must be.
-use Rattle.std.specs.Prelude.{◌≡◌, ◌≤◌, ◌<◌, ℕ, ◌+◌, Bool, true, false, ◌⊎◌, length, [], Option, None, Some, IsSome}
+use Rattle.std.specs.Prelude.{◌≡◌, ◌≤◌, ◌<◌, ℕ, ◌+◌, Bool, true, false, ◌⊎◌, length, [], Option, None, Some, IsSome, not, ◌&&◌, nat_le, if◌then◌else◌}
 use Rattle.mm_types.specs.declared.numbers.Key.{Key}
 use Rattle.mm_types.specs.declared.numbers.Key.TheVariants as key
 use Rattle.mm_types.specs.declared.numbers.Pid.{Pid}
@@ -12,6 +12,16 @@ use Rattle.mm_world.specs.World.{Page}
 use Rattle.mm_world.specs.Failure.{Need}
 use Rattle.mm_pages.specs.Store.{StoreOf, own_key, kind_of_machine}
 use Rattle.mm_pages.specs.Reports.{IsBegun}
+use Rattle.mm_types.specs.declared.answers.Wait.{Wait}
+use Rattle.mm_types.specs.declared.answers.Wait.TheVariants as wait
+use Rattle.mm_types.specs.declared.answers.Why.{Why}
+use Rattle.mm_types.specs.declared.answers.Why.TheVariants as why
+use Rattle.mm_world.specs.Report.{Report, is_short}
+use Rattle.mm_world.specs.Failure.{is_being_read, is_in_store}
+use Rattle.mm_pages.specs.declared.outcomes.Start.{Start}
+use Rattle.mm_pages.specs.declared.outcomes.Start.TheVariants as start
+use Rattle.mm_pages.specs.declared.outcomes.Need.{Need as Wanted}
+use Rattle.mm_pages.specs.declared.outcomes.Need.TheVariants as wanted
 
 abbrev pub place_at : Pid → ℕ → Place
 place_at pid page = record { pid = pid; vpn = record { 0 = page } }
@@ -136,3 +146,36 @@ pub record IsNew (m : MachineOf) (contents : Key → Option Page) (s : StoreOf) 
   pub begun : IsBegun s.report
   pub none_named_paging : s.paging_device.named ≡ []
   pub none_named_file : s.file_device.named ≡ []
+
+-- ---- an access of a thread
+
+-- what the access needs
+abbrev pub need_for : Wanted → Key → Place → Need
+need_for wanted.Touch k place = touch k
+need_for wanted.Copy k place = copying k place
+
+-- why it waits whatever frames there are: a read of the page that is in flight, or must be begun, or cannot be
+abbrev pub waits_at_once : ℕ → Key → Report → Option Why
+waits_at_once depth k before =
+    if is_being_read (before.whereabouts k) then Some why.Read
+    else if is_in_store (before.whereabouts k) && nat_le depth before.counts.requests then Some why.Full
+    else if is_in_store (before.whereabouts k) && not (is_short before) then Some why.Read
+    else None
+
+-- the thread's wait after it
+abbrev pub wait_after : Start → Wait
+wait_after (start.Pending why.Read) = wait.InFlight
+wait_after _ = wait.None
+
+-- ---- places that pages are taken from
+
+-- these pages of the process are among the places, from one page number to before another
+pub record AreAmong (held : Place → Bool) (from to : ℕ) (pid : Pid) (range : Range) : Type 0 where
+  pub each : (page : ℕ) → holds_page range page ≡ true → held (place_at pid page) ≡ true
+  pub first : from ≤ range.first
+  pub last : range.first + range.count ≤ to
+
+-- so is the page that a key is its own; of a shared key nothing is asked
+abbrev pub IsAmong : (Place → Bool) → ℕ → ℕ → Key → Type 0
+IsAmong held from to (key.Private pid vpn) = (held (record { pid = pid; vpn = vpn }) ≡ true) × (from ≤ vpn.0) × (vpn.0 < to)
+IsAmong held from to (key.Shared area index) = Unit {0}

@@ -1,4 +1,11 @@
-pub mod Devices
+pub mod Tallies
 pub mod Store
 pub mod Reports
 pub mod Conditions
+pub mod Behind
+pub mod Told
+pub mod Shortage
+pub mod Accesses
+pub mod Housekeeping
+pub mod Standing
+pub mod Passing

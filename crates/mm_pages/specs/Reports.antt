@@ -6,8 +6,9 @@ use Rattle.mm_types.specs.declared.faults.PageFault.{PageFault}
 use Rattle.mm_types.specs.declared.faults.PageFault.TheVariants as fault
 use Rattle.mm_types.specs.Outside.{Rose}
 use Rattle.mm_world.specs.Report.{Report, Tally}
-use Rattle.mm_world.specs.Failure.{Need, access_fails, read_failed, search_failed}
-use Rattle.mm_pages.specs.Devices.{DeviceOf, Call, AllServed, tallied}
+use Rattle.mm_world.specs.Failure.{Need, access_fails, read_failed, search_failed, still_needs_frame}
+use Rattle.mm_blocks.specs.Devices.{DeviceOf, Call, AllServed}
+use Rattle.mm_pages.specs.Tallies.{tallied}
 use Rattle.mm_pages.specs.Store.{StoreOf}
 
 abbrev pub no_calls : Tally
@@ -51,13 +52,33 @@ abbrev pub with_named_paging : Bool → DeviceOf → NamedCalls → DeviceOf
 with_named_paging true d calls = d
 with_named_paging false d calls = with_named d calls
 
--- devices were called for an access: all but the report, the devices and what is ready stays
+-- devices were called for an access: all but the report, the devices and what is ready stays. A read that was in flight may have ended,
+-- so threads may wait no longer
 abbrev pub fetched : StoreOf → StoreOf → StoreOf
 fetched old new =
     record old {
       file_blocks = new.file_blocks;
       ready = new.ready;
-      report = record (new.report) { wait = old.report.wait; extended = old.report.extended };
+      report = record (new.report) { extended = old.report.extended };
+      paging_device = new.paging_device;
+      file_device = new.file_device;
+    }
+
+-- pages were looked for, and no device was called; what threads wait for, what is ready and what is named is told apart
+abbrev pub started : StoreOf → StoreOf → StoreOf
+started old new =
+    record old {
+      names = new.names;
+      ready = new.ready;
+      report = record (rearranged old.report new.report) { wait = new.report.wait };
+    }
+
+-- a request was ended: a device was called
+abbrev pub completed : StoreOf → StoreOf → StoreOf
+completed old new =
+    record old {
+      file_blocks = new.file_blocks;
+      report = record (new.report) { extended = old.report.extended };
       paging_device = new.paging_device;
       file_device = new.file_device;
     }
@@ -90,5 +111,6 @@ SomeRose old new = Rose old.paging_device.faults new.paging_device.faults ⊎ Ro
 -- that it fails, `Read` for a read of the very key that failed, else `NoFrame` for a search that found none
 pub record Ends {T : Type 0} (need : Need) (after : Report) (result : Result T PageFault) : Type 0 where
   pub ok : OnOk result (access_fails need after ≡ false)
+  pub had : OnOk result (still_needs_frame need after ≡ false)
   pub read : IsErrOf result fault.Read → read_failed need after ≡ true
   pub no_frame : IsErrOf result fault.NoFrame → (read_failed need after ≡ false) × (search_failed need after ≡ true)

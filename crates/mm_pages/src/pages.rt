@@ -1,9 +1,10 @@
-ghost use Rattle.std.specs.Prelude.{◌≡◌, ◌≢◌, ◌≤◌, ◌<◌, ◌+◌, ◌-◌, ◌%◌, ◌^◌, ◌==◌, ◌⊎◌, ℕ, Bool, true, false, Option, Some, None, List, IsSome, IsErrOf, IsOk, OnOk, OnErr, IfOk, length, slice_get, take, drop, unwrap_or};
+ghost use Rattle.std.specs.Prelude.{◌≡◌, ◌≢◌, ◌≤◌, ◌<◌, ◌+◌, [], ◌∷◌, ◌-◌, ◌%◌, ◌^◌, ◌==◌, ◌⊎◌, ℕ, Bool, true, false, Option, Some, None, List, IsSome, IsErrOf, IsOk, OnOk, OnErr, IfOk, length, slice_get, take, drop, unwrap_or};
 ghost use Rattle.mm_types.specs.declared.faults.GrowFault.TheVariants as grow_fault;
 ghost use Rattle.mm_types.specs.declared.faults.MakeFault.TheVariants as make_fault;
 ghost use Rattle.mm_types.specs.declared.devices.Device.TheVariants as device_of;
 ghost use Rattle.mm_types.specs.declared.moves.LineKind.TheVariants as kind;
 ghost use Rattle.mm_types.specs.declared.numbers.Key.{Key};
+ghost use Rattle.mm_types.specs.declared.numbers.Place.{Place};
 ghost use Rattle.mm_types.specs.declared.numbers.Key.TheVariants.{Private, Shared};
 ghost use Rattle.mm_types.specs.Address.{are_user_pages};
 ghost use Rattle.mm_types.specs.Machine.{limit_of};
@@ -13,13 +14,27 @@ ghost use Rattle.mm_world.specs.Access.{written};
 ghost use Rattle.mm_world.specs.Failure.{same_key};
 ghost use Rattle.mm_world.specs.Processes.{with_slots, most_slots};
 ghost use Rattle.mm_world.specs.Step.{is_failed_extension};
+ghost use Rattle.mm_types.specs.declared.moves.Move.TheVariants as move;
+ghost use Rattle.mm_types.specs.declared.answers.Why.{Why};
+ghost use Rattle.mm_types.specs.declared.answers.Wait.TheVariants as wait_of;
+ghost use Rattle.mm_world.specs.Failure.{pending};
+ghost use Rattle.mm_world.specs.Report.{failed_calls};
+ghost use Rattle.mm_pages.specs.declared.outcomes.Need.TheVariants as wanted;
+ghost use Rattle.mm_pages.specs.declared.outcomes.Start.TheVariants as start_of;
+ghost use Rattle.mm_pages.specs.declared.outcomes.Done.TheVariants as done;
+ghost use Rattle.mm_pages.specs.Behind.{Behind};
+ghost use Rattle.mm_pages.specs.Standing.{StandsIn};
+ghost use Rattle.mm_pages.specs.Passing.{PassesIn, NotesIn, FileMade};
+ghost use Rattle.mm_pages.specs.Accesses.{Touches, Copies, Starts, Forgets};
+ghost use Rattle.mm_pages.specs.Housekeeping.{Turn, Makes, Ends as Ending, Turns, OneMove, Trims, Ages, Clears, WritesOut, CompletesAs, GrowsAs, Flushes};
 ghost use Rattle.mm_pages.specs.Store.{StoreOf, changed, changed_in, same_place, unnamed, own_key, with_file, with_blocks};
-ghost use Rattle.mm_pages.specs.Reports.{begun, rearranged, eased, called, with_named, with_named_paging, fetched, wrote, IsBegun, Served, SomeRose, Ends};
-ghost use Rattle.mm_pages.specs.Conditions.{IsLineKind, pid_after, AllBound, MayUnbind, HasHome, MayRemove, IsAt, MayAccess, IsReady, MayName, touch, copying, place_at};
+ghost use Rattle.mm_pages.specs.Reports.{begun, rearranged, eased, called, with_named, with_named_paging, fetched, wrote, started, completed, IsBegun, Served, SomeRose, Ends};
+ghost use Rattle.mm_pages.specs.Conditions.{IsLineKind, pid_after, AllBound, MayUnbind, HasHome, MayRemove, IsAt, MayAccess, IsReady, MayName, touch, copying, place_at, need_for, waits_at_once, wait_after, AreAmong, IsAmong};
 
+use crate::outcomes::{Done, Need, Start};
 use mm_types::{
-    Area, Block, Device, Direction, GrowFault, Key, LineKind, MakeFault, NoMemory, PageFault, Pid,
-    Place, Vpn, WriteFault,
+    Area, Block, Counts, Device, Direction, GrowFault, Key, LineKind, MakeFault, NoMemory,
+    PageFault, Pid, Place, Tid, Vpn, Wait, WriteFault,
 };
 
 /// A store of pages by key, each of 4,096 bytes.
@@ -34,11 +49,18 @@ pub trait Pages {
     /// Everything else that the store shows.
     ghost store: { Self → StoreOf };
 
+    /// What stands behind it: the log of its moves, the life of its frames, ages and waits. Nothing, where it pages nothing.
+    ghost behind: { Self → Behind };
+
     /// The references that the store holds.
     ghost loans: { Self → Loans };
 
     /// No access to this store ever fails or waits.
     ghost unpaged: { Bool };
+
+    /// What the store keeps at all times between what it shows and what stands behind it. The call does nothing.
+    fn sound(&self)
+        ensures stands { StandsIn unpaged (contents self.now) (store self.now) (behind self.now) };
 
     /// Opens a new process, in the line that makes it, with the least and the greatest size of its working set in pages.
     /// After `NoMemory` nothing has changed.
@@ -48,6 +70,7 @@ pub trait Pages {
         ensures ok { OnOk result (store self.new ≡ record (store self.old) { is_open = changed ◌==◌ (store self.old).is_open pid.0 true }) }
         ensures err { OnErr result (store self.new ≡ store self.old) }
         ensures contents { contents self.new ≡ contents self.old }
+        ensures passes { (turn : Turn) → PassesIn unpaged (Turns turn) (store self.old) (store self.new) (behind self.old) (behind self.new) }
         ensures loans { loans self.new ≡ loans self.old };
 
     /// Closes an open process that has no bound place.
@@ -56,6 +79,7 @@ pub trait Pages {
         requires unbound { (page : ℕ) → (store self.old).bound (place_at pid page) ≡ false }
         ensures store { store self.new ≡ record (store self.old) { is_open = changed ◌==◌ (store self.old).is_open pid.0 false } }
         ensures contents { contents self.new ≡ contents self.old }
+        ensures passes { (turn : Turn) → PassesIn unpaged (Turns turn) (store self.old) (store self.new) (behind self.old) (behind self.new) }
         ensures loans { loans self.new ≡ loans self.old };
 
     /// Binds `n` user pages of an open process from `first` on, none of which is bound; they name nothing.
@@ -70,6 +94,7 @@ pub trait Pages {
         }) }
         ensures err { OnErr result (store self.new ≡ store self.old) }
         ensures contents { contents self.new ≡ contents self.old }
+        ensures passes { (turn : Turn) → PassesIn unpaged (Turns turn) (store self.old) (store self.new) (behind self.old) (behind self.new) }
         ensures loans { loans self.new ≡ loans self.old };
 
     /// Gives up `n` bound pages of a process from `first` on that have no live private key.
@@ -83,6 +108,7 @@ pub trait Pages {
           report = rearranged (store self.old).report (store self.new).report;
         } }
         ensures contents { contents self.new ≡ contents self.old }
+        ensures passes { (held : Place → Bool) (from to : ℕ) → AreAmong held from to pid (record { first = first.0; count = n }) → PassesIn unpaged (Turns (Ending held from to)) (store self.old) (store self.new) (behind self.old) (behind self.new) }
         ensures loans { loans self.new ≡ loans self.old };
 
     /// Sees that there is room for `total` page-file keys, which is at most the commit limit. Room never falls.
@@ -92,6 +118,7 @@ pub trait Pages {
         ensures later { (store self.old).room ≤ (store self.new).room }
         ensures ok { OnOk result (total ≤ (store self.new).room) }
         ensures contents { contents self.new ≡ contents self.old }
+        ensures passes { (turn : Turn) → PassesIn unpaged (Turns turn) (store self.old) (store self.new) (behind self.old) (behind self.new) }
         ensures loans { loans self.new ≡ loans self.old };
 
     /// Opens an area of `n` pages, at least one, of which none is live. An area number is below 2^28, and used once.
@@ -103,6 +130,7 @@ pub trait Pages {
         ensures ok { OnOk result (store self.new ≡ record (store self.old) { areas = changed ◌==◌ (store self.old).areas area.0 (Some n) }) }
         ensures err { OnErr result (store self.new ≡ store self.old) }
         ensures contents { contents self.new ≡ contents self.old }
+        ensures passes { (turn : Turn) → PassesIn unpaged (Turns turn) (store self.old) (store self.new) (behind self.old) (behind self.new) }
         ensures loans { loans self.new ≡ loans self.old };
 
     /// Closes an open area, none of whose keys is live.
@@ -111,6 +139,7 @@ pub trait Pages {
         requires dead { (index : ℕ) → contents self.old (Shared area index) ≡ None }
         ensures store { store self.new ≡ record (store self.old) { areas = changed ◌==◌ (store self.old).areas area.0 None } }
         ensures contents { contents self.new ≡ contents self.old }
+        ensures passes { (turn : Turn) → PassesIn unpaged (Turns turn) (store self.old) (store self.new) (behind self.old) (behind self.new) }
         ensures loans { loans self.new ≡ loans self.old };
 
     /// Makes a file of `n` pages, at least one, in the blocks from `first` on, the first that no file uses: page i holds
@@ -139,6 +168,8 @@ pub trait Pages {
         ensures quiet { OnOk result ((store self.new).report.file_writes.failed ≡ (store self.old).report.file_writes.failed) }
         ensures failed { IsErrOf result make_fault.Write → 0 < (store self.new).report.file_writes.failed }
         ensures blamed { IsErrOf result make_fault.Write → Rose (store self.old).file_device.faults (store self.new).file_device.faults }
+        ensures notes { NotesIn unpaged (Turns Makes) (behind self.old) (behind self.new) }
+        ensures file { unpaged ≡ false → FileMade first.0 n result (store self.old) (store self.new) }
         ensures loans { loans self.new ≡ loans self.old };
 
     /// A page-file key comes to be, and reads as zero. There is room for it.
@@ -153,6 +184,7 @@ pub trait Pages {
           paging_keys = (store self.old).paging_keys + 1;
           report = rearranged (store self.old).report (store self.new).report;
         } }
+        ensures passes { PassesIn unpaged (Turns Makes) (store self.old) (store self.new) (behind self.old) (behind self.new) }
         ensures loans { loans self.new ≡ loans self.old };
 
     /// A page-file key is no more, and its own place names nothing.
@@ -166,6 +198,7 @@ pub trait Pages {
           paging_keys = (store self.old).paging_keys - 1;
           report = rearranged (store self.old).report (store self.new).report;
         } }
+        ensures passes { (held : Place → Bool) (from to : ℕ) → IsAmong held from to key → PassesIn unpaged (Turns (Ending held from to)) (store self.old) (store self.new) (behind self.old) (behind self.new) }
         ensures loans { loans self.new ≡ loans self.old };
 
     /// Reads up to 64 bytes of a key's page from `off` on, at a place that may use the key; the place then names it.
@@ -187,6 +220,7 @@ pub trait Pages {
         ensures ready { IsReady (store self.old) place (touch key) → IsOk result }
         ensures eased { IsReady (store self.old) place (touch key) → (store self.new).report ≡ eased (store self.old).report (store self.new).report }
         ensures unpaged { unpaged ≡ true → IsOk result }
+        ensures passes { PassesIn unpaged (Touches (record { place = place; need = touch key; writes = false; start = (behind self.old).life }) (IsReady (store self.old) place (touch key)) result) (store self.old) (store self.new) (behind self.old) (behind self.new) }
         ensures loans { loans self.new ≡ loans self.old };
 
     /// Writes up to 64 bytes of a key's page from `off` on, as `read`. Only that key's bytes change, and only after Ok.
@@ -206,6 +240,7 @@ pub trait Pages {
         ensures ready { IsReady (store self.old) place (touch key) → IsOk result }
         ensures eased { IsReady (store self.old) place (touch key) → (store self.new).report ≡ eased (store self.old).report (store self.new).report }
         ensures unpaged { unpaged ≡ true → IsOk result }
+        ensures passes { PassesIn unpaged (Touches (record { place = place; need = touch key; writes = true; start = (behind self.old).life }) (IsReady (store self.old) place (touch key)) result) (store self.old) (store self.new) (behind self.old) (behind self.new) }
         ensures loans { loans self.new ≡ loans self.old };
 
     /// Copies a page to the key that is the place's own, which comes to be; the place then names it, and it is ready.
@@ -232,6 +267,7 @@ pub trait Pages {
         ensures was_ready { IsReady (store self.old) place (copying from place) → IsOk result }
         ensures ready { OnOk result (IsReady (store self.new) place (touch to)) }
         ensures unpaged { unpaged ≡ true → IsOk result }
+        ensures passes { PassesIn unpaged (Copies (record { place = place; need = copying from place; writes = true; start = (behind self.old).life }) (IsReady (store self.old) place (copying from place)) result) (store self.old) (store self.new) (behind self.old) (behind self.new) }
         ensures loans { loans self.new ≡ loans self.old };
 
     /// Sees that the block of a live file key holds its bytes: writes it where it does not. No other block changes.
@@ -248,6 +284,7 @@ pub trait Pages {
         ensures failed { OnErr result (0 < (store self.new).report.file_writes.failed) }
         ensures blamed { OnErr result (Rose (store self.old).file_device.faults (store self.new).file_device.faults) }
         ensures contents { contents self.new ≡ contents self.old }
+        ensures passes { PassesIn unpaged (Flushes (key ∷ [])) (store self.old) (store self.new) (behind self.old) (behind self.new) }
         ensures loans { loans self.new ≡ loans self.old };
 
     /// Unmaps at most `n` places of an open process, the oldest first, and leaves the least number of its working set.
@@ -256,6 +293,7 @@ pub trait Pages {
         requires kind { (store self.old).kind ≡ kind.Trim pid }
         ensures store { store self.new ≡ record (store self.old) { report = rearranged (store self.old).report (store self.new).report } }
         ensures contents { contents self.new ≡ contents self.old }
+        ensures passes { PassesIn unpaged (Trims pid n) (store self.old) (store self.new) (behind self.old) (behind self.new) }
         ensures loans { loans self.new ≡ loans self.old };
 
     /// Each valid place of an open process is one older, up to 7.
@@ -263,6 +301,7 @@ pub trait Pages {
         requires open { (store self.old).is_open pid.0 ≡ true }
         ensures store { store self.new ≡ store self.old }
         ensures contents { contents self.new ≡ contents self.old }
+        ensures passes { PassesIn unpaged (Ages pid) (store self.old) (store self.new) (behind self.old) (behind self.new) }
         ensures loans { loans self.new ≡ loans self.old };
 
     /// Clears at most `n` free frames, from the front of their list.
@@ -270,6 +309,7 @@ pub trait Pages {
         requires kind { (store self.old).kind ≡ kind.Zeroer }
         ensures store { store self.new ≡ record (store self.old) { report = rearranged (store self.old).report (store self.new).report } }
         ensures contents { contents self.new ≡ contents self.old }
+        ensures passes { PassesIn unpaged (Clears n) (store self.old) (store self.new) (behind self.old) (behind self.new) }
         ensures loans { loans self.new ≡ loans self.old };
 
     /// Of the calls of that device and direction from now on, the `k`-th, counted from 1, is the first of `n` that fail.
@@ -281,6 +321,7 @@ pub trait Pages {
         ensures files { device ≡ device_of.File → store self.new ≡ record (store self.old) { file_device = with_named (store self.old).file_device (record { direction = direction; passes = k - 1; fails = n }) } }
         ensures paging { device ≡ device_of.Paging → store self.new ≡ record (store self.old) { paging_device = with_named_paging unpaged (store self.old).paging_device (record { direction = direction; passes = k - 1; fails = n }) } }
         ensures contents { contents self.new ≡ contents self.old }
+        ensures behind { behind self.new ≡ behind self.old }
         ensures loans { loans self.new ≡ loans self.old };
 
     /// A line begins: its number is one more than the last one's, and its kind is neither `machine` nor `grow`.
@@ -295,6 +336,7 @@ pub trait Pages {
           report = begun (store self.old).report;
         } }
         ensures contents { contents self.new ≡ contents self.old }
+        ensures passes { PassesIn unpaged (OneMove (move.At line kind)) (store self.old) (store self.new) (behind self.old) (behind self.new) }
         ensures loans { loans self.new ≡ loans self.old };
 
     /// A line begins in which the paging file grows by `n` slots, in the place of `line`. `Failed` comes only where the
@@ -326,5 +368,67 @@ pub trait Pages {
         ensures faults { (store self.old).paging_device.faults ≤ (store self.new).paging_device.faults }
         ensures cause { IsErrOf result grow_fault.Failed → Rose (store self.old).paging_device.faults (store self.new).paging_device.faults }
         ensures unpaged { unpaged ≡ true → IsErrOf result grow_fault.Failed → ⊥ }
+        ensures notes { NotesIn unpaged (GrowsAs line n result) (behind self.old) (behind self.new) }
         ensures loans { loans self.new ≡ loans self.old };
+
+    /// An access of a thread begins, and waits for no device: it is ready, or it waits as the definition of worlds says (`pending`), by the
+    /// report before the line and the one after this call. The place may come to name the key. Bytes stay.
+    fn start(&mut self, tid: Tid, place: Place, key: Key, need: Need) -> Start
+        requires at { IsAt (contents self.old) (store self.old) place key }
+        requires dead { need ≡ wanted.Copy → contents self.old (own_key place) ≡ None }
+        requires kind { (store self.old).kind ≡ kind.Thread place.pid }
+        ensures contents { contents self.new ≡ contents self.old }
+        ensures store { store self.new ≡ started (store self.old) (store self.new) }
+        ensures names { ((store self.new).names ≡ (store self.old).names) ⊎ ((store self.new).names ≡ changed same_place (store self.old).names place (Some key)) }
+        ensures ready { result ≡ start_of.Ready → IsReady (store self.new) place (need_for need key place) }
+        ensures at_once { result ≡ start_of.Ready → waits_at_once (store self.old).machine.depth key (store self.old).report ≡ None }
+        ensures pending { (why : Why) → result ≡ start_of.Pending why → pending (store self.old).machine.depth (need_for need key place) (store self.old).report (store self.new).report ≡ Some why }
+        ensures wait { (store self.new).report.wait ≡ changed ◌==◌ (store self.old).report.wait tid.0 (wait_after result) }
+        ensures unpaged { unpaged ≡ true → result ≡ start_of.Ready }
+        ensures passes { (writes : Bool) → PassesIn unpaged (Starts (record { place = place; need = need_for need key place; writes = writes; start = (behind self.old).life }) tid.0 result) (store self.old) (store self.new) (behind self.old) (behind self.new) }
+        ensures loans { loans self.new ≡ loans self.old };
+
+    /// What became of the read that a thread waits for.
+    fn outcome(&self, tid: Tid) -> Wait
+        ensures { result ≡ (store self.now).report.wait tid.0 };
+
+    /// A thread waits for nothing.
+    fn forget(&mut self, tid: Tid)
+        ensures store { store self.new ≡ record (store self.old) { report = record (store self.old).report { wait = changed ◌==◌ (store self.old).report.wait tid.0 wait_of.None } } }
+        ensures contents { contents self.new ≡ contents self.old }
+        ensures passes { PassesIn unpaged (Forgets tid.0) (store self.old) (store self.new) (behind self.old) (behind self.new) }
+        ensures loans { loans self.new ≡ loans self.old };
+
+    /// Begins writes of at most `n` modified frames, from the front of their list.
+    fn write_out(&mut self, n: u32)
+        requires kind { (store self.old).kind ≡ kind.Writer }
+        ensures store { store self.new ≡ record (store self.old) { report = rearranged (store self.old).report (store self.new).report } }
+        ensures contents { contents self.new ≡ contents self.old }
+        ensures passes { PassesIn unpaged (WritesOut n) (store self.old) (store self.new) (behind self.old) (behind self.new) }
+        ensures loans { loans self.new ≡ loans self.old };
+
+    /// Completes the `i`-th oldest request, counted from 1: its device is called now. `None` comes exactly where fewer are in flight, `Failed`
+    /// exactly where the call failed.
+    fn complete(&mut self, i: u32) -> Done
+        requires some { 1 ≤ i }
+        requires kind { (store self.old).kind ≡ kind.Io }
+        ensures contents { contents self.new ≡ contents self.old }
+        ensures store { store self.new ≡ completed (store self.old) (store self.new) }
+        ensures none { result ≡ done.None → ((store self.old).report.counts.requests < i) × (store self.new ≡ store self.old) }
+        ensures some { (store self.old).report.counts.requests < i → result ≡ done.None }
+        ensures ok { result ≡ done.Ok → failed_calls (store self.new).report ≡ failed_calls (store self.old).report }
+        ensures failed { result ≡ done.Failed → 0 < failed_calls (store self.new).report }
+        ensures blamed { result ≡ done.Failed → SomeRose (store self.old) (store self.new) }
+        ensures served { Served (store self.old) (store self.new) }
+        ensures stored { length (store self.new).file_blocks ≡ length (store self.old).file_blocks }
+        ensures passes { PassesIn unpaged (CompletesAs i result) (store self.old) (store self.new) (behind self.old) (behind self.new) }
+        ensures loans { loans self.new ≡ loans self.old };
+
+    /// How many frames, slots and requests there are of each kind.
+    fn counts(&self) -> Counts
+        ensures { result ≡ (store self.now).report.counts };
+
+    /// Whether the sink of moves has failed.
+    fn moves_failed(&self) -> bool
+        ensures { result ≡ (behind self.now).log.failed };
 }

@@ -8,3 +8,4 @@ pub mod Openings
 pub mod Ranges
 pub mod StoredFiles
 pub mod Stores
+mod Having

@@ -6,8 +6,10 @@ use Rattle.mm_types.specs.declared.devices.Direction.TheVariants as way
 use Rattle.mm_types.proofs.Cells.{same_or_not, get_set_same, get_set_other}
 use Rattle.mm_world.specs.Report.{Tally}
 use Rattle.mm_world.specs.World.{Page}
-use Rattle.mm_pages.specs.Devices.{DeviceOf, Serves, with_outcome, tallied}
-use Rattle.mm_pages.proofs.Served.{all_served_then, all_served_one, tallied_then}
+use Rattle.mm_blocks.specs.Devices.{DeviceOf, Serves}
+use Rattle.mm_pages.specs.Tallies.{with_outcome, tallied}
+use Rattle.mm_blocks.proofs.Serving.{all_served_then, all_served_one}
+use Rattle.mm_pages.proofs.Served.{tallied_then}
 use Rattle.mm_plain.specs.declared.file_pages.FilePage.{FilePage}
 use Rattle.mm_plain.specs.Files.{Wrote, Stored}
 

@@ -6,7 +6,7 @@ use Rattle.mm_types.specs.declared.numbers.Place.{Place}
 use Rattle.mm_types.specs.Machine.{MachineOf}
 use Rattle.mm_world.specs.Report.{Report, Tally}
 use Rattle.mm_world.specs.World.{Page}
-use Rattle.mm_pages.specs.Devices.{DeviceOf}
+use Rattle.mm_blocks.specs.Devices.{DeviceOf}
 use Rattle.mm_pages.specs.Reports.{Served, begun, called, fetched, eased}
 use Rattle.mm_pages.specs.Store.{StoreOf, Ready, changed, same_place}
 use Rattle.mm_pages.proofs.Served.{served_nothing}

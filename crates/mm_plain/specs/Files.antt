@@ -5,7 +5,8 @@ use Rattle.mm_blocks.specs.declared.device_calls.DeviceCall.{DeviceCall}
 use Rattle.mm_blocks.specs.declared.device_calls.NamedCalls.{NamedCalls}
 use Rattle.mm_world.specs.Report.{Tally}
 use Rattle.mm_world.specs.World.{Page, filled}
-use Rattle.mm_pages.specs.Devices.{DeviceOf, Call, AllServed, tallied}
+use Rattle.mm_blocks.specs.Devices.{DeviceOf, Call, AllServed}
+use Rattle.mm_pages.specs.Tallies.{tallied}
 use Rattle.mm_plain.specs.declared.file_pages.FilePage.{FilePage}
 
 -- a page of which each byte is this one, as its block has it

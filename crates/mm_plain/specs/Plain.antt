@@ -3,7 +3,7 @@ use Rattle.std.specs.Prelude.{◌+◌, length, Option}
 use Rattle.mm_types.specs.declared.numbers.Key.{Key}
 use Rattle.mm_blocks.specs.declared.Blocks.{Ghosts as DeviceGhosts}
 use Rattle.mm_world.specs.World.{Page}
-use Rattle.mm_pages.specs.Devices.{no_device}
+use Rattle.mm_blocks.specs.Devices.{no_device}
 use Rattle.mm_pages.specs.Store.{StoreOf}
 use Rattle.mm_plain.specs.declared.plain.Plain.{Plain}
 use Rattle.mm_plain.specs.Areas.{area_in, count_in}

@@ -7,7 +7,8 @@ use Rattle.mm_types.specs.declared.numbers.Key.TheVariants as key
 use Rattle.mm_types.specs.declared.numbers.Place.{Place}
 use Rattle.mm_world.specs.World.{Page}
 use Rattle.mm_world.specs.Report.{Report, Tally, Whereabouts, InFrame}
-use Rattle.mm_pages.specs.Conditions.{touch}
+use Rattle.mm_pages.specs.Conditions.{need_for}
+use Rattle.mm_plain.specs.declared.plain.Wanted.{Wanted}
 use Rattle.mm_pages.specs.Reports.{no_calls}
 use Rattle.mm_pages.specs.Store.{Ready, own_key}
 use Rattle.mm_plain.specs.declared.areas.AreaPages.{AreaPages}
@@ -37,10 +38,9 @@ blocks_of areas (key.Shared area index) = block_at (areas area.0) index
 abbrev pub sizes_of : (ℕ → Option AreaPages) → ℕ → Option ℕ
 sizes_of areas area = size_of (areas area)
 
--- what is ready is the place's own key
-abbrev pub ready_at : Option Place → Option Ready
+abbrev pub ready_at : Option Wanted → Option Ready
 ready_at None = None
-ready_at (Some place) = Some (record { place = place; need = touch (own_key place) })
+ready_at (Some w) = Some (record { place = w.place; need = need_for w.need w.key w.place })
 
 abbrev pub no_counts : Counts
 no_counts = record { zeroed = 0; free = 0; standby = 0; modified = 0; active = 0; transition = 0; free_slots = 0; requests = 0 }

@@ -5,7 +5,8 @@ ghost use Rattle.mm_world.specs.World.{filled};
 ghost use Rattle.mm_world.specs.Access.{written};
 ghost use Rattle.mm_world.specs.Failure.{same_key};
 ghost use Rattle.mm_pages.specs.Conditions.{IsNew, pid_after};
-ghost use Rattle.mm_pages.specs.Devices.{no_device};
+ghost use Rattle.mm_blocks.specs.Devices.{no_device};
+ghost use Rattle.mm_pages.specs.Behind.{nothing_behind};
 ghost use Rattle.mm_pages.specs.Reports.{begun};
 ghost use Rattle.mm_pages.specs.Store.{changed, same_place};
 ghost use Rattle.mm_plain.specs.Areas.{area_in, block_at, page_at, count_in};
@@ -21,12 +22,20 @@ use crate::processes::Processes;
 use crate::stock::Stock;
 use crate::writes::{Writes, write_block, write_file};
 use mm_blocks::Inject;
-use mm_pages::Pages;
+use mm_pages::{Done, Need, Pages, Start};
 use mm_types::{
-    Area, Block, Device, Direction, GrowFault, Key, LineKind, Machine, MakeFault, NoMemory,
-    PageFault, Pid, Place, Unmade, Vpn, WriteFault,
+    Area, Block, Counts, Device, Direction, GrowFault, Key, LineKind, Machine, MakeFault, NoMemory,
+    PageFault, Pid, Place, Tid, Unmade, Vpn, Wait, WriteFault,
 };
 use std::alloc::Global;
+
+/// An access that needs no device.
+#[derive(Clone, Copy)]
+pub(crate) struct Wanted {
+    place: Place,
+    key: Key,
+    need: Need,
+}
 
 /// A store that pages nothing: the page of each live key is in a box of its own.
 ///
@@ -42,7 +51,7 @@ pub struct Plain<F: Inject> {
     processes: Processes,
     files: F,
     writes: Writes,
-    ready: Option<Place>,
+    ready: Option<Wanted>,
     // With the slots that there are now.
     machine: Machine,
     line: u32,
@@ -220,9 +229,13 @@ impl<F: Inject> Pages for Plain<F> {
 
     ghost store = { λ s. store_in s };
 
+    ghost behind = { λ s. nothing_behind };
+
     ghost loans = { λ s. F.Blocks.loans s.files };
 
     ghost unpaged = { true };
+
+    fn sound(&self) {}
 
     fn open_process(&mut self, pid: Pid, _min: u32, _max: u32) -> Result<(), NoMemory> {
         self.processes.set(pid, true);
@@ -313,7 +326,11 @@ impl<F: Inject> Pages for Plain<F> {
         page.copy_from(shared_page(&self.areas, &self.file_pages, area, index));
         self.places.put(place, page);
         self.places.name(place, to);
-        self.ready = Some(place);
+        self.ready = Some(Wanted {
+            place,
+            key: to,
+            need: Need::Touch,
+        });
         Ok(())
     }
 
@@ -342,6 +359,40 @@ impl<F: Inject> Pages for Plain<F> {
     fn trim(&mut self, _pid: Pid, _n: u32) {}
 
     fn age(&mut self, _pid: Pid) {}
+
+    fn start(&mut self, _tid: Tid, place: Place, key: Key, need: Need) -> Start {
+        self.ready = Some(Wanted { place, key, need });
+        Start::Ready
+    }
+
+    fn outcome(&self, _tid: Tid) -> Wait {
+        Wait::None
+    }
+
+    fn forget(&mut self, _tid: Tid) {}
+
+    fn write_out(&mut self, _n: u32) {}
+
+    fn complete(&mut self, _i: u32) -> Done {
+        Done::None
+    }
+
+    fn counts(&self) -> Counts {
+        Counts {
+            zeroed: 0,
+            free: 0,
+            standby: 0,
+            modified: 0,
+            active: 0,
+            transition: 0,
+            free_slots: 0,
+            requests: 0,
+        }
+    }
+
+    fn moves_failed(&self) -> bool {
+        false
+    }
 
     fn zero(&mut self, _n: u32) {}
 

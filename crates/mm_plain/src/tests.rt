@@ -4,10 +4,10 @@ ghost use Rattle.mm_plain.specs.Plain.{contents_in, store_in};
 
 use crate::Plain;
 use mm_blocks::{Blocks, DeviceCall, Inject, Injected, MemBlocks};
-use mm_pages::Pages;
+use mm_pages::{Done, Need, Pages, Start};
 use mm_types::{
-    Area, Block, Device, Direction, GrowFault, Key, LineKind, Machine, MakeFault, NoMemory, Pid,
-    Place, Vpn,
+    Area, Block, Counts, Device, Direction, GrowFault, Key, LineKind, Machine, MakeFault, NoMemory,
+    Pid, Place, Tid, Vpn, Wait,
 };
 use std::alloc::Global;
 use std::test::Fail;
@@ -99,6 +99,42 @@ fn many_pages<F: Inject + Drop>(alloc: Global, files: F) -> Result<(), NoMemory>
         store.add(Key::Private(PID, Vpn(0x10 + i)));
     }
     Ok(())
+}
+
+// A thread reads a page, which is ready at once. Nothing is written out, no request is there to complete, and nobody waits.
+fn threaded<F: Inject + Drop>(
+    alloc: Global,
+    files: F,
+    out: &mut [u8; 4],
+) -> Result<(Done, Wait, Counts, bool), NoMemory>
+    requires opened { length (F.Blocks.blocks files) ≡ 2 }
+    requires plain { F.Blocks.named files ≡ [] }
+{
+    let mut store = store_over(alloc, machine(), files)?;
+    store.line(2, LineKind::Process(PID, 1, 8));
+    store.open_process(PID, 1, 8)?;
+    store.line(3, LineKind::Call);
+    store.bind(PID, PAGE, 1)?;
+    store.reserve(1)?;
+    store.add(KEY);
+    store.line(4, LineKind::Thread(PID));
+    let Start::Ready = store.start(Tid(3), HERE, KEY, Need::Touch) else {
+        unreachable!()
+    };
+    let Ok(()) = store.read(HERE, KEY, 4092, out) else {
+        unreachable!()
+    };
+    store.line(5, LineKind::Writer);
+    store.write_out(4);
+    store.line(6, LineKind::Io);
+    let done = store.complete(1);
+    store.forget(Tid(3));
+    Ok((
+        done,
+        store.outcome(Tid(3)),
+        store.counts(),
+        store.moves_failed(),
+    ))
 }
 
 // The paging file grows by four slots.
@@ -238,6 +274,20 @@ fn pages_are_added_in_the_room_reserved(rt: HostRuntime) -> Result<(), Fail> {
     let mut files = Injected::new(&mut memory);
     files.open(2)?;
     assert!(rt; many_pages(rt.alloc(), files).is_ok());
+    Ok(())
+}
+
+#[test]
+fn a_thread_never_waits(rt: HostRuntime) -> Result<(), Fail> {
+    let mut memory = MemBlocks::new(rt.alloc(), Vec::new(rt.alloc()), 8)?;
+    let mut files = Injected::new(&mut memory);
+    files.open(2)?;
+    let mut read = [1; 4];
+    let (done, wait, counts, failed) = threaded(rt.alloc(), files, &mut read)?;
+    assert_eq!(rt; read, [0, 0, 0, 0]);
+    assert_eq!(rt; (done, wait), (Done::None, Wait::None));
+    assert_eq!(rt; (counts.free, counts.active, counts.requests), (0, 0, 0));
+    assert!(rt; !failed);
     Ok(())
 }
 

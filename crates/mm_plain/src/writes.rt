@@ -2,7 +2,8 @@ ghost use Rattle.std.specs.Prelude.{◌≡◌, ◌<◌, ◌≤◌, ◌+◌, ◌^
 ghost use Rattle.mm_types.specs.Outside.{Rose};
 ghost use Rattle.mm_types.specs.declared.devices.Direction.TheVariants as way;
 ghost use Rattle.mm_blocks.specs.Traffic.{is_named};
-ghost use Rattle.mm_pages.specs.Devices.{Serves, with_outcome};
+ghost use Rattle.mm_blocks.specs.Devices.{Serves};
+ghost use Rattle.mm_pages.specs.Tallies.{with_outcome};
 ghost use Rattle.mm_pages.specs.Reports.{no_calls};
 ghost use Rattle.mm_plain.specs.Files.{device_with, Wrote, Stored};
 

@@ -7,7 +7,7 @@ use Rattle.mm_blocks.specs.declared.device_calls.DeviceCall.{DeviceCall}
 use Rattle.mm_blocks.specs.declared.device_calls.NamedCalls.{NamedCalls}
 use Rattle.mm_blocks.specs.Traffic.{NoneLogged, told_by}
 use Rattle.mm_world.specs.World.{Page}
-use Rattle.mm_pages.specs.Devices.{DeviceOf, no_device}
+use Rattle.mm_blocks.specs.Devices.{DeviceOf, no_device}
 use Rattle.mm_run.specs.Scenes.{Scene, Stage, NotBegun, Running}
 use Rattle.mm_run.specs.Ends.{Leaves, StandsAs}
 

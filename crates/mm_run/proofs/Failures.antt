@@ -11,15 +11,27 @@ use Rattle.mm_types.specs.declared.devices.Direction.{Direction}
 use Rattle.mm_types.specs.declared.devices.Device.TheVariants as device
 use Rattle.mm_types.specs.declared.events.Event.{Event}
 use Rattle.mm_types.specs.declared.events.Event.TheVariants as line
-use Rattle.std.specs.Prelude.{Option}
+use Rattle.std.specs.Prelude.{Option, Some, None}
 use Rattle.mm_blocks.specs.declared.device_calls.DeviceCall.{DeviceCall}
 use Rattle.mm_blocks.specs.Traffic.{one_further}
 use Rattle.mm_world.specs.World.{Page}
-use Rattle.mm_pages.specs.Devices.{DeviceOf, Call, AllServed, no_device}
-use Rattle.mm_core.specs.Serving.{Named, IsFailure, OneRose, is_fail}
+use Rattle.mm_blocks.specs.Devices.{DeviceOf, Call, AllServed, no_device}
+use Rattle.mm_types.specs.declared.answers.Wait.TheVariants as wait
+use Rattle.mm_world.specs.Failure.{wait_failed}
+use Rattle.mm_world.specs.Report.{Report}
+use Rattle.mm_core.specs.Serving.{Named, IsFailure, OneRose, is_fail, resumed_thread, HasFailed, FailedBefore}
 use Rattle.mm_run.specs.Scenes.{Scene, Stage, NotBegun, Running}
 use Rattle.mm_run.specs.Ends.{Leaves}
 use Rattle.mm_run.specs.Steps.{Decides, Stepped, Run, NamesNone, NoneNames, NoneFails}
+
+-- over a store where no thread waits no read has failed before its `resume`
+pub rose_in : {A : Type 0} (e : Event) (r : Report) → ((tid : ℕ) → r.wait tid ≡ wait.None) → FailedBefore e r ⊎ A → A
+rose_in {A = A} e r idle h = by_thread (resumed_thread e) h
+  where
+    by_thread : (o : Option ℕ) → HasFailed o r ⊎ A → A
+    by_thread o (inr a) = a
+    by_thread None (inl bad) = absurd bad
+    by_thread (Some tid) (inl bad) = let never : false ≡ true = ap wait_failed (sym (idle tid)) ∙ bad in cc
 
 pub failure_or : (a : Answer) → (IsFailure a → ⊥) ⊎ IsFailure a
 failure_or answer.Ok = inl (λ h. h)

@@ -2,7 +2,7 @@
 use Rattle.std.specs.Prelude.{◌≡◌, ℕ, List, [], Option}
 use Rattle.mm_blocks.specs.declared.device_calls.DeviceCall.{DeviceCall}
 use Rattle.mm_world.specs.World.{Page}
-use Rattle.mm_pages.specs.Devices.{no_device}
+use Rattle.mm_blocks.specs.Devices.{no_device}
 use Rattle.mm_run.specs.Scenes.{Scene, Stage, NotBegun, Running}
 
 -- Its log, where told, and its blocks are those of the last scene; while no call of it was named, so is its count of faults. The unpaged

@@ -2,7 +2,7 @@
 use Rattle.std.specs.Prelude.{ℕ, List}
 use Rattle.mm_world.specs.World.{Page, World}
 use Rattle.mm_world.specs.Report.{Report}
-use Rattle.mm_pages.specs.Devices.{DeviceOf}
+use Rattle.mm_blocks.specs.Devices.{DeviceOf}
 use Rattle.mm_pages.specs.declared.pages.Pages.{Ghosts as PagesGhosts}
 use Rattle.mm_core.specs.declared.worlds.World.{World as Kept}
 use Rattle.mm_core.specs.Shown.{world, report, paging_device, file_device, file_blocks}

@@ -10,6 +10,7 @@ use Rattle.mm_world.specs.Contents.{tables_of}
 use Rattle.mm_world.specs.Step.{step, unpaged, first_world}
 use Rattle.mm_blocks.specs.Traffic.{NoneLogged, empty_block}
 use Rattle.mm_tables.specs.References.{IsTidy}
+use Rattle.mm_core.specs.Stepping.{asks_frames}
 use Rattle.mm_core.specs.Serving.{AskedFiles, Named, IsFailure, OneRose, Flushed, is_fail}
 use Rattle.mm_run.specs.Reading.{is_machine}
 use Rattle.mm_run.specs.Scenes.{Scene, Stage, NotBegun, Running}
@@ -26,8 +27,8 @@ pub record IsFirst (m : MachineOf) (faults : ℕ) (s : Scene) : Type 0 where
 pub record Decides (s : Scene) (e : Event) (a : Answer) (z : Scene) : Type 0 where
   -- the answer and the new world are those of the definitions' step, by the reports before and after
   pub answered : step s.world e s.report z.report ≡ record { answer = a; world = z.world }
-  -- those of unpaged address spaces, but where a device failed
-  pub unpaged : a ≢ answer.Fault → unpaged s.world e ≡ record { answer = a; world = z.world }
+  -- those of unpaged address spaces, but where a device failed or the line asks for requests or frames
+  pub unpaged : asks_frames e ≡ false → a ≢ answer.Fault → unpaged s.world e ≡ record { answer = a; world = z.world }
   -- sections and names live while something refers to them
   pub lives : IsTidy (tables_of z.world)
   -- the calls of the file device in this line are those of its log and of the report

@@ -150,7 +150,10 @@ fn long_lines(rt: HostRuntime) -> Result<(), Fail> {
 
 #[test]
 fn lines_not_built(rt: HostRuntime) -> Result<(), Fail> {
-    let (status, text) = quiet(rt.alloc(), b"machine 8 4 1 0\ncounts\nprocess 0 1\n")?;
+    let (status, text) = quiet(
+        rt.alloc(),
+        b"machine 8 4 1 0\nwatch 1 0 0x10000 1 1\nprocess 0 1\n",
+    )?;
     assert_eq!(rt; status, 9);
     assert_eq!(rt; text.as_slice(), b"ok 8\n".as_slice());
     Ok(())

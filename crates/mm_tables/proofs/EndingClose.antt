@@ -5,7 +5,7 @@ use Rattle.mm_types.specs.declared.numbers.Area.{Area}
 use Rattle.mm_types.specs.declared.numbers.Key.{Key}
 use Rattle.mm_types.specs.Machine.{MachineOf}
 use Rattle.mm_commit.specs.Charge.{CommitOf}
-use Rattle.mm_world.specs.World.{Page, ProcessOf, AreaOf, SectionOf, Numbered, numbered}
+use Rattle.mm_world.specs.World.{Page, ProcessOf, AreaOf, SectionOf, Numbered, numbered, KeptOf}
 use Rattle.mm_world.specs.Find.{Found, process_of, set_process, area_at}
 use Rattle.mm_world.specs.Charge.{charge, area_charge}
 use Rattle.mm_world.specs.Sections.{handle_section, settle}
@@ -89,9 +89,9 @@ module _ (t : Tables) (items : List (Option Process)) (entries : Numbered Counte
 
 -- ---- the whole call, of what its steps ensure
 
-module _ (m : MachineOf) (items : List (Option Process)) (dir dir' : DirectoryOf) (areas : List (AreaOf (Unit {0}))) (used fails : ℕ) (commit : CommitOf) (t : Tables) (view : tables_with m (shown_processes items) dir.entries areas dir.files used fails ≡ t) (kept : IsKept (tables_with m (shown_processes items) dir.entries areas dir.files used fails) dir.entries commit) (pid : ℕ) (x y : Option Process) (handle : ℕ) (alive : is_some (process_of t pid) ≡ true) (found : x ≡ get_or items (pid - 1) x) (there : (p : ProcessOf (Unit {0})) → process_of t pid ≡ Some p → is_some (handle_section t p handle) ≡ true) (result : Option Area) (shut : (p : ProcessOf (Unit {0})) → option_map shown_process x ≡ Some p → option_map shown_process y ≡ Some (closed p handle)) (dropped : (p : ProcessOf (Unit {0})) (n : ℕ) (c : CountedSection) → option_map shown_process x ≡ Some p → held p.handles handle ≡ Some n → numbered dir.entries n ≡ Some c → dir' ≡ record dir { entries = set dir.entries n (settled_by (one_handle_less c)) }) (ended : (p : ProcessOf (Unit {0})) (n : ℕ) (c : CountedSection) → option_map shown_process x ≡ Some p → held p.handles handle ≡ Some n → numbered dir.entries n ≡ Some c → result ≡ cond (is_some (settled_by (one_handle_less c))) None (Some (record { 0 = c.section.area }))) (c : Key → Option Page) (s : StoreOf) (fits : Fits t c s) where
+module _ (m : MachineOf) (items : List (Option Process)) (dir dir' : DirectoryOf) (areas : List (AreaOf (Unit {0}))) (used fails : ℕ) (accesses : Numbered KeptOf) (commit : CommitOf) (t : Tables) (view : tables_with m (shown_processes items) dir.entries areas dir.files used fails accesses ≡ t) (kept : IsKept (tables_with m (shown_processes items) dir.entries areas dir.files used fails accesses) dir.entries commit) (pid : ℕ) (x y : Option Process) (handle : ℕ) (alive : is_some (process_of t pid) ≡ true) (found : x ≡ get_or items (pid - 1) x) (there : (p : ProcessOf (Unit {0})) → process_of t pid ≡ Some p → is_some (handle_section t p handle) ≡ true) (result : Option Area) (shut : (p : ProcessOf (Unit {0})) → option_map shown_process x ≡ Some p → option_map shown_process y ≡ Some (closed p handle)) (dropped : (p : ProcessOf (Unit {0})) (n : ℕ) (c : CountedSection) → option_map shown_process x ≡ Some p → held p.handles handle ≡ Some n → numbered dir.entries n ≡ Some c → dir' ≡ record dir { entries = set dir.entries n (settled_by (one_handle_less c)) }) (ended : (p : ProcessOf (Unit {0})) (n : ℕ) (c : CountedSection) → option_map shown_process x ≡ Some p → held p.handles handle ≡ Some n → numbered dir.entries n ≡ Some c → result ≡ cond (is_some (settled_by (one_handle_less c))) None (Some (record { 0 = c.section.area }))) (c : Key → Option Page) (s : StoreOf) (fits : Fits t c s) where
   st : Standing t items dir.entries areas commit
-  st = standing m items dir.entries areas dir.files used fails commit t view kept
+  st = standing m items dir.entries areas dir.files used fails accesses commit t view kept
 
   h : HasProcess t items pid x
   h = has_process t items pid x st.processes alive found
@@ -119,12 +119,12 @@ module _ (m : MachineOf) (items : List (Option Process)) (dir dir' : DirectoryOf
       subst (λ (p : ProcessOf (Unit {0})). Landed (settle (set_process t pid (Some (closed p handle)))) made entries after c d s z) (same_process (process_of t pid) h.process p h.lives lives)
       (subst (λ (es : Numbered CountedSection). Landed (settle (set_process t pid (Some (closed h.process handle)))) made es after c d s z) (sym entries_are) landed)
 
-  pub whole_stays : result ≡ None → (p : ProcessOf (Unit {0})) → process_of t pid ≡ Some p → Landed (settle (set_process t pid (Some (closed p handle)))) (tables_with m (shown_processes (set items (pid - 1) y)) dir'.entries areas dir'.files used fails) dir'.entries commit c c s s
+  pub whole_stays : result ≡ None → (p : ProcessOf (Unit {0})) → process_of t pid ≡ Some p → Landed (settle (set_process t pid (Some (closed p handle)))) (tables_with m (shown_processes (set items (pid - 1) y)) dir'.entries areas dir'.files used fails accesses) dir'.entries commit c c s s
   whole_stays none p lives =
       let still = ended_none (is_some (settled_by (one_handle_less he.counted))) he.counted.section.area result told none in
       as_told
-      (stays t items dir.entries areas commit st pid x handle h has hk he (tables_with m (shown_processes (set items (pid - 1) y)) dir'.entries areas dir'.files used fails) c s
-      (made_with m (shown_processes items) dir.entries areas dir.files dir'.files used fails t view (shown_processes (set items (pid - 1) y)) (set t.processes pid (Some (closed h.process handle))) dir'.entries (set dir.entries hk.number (settled_by (one_handle_less he.counted))) areas t.areas
+      (stays t items dir.entries areas commit st pid x handle h has hk he (tables_with m (shown_processes (set items (pid - 1) y)) dir'.entries areas dir'.files used fails accesses) c s
+      (made_with m (shown_processes items) dir.entries areas dir.files dir'.files used fails accesses t view (shown_processes (set items (pid - 1) y)) (set t.processes pid (Some (closed h.process handle))) dir'.entries (set dir.entries hk.number (settled_by (one_handle_less he.counted))) areas t.areas
       processes (ap (λ (d : DirectoryOf). d.entries) dir_is) st.areas_are (ap (λ (d : DirectoryOf). d.files) dir_is))
       still fits)
       (ap (λ (d : DirectoryOf). d.entries) dir_is) p lives
@@ -151,11 +151,11 @@ module _ (m : MachineOf) (items : List (Option Process)) (dir dir' : DirectoryOf
       pub whole_charged : area_charge pages ≤ commit.charge
       whole_charged = omega (arith, ap (λ (x : AreaOf (Unit {0})). area_charge x) is_area, area_charged t he.counted.section.area within, st.kept.charged)
 
-      pub whole_ends : (pages' : AreaOf (Unit {0})) (after : CommitOf) (d : Key → Option Page) (z : StoreOf) → pages' ≡ ended_area pages → after ≡ record commit { charge = commit.charge - area_charge pages } → ((first : ℕ) → pages.file_block ≡ Some first → (d ≡ c) × (z ≡ s)) → (pages.file_block ≡ None → Emptied a pages c d s z) → (p : ProcessOf (Unit {0})) → process_of t pid ≡ Some p → Landed (settle (set_process t pid (Some (closed p handle)))) (tables_with m (shown_processes (set items (pid - 1) y)) dir'.entries (set areas a.0 pages') dir'.files used fails) dir'.entries after c d s z
+      pub whole_ends : (pages' : AreaOf (Unit {0})) (after : CommitOf) (d : Key → Option Page) (z : StoreOf) → pages' ≡ ended_area pages → after ≡ record commit { charge = commit.charge - area_charge pages } → ((first : ℕ) → pages.file_block ≡ Some first → (d ≡ c) × (z ≡ s)) → (pages.file_block ≡ None → Emptied a pages c d s z) → (p : ProcessOf (Unit {0})) → process_of t pid ≡ Some p → Landed (settle (set_process t pid (Some (closed p handle)))) (tables_with m (shown_processes (set items (pid - 1) y)) dir'.entries (set areas a.0 pages') dir'.files used fails accesses) dir'.entries after c d s z
       whole_ends pages' after d z pages_are refunded file emptied p lives =
           as_told
-          (ends t items dir.entries areas commit st pid x handle h has hk he a (tables_with m (shown_processes (set items (pid - 1) y)) dir'.entries (set areas a.0 pages') dir'.files used fails) after c d s z end.1
-          (made_with m (shown_processes items) dir.entries areas dir.files dir'.files used fails t view (shown_processes (set items (pid - 1) y)) (set t.processes pid (Some (closed h.process handle))) dir'.entries (set dir.entries hk.number (settled_by (one_handle_less he.counted)))
+          (ends t items dir.entries areas commit st pid x handle h has hk he a (tables_with m (shown_processes (set items (pid - 1) y)) dir'.entries (set areas a.0 pages') dir'.files used fails accesses) after c d s z end.1
+          (made_with m (shown_processes items) dir.entries areas dir.files dir'.files used fails accesses t view (shown_processes (set items (pid - 1) y)) (set t.processes pid (Some (closed h.process handle))) dir'.entries (set dir.entries hk.number (settled_by (one_handle_less he.counted)))
           (set areas a.0 pages') (set t.areas he.counted.section.area (ended_area (area_at t he.counted.section.area)))
           processes (ap (λ (d : DirectoryOf). d.entries) dir_is) (λ i. set (st.areas_are i) (end.1 i) ((pages_are ∙ ap ended_area is_area) i)) (ap (λ (d : DirectoryOf). d.files) dir_is))
           end.0

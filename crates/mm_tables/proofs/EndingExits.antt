@@ -1,5 +1,5 @@
 -- A process ends: its handles, its regions, and what is left when it has none of either.
-use Rattle.std.proofs.Common.{◌≡◌, inl, inr, ℕ, zero, suc, ◌+◌, ◌-◌, ◌*◌, ◌≤◌, ◌<◌, true, false, Option, Some, None, List, [], ◌∷◌, refl, sym, ◌∙◌, ap, subst, cond, arith, length, length-set, set, map, replicate, is_some, option_map, slice_get, sum_by, count_by, nat_lt, not, ◌&&◌}
+use Rattle.std.proofs.Common.{◌≡◌, inl, inr, ℕ, zero, suc, ◌+◌, ◌-◌, ◌*◌, ◌≤◌, ◌<◌, true, false, Option, Some, None, List, [], ◌∷◌, refl, sym, ◌∙◌, ap, subst, cond, arith, length, length-set, set, map, is_some, option_map, slice_get, sum_by, count_by, nat_lt, not, ◌&&◌}
 use Rattle.std.specs.Prelude.{◌==◌, ◌/◌, ◌%◌, option_and_then}
 use Rattle.std.specs.Prelude.{IfSome}
 use Rattle.mm_spaces.specs.declared.spaces.RegionInfo.{RegionInfo}
@@ -16,13 +16,12 @@ use Rattle.mm_types.specs.declared.views.View.{View}
 use Rattle.mm_types.specs.Address.{Range, address_of, end_of, end_of_user_pages, first_user_page}
 use Rattle.mm_types.specs.Machine.{MachineOf}
 use Rattle.mm_commit.specs.Charge.{CommitOf}
-use Rattle.mm_world.specs.World.{Page, ProcessOf, RegionOf, SectionOf, AreaOf, Numbered, numbered}
+use Rattle.mm_world.specs.World.{Page, ProcessOf, RegionOf, SectionOf, AreaOf, Numbered, numbered, KeptOf}
 use Rattle.mm_world.specs.Find.{Found, process_of, set_process, section_of, is_private}
 use Rattle.mm_world.specs.Charge.{charge, region_charge}
 use Rattle.mm_world.specs.Outcome.{find_or, done}
 use Rattle.mm_world.specs.Processes.{kept_of_others}
 use Rattle.mm_world.specs.Sections.{settle, handle_section, is_handle_to, is_view_of}
-use Rattle.mm_world.specs.Step.{threads}
 use Rattle.mm_world.specs.Views.{view_at}
 use Rattle.mm_world.specs.Contents.{Tables}
 use Rattle.mm_world.specs.WellFormed.{WellFormed, IsSpace}
@@ -33,16 +32,17 @@ use Rattle.mm_sections.specs.Directories.{CountedSection, DirectoryOf}
 use Rattle.mm_sections.specs.Handles.{held}
 use Rattle.mm_spaces.specs.Tables.{info_of, found_info}
 use Rattle.mm_tables.specs.declared.tables.Process.{Process}
-use Rattle.mm_tables.specs.References.{IsTidy, handles_to, views_of}
+use Rattle.mm_tables.specs.References.{IsTidy, handles_to, views_of, NobodyKeeps}
 use Rattle.mm_tables.specs.Shown.{shown_processes, tables_with}
 use Rattle.mm_tables.specs.Sound.{IsKept}
 use Rattle.mm_tables.specs.Fits.{Fits, Settled, beside, paging_count}
 use Rattle.mm_tables.specs.Endings.{Less, Toward, Closes, Fewer, HasNoHandle, nowhere}
+use Rattle.mm_tables.proofs.Keepers.{others_all, keepers_less}
 use Rattle.mm_tables.proofs.EndingKeys.{both, not_true}
 use Rattle.mm_tables.proofs.EndingCounts.{handles_put, views_put, owned_put, holds_count, views_count}
 use Rattle.mm_tables.proofs.EndingSettles.{ends_same, ends_after, settle_same, tidy_settled}
 use Rattle.mm_tables.proofs.EndingHandles.{closed}
-use Rattle.mm_tables.proofs.EndingFits.{Loses, same_loses, process_same, less_then, beside_then, carries_less}
+use Rattle.mm_tables.proofs.EndingFits.{regions_of, regions_in, Loses, same_loses, process_same, less_then, beside_then, carries_less}
 use Rattle.mm_tables.proofs.EndingStruct.{shown_set, HasProcess}
 use Rattle.mm_tables.proofs.EndingSpace.{length_removed, laid_end}
 use Rattle.mm_tables.proofs.EndingUnmap.{unmapped}
@@ -53,6 +53,10 @@ use Rattle.mm_tables.proofs.EndingRelease.{HasLowest, lowest_passes}
 pub toward_then : (pid : ℕ) (t u v : Tables) (c d e : Key → Option Page) (s z y : StoreOf) → Toward pid t u c d s z → Toward pid u v d e z y → Toward pid t v c e s y
 toward_then pid t u v c d e s z y a b =
     record { same = b.same ∙ a.same; fits = b.fits; less = less_then c d e a.less b.less; rest = beside_then s z y a.rest b.rest }
+
+-- no thread comes to keep an access
+pub toward_nobody : (pid : ℕ) (t u : Tables) (c d : Key → Option Page) (s z : StoreOf) → Toward pid t u c d s z → NobodyKeeps pid t → NobodyKeeps pid u
+toward_nobody pid t u c d s z a nobody tid k e = nobody tid k (ap (λ (w : Tables). numbered w.kept tid) (sym a.same) ∙ e)
 
 pub toward_settled : (pid : ℕ) (t v : Tables) (q : Option (ProcessOf (Unit {0}))) (c d : Key → Option Page) (s z : StoreOf) → v ≡ settle (set_process t pid q) → Settled v c d s z → Less c d → Toward pid t v c d s z
 toward_settled pid t v q c d s z is settled less =
@@ -113,10 +117,11 @@ section_there t pid p index sound lives some = by_held (held p.handles (4 * inde
 
 -- ---- regions
 
-pub fewer_by : (p q : ProcessOf (Unit {0})) (i : ℕ) (r : RegionOf (Unit {0})) → slice_get p.regions i ≡ Some r → q ≡ unmapped p i → Fewer p q
-fewer_by p q i r at same =
+pub fewer_by : (p q : ProcessOf (Unit {0})) (r : RegionOf (Unit {0})) → slice_get p.regions 0 ≡ Some r → q ≡ unmapped p 0 → Fewer p q
+fewer_by p q r at same =
     record {
-      count = ap (λ (q : ProcessOf (Unit {0})). length q.regions + 1) same ∙ length_removed p.regions i r at;
+      left = ap (λ (q : ProcessOf (Unit {0})). q.regions) same;
+      count = ap (λ (q : ProcessOf (Unit {0})). length q.regions + 1) same ∙ length_removed p.regions 0 r at;
       same = ap (λ (q : ProcessOf (Unit {0})). q.handles) same;
     }
 
@@ -142,15 +147,11 @@ no_handle hs n none = count-all hs none
     count-all (x ∷ hs) none =
         omega (arith, sum_by-cons (λ o. cond (is_handle_to n o) 1 0) x hs, ap {B = ℕ} (λ o. cond (is_handle_to n o) 1 0) (none 0), count-all hs (λ k. none (suc k)))
 
-nobody_waits : (pid n : ℕ) → map (kept_of_others pid) (replicate n None) ≡ replicate n None
-nobody_waits pid zero = refl
-nobody_waits pid (suc n) = ap (λ ks. None ∷ ks) (nobody_waits pid n)
+-- tables in which no thread keeps an access of the process
+pub none_dropped : (t : Tables) (pid : ℕ) → NobodyKeeps pid t → record t { kept = map (kept_of_others pid) t.kept } ≡ t
+none_dropped t pid nobody = λ i. record t { kept = others_all pid t.kept nobody i }
 
--- tables in which no thread waits
-pub none_waits : (t : Tables) (pid : ℕ) → t.kept ≡ replicate threads None → record t { kept = map (kept_of_others pid) t.kept } ≡ t
-none_waits t pid e = λ i. record t { kept = (ap (map (kept_of_others pid)) e ∙ nobody_waits pid threads ∙ sym e) i }
-
-module _ (t : Tables) (pid : ℕ) (p : ProcessOf (Unit {0})) (lives : process_of t pid ≡ Some p) (none : HasNoHandle p) (empty : p.regions ≡ []) where
+module _ (t : Tables) (pid : ℕ) (p : ProcessOf (Unit {0})) (lives : process_of t pid ≡ Some p) (none : HasNoHandle p) (empty : p.regions ≡ []) (nobody : NobodyKeeps pid t) where
   handles_none : (n : ℕ) → handles_to (set_process t pid None) n ≡ handles_to t n
   handles_none n = omega (arith, handles_put t pid n p None lives, no_handle p.handles n none)
 
@@ -176,7 +177,7 @@ module _ (t : Tables) (pid : ℕ) (p : ProcessOf (Unit {0})) (lives : process_of
   sound_none tidy sound =
       subst (λ (w : Tables). WellFormed w)
       (ap (λ (o : Option (ProcessOf (Unit {0}))). (find_or t code.InvalidHandle o (λ p. done answer.Ok (settle (set_process (record t { kept = map (kept_of_others pid) t.kept }) pid None)))).world) lives
-      ∙ ap (λ (w : Tables). settle (set_process w pid None)) (none_waits t pid tidy.none_kept)
+      ∙ ap (λ (w : Tables). settle (set_process w pid None)) (none_dropped t pid nobody)
       ∙ settled_none tidy)
       (exit_keeps t pid sound)
 
@@ -184,7 +185,7 @@ module _ (t : Tables) (pid : ℕ) (p : ProcessOf (Unit {0})) (lives : process_of
   kept_none entries commit kept =
       record {
         sound = sound_none kept.tidy kept.sound;
-        tidy = subst (λ (w : Tables). IsTidy w) (settled_none kept.tidy) (tidy_settled t (set_process t pid None).processes kept.tidy);
+        tidy = subst (λ (w : Tables). IsTidy w) (settled_none kept.tidy) (tidy_settled t (set_process t pid None).processes kept.tidy (keepers_less t pid nobody kept.tidy.keepers));
         counted = λ n c e. let was = kept.counted n c e in record { handles = was.handles ∙ sym (handles_none n); views = was.views ∙ sym (views_none n) };
         charged = kept.charged ∙ sym charge_none;
         limited = kept.limited;
@@ -230,9 +231,9 @@ module _ (t : Tables) (pid : ℕ) (p : ProcessOf (Unit {0})) (lives : process_of
   ended_is made tidy is = is ∙ sym (settled_none tidy)
 
 -- the whole of what is kept, when a process has ended
-pub made_none : (m : MachineOf) (items : List (Option Process)) (dir : DirectoryOf) (areas : List (AreaOf (Unit {0}))) (used fails : ℕ) (t : Tables) (shape : tables_with m (shown_processes items) dir.entries areas dir.files used fails ≡ t) (pid : ℕ) (x : Option Process) → HasProcess t items pid x → tables_with m (shown_processes (set items (pid - 1) None)) dir.entries areas dir.files used fails ≡ set_process t pid None
-made_none m items dir areas used fails t shape pid x h =
-    (λ i. record (tables_with m (shown_processes items) dir.entries areas dir.files used fails) { processes = shown_set items pid None h.low i })
+pub made_none : (m : MachineOf) (items : List (Option Process)) (dir : DirectoryOf) (areas : List (AreaOf (Unit {0}))) (used fails : ℕ) (accesses : Numbered KeptOf) (t : Tables) (shape : tables_with m (shown_processes items) dir.entries areas dir.files used fails accesses ≡ t) (pid : ℕ) (x : Option Process) → HasProcess t items pid x → tables_with m (shown_processes (set items (pid - 1) None)) dir.entries areas dir.files used fails accesses ≡ set_process t pid None
+made_none m items dir areas used fails accesses t shape pid x h =
+    (λ i. record (tables_with m (shown_processes items) dir.entries areas dir.files used fails accesses) { processes = shown_set items pid None h.low i })
     ∙ (λ i. record (shape i) { processes = set (shape i).processes pid None })
 
 pub lowest_within : (rs : List (RegionOf (Unit {0}))) (result : Option RegionInfo) → IsSpace rs → result ≡ option_map info_of (slice_get rs 0) → IfSome result (λ info. end_of info.pages ≤ end_of_user_pages)
@@ -251,6 +252,11 @@ view_info p range view first lowest is = ap (option_map found_info) (view_lowest
 -- a process without handles keeps none
 pub still_none : (p q : ProcessOf (Unit {0})) → Fewer p q → HasNoHandle p → HasNoHandle q
 still_none p q fewer none k = ap (λ (hs : Numbered ℕ). numbered hs k) fewer.same ∙ none k
+
+-- and it has fewer regions, in tables too
+pub regions_fewer : (t v : Tables) (pid : ℕ) (p q : ProcessOf (Unit {0})) → process_of t pid ≡ Some p → process_of v pid ≡ Some q → Fewer p q → length (regions_in v pid) < length (regions_in t pid)
+regions_fewer t v pid p q lives now fewer =
+    omega (arith, ap (λ (o : Option (ProcessOf (Unit {0}))). length (regions_of o)) lives, ap (λ (o : Option (ProcessOf (Unit {0}))). length (regions_of o)) now, fewer.count)
 
 -- one handle more is closed
 pub more_closed : (p q : ProcessOf (Unit {0})) (index : ℕ) → Closes index p q → ((k : ℕ) → k < index → numbered p.handles k ≡ None) → (k : ℕ) → k < index + 1 → numbered q.handles k ≡ None

@@ -4,7 +4,7 @@ use Rattle.std.proofs.Common.{◌≡◌, inl, inr, true, false, ℕ, zero, suc, 
 use Rattle.mm_types.specs.declared.numbers.Key.{Key}
 use Rattle.mm_types.specs.Machine.{MachineOf}
 use Rattle.mm_commit.specs.Charge.{CommitOf}
-use Rattle.mm_world.specs.World.{Page, ProcessOf, RegionOf, AreaOf, FileOf, Numbered}
+use Rattle.mm_world.specs.World.{Page, ProcessOf, RegionOf, AreaOf, FileOf, Numbered, KeptOf}
 use Rattle.mm_world.specs.Views.{view_at}
 use Rattle.mm_spaces.specs.Tables.{found_info}
 use Rattle.mm_spaces.specs.declared.spaces.RegionInfo.{RegionInfo}
@@ -26,8 +26,8 @@ pub record Standing (t : Tables) (items : List (Option Process)) (entries : Numb
   pub sections : sections_of entries ≡ t.sections
   pub areas_are : areas ≡ t.areas
 
-pub standing : (m : MachineOf) (items : List (Option Process)) (entries : Numbered CountedSection) (areas : List (AreaOf (Unit {0}))) (files : List FileOf) (used fails : ℕ) (commit : CommitOf) (t : Tables) → tables_with m (shown_processes items) entries areas files used fails ≡ t → IsKept (tables_with m (shown_processes items) entries areas files used fails) entries commit → Standing t items entries areas commit
-standing m items entries areas files used fails commit t view kept =
+pub standing : (m : MachineOf) (items : List (Option Process)) (entries : Numbered CountedSection) (areas : List (AreaOf (Unit {0}))) (files : List FileOf) (used fails : ℕ) (accesses : Numbered KeptOf) (commit : CommitOf) (t : Tables) → tables_with m (shown_processes items) entries areas files used fails accesses ≡ t → IsKept (tables_with m (shown_processes items) entries areas files used fails accesses) entries commit → Standing t items entries areas commit
+standing m items entries areas files used fails accesses commit t view kept =
     record {
       kept = subst (λ (t : Tables). IsKept t entries commit) view kept;
       processes = ap (λ (t : Tables). t.processes) view;

@@ -8,18 +8,17 @@ use Rattle.std.proofs.lemmas.List.Sums.{sum_by-cons}
 use Rattle.mm_types.specs.declared.numbers.Area.{Area}
 use Rattle.mm_types.specs.declared.numbers.Key.{Key}
 use Rattle.mm_types.specs.declared.numbers.Key.TheVariants as key
-use Rattle.mm_types.specs.declared.numbers.Pid.{Pid}
 use Rattle.mm_types.specs.declared.numbers.Place.{Place}
 use Rattle.mm_types.specs.Address.{Range, end_of, holds_page}
-use Rattle.mm_world.specs.World.{Page, AreaOf, RegionOf, numbered}
+use Rattle.mm_world.specs.World.{Page, AreaOf, numbered}
 use Rattle.mm_world.specs.Failure.{same_key}
 use Rattle.mm_world.proofs.Finding.{numbered_inside}
 use Rattle.mm_world.proofs.LaidOut.{and-true, less}
-use Rattle.mm_pages.specs.Store.{StoreOf, changed_in, is_place_in, own_key, changed}
+use Rattle.mm_pages.specs.Store.{StoreOf, own_key, changed}
 use Rattle.mm_pages.specs.Reports.{rearranged}
 use Rattle.mm_pages.specs.Conditions.{MayRemove, IsReleasing}
 use Rattle.mm_tables.specs.Fits.{beside}
-use Rattle.mm_tables.specs.Endings.{among, owned_among, without, without_paging, without_names, Gone, CanGo, CanGoAll, own_at, shared_at, is_owned_at, is_committed_in, Less, is_key_in, is_shared_in, CanRelease, Released, CanEnd, Emptied}
+use Rattle.mm_tables.specs.Endings.{among, owned_among, without, without_paging, without_names, Gone, CanGo, CanGoAll, shared_at, is_committed_in, Less, is_shared_in, CanEnd, Emptied}
 
 -- ---- tests
 
@@ -218,71 +217,9 @@ within range page e =
 pub holds : (range : Range) (page : ℕ) → range.first ≤ page → page < end_of range → holds_page range page ≡ true
 holds range page low high = both (nat_le range.first page) (nat_lt page (end_of range)) (le-leb _ _ low) (le-leb _ _ (omega (arith, high)))
 
--- a key of the range is that of one of its pages
-pub record IsPage (pid : Pid) (range : Range) (k : Key) : Type 0 where
-  pub index : ℕ
-  pub few : index < range.count
-  pub is : k ≡ own_at pid range.first index
-
-pub page_in : (pid : Pid) (range : Range) (k : Key) → is_key_in pid range k ≡ true → IsPage pid range k
-page_in pid range (key.Private p v) e =
-    let h = and-true (p.0 == pid.0) (holds_page range v.0) e in
-    let w = within range v.0 h.1 in
-    let a = (unsigned_Decides p.0 pid.0).0 h.0 in
-    let b : v.0 ≡ range.first + (v.0 - range.first) = omega (arith, w.low) in
-    record { index = v.0 - range.first; few = omega (arith, w.low, w.high); is = λ i. key.Private (record { 0 = a i }) (record { 0 = b i }) }
-page_in pid range (key.Shared area index) e = cc
-
-pub own_family : (pid : Pid) (range : Range) (rs : List (RegionOf (Unit {0}))) (c : Key → Option Page) (s : StoreOf) → CanRelease pid range rs c s → Family (own_at pid range.first) (is_owned_at rs range.first) range.count (is_key_in pid range) c s
-own_family pid range rs c s can =
-    record {
-      up = λ i few. both (pid.0 == pid.0) (holds_page range (range.first + i)) ((unsigned_Decides pid.0 pid.0).1 refl) (holds range (range.first + i) (omega arith) (omega (arith, few)));
-      dead = λ k h b.
-          let p = page_in pid range k h in
-          let none : is_owned_at rs range.first p.index ≡ false =
-          not_true (is_owned_at rs range.first p.index) (λ o. let bad : true ≡ false = sym (among_one (own_at pid range.first) (is_owned_at rs range.first) range.count p.index k p.few o p.is) ∙ b in cc) in
-          (ap (λ (k : Key). is_some (c k)) p.is ∙ can.live p.index p.few ∙ none, ap s.paging p.is ∙ can.paging p.index p.few ∙ none);
-    }
-
 pub none_of : {A : Type 0} (o : Option A) → is_some o ≡ false → o ≡ None
 none_of None e = refl
 none_of (Some x) e = cc
-
-pub own_dead : (pid : Pid) (range : Range) (rs : List (RegionOf (Unit {0}))) (c d : Key → Option Page) (s z : StoreOf) → CanRelease pid range rs c s → Gone (among (own_at pid range.first) (is_owned_at rs range.first) range.count) (owned_among (is_owned_at rs range.first) range.count) c d s z → (page : ℕ) → range.first ≤ page → page < range.first + range.count → d (key.Private pid (record { 0 = page })) ≡ None
-own_dead pid range rs c d s z can g page low high =
-    let k = key.Private pid (record { 0 = page }) in
-    none_of (d k) (
-    gone_live (own_at pid range.first) (is_owned_at rs range.first) range.count (is_key_in pid range) c d s z (own_family pid range rs c s can) g k
-    ∙ ap (λ b. cond b false (is_some (c k))) (both (pid.0 == pid.0) (holds_page range page) ((unsigned_Decides pid.0 pid.0).1 refl) (holds range page low (omega (arith, high)))))
-
-in_place : (held : Bool) (o : Option Key) (k : Key) → cond held None o ≡ Some k → (o ≡ Some k) × (held ≡ false)
-in_place true o k e = cc
-in_place false o k e = (e, refl)
-
-pub released : (pid : Pid) (range : Range) (rs : List (RegionOf (Unit {0}))) (c d e : Key → Option Page) (s y z : StoreOf) → CanRelease pid range rs c s → Gone (among (own_at pid range.first) (is_owned_at rs range.first) range.count) (owned_among (is_owned_at rs range.first) range.count) c d s y → e ≡ d → z ≡ record y { bound = changed_in pid range y.bound false; names = changed_in pid range y.names None; report = rearranged y.report z.report } → Released pid range rs c e s z
-released pid range rs c d e s y z can g same after =
-    let f = own_family pid range rs c s can in
-    let live = gone_live (own_at pid range.first) (is_owned_at rs range.first) range.count (is_key_in pid range) c d s y f g in
-    let paging = gone_paging (own_at pid range.first) (is_owned_at rs range.first) range.count (is_key_in pid range) c d s y f g in
-    record {
-      lost = record {
-        live = λ k. ap (λ (x : Key → Option Page). is_some (x k)) same ∙ live k;
-        less = λ k some. ap (λ (x : Key → Option Page). x k) same ∙ gone_less _ _ c d s y g k (sym (ap (λ (x : Key → Option Page). is_some (x k)) same) ∙ some);
-        paging = λ k. ap (λ (x : StoreOf). x.paging k) after ∙ paging k;
-        bound = λ place. ap (λ (x : StoreOf). x.bound place) after ∙ ap (λ (x : StoreOf). cond (is_place_in pid range place) false (x.bound place)) g.store;
-        names = λ place k e.
-            let n = in_place (is_place_in pid range place) (y.names place) k (sym (ap (λ (x : StoreOf). x.names place) after) ∙ e) in
-            (gone_names _ _ c d s y g place k n.0, n.1);
-        count = ap (λ (x : StoreOf). x.paging_keys) after ∙ ap (λ (x : StoreOf). x.paging_keys) g.store;
-        open_same = ap (λ (x : StoreOf). x.is_open) after ∙ ap (λ (x : StoreOf). x.is_open) g.store;
-        room = ap (λ (x : StoreOf). x.room) after ∙ ap (λ (x : StoreOf). x.room) g.store;
-        rest = beside_then s y z (beside_by s y _ g.store refl) (beside_by y z _ after refl);
-      };
-      areas = ap (λ (x : StoreOf). x.areas) after ∙ ap (λ (x : StoreOf). x.areas) g.store;
-    }
-  where
-    beside_then : (a b c : StoreOf) → b ≡ beside a b → c ≡ beside b c → c ≡ beside a c
-    beside_then a b c e f = f ∙ ap (λ (x : StoreOf). beside x c) e
 
 -- ---- the pages of an area
 

@@ -12,7 +12,7 @@ use Rattle.mm_types.specs.declared.views.Kind.TheVariants as kind
 use Rattle.mm_types.specs.Address.{Range, address_of, end_of, end_of_user_pages}
 use Rattle.mm_types.specs.Machine.{MachineOf}
 use Rattle.mm_commit.specs.Charge.{CommitOf}
-use Rattle.mm_world.specs.World.{Page, ProcessOf, RegionOf, AreaOf, Numbered, pages_of}
+use Rattle.mm_world.specs.World.{Page, ProcessOf, RegionOf, AreaOf, Numbered, pages_of, KeptOf}
 use Rattle.mm_world.specs.Find.{Found, first_where, one_later, process_of, set_regions, region_around, is_private}
 use Rattle.mm_world.specs.Charge.{charge, region_charge}
 use Rattle.mm_world.specs.Free.{private_at, release_type}
@@ -31,6 +31,7 @@ use Rattle.mm_tables.specs.Shown.{shown_process, shown_processes, tables_with}
 use Rattle.mm_tables.specs.Sound.{IsKept}
 use Rattle.mm_tables.specs.Fits.{Fits}
 use Rattle.mm_tables.specs.Endings.{CanRelease, Released}
+use Rattle.mm_tables.proofs.Keepers.{lives_put}
 use Rattle.mm_tables.proofs.EndingKeys.{both}
 use Rattle.mm_tables.proofs.EndingCounts.{removed_views, handles_put, views_put, holds_count, views_count}
 use Rattle.mm_tables.proofs.EndingSettles.{settle_same, tidy_settled}
@@ -102,7 +103,7 @@ module _ (t : Tables) (pid : ℕ) (p : ProcessOf (Unit {0})) (r : RegionOf (Unit
         holds_count now n ∙ ap (nat_lt 0) (handles_same n) ∙ sym (holds_count t n),
         views_count now n ∙ ap (nat_lt 0) (views_same n) ∙ sym (views_count t n),
       )))
-      (tidy_settled t now.processes tidy)
+      (tidy_settled t now.processes tidy (λ tid k e. lives_put t.processes pid k.pid (unmapped p 0) (tidy.keepers tid k e)))
 
   pub kept_private : (entries : Numbered CountedSection) (commit after : CommitOf) → IsKept t entries commit → after.charge ≡ charge (set_regions t pid p (remove p.regions 0)) → after.limit ≡ commit.limit → IsKept (set_regions t pid p (remove p.regions 0)) entries after
   kept_private entries commit after kept charged limited =
@@ -114,9 +115,9 @@ module _ (t : Tables) (pid : ℕ) (p : ProcessOf (Unit {0})) (r : RegionOf (Unit
         limited = limited ∙ kept.limited;
       }
 
-module _ (m : MachineOf) (items : List (Option Process)) (dir : DirectoryOf) (areas : List (AreaOf (Unit {0}))) (used fails : ℕ) (commit : CommitOf) (t : Tables) (shape : tables_with m (shown_processes items) dir.entries areas dir.files used fails ≡ t) (kept : IsKept (tables_with m (shown_processes items) dir.entries areas dir.files used fails) dir.entries commit) (pid : Pid) (x : Option Process) (range : Range) (alive : is_some (process_of t pid.0) ≡ true) (found : x ≡ get_or items (pid.0 - 1) x) (there : (p : ProcessOf (Unit {0})) → process_of t pid.0 ≡ Some p → option_map info_of (slice_get p.regions 0) ≡ Some (record { pages = range; kind = kind.Private })) (c : Key → Option Page) (s : StoreOf) (fits : Fits t c s) where
+module _ (m : MachineOf) (items : List (Option Process)) (dir : DirectoryOf) (areas : List (AreaOf (Unit {0}))) (used fails : ℕ) (accesses : Numbered KeptOf) (commit : CommitOf) (t : Tables) (shape : tables_with m (shown_processes items) dir.entries areas dir.files used fails accesses ≡ t) (kept : IsKept (tables_with m (shown_processes items) dir.entries areas dir.files used fails accesses) dir.entries commit) (pid : Pid) (x : Option Process) (range : Range) (alive : is_some (process_of t pid.0) ≡ true) (found : x ≡ get_or items (pid.0 - 1) x) (there : (p : ProcessOf (Unit {0})) → process_of t pid.0 ≡ Some p → option_map info_of (slice_get p.regions 0) ≡ Some (record { pages = range; kind = kind.Private })) (c : Key → Option Page) (s : StoreOf) (fits : Fits t c s) where
   st : Standing t items dir.entries areas commit
-  st = standing m items dir.entries areas dir.files used fails commit t shape kept
+  st = standing m items dir.entries areas dir.files used fails accesses commit t shape kept
 
   h : HasProcess t items pid.0 x
   h = has_process t items pid.0 x st.processes alive found
@@ -155,16 +156,16 @@ module _ (m : MachineOf) (items : List (Option Process)) (dir : DirectoryOf) (ar
     processes : shown_processes (set items (pid.0 - 1) y) ≡ set t.processes pid.0 (Some (unmapped h.process 0))
     processes = shown_set items pid.0 y h.low ∙ (λ i. set (st.processes i) pid.0 (removed h.process h.shown i))
 
-    pub lowest_landed : (commit1 : CommitOf) → commit1 ≡ record commit { charge = commit.charge - owned } → (p : ProcessOf (Unit {0})) → process_of t pid.0 ≡ Some p → Landed (set_regions t pid.0 p (remove p.regions 0)) (tables_with m (shown_processes (set items (pid.0 - 1) y)) dir.entries areas dir.files used fails) dir.entries commit1 c c1 s s1
+    pub lowest_landed : (commit1 : CommitOf) → commit1 ≡ record commit { charge = commit.charge - owned } → (p : ProcessOf (Unit {0})) → process_of t pid.0 ≡ Some p → Landed (set_regions t pid.0 p (remove p.regions 0)) (tables_with m (shown_processes (set items (pid.0 - 1) y)) dir.entries areas dir.files used fails accesses) dir.entries commit1 c c1 s s1
     lowest_landed commit1 refunded p lives =
         let lost = (released h.process h.shown).lost in
         let after = set_regions t pid.0 h.process (remove h.process.regions 0) in
-        let is : tables_with m (shown_processes (set items (pid.0 - 1) y)) dir.entries areas dir.files used fails ≡ after =
-        made_with m (shown_processes items) dir.entries areas dir.files dir.files used fails t shape (shown_processes (set items (pid.0 - 1) y)) (set t.processes pid.0 (Some (unmapped h.process 0))) dir.entries dir.entries areas t.areas processes refl st.areas_are refl
+        let is : tables_with m (shown_processes (set items (pid.0 - 1) y)) dir.entries areas dir.files used fails accesses ≡ after =
+        made_with m (shown_processes items) dir.entries areas dir.files dir.files used fails accesses t shape (shown_processes (set items (pid.0 - 1) y)) (set t.processes pid.0 (Some (unmapped h.process 0))) dir.entries dir.entries areas t.areas processes refl st.areas_are refl
         ∙ (λ i. record t { processes = set t.processes pid.0 (Some (unmapped h.process 0)); sections = st.sections i }) in
         let kept_now = kept_private t pid.0 h.process v.region h.lives v.at v.is st.kept.tidy dir.entries commit commit1 st.kept (omega (arith, ap (λ (k : CommitOf). k.charge) refunded, st.kept.charged, less_charge, owned_is)) (ap (λ (k : CommitOf). k.limit) refunded) in
         let fits_now = fits_removed t pid h.process 0 v.region range h.lives v.at v.pages st.kept.sound c c1 s s1 fits (released h.process h.shown) in
-        subst (λ (p : ProcessOf (Unit {0})). Landed (set_regions t pid.0 p (remove p.regions 0)) (tables_with m (shown_processes (set items (pid.0 - 1) y)) dir.entries areas dir.files used fails) dir.entries commit1 c c1 s s1) (same_process (process_of t pid.0) h.process p h.lives lives)
+        subst (λ (p : ProcessOf (Unit {0})). Landed (set_regions t pid.0 p (remove p.regions 0)) (tables_with m (shown_processes (set items (pid.0 - 1) y)) dir.entries areas dir.files used fails accesses) dir.entries commit1 c c1 s s1) (same_process (process_of t pid.0) h.process p h.lives lives)
         (record {
           is = is;
           kept = subst (λ (w : Tables). IsKept w dir.entries commit1) (sym is) kept_now;

@@ -10,7 +10,7 @@ use Rattle.mm_world.specs.Find.{section_of, area_at, no_area, set_process}
 use Rattle.mm_world.specs.Sections.{holds, views, uses, settle, settled_section, settled_sections, settled_area, settled_areas}
 use Rattle.mm_world.specs.WellFormed.{Each}
 use Rattle.mm_world.proofs.Finding.{numbered_inside}
-use Rattle.mm_tables.specs.References.{IsTidy}
+use Rattle.mm_tables.specs.References.{IsTidy, KeepersLive}
 use Rattle.mm_tables.specs.Endings.{ended_area}
 use Rattle.mm_tables.proofs.EndingKeys.{not_true}
 
@@ -350,8 +350,8 @@ module _ {B : Type 0} where
     area_of_section n s e =
         area_is s.area ∙ used_area (settled_sections qs 0 t.sections) s.area (area_at t s.area) (any_numbered (uses s.area) (settled_sections qs 0 t.sections) n s e ((unsigned_Decides s.area s.area).1 refl))
 
-    pub tidy_settled : IsTidy (settle (record t { processes = qs }))
-    tidy_settled =
+    pub tidy_settled : KeepersLive (record t { processes = qs }) → IsTidy (settle (record t { processes = qs }))
+    tidy_settled keepers =
         record {
           settled = settled_again (record t { processes = qs });
           own_area = λ n m s r e f same paging.
@@ -373,5 +373,5 @@ module _ {B : Type 0} where
               };
           file_areas = each_still (λ f. is_some (area_at t f.area).file_block ≡ true) (λ f. is_some (area_at (settle (record t { processes = qs })) f.area).file_block ≡ true) t.files
               (λ f k. ap (λ (a : AreaOf B). is_some a.file_block) (area_is f.area ∙ file_area (settled_sections qs 0 t.sections) f.area (area_at t f.area) k) ∙ k) tidy.file_areas;
-          none_kept = tidy.none_kept;
+          keepers = keepers;
         }

@@ -27,6 +27,7 @@ use Rattle.mm_tables.specs.References.{handles_in, views_in, handles_to, views_o
 use Rattle.mm_tables.specs.Sound.{IsCounted, IsKept}
 use Rattle.mm_tables.specs.Fits.{Fits, Settled, beside, is_paging, block_in, paging_count}
 use Rattle.mm_tables.specs.Endings.{Less, Lost, is_shared_in, nowhere, ended_area, CanEnd, Emptied}
+use Rattle.mm_tables.proofs.Keepers.{lives_put}
 use Rattle.mm_tables.proofs.EndingKeys.{not_true}
 use Rattle.mm_tables.proofs.EndingCounts.{holds_count, views_count, handles_put, views_put, file_charge, paging_charge, area_sum}
 use Rattle.mm_tables.proofs.EndingSettles.{any_numbered, settle_put, tidy_settled}
@@ -201,7 +202,7 @@ module _ (t : Tables) (pid : ℕ) (p q : ProcessOf (Unit {0})) (m : ℕ) (old no
   -- the commit charge is what the tables say after it
   kept_now : (after : CommitOf) → WellFormed (settle u) → after.charge ≡ charge (settle u) → after.limit ≡ commit.limit → IsKept (settle u) (set entries m (settled_by now)) after
   kept_now after sound charged limited =
-      record { sound = sound; tidy = tidy_settled t u.processes kept.tidy; counted = counted_now; charged = charged; limited = limited ∙ kept.limited }
+      record { sound = sound; tidy = tidy_settled t u.processes kept.tidy (λ tid k e. lives_put t.processes pid k.pid q (kept.tidy.keepers tid k e)); counted = counted_now; charged = charged; limited = limited ∙ kept.limited }
 
   -- ---- the section stays
 

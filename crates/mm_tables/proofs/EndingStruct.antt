@@ -3,7 +3,7 @@ use Rattle.std.proofs.Common.{◌≡◌, ℕ, zero, suc, ◌-◌, ◌≤◌, ◌
 use Rattle.std.proofs.lemmas.Bool.{leb-true, leb-false}
 use Rattle.std.specs.Prelude.{◌==◌, ◌/◌, ◌%◌, IsSomeAnd, option_and_then}
 use Rattle.mm_types.specs.Machine.{MachineOf}
-use Rattle.mm_world.specs.World.{ProcessOf, AreaOf, SectionOf, FileOf, Numbered, numbered}
+use Rattle.mm_world.specs.World.{ProcessOf, AreaOf, SectionOf, FileOf, Numbered, numbered, KeptOf}
 use Rattle.mm_world.specs.Find.{Found, process_of, section_of}
 use Rattle.mm_world.specs.Sections.{handle_section}
 use Rattle.mm_world.specs.Contents.{Tables}
@@ -83,9 +83,9 @@ alive_shown None p e = cc
 alive_shown (Some x) p e = refl
 
 -- the tables with other processes, sections and areas
-pub made_with : (m : MachineOf) (items : List (Option (ProcessOf (Unit {0})))) (entries : Numbered CountedSection) (areas : List (AreaOf (Unit {0}))) (files files' : List FileOf) (used fails : ℕ) (t : Tables) → tables_with m items entries areas files used fails ≡ t → (ps qs : List (Option (ProcessOf (Unit {0})))) (es fs : Numbered CountedSection) (as' bs : List (AreaOf (Unit {0}))) → ps ≡ qs → es ≡ fs → as' ≡ bs → files' ≡ files → tables_with m ps es as' files' used fails ≡ record t { processes = qs; sections = sections_of fs; areas = bs }
-made_with m items entries areas files files' used fails t view ps qs es fs as' bs p e a f =
-    (λ i. record (tables_with m items entries areas (f i) used fails) { processes = p i; sections = sections_of (e i); areas = a i })
+pub made_with : (m : MachineOf) (items : List (Option (ProcessOf (Unit {0})))) (entries : Numbered CountedSection) (areas : List (AreaOf (Unit {0}))) (files files' : List FileOf) (used fails : ℕ) (accesses : Numbered KeptOf) (t : Tables) → tables_with m items entries areas files used fails accesses ≡ t → (ps qs : List (Option (ProcessOf (Unit {0})))) (es fs : Numbered CountedSection) (as' bs : List (AreaOf (Unit {0}))) → ps ≡ qs → es ≡ fs → as' ≡ bs → files' ≡ files → tables_with m ps es as' files' used fails accesses ≡ record t { processes = qs; sections = sections_of fs; areas = bs }
+made_with m items entries areas files files' used fails accesses t view ps qs es fs as' bs p e a f =
+    (λ i. record (tables_with m items entries areas (f i) used fails accesses) { processes = p i; sections = sections_of (e i); areas = a i })
     ∙ (λ i. record (view i) { processes = qs; sections = sections_of fs; areas = bs })
 
 -- ---- handles

@@ -14,7 +14,7 @@ use Rattle.mm_types.specs.declared.views.View.{View}
 use Rattle.mm_types.specs.Address.{Range, end_of, end_of_user_pages}
 use Rattle.mm_types.specs.Machine.{MachineOf}
 use Rattle.mm_commit.specs.Charge.{CommitOf}
-use Rattle.mm_world.specs.World.{Page, ProcessOf, RegionOf, AreaOf, Numbered, numbered, pages_of}
+use Rattle.mm_world.specs.World.{Page, ProcessOf, RegionOf, AreaOf, Numbered, numbered, pages_of, KeptOf}
 use Rattle.mm_world.specs.Find.{Found, process_of, set_process, set_regions, area_at, region_around}
 use Rattle.mm_world.specs.Charge.{charge, area_charge, region_charge}
 use Rattle.mm_world.specs.Outcome.{find_or, done}
@@ -130,9 +130,9 @@ module _ (t : Tables) (items : List (Option Process)) (entries : Numbered Counte
 
 -- ---- the whole call, of what its steps ensure
 
-module _ (m : MachineOf) (items : List (Option Process)) (dir : DirectoryOf) (areas : List (AreaOf (Unit {0}))) (used fails : ℕ) (commit : CommitOf) (t : Tables) (shape : tables_with m (shown_processes items) dir.entries areas dir.files used fails ≡ t) (kept : IsKept (tables_with m (shown_processes items) dir.entries areas dir.files used fails) dir.entries commit) (pid : Pid) (x : Option Process) (addr : ℕ) (range : Range) (view : View) (alive : is_some (process_of t pid.0) ≡ true) (found : x ≡ get_or items (pid.0 - 1) x) (there : (p : ProcessOf (Unit {0})) → process_of t pid.0 ≡ Some p → option_map found_info (view_at p.regions addr) ≡ Some (record { pages = range; kind = kind.View view })) (c : Key → Option Page) (s : StoreOf) (fits : Fits t c s) where
+module _ (m : MachineOf) (items : List (Option Process)) (dir : DirectoryOf) (areas : List (AreaOf (Unit {0}))) (used fails : ℕ) (accesses : Numbered KeptOf) (commit : CommitOf) (t : Tables) (shape : tables_with m (shown_processes items) dir.entries areas dir.files used fails accesses ≡ t) (kept : IsKept (tables_with m (shown_processes items) dir.entries areas dir.files used fails accesses) dir.entries commit) (pid : Pid) (x : Option Process) (addr : ℕ) (range : Range) (view : View) (alive : is_some (process_of t pid.0) ≡ true) (found : x ≡ get_or items (pid.0 - 1) x) (there : (p : ProcessOf (Unit {0})) → process_of t pid.0 ≡ Some p → option_map found_info (view_at p.regions addr) ≡ Some (record { pages = range; kind = kind.View view })) (c : Key → Option Page) (s : StoreOf) (fits : Fits t c s) where
   st : Standing t items dir.entries areas commit
-  st = standing m items dir.entries areas dir.files used fails commit t shape kept
+  st = standing m items dir.entries areas dir.files used fails accesses commit t shape kept
 
   h : HasProcess t items pid.0 x
   h = has_process t items pid.0 x st.processes alive found
@@ -204,12 +204,12 @@ module _ (m : MachineOf) (items : List (Option Process)) (dir : DirectoryOf) (ar
           subst (λ (w : Tables). Landed w made entries after c d s z) (λ i. settle (set_process t pid.0 (Some (unmapped (same i) (place i).place))))
           (subst (λ (es : Numbered CountedSection). Landed (settle (set_process t pid.0 (Some (unmapped h.process v.found.place)))) made es after c d s z) (sym entries_are) landed)
 
-      pub whole_stays : result ≡ None → (p : ProcessOf (Unit {0})) (r : Found (RegionOf (Unit {0}))) → process_of t pid.0 ≡ Some p → view_at p.regions addr ≡ Some r → Landed (settle (set_process t pid.0 (Some (unmapped p r.place)))) (tables_with m (shown_processes (set items (pid.0 - 1) y)) dir'.entries areas dir'.files used fails) dir'.entries commit1 c c1 s s1
+      pub whole_stays : result ≡ None → (p : ProcessOf (Unit {0})) (r : Found (RegionOf (Unit {0}))) → process_of t pid.0 ≡ Some p → view_at p.regions addr ≡ Some r → Landed (settle (set_process t pid.0 (Some (unmapped p r.place)))) (tables_with m (shown_processes (set items (pid.0 - 1) y)) dir'.entries areas dir'.files used fails accesses) dir'.entries commit1 c c1 s s1
       whole_stays none p r lives is_r =
           let still = ended_none (is_some (settled_by (one_view_less e.counted))) e.counted.section.area result told none in
           as_told
-          (stays t items dir.entries areas commit st pid x addr range view h v e (tables_with m (shown_processes (set items (pid.0 - 1) y)) dir'.entries areas dir'.files used fails) commit1 c c1 s s1
-          (made_with m (shown_processes items) dir.entries areas dir.files dir'.files used fails t shape (shown_processes (set items (pid.0 - 1) y)) (set t.processes pid.0 (Some (unmapped h.process v.found.place))) dir'.entries (set dir.entries view.section.0 (settled_by (one_view_less e.counted))) areas t.areas
+          (stays t items dir.entries areas commit st pid x addr range view h v e (tables_with m (shown_processes (set items (pid.0 - 1) y)) dir'.entries areas dir'.files used fails accesses) commit1 c c1 s s1
+          (made_with m (shown_processes items) dir.entries areas dir.files dir'.files used fails accesses t shape (shown_processes (set items (pid.0 - 1) y)) (set t.processes pid.0 (Some (unmapped h.process v.found.place))) dir'.entries (set dir.entries view.section.0 (settled_by (one_view_less e.counted))) areas t.areas
           processes (ap (λ (d : DirectoryOf). d.entries) dir_is) st.areas_are (ap (λ (d : DirectoryOf). d.files) dir_is))
           still charged_now (ap (λ (k : CommitOf). k.limit) refunded) less_now rest_now fits_now)
           (ap (λ (d : DirectoryOf). d.entries) dir_is) p r lives is_r
@@ -236,11 +236,11 @@ module _ (m : MachineOf) (items : List (Option Process)) (dir : DirectoryOf) (ar
           pub whole_charged : area_charge pages ≤ commit1.charge
           whole_charged = omega (arith, ap (λ (x : AreaOf (Unit {0})). area_charge x) is_area, area_charged (set_process t pid.0 (Some (unmapped h.process v.found.place))) e.counted.section.area within, charged_now)
 
-          pub whole_ends : (pages' : AreaOf (Unit {0})) (after : CommitOf) (d : Key → Option Page) (z : StoreOf) → pages' ≡ ended_area pages → after ≡ record commit1 { charge = commit1.charge - area_charge pages } → ((first : ℕ) → pages.file_block ≡ Some first → (d ≡ c1) × (z ≡ s1)) → (pages.file_block ≡ None → Emptied a pages c1 d s1 z) → (p : ProcessOf (Unit {0})) (r : Found (RegionOf (Unit {0}))) → process_of t pid.0 ≡ Some p → view_at p.regions addr ≡ Some r → Landed (settle (set_process t pid.0 (Some (unmapped p r.place)))) (tables_with m (shown_processes (set items (pid.0 - 1) y)) dir'.entries (set areas a.0 pages') dir'.files used fails) dir'.entries after c d s z
+          pub whole_ends : (pages' : AreaOf (Unit {0})) (after : CommitOf) (d : Key → Option Page) (z : StoreOf) → pages' ≡ ended_area pages → after ≡ record commit1 { charge = commit1.charge - area_charge pages } → ((first : ℕ) → pages.file_block ≡ Some first → (d ≡ c1) × (z ≡ s1)) → (pages.file_block ≡ None → Emptied a pages c1 d s1 z) → (p : ProcessOf (Unit {0})) (r : Found (RegionOf (Unit {0}))) → process_of t pid.0 ≡ Some p → view_at p.regions addr ≡ Some r → Landed (settle (set_process t pid.0 (Some (unmapped p r.place)))) (tables_with m (shown_processes (set items (pid.0 - 1) y)) dir'.entries (set areas a.0 pages') dir'.files used fails accesses) dir'.entries after c d s z
           whole_ends pages' after d z pages_are freed file emptied p r lives is_r =
               as_told
-              (ends t items dir.entries areas commit st pid x addr range view h v e a (tables_with m (shown_processes (set items (pid.0 - 1) y)) dir'.entries (set areas a.0 pages') dir'.files used fails) after c c1 d s s1 z end.1
-              (made_with m (shown_processes items) dir.entries areas dir.files dir'.files used fails t shape (shown_processes (set items (pid.0 - 1) y)) (set t.processes pid.0 (Some (unmapped h.process v.found.place))) dir'.entries (set dir.entries view.section.0 (settled_by (one_view_less e.counted)))
+              (ends t items dir.entries areas commit st pid x addr range view h v e a (tables_with m (shown_processes (set items (pid.0 - 1) y)) dir'.entries (set areas a.0 pages') dir'.files used fails accesses) after c c1 d s s1 z end.1
+              (made_with m (shown_processes items) dir.entries areas dir.files dir'.files used fails accesses t shape (shown_processes (set items (pid.0 - 1) y)) (set t.processes pid.0 (Some (unmapped h.process v.found.place))) dir'.entries (set dir.entries view.section.0 (settled_by (one_view_less e.counted)))
               (set areas a.0 pages') (set t.areas e.counted.section.area (ended_area (area_at t e.counted.section.area)))
               processes (ap (λ (d : DirectoryOf). d.entries) dir_is) (λ i. set (st.areas_are i) (end.1 i) ((pages_are ∙ ap ended_area is_area) i)) (ap (λ (d : DirectoryOf). d.files) dir_is))
               end.0

@@ -12,7 +12,7 @@ use Rattle.mm_world.specs.Charge.{area_charge}
 use Rattle.mm_world.specs.Contents.{Tables, blank}
 use Rattle.mm_world.specs.Processes.{file_pages}
 use Rattle.mm_world.proofs.Charges.{count_by-never}
-use Rattle.mm_pages.specs.Devices.{DeviceOf, Call, AllServed}
+use Rattle.mm_blocks.specs.Devices.{DeviceOf, Call, AllServed}
 use Rattle.mm_pages.specs.Reports.{wrote, Served}
 use Rattle.mm_pages.specs.Store.{StoreOf, changed, with_file, with_blocks}
 use Rattle.mm_tables.specs.Fits.{Fits}

@@ -86,7 +86,7 @@ module _ (t : Tables) (name : Text) (pages : ℕ) (some : 1 ≤ pages) (well : W
         files = same_files (with_blocks_used t (file_area t.blocks_used pages) (t.blocks_used + pages)) (with_new_file t name pages) refl refl rest.files;
         file_areas = each-append (λ (f : FileOf). is_some (area_at (with_new_file t name pages) f.area).file_block ≡ true) t.files (record { name = name; area = length t.areas } ∷ []) rest.file_areas
             (ap (λ (a : AreaOf (Unit {0})). is_some a.file_block) new_at, tt);
-        none_kept = rest.none_kept;
+        keepers = rest.keepers;
       }
 
   area_kept : (m : ℕ) → settled_area t.sections m (area_at (with_new_file t name pages) m) ≡ area_at (with_new_file t name pages) m
@@ -115,10 +115,11 @@ pub record MakesFile (x y : Parts) (name : Text) (pages : ℕ) : Type 0 where
   pub files : y.files ≡ x.files ++ record { name = name; area = length x.areas } ∷ []
   pub used : y.used ≡ x.used + pages
   pub fails : y.fails ≡ x.fails
+  pub kept : y.kept ≡ x.kept
 
 module _ (x y : Parts) (name : Text) (pages byte : ℕ) (some : 1 ≤ pages) (h : MakesFile x y name pages) where
   made_is : tables y ≡ with_new_file (tables x) name pages
-  made_is = λ i. tables (record { machine = h.machine i; processes = h.processes i; entries = h.entries i; areas = h.areas i; files = h.files i; used = h.used i; fails = h.fails i })
+  made_is = λ i. tables (record { machine = h.machine i; processes = h.processes i; entries = h.entries i; areas = h.areas i; files = h.files i; used = h.used i; fails = h.fails i; kept = h.kept i })
 
   pub file_kept : (t : Tables) (commit : CommitOf) → tables x ≡ t → file_named t name ≡ None → t.blocks_used + pages ≤ t.machine.blocks → IsKept (tables x) x.entries commit → IsKept (tables y) y.entries commit
   file_kept t commit view unnamed room k =

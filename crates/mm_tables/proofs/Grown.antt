@@ -28,6 +28,7 @@ use Rattle.mm_sections.specs.Directories.{CountedSection}
 use Rattle.mm_tables.specs.Fits.{Fits, before_process, extended, IsNamed, is_paging, key_at, block_in, paging_count, owned_by}
 use Rattle.mm_tables.specs.References.{IsTidy, handles_in, views_in}
 use Rattle.mm_tables.specs.Sound.{IsKept}
+use Rattle.mm_tables.proofs.Keepers.{lives_push}
 use Rattle.mm_tables.proofs.Homes.{key_in_same, key_at_is}
 use Rattle.mm_tables.specs.Effects.{key_in}
 use Rattle.mm_tables.proofs.Keeping.{settled_same}
@@ -89,7 +90,7 @@ module _ (t : Tables) where
         some = tidy.some;
         files = λ area first e. let k = tidy.files area first e in record { blocks = k.blocks; some = k.some; committed = k.committed };
         file_areas = tidy.file_areas;
-        none_kept = tidy.none_kept;
+        keepers = λ tid k e. lives_push t.processes no_regions k.pid (tidy.keepers tid k e);
       }
 
   pub more_kept : (entries : Numbered CountedSection) (commit : CommitOf) → IsKept t entries commit → length t.processes ≤ most_processes → IsKept (more t) entries commit
@@ -227,7 +228,7 @@ module _ (t : Tables) (m : MachineOf) (n : ℕ) where
           some = kept.tidy.some;
           files = λ area first e. let k = kept.tidy.files area first e in record { blocks = k.blocks; some = k.some; committed = k.committed };
           file_areas = kept.tidy.file_areas;
-          none_kept = kept.tidy.none_kept;
+          keepers = kept.tidy.keepers;
         };
         counted = λ number c e. let k = kept.counted number c e in record { handles = k.handles; views = k.views };
         charged = charged ∙ kept.charged;

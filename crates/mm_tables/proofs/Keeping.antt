@@ -18,6 +18,7 @@ use Rattle.mm_commit.specs.Charge.{CommitOf}
 use Rattle.mm_sections.specs.Directories.{CountedSection}
 use Rattle.mm_tables.specs.References.{IsTidy, handles_in, views_in, handles_to, views_of}
 use Rattle.mm_tables.specs.Sound.{IsKept}
+use Rattle.mm_tables.proofs.Keepers.{lives_put}
 use Rattle.mm_tables.proofs.Lists.{same_tests}
 use Rattle.mm_tables.proofs.OneProcess.{process_cases}
 
@@ -125,7 +126,7 @@ module _ (t : Tables) (pid : ℕ) (p : ProcessOf (Unit {0})) (ss : List (RegionO
         some = tidy.some;
         files = λ area first e. let k = tidy.files area first e in record { blocks = k.blocks; some = k.some; committed = k.committed };
         file_areas = tidy.file_areas;
-        none_kept = tidy.none_kept;
+        keepers = λ tid k e. lives_put t.processes pid k.pid (record p { regions = ss }) (tidy.keepers tid k e);
       }
 
   handles_same : (n : ℕ) → handles_to (set_regions t pid p ss) n ≡ handles_to t n

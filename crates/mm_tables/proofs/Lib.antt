@@ -3,7 +3,10 @@ pub mod Regions
 pub mod Rows
 pub mod OnePage
 pub mod PageByPage
-pub mod Kept
+pub mod Carried
+pub mod Keepers
+pub mod KeptAccesses
+pub mod Turning
 pub mod Paging
 pub mod OneProcess
 pub mod Homes
@@ -15,6 +18,7 @@ pub mod OneRow
 pub mod Looking
 pub mod Whole
 pub mod Ready
+pub mod Uncommitted
 pub mod Settled
 pub mod Grown
 pub mod Lines
@@ -38,6 +42,8 @@ pub mod ViewKept
 pub mod ViewShares
 pub mod ViewCommitted
 pub mod EndingKeys
+pub mod EndingPages
+pub mod EndingPasses
 pub mod EndingSettles
 pub mod EndingCounts
 pub mod EndingRegions

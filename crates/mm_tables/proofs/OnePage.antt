@@ -56,7 +56,7 @@ by_key : {V : Type 0} (pid : Pid) (page : ℕ) (f : Key → V) (x : Key → V) (
 by_key pid page f x y e k true same = ap x (same_is pid page k same) ∙ e
 by_key pid page f x y e k false same = refl
 
-by_same : {V : Type 0} (pid : Pid) (page : ℕ) (f x : Key → V) → x (own pid page) ≡ f (own pid page) → (k : Key) (b : Bool) → same_key k (own pid page) ≡ b → cond b (x k) (f k) ≡ f k
+pub by_same : {V : Type 0} (pid : Pid) (page : ℕ) (f x : Key → V) → x (own pid page) ≡ f (own pid page) → (k : Key) (b : Bool) → same_key k (own pid page) ≡ b → cond b (x k) (f k) ≡ f k
 by_same pid page f x e k true same = ap x (same_is pid page k same) ∙ e ∙ sym (ap f (same_is pid page k same))
 by_same pid page f x e k false same = refl
 

@@ -32,7 +32,7 @@ or_right : (a b : Bool) → b ≡ true → (a || b) ≡ true
 or_right true b e = refl
 or_right false b e = e
 
-and_false : (b : Bool) → (b && false) ≡ false
+pub and_false : (b : Bool) → (b && false) ≡ false
 and_false true = refl
 and_false false = refl
 
@@ -57,11 +57,11 @@ holds_more range n v =
         let other : v ≢ range.first + n = λ same. (let bad : true ≡ false = sym ((unsigned_Decides v (range.first + n)).1 same) ∙ e in cc) in
         or_right (holds_page (only (range.first + n)) v) (holds_page (front range n) v) (holds (front range n) v w.low (omega (arith, w.low, w.high, other)))
 
-key_in_more : (pid : Pid) (range : Range) (n : ℕ) (k : Key) → is_key_in pid (front range (suc n)) k ≡ (is_key_in pid (only (range.first + n)) k || is_key_in pid (front range n) k)
+pub key_in_more : (pid : Pid) (range : Range) (n : ℕ) (k : Key) → is_key_in pid (front range (suc n)) k ≡ (is_key_in pid (only (range.first + n)) k || is_key_in pid (front range n) k)
 key_in_more pid range n (key.Private p v) = ap (λ b. (p.0 == pid.0) && b) (holds_more range n v.0) ∙ spread (p.0 == pid.0) (holds_page (only (range.first + n)) v.0) (holds_page (front range n) v.0)
 key_in_more pid range n (key.Shared area index) = refl
 
-place_in_more : (pid : Pid) (range : Range) (n : ℕ) (q : Place) → is_place_in pid (front range (suc n)) q ≡ (is_place_in pid (only (range.first + n)) q || is_place_in pid (front range n) q)
+pub place_in_more : (pid : Pid) (range : Range) (n : ℕ) (q : Place) → is_place_in pid (front range (suc n)) q ≡ (is_place_in pid (only (range.first + n)) q || is_place_in pid (front range n) q)
 place_in_more pid range n q = ap (λ b. (q.pid.0 == pid.0) && b) (holds_more range n q.vpn.0) ∙ spread (q.pid.0 == pid.0) (holds_page (only (range.first + n)) q.vpn.0) (holds_page (front range n) q.vpn.0)
 
 -- ---- functions changed in a range and then at its next page
@@ -101,13 +101,13 @@ names_more pid range n names =
 
 -- ---- the next page is not in the range yet
 
-not_yet : (range : Range) (n : ℕ) → holds_page (front range n) (range.first + n) ≡ false
+pub not_yet : (range : Range) (n : ℕ) → holds_page (front range n) (range.first + n) ≡ false
 not_yet range n = holds_not (front range n) (range.first + n) (λ w. absurd (omega (arith, w.high)))
 
-next_held : (range : Range) (n : ℕ) → n < range.count → holds_page range (range.first + n) ≡ true
+pub next_held : (range : Range) (n : ℕ) → n < range.count → holds_page range (range.first + n) ≡ true
 next_held range n h = holds range (range.first + n) (omega arith) (omega (arith, h))
 
-outside : (pid : Pid) (range : Range) (n : ℕ) → is_key_in pid (front range n) (own pid (range.first + n)) ≡ false
+pub outside : (pid : Pid) (range : Range) (n : ℕ) → is_key_in pid (front range n) (own pid (range.first + n)) ≡ false
 outside pid range n = ap (λ b. (pid.0 == pid.0) && b) (not_yet range n) ∙ and_false (pid.0 == pid.0)
 
 live_yet : (pid : Pid) (range : Range) (n : ℕ) (c d : Key → Option Page) → d ≡ added pid (front range n) c → is_live pid d (range.first + n) ≡ is_live pid c (range.first + n)
@@ -120,7 +120,7 @@ live_still pid range n c d e =
     ap (λ (d : Key → Option Page). is_live pid d (range.first + n)) e
     ∙ ap (λ b. is_some (cond b None (c (own pid (range.first + n))))) (outside pid range n)
 
-only_is : (page v : ℕ) → holds_page (only page) v ≡ true → v ≡ page
+pub only_is : (page v : ℕ) → holds_page (only page) v ≡ true → v ≡ page
 only_is page v e = (unsigned_Decides v page).0 (sym (holds_only page v) ∙ e)
 
 passing_grows : (test : ℕ → Bool) (first n m : ℕ) → passing test first n ≤ passing test first (n + m)
@@ -206,25 +206,25 @@ adds_then pid range n c d e s z y a b =
 
 -- ---- the loop that removes
 
+pub no_key_in : (pid : Pid) (range : Range) (k : Key) → is_key_in pid (front range 0) k ≡ false
+no_key_in pid range (key.Private p v) = ap (λ b. (p.0 == pid.0) && b) (holds_not (front range 0) v.0 (λ w. absurd (omega (arith, w.low, w.high)))) ∙ and_false (p.0 == pid.0)
+no_key_in pid range (key.Shared area index) = refl
+
+pub no_place_in : (pid : Pid) (range : Range) (q : Place) → is_place_in pid (front range 0) q ≡ false
+no_place_in pid range q = ap (λ b. (q.pid.0 == pid.0) && b) (holds_not (front range 0) q.vpn.0 (λ w. absurd (omega (arith, w.low, w.high)))) ∙ and_false (q.pid.0 == pid.0)
+
 pub removes_none : (pid : Pid) (range : Range) (c : Key → Option Page) (s : StoreOf) → Removes pid (front range 0) c c s s
 removes_none pid range c s =
     let count : s.paging_keys ≡ s.paging_keys - 0 = omega arith in
     record {
-      contents = fun_ext (λ k. ap (λ b. cond b None (c k)) (sym (none k)));
+      contents = fun_ext (λ k. ap (λ b. cond b None (c k)) (sym (no_key_in pid range k)));
       store = λ i. record s {
-        names = fun_ext (λ q. ap (λ b. cond b None (s.names q)) (sym (no_place q))) i;
-        paging = fun_ext (λ k. ap (λ b. cond b false (s.paging k)) (sym (none k))) i;
+        names = fun_ext (λ q. ap (λ b. cond b None (s.names q)) (sym (no_place_in pid range q))) i;
+        paging = fun_ext (λ k. ap (λ b. cond b false (s.paging k)) (sym (no_key_in pid range k))) i;
         paging_keys = count i;
         report = rearranged s.report s.report;
       };
     }
-  where
-    no_place : (q : Place) → is_place_in pid (front range 0) q ≡ false
-    no_place q = ap (λ b. (q.pid.0 == pid.0) && b) (holds_not (front range 0) q.vpn.0 (λ w. absurd (omega (arith, w.low, w.high)))) ∙ and_false (q.pid.0 == pid.0)
-
-    none : (k : Key) → is_key_in pid (front range 0) k ≡ false
-    none (key.Private p v) = ap (λ b. (p.0 == pid.0) && b) (holds_not (front range 0) v.0 (λ w. absurd (omega (arith, w.low, w.high)))) ∙ and_false (p.0 == pid.0)
-    none (key.Shared area index) = refl
 
 pub can_remove_next : (pid : Pid) (range : Range) (n : ℕ) (rs : List (RegionOf (Unit {0}))) (c d : Key → Option Page) (s z : StoreOf) → CanRemove pid range rs c s → n < range.count → Removes pid (front range n) c d s z → CanRemove pid (only (range.first + n)) rs d z
 can_remove_next pid range n rs c d s z can few a =

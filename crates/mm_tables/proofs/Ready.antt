@@ -30,7 +30,7 @@ use Rattle.mm_pages.specs.Conditions.{place_at}
 use Rattle.mm_pages.specs.Store.{StoreOf}
 use Rattle.mm_spaces.specs.Tables.{owned_in, rows_of}
 use Rattle.mm_tables.specs.Effects.{CanMake, key_in}
-use Rattle.mm_tables.specs.Fits.{Fits, new_pages, paging_count, owned_by}
+use Rattle.mm_tables.specs.Fits.{Fits, key_at, new_pages, paging_count, owned_by}
 use Rattle.mm_tables.specs.Ranges.{CanAdd, CanRemove, passing, is_live}
 use Rattle.mm_tables.proofs.Homes.{home_key, region_key, key_in_has, key_at_is, private_home}
 use Rattle.mm_tables.proofs.Lists.{found-cons, both}
@@ -140,23 +140,30 @@ module _ (t : Tables) (pid : Pid) (p : ProcessOf (Unit {0})) (c : Key → Option
           by_own None e = cc
           by_own (Some x) e = refl
 
-      pub unnamed_is : (page : ℕ) → holds_page range page ≡ true → is_live pid c page ≡ false → s.names (place_at pid page) ≡ None
-      unnamed_is page held dead = by_name (s.names (place_at pid page)) refl
+      pub uncommitted_is : (page : ℕ) → holds_page range page ≡ true → is_live pid c page ≡ false → key_at t (place_at pid page) ≡ None
+      uncommitted_is page held dead = by_key (key_at t (place_at pid page)) refl
         where
           in_r : holds_page (pages_of r) page ≡ true
           in_r = holds_too range (pages_of r) page inside held
 
-          by_name : (o : Option Key) → s.names (place_at pid page) ≡ o → o ≡ None
-          by_name None e = refl
-          by_name (Some k) e =
+          by_key : (o : Option Key) → key_at t (place_at pid page) ≡ o → o ≡ None
+          by_key None e = refl
+          by_key (Some k) e =
               let laid = (h.spaces pid.0 p lives).laid_out in
               let named : region_key t pid.0 page r ≡ Some k =
               sym (has_at (region_key t pid.0 page) first_user_page i page p.regions r laid at in_r) ∙ sym (key_in_has t pid.0 p.regions page)
-              ∙ ap (λ rs. key_in t pid.0 rs page) (sym (regions_of_process t pid.0 p lives)) ∙ sym (key_at_is t (place_at pid page)) ∙ f.named (place_at pid page) k e in
+              ∙ ap (λ rs. key_in t pid.0 rs page) (sym (regions_of_process t pid.0 p lives)) ∙ sym (key_at_is t (place_at pid page)) ∙ e in
               let own : is_some (own_page p.regions page) ≡ true =
               ap is_some (has_at (λ (r : RegionOf (Unit {0})). own_in r page) first_user_page i page p.regions r laid at in_r) ∙ by_row page k (row_at r page) named in
               let bad : true ≡ false = sym own ∙ sym (live_is page) ∙ dead in
               cc
+
+      pub unnamed_is : (page : ℕ) → holds_page range page ≡ true → is_live pid c page ≡ false → s.names (place_at pid page) ≡ None
+      unnamed_is page held dead = by_name (s.names (place_at pid page)) refl
+        where
+          by_name : (o : Option Key) → s.names (place_at pid page) ≡ o → o ≡ None
+          by_name None e = refl
+          by_name (Some k) e = sym (f.named (place_at pid page) k e) ∙ uncommitted_is page held dead
 
       pub can_remove : s.kind ≡ kind.Unbind pid → CanRemove pid range p.regions c s
       can_remove unbinding =

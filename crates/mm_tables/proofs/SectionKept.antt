@@ -4,7 +4,7 @@ use Rattle.std.specs.Prelude.{IfSome}
 use Rattle.mm_types.specs.Machine.{MachineOf}
 use Rattle.mm_types.specs.declared.numbers.Key.{Key}
 use Rattle.mm_commit.specs.Charge.{CommitOf}
-use Rattle.mm_world.specs.World.{Page, ProcessOf, AreaOf, SectionOf, FileOf, Numbered, numbered}
+use Rattle.mm_world.specs.World.{Page, ProcessOf, AreaOf, SectionOf, FileOf, Numbered, numbered, KeptOf}
 use Rattle.mm_world.specs.Find.{process_of, section_of, area_at}
 use Rattle.mm_world.specs.Charge.{charge, limit}
 use Rattle.mm_world.specs.Contents.{Tables}
@@ -31,9 +31,10 @@ pub record Parts : Type 0 where
   pub files : List FileOf
   pub used : ℕ
   pub fails : ℕ
+  pub kept : Numbered KeptOf
 
 abbrev pub tables : Parts → Tables
-tables x = tables_with x.machine x.processes x.entries x.areas x.files x.used x.fails
+tables x = tables_with x.machine x.processes x.entries x.areas x.files x.used x.fails x.kept
 
 -- ---- the same again
 
@@ -46,9 +47,10 @@ pub record SameParts (x y : Parts) : Type 0 where
   pub files : y.files ≡ x.files
   pub used : y.used ≡ x.used
   pub fails : y.fails ≡ x.fails
+  pub kept : y.kept ≡ x.kept
 
 same_parts : (x y : Parts) → SameParts x y → y ≡ x
-same_parts x y h = λ i. record { machine = h.machine i; processes = h.processes i; entries = h.entries i; areas = h.areas i; files = h.files i; used = h.used i; fails = h.fails i }
+same_parts x y h = λ i. record { machine = h.machine i; processes = h.processes i; entries = h.entries i; areas = h.areas i; files = h.files i; used = h.used i; fails = h.fails i; kept = h.kept i }
 
 pub same_tables : (x y : Parts) (t : Tables) → SameParts x y → tables x ≡ t → tables y ≡ t
 same_tables x y t h view = ap tables (same_parts x y h) ∙ view
@@ -102,6 +104,7 @@ pub record GivesHandle (x y : Parts) (pid : ℕ) (p : ProcessOf (Unit {0})) (num
   pub files : y.files ≡ x.files
   pub used : y.used ≡ x.used
   pub fails : y.fails ≡ x.fails
+  pub kept : y.kept ≡ x.kept
 
 module _ (x y : Parts) (pid : ℕ) (p : ProcessOf (Unit {0})) (number : ℕ) (lives : numbered x.processes pid ≡ Some p) (h : GivesHandle x y pid p number) where
   handle_is : tables y ≡ with_handle (tables x) pid p number
@@ -114,6 +117,7 @@ module _ (x y : Parts) (pid : ℕ) (p : ProcessOf (Unit {0})) (number : ℕ) (li
         files = h.files i;
         blocks_used = h.used i;
         fails_taken = h.fails i;
+        kept = h.kept i;
       }
 
   pub handle_kept : (commit : CommitOf) → is_some (section_of (tables x) number) ≡ true → IsKept (tables x) x.entries commit → IsKept (tables y) y.entries commit
@@ -162,6 +166,7 @@ pub record MakesSection (x y : Parts) (now : List (AreaOf (Unit {0}))) (pid : �
   pub files : y.files ≡ x.files
   pub used : y.used ≡ x.used
   pub fails : y.fails ≡ x.fails
+  pub kept : y.kept ≡ x.kept
 
 pub section_is : (x y : Parts) (areas : List (AreaOf (Unit {0}))) (pid : ℕ) (p : ProcessOf (Unit {0})) (s : SectionOf) → MakesSection x y areas pid p s → tables y ≡ (new_section (record (tables x) { areas = areas }) pid p s).world
 section_is x y areas pid p s h =
@@ -175,6 +180,7 @@ section_is x y areas pid p s h =
       files = h.files i;
       blocks_used = h.used i;
       fails_taken = h.fails i;
+      kept = h.kept i;
     }
 
 -- ---- a section of a file

@@ -1,15 +1,15 @@
 -- Tables stay tidy where a section, a handle or a file is made.
-use Rattle.std.proofs.Common.{◌≡◌, ◌≢◌, ◌⊎◌, inl, inr, ℕ, zero, suc, ◌+◌, ◌≤◌, ◌<◌, Bool, true, false, Option, Some, None, List, [], ◌∷◌, ◌++◌, refl, sym, ◌∙◌, ap, subst, cond, arith, length, is_some, slice_get, ◌||◌, replicate, count_by}
+use Rattle.std.proofs.Common.{◌≡◌, ◌≢◌, ◌⊎◌, inl, inr, ℕ, zero, suc, ◌+◌, ◌≤◌, ◌<◌, Bool, true, false, Option, Some, None, List, [], ◌∷◌, ◌++◌, refl, sym, ◌∙◌, ap, subst, cond, arith, length, is_some, slice_get, ◌||◌, count_by}
 use Rattle.std.specs.List.{list_any}
 use Rattle.mm_types.proofs.Cells.{same_or_not}
 use Rattle.mm_world.specs.World.{ProcessOf, AreaOf, SectionOf, FileOf, Numbered, numbered}
 use Rattle.mm_world.specs.Find.{process_of, section_of, area_at, no_area}
 use Rattle.mm_world.specs.Contents.{Tables}
 use Rattle.mm_world.specs.Sections.{with_handle, new_section, settle, settled_section, settled_sections, settled_area, settled_areas, holds, views, is_handle_to, uses}
-use Rattle.mm_world.specs.Step.{threads}
 use Rattle.mm_world.specs.WellFormed.{Each, References}
 use Rattle.mm_world.proofs.Finding.{numbered_there}
-use Rattle.mm_tables.specs.References.{FileFits, IsTidy}
+use Rattle.mm_tables.specs.References.{FileFits, IsTidy, KeepersLive}
+use Rattle.mm_tables.proofs.Keepers.{lives_put}
 use Rattle.mm_tables.proofs.SectionGrows.{with_section}
 use Rattle.mm_tables.proofs.SectionLists.{same_number, same_some, push_at, push_other, area_in, area_at_end, area_before, any_more, any_last, any_put, any_set, any_set_same}
 
@@ -171,13 +171,13 @@ pub record Rest (w : Tables) : Type 0 where
   pub some : (n : ℕ) (s : SectionOf) → section_of w n ≡ Some s → 1 ≤ length (area_at w s.area).pages
   pub files : (area first : ℕ) → (area_at w area).file_block ≡ Some first → FileFits w area first
   pub file_areas : Each (λ f. is_some (area_at w f.area).file_block ≡ true) w.files
-  pub none_kept : w.kept ≡ replicate threads None
+  pub keepers : KeepersLive w
 
 pub rest_of : (w : Tables) → IsTidy w → Rest w
-rest_of w h = record { own_area = h.own_area; some = h.some; files = h.files; file_areas = h.file_areas; none_kept = h.none_kept }
+rest_of w h = record { own_area = h.own_area; some = h.some; files = h.files; file_areas = h.file_areas; keepers = h.keepers }
 
 pub tidy_by : (w : Tables) → settle w ≡ w → Rest w → IsTidy w
-tidy_by w e h = record { settled = e; own_area = h.own_area; some = h.some; files = h.files; file_areas = h.file_areas; none_kept = h.none_kept }
+tidy_by w e h = record { settled = e; own_area = h.own_area; some = h.some; files = h.files; file_areas = h.file_areas; keepers = h.keepers }
 
 pub same_files : (w v : Tables) → v.areas ≡ w.areas → v.blocks_used ≡ w.blocks_used → ((area first : ℕ) → (area_at w area).file_block ≡ Some first → FileFits w area first) → (area first : ℕ) → (area_at v area).file_block ≡ Some first → FileFits v area first
 same_files w v same used h area first e =
@@ -197,7 +197,7 @@ handle_rest w pid p number h =
       some = h.some;
       files = same_files w (with_handle w pid p number) refl refl h.files;
       file_areas = h.file_areas;
-      none_kept = h.none_kept;
+      keepers = λ tid k e. lives_put w.processes pid k.pid (record p { handles = p.handles ++ Some number ∷ [] }) (h.keepers tid k e);
     }
 
 -- a section can be made of this area
@@ -216,7 +216,7 @@ section_rest w s may h =
           ];
       files = same_files w (with_section w s) refl refl h.files;
       file_areas = h.file_areas;
-      none_kept = h.none_kept;
+      keepers = h.keepers;
     }
   where
     cases : (n : ℕ) (r : SectionOf) → section_of (with_section w s) n ≡ Some r → ((n ≡ length w.sections) × (r ≡ s)) ⊎ ((n ≢ length w.sections) × (section_of w n ≡ Some r))
@@ -299,7 +299,7 @@ module _ (w : Tables) (a : AreaOf (Unit {0})) (used : ℕ) (refers : References 
         some = λ n s e. omega (arith, h.some n s e, ap (λ (x : AreaOf (Unit {0})). length x.pages) (listed n s e));
         files = file_fits may h.files;
         file_areas = each_file w.files refers.files h.file_areas;
-        none_kept = h.none_kept;
+        keepers = h.keepers;
       }
 
   pub area_settles : settle w ≡ w → Settles (length w.areas) (with_blocks_used w a used)

@@ -17,7 +17,7 @@ use Rattle.mm_tables.specs.Effects.{Effect, Makes, Ends, Leaves, contents_by, St
 use Rattle.mm_tables.specs.Fits.{Fits, Carries, Settled, beside, paging_count, new_pages}
 use Rattle.mm_tables.specs.Ranges.{passing, is_live, is_dead}
 use Rattle.mm_tables.proofs.Keeping.{StandIn}
-use Rattle.mm_tables.proofs.Kept.{carries_as, carries_same, carries_added, carries_removed}
+use Rattle.mm_tables.proofs.Carried.{carries_as, carries_same, carries_added, carries_removed}
 use Rattle.mm_tables.proofs.Moved.{moved, beside_by}
 use Rattle.mm_tables.proofs.Paging.{own_rows}
 use Rattle.mm_tables.proofs.Ready.{passing_both, live_count, around, whole_inside, whole_range}

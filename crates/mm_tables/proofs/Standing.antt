@@ -2,7 +2,7 @@
 use Rattle.std.proofs.Common.{◌≡◌, ℕ, zero, suc, ◌-◌, ◌≤◌, ◌<◌, Bool, true, false, Option, Some, None, List, [], ◌∷◌, refl, sym, ◌∙◌, ap, arith, length, set, get_or, slice_get, map, is_some, nat_le, option_map}
 use Rattle.std.proofs.lemmas.Bool.{leb-true, leb-false}
 use Rattle.mm_types.specs.Machine.{MachineOf}
-use Rattle.mm_world.specs.World.{ProcessOf, RegionOf, AreaOf, FileOf, Numbered, numbered}
+use Rattle.mm_world.specs.World.{ProcessOf, RegionOf, AreaOf, FileOf, Numbered, numbered, KeptOf}
 use Rattle.mm_world.specs.Find.{process_of, set_regions}
 use Rattle.mm_world.specs.Contents.{Tables}
 use Rattle.mm_world.proofs.Finding.{numbered_there}
@@ -64,7 +64,7 @@ pub record Standing (t : Tables) (pid : ℕ) (items : List (Option Process)) (o 
   pub some : 1 ≤ pid
   pub few : pid ≤ length items
 
-module _ (m : MachineOf) (items : List (Option Process)) (entries : Numbered CountedSection) (areas : List (AreaOf (Unit {0}))) (files : List FileOf) (blocks fails : ℕ) (t : Tables) (view : tables_with m (shown_processes items) entries areas files blocks fails ≡ t) where
+module _ (m : MachineOf) (items : List (Option Process)) (entries : Numbered CountedSection) (areas : List (AreaOf (Unit {0}))) (files : List FileOf) (blocks fails : ℕ) (accesses : Numbered KeptOf) (t : Tables) (view : tables_with m (shown_processes items) entries areas files blocks fails accesses ≡ t) where
   shown_lives : (pid : ℕ) → numbered (shown_processes items) pid ≡ process_of t pid
   shown_lives pid = ap (λ (t : Tables). process_of t pid) view
 
@@ -79,15 +79,15 @@ module _ (m : MachineOf) (items : List (Option Process)) (entries : Numbered Cou
       by_option (Some x) e at =
           record { process = x; is = e; lives = sym (shown_lives pid) ∙ at ∙ ap (option_map shown_process) e; some = w.0; few = w.1 }
 
-  pub new_tables : (pid : ℕ) (o new : Option Process) (p : ProcessOf (Unit {0})) (ss : List (RegionOf (Unit {0}))) → Standing t pid items o → Became o new ss → process_of t pid ≡ Some p → tables_with m (shown_processes (set items (pid - 1) new)) entries areas files blocks fails ≡ set_regions t pid p ss
+  pub new_tables : (pid : ℕ) (o new : Option Process) (p : ProcessOf (Unit {0})) (ss : List (RegionOf (Unit {0}))) → Standing t pid items o → Became o new ss → process_of t pid ≡ Some p → tables_with m (shown_processes (set items (pid - 1) new)) entries areas files blocks fails accesses ≡ set_regions t pid p ss
   new_tables pid o new p ss h b lives =
       let both : Some b.process ≡ Some h.process = sym b.was ∙ h.is in
       let process : b.process ≡ h.process = cc in
       let shown : shown_process b.process ≡ p = ap shown_process process ∙ process_is t pid (shown_process h.process) p h.lives lives in
       let q : ProcessOf (Unit {0}) = record { regions = ss; handles = b.process.handles.entries } in
       let now : q ≡ record p { regions = ss } = λ i. record { regions = ss; handles = ap (λ (p : ProcessOf (Unit {0})). p.handles) shown i } in
-      ap (λ ps. tables_with m ps entries areas files blocks fails) (shown_set items pid new h.some)
-      ∙ ap (λ (x : Option (ProcessOf (Unit {0}))). tables_with m (set (shown_processes items) pid x) entries areas files blocks fails) (b.now ∙ ap (λ (q : ProcessOf (Unit {0})). Some q) now)
+      ap (λ ps. tables_with m ps entries areas files blocks fails accesses) (shown_set items pid new h.some)
+      ∙ ap (λ (x : Option (ProcessOf (Unit {0}))). tables_with m (set (shown_processes items) pid x) entries areas files blocks fails accesses) (b.now ∙ ap (λ (q : ProcessOf (Unit {0})). Some q) now)
       ∙ ap (λ (t : Tables). set_regions t pid p ss) view
 
 -- ---- nothing changed

@@ -14,7 +14,7 @@ use Rattle.mm_types.specs.declared.views.View.{View}
 use Rattle.mm_types.proofs.Cells.{same_or_not}
 use Rattle.mm_types.specs.Address.{Range, holds_page, meets, is_free, are_user_pages}
 use Rattle.mm_types.specs.Machine.{MachineOf}
-use Rattle.mm_world.specs.World.{Page, RowOf, RegionOf, ProcessOf, AreaOf, FileOf, SectionOf, Numbered, numbered, pages_of, filled}
+use Rattle.mm_world.specs.World.{Page, RowOf, RegionOf, ProcessOf, AreaOf, FileOf, SectionOf, Numbered, numbered, pages_of, filled, KeptOf}
 use Rattle.mm_world.specs.Find.{Found, process_of, section_of, ranges_of, add_region, set_regions}
 use Rattle.mm_world.specs.Charge.{charge, limit, region_charge}
 use Rattle.mm_world.specs.Contents.{Tables}
@@ -327,12 +327,12 @@ some_is None e = absurd cc
 some_is (Some x) e = (x, refl)
 
 -- one process has other regions, and the sections are as they were
-pub new_tables : (m : MachineOf) (old new : List (Option (ProcessOf (Unit {0})))) (entries later : Numbered CountedSection) (areas : List (AreaOf (Unit {0}))) (files still : List FileOf) (b f : ℕ) (t : Tables) (pid : ℕ) (p : ProcessOf (Unit {0})) (ss : List (RegionOf (Unit {0}))) → tables_with m old entries areas files b f ≡ t → new ≡ set old pid (Some (record p { regions = ss })) → sections_of later ≡ sections_of entries → still ≡ files → tables_with m new later areas still b f ≡ set_regions t pid p ss
-new_tables m old new entries later areas files still b f t pid p ss view is same files_same =
-    (λ i. record (tables_with m old entries areas files b f) { processes = is i; sections = same i; files = files_same i }) ∙ ap (λ (t : Tables). set_regions t pid p ss) view
+pub new_tables : (m : MachineOf) (old new : List (Option (ProcessOf (Unit {0})))) (entries later : Numbered CountedSection) (areas : List (AreaOf (Unit {0}))) (files still : List FileOf) (b f : ℕ) (accesses : Numbered KeptOf) (t : Tables) (pid : ℕ) (p : ProcessOf (Unit {0})) (ss : List (RegionOf (Unit {0}))) → tables_with m old entries areas files b f accesses ≡ t → new ≡ set old pid (Some (record p { regions = ss })) → sections_of later ≡ sections_of entries → still ≡ files → tables_with m new later areas still b f accesses ≡ set_regions t pid p ss
+new_tables m old new entries later areas files still b f accesses t pid p ss view is same files_same =
+    (λ i. record (tables_with m old entries areas files b f accesses) { processes = is i; sections = same i; files = files_same i }) ∙ ap (λ (t : Tables). set_regions t pid p ss) view
 
-pub same_tables : (m : MachineOf) (old new : List (Option (ProcessOf (Unit {0})))) (entries : Numbered CountedSection) (areas : List (AreaOf (Unit {0}))) (files : List FileOf) (b f : ℕ) (t : Tables) → tables_with m old entries areas files b f ≡ t → new ≡ old → tables_with m new entries areas files b f ≡ t
-same_tables m old new entries areas files b f t view same = ap (λ ps. tables_with m ps entries areas files b f) same ∙ view
+pub same_tables : (m : MachineOf) (old new : List (Option (ProcessOf (Unit {0})))) (entries : Numbered CountedSection) (areas : List (AreaOf (Unit {0}))) (files : List FileOf) (b f : ℕ) (accesses : Numbered KeptOf) (t : Tables) → tables_with m old entries areas files b f accesses ≡ t → new ≡ old → tables_with m new entries areas files b f accesses ≡ t
+same_tables m old new entries areas files b f accesses t view same = ap (λ ps. tables_with m ps entries areas files b f accesses) same ∙ view
 
 pub few_views : (t : Tables) (entries : Numbered CountedSection) (commit : CommitOf) (n : ℕ) → IsKept t entries commit → IfSome (numbered entries n) (λ c. c.views < 2 ^ 60)
 few_views t entries commit n h = by_entry (numbered entries n) refl

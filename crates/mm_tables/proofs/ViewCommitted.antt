@@ -13,7 +13,7 @@ use Rattle.mm_types.specs.Address.{Range, holds_page, lies_within, first_user_pa
 use Rattle.mm_types.specs.Machine.{MachineOf}
 use Rattle.mm_types.specs.Protection.{base_of}
 use Rattle.mm_types.proofs.Cells.{same_or_not}
-use Rattle.mm_world.specs.World.{Page, RowOf, RegionOf, ProcessOf, AreaOf, FileOf, Numbered, numbered, pages_of, filled}
+use Rattle.mm_world.specs.World.{Page, RowOf, RegionOf, ProcessOf, AreaOf, FileOf, Numbered, numbered, pages_of, filled, KeptOf}
 use Rattle.mm_world.specs.Find.{Found, process_of, region_around, set_regions, set_area, area_at, change_range, shared_page}
 use Rattle.mm_world.specs.Alloc.{commit_shared}
 use Rattle.mm_world.specs.Charge.{charge, limit, area_charge, is_charged, region_charge}
@@ -467,9 +467,9 @@ module _ (t : Tables) (pid : ℕ) (p : ProcessOf (Unit {0})) (r : Found (RegionO
 
 -- ---- tables as they are kept
 
-pub pages_tables : (m : MachineOf) (old new : List (Option (ProcessOf (Unit {0})))) (entries : Numbered CountedSection) (areas later : List (AreaOf (Unit {0}))) (files : List FileOf) (b f : ℕ) (t : Tables) (pid : ℕ) (p : ProcessOf (Unit {0})) (ss : List (RegionOf (Unit {0}))) (n first count : ℕ) → tables_with m old entries areas files b f ≡ t → new ≡ set old pid (Some (record p { regions = ss })) → later ≡ set areas n (commit_shared blank first count (area_in areas n)) → tables_with m new entries later files b f ≡ set_area (set_regions t pid p ss) n (commit_shared blank first count (area_at t n))
-pages_tables m old new entries areas later files b f t pid p ss n first count view is made =
-    (λ i. record (tables_with m old entries areas files b f) { processes = is i; areas = made i })
+pub pages_tables : (m : MachineOf) (old new : List (Option (ProcessOf (Unit {0})))) (entries : Numbered CountedSection) (areas later : List (AreaOf (Unit {0}))) (files : List FileOf) (b f : ℕ) (accesses : Numbered KeptOf) (t : Tables) (pid : ℕ) (p : ProcessOf (Unit {0})) (ss : List (RegionOf (Unit {0}))) (n first count : ℕ) → tables_with m old entries areas files b f accesses ≡ t → new ≡ set old pid (Some (record p { regions = ss })) → later ≡ set areas n (commit_shared blank first count (area_in areas n)) → tables_with m new entries later files b f accesses ≡ set_area (set_regions t pid p ss) n (commit_shared blank first count (area_at t n))
+pages_tables m old new entries areas later files b f accesses t pid p ss n first count view is made =
+    (λ i. record (tables_with m old entries areas files b f accesses) { processes = is i; areas = made i })
     ∙ ap (λ (t : Tables). set_area (set_regions t pid p ss) n (commit_shared blank first count (area_at t n))) view
 
 pub roomier_fits : (t : Tables) (c d : Key → Option Page) (s z : StoreOf) → Fits t c s → d ≡ c → z ≡ record s { room = z.room } → s.room ≤ z.room → Fits t d z

@@ -19,6 +19,7 @@ use Rattle.mm_world.proofs.KeptPages.{own_in}
 use Rattle.mm_world.proofs.Spaces.{by_regions, after_set}
 use Rattle.mm_tables.specs.Fits.{is_reserved, key_at, owned_by, paging_count}
 use Rattle.mm_tables.specs.References.{IsTidy, handles_in, views_in, handles_to, views_of}
+use Rattle.mm_tables.proofs.Keepers.{lives_put}
 use Rattle.mm_tables.proofs.ViewLists.{numbered_same, numbered_other}
 use Rattle.mm_tables.proofs.ViewPages.{thing_at, key_in, key_by, own_is, held_is, key_is}
 
@@ -208,7 +209,7 @@ module _ (t : Tables) (pid : ℕ) (p : ProcessOf (Unit {0})) (ss : List (RegionO
         some = h.some;
         files = λ area first e. let f = h.files area first e in record { blocks = f.blocks; some = f.some; committed = f.committed };
         file_areas = h.file_areas;
-        none_kept = h.none_kept;
+        keepers = λ tid k e. lives_put t.processes pid k.pid (record p { regions = ss }) (h.keepers tid k e);
       }
 
   not_first : WellFormed t → 0 ≢ pid
@@ -312,7 +313,7 @@ module _ (t : Tables) (at : ℕ) (b : AreaOf (Unit {0})) (alike : Alike (area_at
             };
         file_areas = each_change (λ (f : FileOf). is_some (area_at t f.area).file_block ≡ true) (λ (f : FileOf). is_some (area_at (set_area t at b) f.area).file_block ≡ true) t.files
             (λ f e. ap is_some (block_still f.area) ∙ e) h.file_areas;
-        none_kept = h.none_kept;
+        keepers = h.keepers;
       }
 
   view_in_area : (v : View) (n : ℕ) → ViewFits t v n → ViewFits (set_area t at b) v n

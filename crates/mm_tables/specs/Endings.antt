@@ -1,21 +1,21 @@
 -- Keys that are removed one after another, regions that are given up, and areas that end with their sections.
-use Rattle.std.specs.Prelude.{◌≡◌, ◌<◌, ℕ, zero, suc, ◌+◌, ◌-◌, Bool, true, false, ◌&&◌, ◌||◌, ◌==◌, if◌then◌else◌, is_some, Option, Some, None, List, length, count_by}
+use Rattle.std.specs.Prelude.{◌≡◌, ◌≤◌, ◌<◌, ℕ, zero, suc, ◌+◌, ◌-◌, Bool, true, false, ◌&&◌, ◌||◌, ◌==◌, if◌then◌else◌, is_some, Option, Some, None, List, length, count_by, remove}
 use Rattle.mm_types.specs.declared.moves.LineKind.TheVariants as line_kind
 use Rattle.mm_types.specs.declared.numbers.Area.{Area}
 use Rattle.mm_types.specs.declared.numbers.Key.{Key}
 use Rattle.mm_types.specs.declared.numbers.Key.TheVariants as key
 use Rattle.mm_types.specs.declared.numbers.Pid.{Pid}
 use Rattle.mm_types.specs.declared.numbers.Place.{Place}
-use Rattle.mm_types.specs.Address.{Range, holds_page}
+use Rattle.mm_types.specs.Address.{Range, holds_page, end_of, end_of_user_pages}
 use Rattle.mm_world.specs.World.{Page, AreaOf, RegionOf, ProcessOf, numbered}
 use Rattle.mm_world.specs.Find.{no_area, set_process}
 use Rattle.mm_world.specs.Keys.{own_page}
 use Rattle.mm_world.specs.Sections.{settle}
 use Rattle.mm_world.specs.Failure.{same_key}
 use Rattle.mm_world.specs.Contents.{Tables}
-use Rattle.mm_pages.specs.Store.{StoreOf, changed, own_key, is_place_in}
+use Rattle.mm_pages.specs.Store.{StoreOf, changed, changed_in, own_key, is_place_in}
 use Rattle.mm_pages.specs.Reports.{rearranged}
-use Rattle.mm_pages.specs.Conditions.{AllBound, MayRemove, IsReleasing}
+use Rattle.mm_pages.specs.Conditions.{AllBound, MayRemove, IsReleasing, place_at}
 use Rattle.mm_tables.specs.Fits.{Fits, beside}
 
 -- ---- keys
@@ -113,9 +113,32 @@ pub record CanRelease (pid : Pid) (range : Range) (regions : List (RegionOf (Uni
   pub bound : AllBound s pid range true
   pub unbinding : s.kind ≡ line_kind.Unbind pid
 
+-- one page can be given up, with its key if it is owned
+pub record CanGiveUp (pid : Pid) (page : ℕ) (owned : Bool) (c : Key → Option Page) (s : StoreOf) : Type 0 where
+  pub live : is_some (c (own_key (place_at pid page))) ≡ owned
+  pub paging : s.paging (own_key (place_at pid page)) ≡ owned
+  pub bound : s.bound (place_at pid page) ≡ true
+  pub unbinding : s.kind ≡ line_kind.Unbind pid
+
+-- a store after pages of a process were given up: their keys, `n` of them, and their places
+pub record GivenUp (pid : Pid) (range : Range) (n : ℕ) (c d : Key → Option Page) (s z : StoreOf) : Type 0 where
+  pub contents : d ≡ without (is_key_in pid range) c
+  pub store : z ≡ record s {
+    bound = changed_in pid range s.bound false;
+    names = changed_in pid range s.names None;
+    paging = without_paging (is_key_in pid range) s.paging;
+    paging_keys = s.paging_keys - n;
+    report = rearranged s.report z.report;
+  }
+
 pub record Released (pid : Pid) (range : Range) (regions : List (RegionOf (Unit {0}))) (c d : Key → Option Page) (s z : StoreOf) : Type 0 where
   pub lost : Lost (is_key_in pid range) (is_place_in pid range) (owned_among (is_owned_at regions range.first) range.count) c d s z
   pub areas : z.areas ≡ s.areas
+
+-- these user pages of a process are bound no more
+pub record AreUnbound (pid : Pid) (range : Range) (s : StoreOf) : Type 0 where
+  pub each : AllBound s pid range false
+  pub end : end_of range ≤ end_of_user_pages
 
 -- ---- areas
 
@@ -155,7 +178,8 @@ pub record Closes (index : ℕ) (p q : ProcessOf (Unit {0})) : Type 0 where
   pub still : (k : ℕ) → numbered p.handles k ≡ None → numbered q.handles k ≡ None
   pub made : length q.handles ≡ length p.handles
 
--- one region less
+-- one region less, the lowest
 pub record Fewer (p q : ProcessOf (Unit {0})) : Type 0 where
+  pub left : q.regions ≡ remove p.regions 0
   pub count : length q.regions + 1 ≡ length p.regions
   pub same : q.handles ≡ p.handles

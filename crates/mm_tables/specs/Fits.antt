@@ -44,6 +44,10 @@ module _ {B : Type 0} where
       (λ p. option_map (λ c. key_of place.pid.0 place.vpn.0 c.home) (committed_at w p.regions place.vpn.0))
       (process_of w place.pid.0)
 
+  -- no committed row is there
+  abbrev pub is_uncommitted : WorldOf B → Place → Bool
+  is_uncommitted w place = not (is_some (key_at w place))
+
   -- live, and not a file's
   abbrev pub is_paging : WorldOf B → Key → Bool
   is_paging w k = is_some (content_of w k) && not (is_file_key w k)

@@ -1,3 +1,4 @@
+pub mod Threads
 pub mod References
 pub mod Sound
 pub mod Shown

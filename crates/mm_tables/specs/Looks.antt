@@ -1,7 +1,6 @@
 -- What the tables tell of a page, of a handle, and of an access.
-use Rattle.std.specs.Prelude.{ℕ, Bool, ◌&&◌, not, is_some, Option, option_map, option_and_then}
-use Rattle.mm_types.specs.declared.numbers.Key.{Key}
-use Rattle.mm_world.specs.World.{ProcessOf, SectionOf}
+use Rattle.std.specs.Prelude.{ℕ, Bool, ◌&&◌, not, Option, option_map, option_and_then}
+use Rattle.mm_world.specs.World.{SectionOf}
 use Rattle.mm_world.specs.Find.{Found, process_of}
 use Rattle.mm_world.specs.Keys.{Home, Own, InSection, Committed, committed_at, key_of}
 use Rattle.mm_world.specs.Sections.{handle_section}

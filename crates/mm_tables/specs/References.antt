@@ -1,9 +1,8 @@
 -- How many handles and views refer to a section, and how much was made.
-use Rattle.std.specs.Prelude.{◌≡◌, ◌≤◌, ◌<◌, ℕ, ◌+◌, ◌-◌, ◌^◌, is_some, true, length, replicate, count_by, sum_by, Option, Some, None}
-use Rattle.mm_world.specs.World.{ProcessOf, SectionOf, WorldOf}
+use Rattle.std.specs.Prelude.{◌≡◌, ◌≤◌, ℕ, ◌+◌, ◌-◌, ◌^◌, ◌≢◌, is_some, true, length, count_by, sum_by, Option, Some, None}
+use Rattle.mm_world.specs.World.{ProcessOf, SectionOf, KeptOf, WorldOf, numbered}
 use Rattle.mm_world.specs.Find.{process_of, section_of, area_at}
 use Rattle.mm_world.specs.Sections.{is_handle_to, is_view_of, settle}
-use Rattle.mm_world.specs.Step.{threads}
 use Rattle.mm_world.specs.WellFormed.{Each}
 
 module _ {B : Type 0} where
@@ -32,6 +31,13 @@ module _ {B : Type 0} where
     pub some : 1 ≤ length (area_at w area).pages
     pub committed : count_by is_some (area_at w area).pages ≡ length (area_at w area).pages
 
+  abbrev pub KeepersLive : WorldOf B → Type 0
+  KeepersLive w = (tid : ℕ) (k : KeptOf) → numbered w.kept tid ≡ Some k → is_some (process_of w k.pid) ≡ true
+
+  -- no thread keeps an access of this process
+  abbrev pub NobodyKeeps : ℕ → WorldOf B → Type 0
+  NobodyKeeps pid w = (tid : ℕ) (k : KeptOf) → numbered w.kept tid ≡ Some k → k.pid ≢ pid
+
   pub record IsTidy (w : WorldOf B) : Type 0 where
     -- a section lives while a handle or a view refers to it, its name while a handle does, its area's pages while it does
     pub settled : settle w ≡ w
@@ -40,8 +46,8 @@ module _ {B : Type 0} where
     pub some : (n : ℕ) (s : SectionOf) → section_of w n ≡ Some s → 1 ≤ length (area_at w s.area).pages
     pub files : (area first : ℕ) → (area_at w area).file_block ≡ Some first → FileFits w area first
     pub file_areas : Each (λ f. is_some (area_at w f.area).file_block ≡ true) w.files
-    -- no thread waits
-    pub none_kept : w.kept ≡ replicate threads None
+    -- whoever keeps an access is a thread of a living process
+    pub keepers : KeepersLive w
 
   -- ---- how much was made
 

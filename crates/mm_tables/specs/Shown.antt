@@ -1,11 +1,10 @@
 -- The tables as they are kept.
-use Rattle.std.specs.Prelude.{◌∷◌, ℕ, List, Option, None, map, option_map, replicate}
+use Rattle.std.specs.Prelude.{◌∷◌, ℕ, ◌==◌, if◌then◌else◌, List, Option, Some, None, map, option_map}
 use Rattle.mm_types.specs.Machine.{MachineOf}
-use Rattle.mm_world.specs.World.{ProcessOf, AreaOf, FileOf}
+use Rattle.mm_world.specs.World.{ProcessOf, AreaOf, FileOf, KeptOf, Numbered}
 use Rattle.mm_world.specs.Contents.{Tables}
-use Rattle.mm_world.specs.Step.{threads}
-use Rattle.mm_world.specs.World.{Numbered}
 use Rattle.mm_sections.specs.Directories.{CountedSection, sections_of}
+use Rattle.mm_tables.specs.declared.waiting.Kept.{Kept}
 use Rattle.mm_tables.specs.declared.tables.Process.{Process}
 
 abbrev pub shown_process : Process → ProcessOf (Unit {0})
@@ -14,8 +13,19 @@ shown_process p = record { regions = p.space.regions; handles = p.handles.entrie
 abbrev pub shown_processes : List (Option Process) → List (Option (ProcessOf (Unit {0})))
 shown_processes processes = None ∷ map (option_map shown_process) processes
 
-abbrev pub tables_with : MachineOf → List (Option (ProcessOf (Unit {0}))) → Numbered CountedSection → List (AreaOf (Unit {0})) → List FileOf → ℕ → ℕ → Tables
-tables_with machine processes entries areas files blocks_used fails_taken =
+abbrev pub kept_of : Kept → KeptOf
+kept_of k = record { pid = k.pid.0; access = k.access }
+
+abbrev pub shown_accesses : List (Option Kept) → Numbered KeptOf
+shown_accesses kept = map (option_map kept_of) kept
+
+-- what is kept, unless it is an access of this process
+abbrev pub unless_of : ℕ → Option Kept → Option Kept
+unless_of pid None = None
+unless_of pid (Some k) = if k.pid.0 == pid then None else Some k
+
+abbrev pub tables_with : MachineOf → List (Option (ProcessOf (Unit {0}))) → Numbered CountedSection → List (AreaOf (Unit {0})) → List FileOf → ℕ → ℕ → Numbered KeptOf → Tables
+tables_with machine processes entries areas files blocks_used fails_taken kept =
     record {
       machine = machine;
       processes = processes;
@@ -24,5 +34,5 @@ tables_with machine processes entries areas files blocks_used fails_taken =
       files = files;
       blocks_used = blocks_used;
       fails_taken = fails_taken;
-      kept = replicate threads None;
+      kept = kept;
     }

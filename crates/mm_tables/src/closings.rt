@@ -1,5 +1,9 @@
-ghost use Rattle.std.specs.Prelude.{if◌then◌else◌, ℕ, ◌≡◌, ◌≤◌, ◌/◌, true, is_some, Option, Some, None, IsSomeAnd, option_map, slice_set, remove, length};
+ghost use Rattle.std.specs.Prelude.{if◌then◌else◌, ℕ, Bool, ◌≡◌, ◌≤◌, ◌/◌, true, is_some, Option, Some, None, IsSomeAnd, option_map, slice_set, remove, length};
 ghost use Rattle.mm_types.specs.Address.{end_of, end_of_user_pages};
+ghost use Rattle.mm_types.specs.declared.numbers.Place.{Place};
+ghost use Rattle.mm_pages.specs.Conditions.{AreAmong};
+ghost use Rattle.mm_pages.specs.Housekeeping.{Turns, Ends};
+ghost use Rattle.mm_pages.specs.Passing.{PassesIn};
 ghost use Rattle.mm_world.specs.World.{RegionOf, ProcessOf, numbered};
 ghost use Rattle.mm_world.specs.Find.{Found, region_around};
 ghost use Rattle.mm_world.specs.Views.{view_at};
@@ -7,7 +11,7 @@ ghost use Rattle.mm_sections.specs.Directories.{CountedSection, settled_by, one_
 ghost use Rattle.mm_sections.specs.Handles.{held};
 ghost use Rattle.mm_spaces.specs.Tables.{owned_in, marked_in};
 ghost use Rattle.mm_tables.specs.Shown.{shown_process};
-ghost use Rattle.mm_tables.specs.Endings.{CanRelease, Released};
+ghost use Rattle.mm_tables.specs.Endings.{CanRelease, Released, AreUnbound};
 
 use crate::removals::release_pages;
 use crate::tables::Process;
@@ -86,6 +90,8 @@ pub(crate) fn unmap_in<G: Pages>(
     ensures removed { (p : ProcessOf (Unit {0})) (r : Found (RegionOf (Unit {0}))) → option_map shown_process process.old ≡ Some p → view_at p.regions addr ≡ Some r → option_map shown_process process.new ≡ Some (record p { regions = remove p.regions r.place }) }
     ensures marked { (p : ProcessOf (Unit {0})) → option_map shown_process process.old ≡ Some p → result ≡ marked_in p.regions range }
     ensures released { (p : ProcessOf (Unit {0})) → option_map shown_process process.old ≡ Some p → Released pid range p.regions (G.contents g.old) (G.contents g.new) (G.store g.old) (G.store g.new) }
+    ensures unbound { AreUnbound pid range (G.store g.new) }
+    ensures passes { (held : Place → Bool) (from to : ℕ) → AreAmong held from to pid range → PassesIn G.unpaged (Turns (Ends held from to)) (G.store g.old) (G.store g.new) (G.behind g.old) (G.behind g.new) }
     ensures loans { G.loans g.new ≡ G.loans g.old }
 {
     match process {
@@ -114,6 +120,7 @@ pub(crate) fn release_in<G: Pages>(
     ensures removed { (p : ProcessOf (Unit {0})) → option_map shown_process process.old ≡ Some p → option_map shown_process process.new ≡ Some (record p { regions = remove p.regions 0 }) }
     ensures owned { (p : ProcessOf (Unit {0})) → option_map shown_process process.old ≡ Some p → result ≡ owned_in p.regions range }
     ensures released { (p : ProcessOf (Unit {0})) → option_map shown_process process.old ≡ Some p → Released pid range p.regions (G.contents g.old) (G.contents g.new) (G.store g.old) (G.store g.new) }
+    ensures passes { (held : Place → Bool) (from to : ℕ) → AreAmong held from to pid range → PassesIn G.unpaged (Turns (Ends held from to)) (G.store g.old) (G.store g.new) (G.behind g.old) (G.behind g.new) }
     ensures loans { G.loans g.new ≡ G.loans g.old }
 {
     match process {

@@ -1,15 +1,18 @@
-ghost use Rattle.std.specs.Prelude.{◌≡◌, ◌≤◌, ◌<◌, ◌^◌, [], true, is_some, map, length, replicate, Some, None, IfSome, option_map, slice_get};
+ghost use Rattle.std.specs.Prelude.{◌≡◌, ◌≤◌, ◌<◌, ◌^◌, [], ℕ, Bool, true, is_some, map, length, Some, None, IfSome, option_map, slice_get};
 ghost use Rattle.mm_types.specs.declared.moves.LineKind.TheVariants as line_kind;
+ghost use Rattle.mm_types.specs.declared.numbers.Place.{Place};
+ghost use Rattle.mm_pages.specs.Conditions.{AreAmong, place_at};
+ghost use Rattle.mm_pages.specs.Housekeeping.{Turn, Turns, Ends};
+ghost use Rattle.mm_pages.specs.Passing.{PassesIn};
 ghost use Rattle.mm_types.specs.Address.{end_of, end_of_user_pages};
 ghost use Rattle.mm_world.specs.World.{ProcessOf};
 ghost use Rattle.mm_world.specs.Find.{process_of, set_process};
 ghost use Rattle.mm_world.specs.Processes.{kept_of_others};
 ghost use Rattle.mm_world.specs.Sections.{settle};
-ghost use Rattle.mm_world.specs.Step.{threads};
 ghost use Rattle.mm_world.specs.WellFormed.{WellFormed};
 ghost use Rattle.mm_sections.specs.Handles.{held};
 ghost use Rattle.mm_spaces.specs.Tables.{info_of};
-ghost use Rattle.mm_tables.specs.References.{IsTidy};
+ghost use Rattle.mm_tables.specs.References.{IsTidy, NobodyKeeps};
 ghost use Rattle.mm_tables.specs.Shown.{shown_process};
 ghost use Rattle.mm_tables.specs.Fits.{Fits, Settled};
 ghost use Rattle.mm_tables.specs.Endings.{Less, Toward, Closes, Fewer, HasNoHandle};
@@ -61,11 +64,13 @@ impl Tables {
         requires lives { is_some (process_of self.now pid.0) ≡ true }
         ensures found { (p : ProcessOf (Unit {0})) → process_of self.now pid.0 ≡ Some p → result ≡ option_map info_of (slice_get p.regions 0) }
         ensures within { IfSome result (λ info. end_of info.pages ≤ end_of_user_pages) }
+        ensures sound { WellFormed self.now }
     {
         self.process(pid).space.lowest()
     }
 
     /// Closes the handle `4 * index` of a process, if it is open.
+    #[tactic(auto, using(mm_pages::proofs::Passed::turns_same))]
     fn close_at<G: Pages>(&mut self, g: &mut G, pid: Pid, index: u32)
         requires fits { Fits self.old (G.contents g.old) (G.store g.old) }
         requires kind { (G.store g.old).kind ≡ line_kind.Unbind pid }
@@ -74,6 +79,7 @@ impl Tables {
         ensures toward { Toward pid.0 self.old self.new (G.contents g.old) (G.contents g.new) (G.store g.old) (G.store g.new) }
         ensures lives { is_some (process_of self.new pid.0) ≡ true }
         ensures closed { (p q : ProcessOf (Unit {0})) → process_of self.old pid.0 ≡ Some p → process_of self.new pid.0 ≡ Some q → Closes index p q }
+        ensures passes { (held : Place → Bool) (from to : ℕ) → PassesIn G.unpaged (Turns (Ends held from to)) (G.store g.old) (G.store g.new) (G.behind g.old) (G.behind g.new) }
         ensures loans { G.loans g.new ≡ G.loans g.old }
     {
         let handle = 4 * index;
@@ -83,6 +89,7 @@ impl Tables {
     }
 
     /// Closes all handles of a process, in rising order.
+    #[tactic(auto, using(mm_pages::proofs::Passed::turns_same))]
     fn close_handles<G: Pages>(&mut self, g: &mut G, pid: Pid)
         requires fits { Fits self.old (G.contents g.old) (G.store g.old) }
         requires kind { (G.store g.old).kind ≡ line_kind.Unbind pid }
@@ -90,7 +97,7 @@ impl Tables {
         ensures toward { Toward pid.0 self.old self.new (G.contents g.old) (G.contents g.new) (G.store g.old) (G.store g.new) }
         ensures lives { is_some (process_of self.new pid.0) ≡ true }
         ensures closed { (p : ProcessOf (Unit {0})) → process_of self.new pid.0 ≡ Some p → HasNoHandle p }
-        ensures none_kept { self.old.kept ≡ replicate threads None }
+        ensures passes { (held : Place → Bool) (from to : ℕ) → PassesIn G.unpaged (Turns (Ends held from to)) (G.store g.old) (G.store g.new) (G.behind g.old) (G.behind g.new) }
         ensures loans { G.loans g.new ≡ G.loans g.old }
     {
         let made = self.handles_made(pid);
@@ -109,6 +116,7 @@ impl Tables {
         ensures toward { Toward pid.0 self.old self.new (G.contents g.old) (G.contents g.new) (G.store g.old) (G.store g.new) }
         ensures lives { is_some (process_of self.new pid.0) ≡ true }
         ensures fewer { (p q : ProcessOf (Unit {0})) → process_of self.old pid.0 ≡ Some p → process_of self.new pid.0 ≡ Some q → Fewer p q }
+        ensures passes { (held : Place → Bool) (from to : ℕ) → AreAmong held from to pid info.pages → PassesIn G.unpaged (Turns (Ends held from to)) (G.store g.old) (G.store g.new) (G.behind g.old) (G.behind g.new) }
         ensures loans { G.loans g.new ≡ G.loans g.old }
     {
         let range = info.pages;
@@ -121,6 +129,7 @@ impl Tables {
     }
 
     /// Releases and unmaps all regions of a process, from the lowest on.
+    #[tactic(auto, using(mm_pages::proofs::Passed::turns_same))]
     fn drop_regions<G: Pages>(&mut self, g: &mut G, pid: Pid)
         requires fits { Fits self.old (G.contents g.old) (G.store g.old) }
         requires kind { (G.store g.old).kind ≡ line_kind.Unbind pid }
@@ -130,6 +139,7 @@ impl Tables {
         ensures lives { is_some (process_of self.new pid.0) ≡ true }
         ensures closed { (p : ProcessOf (Unit {0})) → process_of self.new pid.0 ≡ Some p → HasNoHandle p }
         ensures empty { (p : ProcessOf (Unit {0})) → process_of self.new pid.0 ≡ Some p → p.regions ≡ [] }
+        ensures passes { (held : Place → Bool) → ((page : ℕ) → held (place_at pid page) ≡ true) → PassesIn G.unpaged (Turns (Ends held 0 end_of_user_pages)) (G.store g.old) (G.store g.new) (G.behind g.old) (G.behind g.new) }
         ensures loans { G.loans g.new ≡ G.loans g.old }
     {
         while let Some(info) = self.lowest(pid) {
@@ -143,9 +153,11 @@ impl Tables {
         requires lives { is_some (process_of self.old pid.0) ≡ true }
         requires closed { (p : ProcessOf (Unit {0})) → process_of self.old pid.0 ≡ Some p → HasNoHandle p }
         requires empty { (p : ProcessOf (Unit {0})) → process_of self.old pid.0 ≡ Some p → p.regions ≡ [] }
+        requires nobody { NobodyKeeps pid.0 self.old }
         ensures ended { self.new ≡ settle (set_process self.old pid.0 None) }
         ensures settled { Settled self.new (G.contents g.old) (G.contents g.new) (G.store g.old) (G.store g.new) }
         ensures less { Less (G.contents g.old) (G.contents g.new) }
+        ensures passes { (turn : Turn) → PassesIn G.unpaged (Turns turn) (G.store g.old) (G.store g.new) (G.behind g.old) (G.behind g.new) }
         ensures loans { G.loans g.new ≡ G.loans g.old }
     {
         g.close_process(pid);
@@ -159,8 +171,10 @@ impl Tables {
         requires lives { is_some (process_of self.old pid.0) ≡ true }
         ensures ended { self.new ≡ settle (set_process (record self.old { kept = map (kept_of_others pid.0) self.old.kept }) pid.0 None) }
         ensures settled { Settled self.new (G.contents g.old) (G.contents g.new) (G.store g.old) (G.store g.new) }
+        ensures passes { (held : Place → Bool) → ((page : ℕ) → held (place_at pid page) ≡ true) → PassesIn G.unpaged (Turns (Ends held 0 end_of_user_pages)) (G.store g.old) (G.store g.new) (G.behind g.old) (G.behind g.new) }
         ensures loans { G.loans g.new ≡ G.loans g.old }
     {
+        self.drop_kept(pid);
         self.close_handles(g, pid);
         self.drop_regions(g, pid);
         self.close_process(g, pid);

@@ -1,5 +1,9 @@
-ghost use Rattle.std.specs.Prelude.{◌≡◌, ◌≤◌, ◌+◌};
+ghost use Rattle.std.specs.Prelude.{◌≡◌, ◌≤◌, ◌<◌, ◌+◌, ℕ, Bool, true};
 ghost use Rattle.mm_types.specs.Address.{end_of, end_of_user_pages};
+ghost use Rattle.mm_pages.specs.Housekeeping.{Turns, Makes, Ends};
+ghost use Rattle.mm_pages.specs.Passing.{PassesIn};
+ghost use Rattle.mm_pages.specs.Conditions.{AreAmong, place_at};
+ghost use Rattle.mm_types.specs.declared.numbers.Place.{Place};
 ghost use Rattle.mm_tables.specs.Ranges.{CanAdd, CanRemove, Adds, Removes, only};
 
 use mm_pages::Pages;
@@ -14,9 +18,11 @@ fn private_key(pid: Pid, page: u32) -> Key
 }
 
 /// Adds the page's key if it is not committed.
+#[tactic(auto, using(mm_pages::proofs::Passed::turns_same))]
 fn add_page<G: Pages>(g: &mut G, space: &AddressSpace, pid: Pid, page: u32)
     requires can { CanAdd pid (only page) space.now.regions (G.contents g.old) (G.store g.old) }
     ensures adds { Adds pid (only page) (G.contents g.old) (G.contents g.new) (G.store g.old) (G.store g.new) }
+    ensures passes { PassesIn G.unpaged (Turns Makes) (G.store g.old) (G.store g.new) (G.behind g.old) (G.behind g.new) }
     ensures loans { G.loans g.new ≡ G.loans g.old }
 {
     if !space.is_owned(page) {
@@ -25,10 +31,12 @@ fn add_page<G: Pages>(g: &mut G, space: &AddressSpace, pid: Pid, page: u32)
 }
 
 /// Adds the keys of those pages of the range that are not committed.
+#[tactic(auto, using(mm_pages::proofs::Passed::turns_same))]
 pub(crate) fn add_pages<G: Pages>(g: &mut G, space: &AddressSpace, pid: Pid, range: PageRange)
     requires end { end_of range ≤ end_of_user_pages }
     requires can { CanAdd pid range space.now.regions (G.contents g.old) (G.store g.old) }
     ensures adds { Adds pid range (G.contents g.old) (G.contents g.new) (G.store g.old) (G.store g.new) }
+    ensures passes { PassesIn G.unpaged (Turns Makes) (G.store g.old) (G.store g.new) (G.behind g.old) (G.behind g.new) }
     ensures loans { G.loans g.new ≡ G.loans g.old }
 {
     for i in 0..range.count {
@@ -37,9 +45,11 @@ pub(crate) fn add_pages<G: Pages>(g: &mut G, space: &AddressSpace, pid: Pid, ran
 }
 
 /// Removes the page's key if it is committed.
+#[tactic(auto, using(mm_pages::proofs::Passed::turns_same))]
 fn remove_page<G: Pages>(g: &mut G, space: &AddressSpace, pid: Pid, page: u32)
     requires can { CanRemove pid (only page) space.now.regions (G.contents g.old) (G.store g.old) }
     ensures removes { Removes pid (only page) (G.contents g.old) (G.contents g.new) (G.store g.old) (G.store g.new) }
+    ensures passes { (held : Place → Bool) (from to : ℕ) → held (place_at pid page) ≡ true → from ≤ page → page < to → PassesIn G.unpaged (Turns (Ends held from to)) (G.store g.old) (G.store g.new) (G.behind g.old) (G.behind g.new) }
     ensures loans { G.loans g.new ≡ G.loans g.old }
 {
     if space.is_owned(page) {
@@ -48,10 +58,12 @@ fn remove_page<G: Pages>(g: &mut G, space: &AddressSpace, pid: Pid, page: u32)
 }
 
 /// Removes the keys of those pages of the range that are committed.
+#[tactic(auto, using(mm_pages::proofs::Passed::turns_same))]
 pub(crate) fn remove_pages<G: Pages>(g: &mut G, space: &AddressSpace, pid: Pid, range: PageRange)
     requires end { end_of range ≤ end_of_user_pages }
     requires can { CanRemove pid range space.now.regions (G.contents g.old) (G.store g.old) }
     ensures removes { Removes pid range (G.contents g.old) (G.contents g.new) (G.store g.old) (G.store g.new) }
+    ensures passes { (held : Place → Bool) (from to : ℕ) → AreAmong held from to pid range → PassesIn G.unpaged (Turns (Ends held from to)) (G.store g.old) (G.store g.new) (G.behind g.old) (G.behind g.new) }
     ensures loans { G.loans g.new ≡ G.loans g.old }
 {
     for i in 0..range.count {

@@ -6,6 +6,7 @@ mod closings;
 mod endings;
 mod exits;
 mod files;
+mod kept_accesses;
 mod keys;
 mod looks;
 mod private_pages;
@@ -15,6 +16,8 @@ mod sections;
 mod steps;
 mod tables;
 mod views;
+mod waiting;
 
 pub use looks::{CommittedRow, HandleSection};
 pub use tables::Tables;
+pub use waiting::Kept;

@@ -1,6 +1,10 @@
-ghost use Rattle.std.specs.Prelude.{◌≡◌, ◌≤◌, ◌+◌, ◌%◌, true, false, is_some, Option, Some, OnOk, OnErr, option_map, remove};
+ghost use Rattle.std.specs.Prelude.{◌≡◌, ◌≤◌, ◌+◌, ◌%◌, ℕ, Bool, true, false, is_some, Option, Some, OnOk, OnErr, option_map, remove};
 ghost use Rattle.mm_types.specs.declared.moves.LineKind.TheVariants as line_kind;
-ghost use Rattle.mm_types.specs.Address.{is_free};
+ghost use Rattle.mm_types.specs.declared.numbers.Place.{Place};
+ghost use Rattle.mm_pages.specs.Conditions.{AreAmong};
+ghost use Rattle.mm_pages.specs.Housekeeping.{Turn, Turns, Makes, Ends};
+ghost use Rattle.mm_pages.specs.Passing.{PassesIn};
+ghost use Rattle.mm_types.specs.Address.{is_free, end_of_user_pages};
 ghost use Rattle.mm_world.specs.World.{RegionOf, ProcessOf, pages_of};
 ghost use Rattle.mm_world.specs.Find.{Found, process_of, region_around, ranges_of, add_region, set_region, set_regions, is_private};
 ghost use Rattle.mm_world.specs.Alloc.{private_region};
@@ -9,7 +13,7 @@ ghost use Rattle.mm_world.specs.Contents.{blank};
 ghost use Rattle.mm_world.specs.Free.{private_at};
 ghost use Rattle.mm_world.specs.Rows.{is_protection_among, private_protections, commit, reserved_row, change_rows};
 ghost use Rattle.mm_spaces.specs.Tables.{owned_in};
-ghost use Rattle.mm_tables.specs.Fits.{Fits, Settled, new_pages};
+ghost use Rattle.mm_tables.specs.Fits.{Fits, Settled, new_pages, is_uncommitted};
 
 use crate::Tables;
 use crate::steps::{commit_pages, decommit_pages, make_region, new_pages, release_pages, take};
@@ -40,6 +44,8 @@ impl Tables {
         ensures ok { OnOk result ((p : ProcessOf (Unit {0})) (r : Found (RegionOf (Unit {0}))) → process_of self.old pid.0 ≡ Some p → region_around p.regions range ≡ Some r → self.new ≡ set_region self.old pid.0 p r.place (change_rows (commit tt prot) range r.thing)) }
         ensures err { OnErr result ((self.new ≡ self.old) × (G.contents g.new ≡ G.contents g.old)) }
         ensures settled { Settled self.new (G.contents g.old) (G.contents g.new) (G.store g.old) (G.store g.new) }
+        ensures passes { PassesIn G.unpaged (Turns Makes) (G.store g.old) (G.store g.new) (G.behind g.old) (G.behind g.new) }
+        ensures idle { OnErr result ((turn : Turn) → PassesIn G.unpaged (Turns turn) (G.store g.old) (G.store g.new) (G.behind g.old) (G.behind g.new)) }
         ensures loans { G.loans g.new ≡ G.loans g.old }
     {
         let total = self.commit.now() + n;
@@ -77,6 +83,8 @@ impl Tables {
         ensures ok { OnOk result ((p : ProcessOf (Unit {0})) → process_of self.old pid.0 ≡ Some p → self.new ≡ set_regions self.old pid.0 p (add_region (private_region blank kind prot range) p.regions)) }
         ensures err { OnErr result ((self.new ≡ self.old) × (G.contents g.new ≡ G.contents g.old)) }
         ensures settled { Settled self.new (G.contents g.old) (G.contents g.new) (G.store g.old) (G.store g.new) }
+        ensures passes { PassesIn G.unpaged (Turns Makes) (G.store g.old) (G.store g.new) (G.behind g.old) (G.behind g.new) }
+        ensures idle { OnErr result ((turn : Turn) → PassesIn G.unpaged (Turns turn) (G.store g.old) (G.store g.new) (G.behind g.old) (G.behind g.new)) }
         ensures loans { G.loans g.new ≡ G.loans g.old }
     {
         let pages = new_pages(kind, range);
@@ -96,6 +104,8 @@ impl Tables {
         requires private { (p : ProcessOf (Unit {0})) (r : Found (RegionOf (Unit {0}))) → process_of self.old pid.0 ≡ Some p → region_around p.regions range ≡ Some r → is_private r.thing.kind ≡ true }
         ensures changed { (p : ProcessOf (Unit {0})) (r : Found (RegionOf (Unit {0}))) → process_of self.old pid.0 ≡ Some p → region_around p.regions range ≡ Some r → self.new ≡ set_region self.old pid.0 p r.place (change_rows (λ row. reserved_row) range r.thing) }
         ensures settled { Settled self.new (G.contents g.old) (G.contents g.new) (G.store g.old) (G.store g.new) }
+        ensures among { AreAmong (is_uncommitted self.new) 0 end_of_user_pages pid range }
+        ensures passes { (held : Place → Bool) (from to : ℕ) → AreAmong held from to pid range → PassesIn G.unpaged (Turns (Ends held from to)) (G.store g.old) (G.store g.new) (G.behind g.old) (G.behind g.new) }
         ensures loans { G.loans g.new ≡ G.loans g.old }
     {
         let owned = decommit_pages(&mut self.processes[pid.0 as usize - 1], g, pid, range);
@@ -110,6 +120,8 @@ impl Tables {
         requires there { (p : ProcessOf (Unit {0})) → process_of self.old pid.0 ≡ Some p → option_map (λ r. pages_of r.thing) (private_at p.regions addr) ≡ Some range }
         ensures changed { (p : ProcessOf (Unit {0})) (r : Found (RegionOf (Unit {0}))) → process_of self.old pid.0 ≡ Some p → private_at p.regions addr ≡ Some r → self.new ≡ set_regions self.old pid.0 p (remove p.regions r.place) }
         ensures settled { Settled self.new (G.contents g.old) (G.contents g.new) (G.store g.old) (G.store g.new) }
+        ensures among { AreAmong (is_uncommitted self.new) 0 end_of_user_pages pid range }
+        ensures passes { (held : Place → Bool) (from to : ℕ) → AreAmong held from to pid range → PassesIn G.unpaged (Turns (Ends held from to)) (G.store g.old) (G.store g.new) (G.behind g.old) (G.behind g.new) }
         ensures loans { G.loans g.new ≡ G.loans g.old }
     {
         let freed = release_pages(&mut self.processes[pid.0 as usize - 1], g, pid, addr, range);

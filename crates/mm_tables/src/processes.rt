@@ -9,6 +9,8 @@ ghost use Rattle.mm_world.specs.Failure.{same_key};
 ghost use Rattle.mm_world.specs.Processes.{most_processes, most_slots, most_fails, no_regions, with_slots};
 ghost use Rattle.mm_world.specs.Rows.{is_protection_among, all_protections, is_committed_at, accepts, every_page, protected, change_rows};
 ghost use Rattle.mm_pages.specs.Conditions.{place_at};
+ghost use Rattle.mm_pages.specs.Housekeeping.{Turn, Turns};
+ghost use Rattle.mm_pages.specs.Passing.{PassesIn};
 ghost use Rattle.mm_pages.specs.Store.{StoreOf, changed};
 ghost use Rattle.mm_tables.specs.Fits.{Fits, Settled, before_process, extended, new_marks, copied, CanCopy, IsNamed};
 
@@ -43,6 +45,7 @@ impl Tables {
         ensures fits { OnOk result (Fits self.new (G.contents g.new) (G.store g.new)) }
         ensures kept { OnErr result ((self.new ≡ self.old) × (G.store g.new ≡ G.store g.old)) }
         ensures contents { G.contents g.new ≡ G.contents g.old }
+        ensures passes { (turn : Turn) → PassesIn G.unpaged (Turns turn) (G.store g.old) (G.store g.new) (G.behind g.old) (G.behind g.new) }
         ensures loans { G.loans g.new ≡ G.loans g.old }
     {
         push_process(&mut self.processes, allocator, g, pid, min, max)?;
@@ -113,6 +116,7 @@ impl Tables {
         ensures err { OnErr result ((self.new ≡ self.old) × (G.contents g.new ≡ G.contents g.old)) }
         ensures some { n ≡ 0 → IsOk result }
         ensures settled { Settled self.new (G.contents g.old) (G.contents g.new) (G.store g.old) (G.store g.new) }
+        ensures passes { (turn : Turn) → PassesIn G.unpaged (Turns turn) (G.store g.old) (G.store g.new) (G.behind g.old) (G.behind g.new) }
         ensures loans { G.loans g.new ≡ G.loans g.old }
     {
         let total = self.commit.now() + n;

@@ -1,9 +1,15 @@
-ghost use Rattle.std.specs.Prelude.{if◌then◌else◌, ℕ, ◌≡◌, ◌≤◌, ◌&&◌, ◌-◌, Some, None, length, count_by, is_some};
+ghost use Rattle.std.specs.Prelude.{if◌then◌else◌, Bool, true, ℕ, ◌≡◌, ◌≤◌, ◌<◌, ◌&&◌, ◌-◌, Some, None, length, count_by, is_some};
 ghost use Rattle.mm_types.specs.Address.{end_of, end_of_user_pages};
+ghost use Rattle.mm_types.specs.declared.numbers.Place.{Place};
+ghost use Rattle.mm_pages.specs.Conditions.{AreAmong, IsAmong, place_at};
+ghost use Rattle.mm_pages.specs.Housekeeping.{Turns, Ends};
+ghost use Rattle.mm_pages.specs.Passing.{PassesIn};
 ghost use Rattle.mm_world.specs.Charge.{area_charge};
 ghost use Rattle.mm_world.specs.Failure.{same_key};
 ghost use Rattle.mm_world.specs.Find.{no_area};
-ghost use Rattle.mm_tables.specs.Endings.{CanGo, CanGoAll, Gone, among, owned_among, own_at, shared_at, is_owned_at, is_committed_in, CanRelease, Released, CanEnd, Emptied, ended_area};
+ghost use Rattle.mm_world.specs.Keys.{own_page};
+ghost use Rattle.mm_tables.specs.Endings.{CanGo, CanGoAll, Gone, among, owned_among, shared_at, is_committed_in, CanGiveUp, GivenUp, CanRelease, Released, CanEnd, Emptied, ended_area};
+ghost use Rattle.mm_tables.specs.Ranges.{only, passing, is_live};
 
 use mm_commit::Commit;
 use mm_pages::Pages;
@@ -12,9 +18,11 @@ use mm_spaces::{AddressSpace, PageRange};
 use mm_types::{Area, Key, Pid, Vpn};
 
 /// Removes a key if it is owned.
+#[tactic(auto, using(mm_pages::proofs::Passed::turns_same))]
 fn remove_if<G: Pages>(g: &mut G, owned: bool, key: Key)
     requires can { CanGo key owned (G.store g.old) }
     ensures gone { Gone (λ k. owned && same_key k key) (if owned then 1 else 0) (G.contents g.old) (G.contents g.new) (G.store g.old) (G.store g.new) }
+    ensures passes { (held : Place → Bool) (from to : ℕ) → IsAmong held from to key → PassesIn G.unpaged (Turns (Ends held from to)) (G.store g.old) (G.store g.new) (G.behind g.old) (G.behind g.new) }
     ensures loans { G.loans g.new ≡ G.loans g.old }
 {
     if owned {
@@ -22,23 +30,12 @@ fn remove_if<G: Pages>(g: &mut G, owned: bool, key: Key)
     }
 }
 
-/// Removes the keys of those pages of the range that have bytes of their own, in rising order.
-fn remove_own<G: Pages>(g: &mut G, space: &AddressSpace, pid: Pid, range: PageRange)
-    requires end { end_of range ≤ end_of_user_pages }
-    requires can { CanGoAll (own_at pid range.first) (is_owned_at space.now.regions range.first) range.count (G.store g.old) }
-    ensures gone { Gone (among (own_at pid range.first) (is_owned_at space.now.regions range.first) range.count) (owned_among (is_owned_at space.now.regions range.first) range.count) (G.contents g.old) (G.contents g.new) (G.store g.old) (G.store g.new) }
-    ensures loans { G.loans g.new ≡ G.loans g.old }
-{
-    for i in 0..range.count {
-        let page = range.first + i;
-        remove_if(g, space.is_owned(page), Key::Private(pid, Vpn(page)));
-    }
-}
-
 /// Removes the keys of an area's committed pages, in rising order.
+#[tactic(auto, using(mm_pages::proofs::Passed::turns_same))]
 fn remove_shared<G: Pages>(g: &mut G, pages: &SectionPages, area: Area)
     requires can { CanGoAll (shared_at area) (is_committed_in pages.now) (length pages.now.pages) (G.store g.old) }
     ensures gone { Gone (among (shared_at area) (is_committed_in pages.now) (length pages.now.pages)) (owned_among (is_committed_in pages.now) (length pages.now.pages)) (G.contents g.old) (G.contents g.new) (G.store g.old) (G.store g.new) }
+    ensures passes { (held : Place → Bool) (from to : ℕ) → PassesIn G.unpaged (Turns (Ends held from to)) (G.store g.old) (G.store g.new) (G.behind g.old) (G.behind g.new) }
     ensures loans { G.loans g.new ≡ G.loans g.old }
 {
     let count = pages.len();
@@ -47,15 +44,29 @@ fn remove_shared<G: Pages>(g: &mut G, pages: &SectionPages, area: Area)
     }
 }
 
-/// Gives up pages of a process, with the keys of those that have bytes of their own.
+/// Gives up one page of a process: its key, where it has bytes of its own, and then its place.
+fn release_page<G: Pages>(g: &mut G, space: &AddressSpace, pid: Pid, page: u32)
+    requires can { CanGiveUp pid page (is_some (own_page space.now.regions page)) (G.contents g.old) (G.store g.old) }
+    ensures given_up { GivenUp pid (only page) (if is_some (own_page space.now.regions page) then 1 else 0) (G.contents g.old) (G.contents g.new) (G.store g.old) (G.store g.new) }
+    ensures passes { (held : Place → Bool) (from to : ℕ) → held (place_at pid page) ≡ true → from ≤ page → page < to → PassesIn G.unpaged (Turns (Ends held from to)) (G.store g.old) (G.store g.new) (G.behind g.old) (G.behind g.new) }
+    ensures loans { G.loans g.new ≡ G.loans g.old }
+{
+    remove_if(g, space.is_owned(page), Key::Private(pid, Vpn(page)));
+    g.unbind(pid, Vpn(page), 1);
+}
+
+/// Gives up pages of a process in rising order, each with its key before the next.
 pub(crate) fn release_pages<G: Pages>(g: &mut G, space: &AddressSpace, pid: Pid, range: PageRange)
     requires end { end_of range ≤ end_of_user_pages }
     requires can { CanRelease pid range space.now.regions (G.contents g.old) (G.store g.old) }
+    ensures given_up { GivenUp pid range (passing (is_live pid (G.contents g.old)) range.first range.count) (G.contents g.old) (G.contents g.new) (G.store g.old) (G.store g.new) }
     ensures released { Released pid range space.now.regions (G.contents g.old) (G.contents g.new) (G.store g.old) (G.store g.new) }
+    ensures passes { (held : Place → Bool) (from to : ℕ) → AreAmong held from to pid range → PassesIn G.unpaged (Turns (Ends held from to)) (G.store g.old) (G.store g.new) (G.behind g.old) (G.behind g.new) }
     ensures loans { G.loans g.new ≡ G.loans g.old }
 {
-    remove_own(g, space, pid, range);
-    g.unbind(pid, Vpn(range.first), range.count);
+    for i in 0..range.count {
+        release_page(g, space, pid, range.first + i);
+    }
 }
 
 /// Closes the area of a page-file section that has ended.
@@ -65,6 +76,7 @@ fn empty_area<G: Pages>(g: &mut G, pages: &mut SectionPages, commit: &mut Commit
     ensures ended { pages.new ≡ no_area }
     ensures refunded { commit.new ≡ record commit.old { charge = commit.old.charge - count_by is_some pages.old.pages } }
     ensures emptied { Emptied area pages.old (G.contents g.old) (G.contents g.new) (G.store g.old) (G.store g.new) }
+    ensures passes { (held : Place → Bool) (from to : ℕ) → PassesIn G.unpaged (Turns (Ends held from to)) (G.store g.old) (G.store g.new) (G.behind g.old) (G.behind g.new) }
     ensures loans { G.loans g.new ≡ G.loans g.old }
 {
     let freed = pages.committed();
@@ -75,6 +87,7 @@ fn empty_area<G: Pages>(g: &mut G, pages: &mut SectionPages, commit: &mut Commit
 }
 
 /// The section of an area has ended: with a page-file section end its pages, a file's stay.
+#[tactic(auto, using(mm_pages::proofs::Passed::turns_same))]
 pub(crate) fn end_area<G: Pages>(
     g: &mut G,
     pages: &mut SectionPages,
@@ -86,7 +99,9 @@ pub(crate) fn end_area<G: Pages>(
     ensures ended { pages.new ≡ ended_area pages.old }
     ensures refunded { commit.new ≡ record commit.old { charge = commit.old.charge - area_charge pages.old } }
     ensures file { (first : ℕ) → pages.old.file_block ≡ Some first → (G.contents g.new ≡ G.contents g.old) × (G.store g.new ≡ G.store g.old) }
+    ensures bound { (place : Place) → (G.store g.new).bound place ≡ (G.store g.old).bound place }
     ensures emptied { pages.old.file_block ≡ None → Emptied area pages.old (G.contents g.old) (G.contents g.new) (G.store g.old) (G.store g.new) }
+    ensures passes { (held : Place → Bool) (from to : ℕ) → PassesIn G.unpaged (Turns (Ends held from to)) (G.store g.old) (G.store g.new) (G.behind g.old) (G.behind g.new) }
     ensures loans { G.loans g.new ≡ G.loans g.old }
 {
     if pages.first_block().is_none() {

@@ -6,6 +6,8 @@ ghost use Rattle.mm_world.specs.World.{Page, ProcessOf, numbered};
 ghost use Rattle.mm_world.specs.Find.{process_of, section_of, section_named, area_at, is_named};
 ghost use Rattle.mm_world.specs.Charge.{charge, limit};
 ghost use Rattle.mm_world.specs.Sections.{next_handle, with_handle, new_section};
+ghost use Rattle.mm_pages.specs.Housekeeping.{Turn, Turns, Makes};
+ghost use Rattle.mm_pages.specs.Passing.{PassesIn};
 ghost use Rattle.mm_pages.specs.Store.{StoreOf};
 ghost use Rattle.mm_sections.specs.Directories.{sections_of, new_entry, one_handle_more};
 ghost use Rattle.mm_sections.specs.Pages.{page_if};
@@ -137,9 +139,11 @@ fn grow_for_paging(
 }
 
 /// Adds the keys of the first `n` pages of an open area.
+#[tactic(auto, using(mm_pages::proofs::Passed::turns_same))]
 fn fill_area<G: Pages>(g: &mut G, area: Area, n: u32)
     requires can { CanFill area n (G.contents g.old) (G.store g.old) }
     ensures fills { Fills area n (G.contents g.old) (G.contents g.new) (G.store g.old) (G.store g.new) }
+    ensures passes { PassesIn G.unpaged (Turns Makes) (G.store g.old) (G.store g.new) (G.behind g.old) (G.behind g.new) }
     ensures loans { G.loans g.new ≡ G.loans g.old }
 {
     for i in 0..n {
@@ -149,6 +153,7 @@ fn fill_area<G: Pages>(g: &mut G, area: Area, n: u32)
 
 /// Opens an area of the store, and adds the keys of its first `n` pages. `total` is what all keys then come to at most.
 /// After `NoMemory` there may be more room.
+#[tactic(auto, using(mm_pages::proofs::Passed::turns_same, mm_pages::proofs::Passed::makes_then))]
 fn open_paging_area<G: Pages>(
     g: &mut G,
     area: Area,
@@ -167,6 +172,8 @@ fn open_paging_area<G: Pages>(
     ensures ok { OnOk result (Opens area pages n (G.contents g.old) (G.contents g.new) (G.store g.old) (G.store g.new)) }
     ensures room { OnOk result (total ≤ (G.store g.new).room) }
     ensures err { OnErr result (MoreRoom (G.contents g.old) (G.contents g.new) (G.store g.old) (G.store g.new)) }
+    ensures passes { PassesIn G.unpaged (Turns Makes) (G.store g.old) (G.store g.new) (G.behind g.old) (G.behind g.new) }
+    ensures idle { OnErr result ((turn : Turn) → PassesIn G.unpaged (Turns turn) (G.store g.old) (G.store g.new) (G.behind g.old) (G.behind g.new)) }
     ensures loans { G.loans g.new ≡ G.loans g.old }
 {
     g.reserve(total)?;
@@ -207,6 +214,7 @@ fn take(commit: &mut Commit, n: u32)
 impl Tables {
     /// Makes a page-file section with a control area of its own, and a handle to it, which is answered. No section has the name, if
     /// one is given; where its pages are committed the limit allows them. After `NoMemory` tables and bytes are as before.
+    #[tactic(auto, using(mm_pages::proofs::Passed::turns_same))]
     pub fn add_paging_section<G: Pages>(
         &mut self,
         alloc: Global,
@@ -229,6 +237,8 @@ impl Tables {
             ≡ record { answer = answer.Created handle false; world = self.new }) }
         ensures err { OnErr result ((self.new ≡ self.old) × (G.contents g.new ≡ G.contents g.old)) }
         ensures settled { Settled self.new (G.contents g.old) (G.contents g.new) (G.store g.old) (G.store g.new) }
+        ensures passes { PassesIn G.unpaged (Turns Makes) (G.store g.old) (G.store g.new) (G.behind g.old) (G.behind g.new) }
+        ensures idle { OnErr result ((turn : Turn) → PassesIn G.unpaged (Turns turn) (G.store g.old) (G.store g.new) (G.behind g.old) (G.behind g.new)) }
         ensures loans { G.loans g.new ≡ G.loans g.old }
     {
         let area = Area(self.areas.len() as u32);

@@ -8,6 +8,11 @@ ghost use Rattle.mm_world.specs.Contents.{blank};
 ghost use Rattle.mm_world.specs.Free.{private_at};
 ghost use Rattle.mm_world.specs.Rows.{row_at, is_protection_among, private_protections, all_protections, every_page, accepts, commit, reserved_row, protected, change_rows};
 ghost use Rattle.mm_pages.specs.Conditions.{AllBound};
+ghost use Rattle.mm_pages.specs.Conditions.{AreAmong};
+ghost use Rattle.mm_pages.specs.Housekeeping.{Turn, Turns, Makes as Making, Ends as Ending};
+ghost use Rattle.mm_pages.specs.Passing.{PassesIn};
+ghost use Rattle.mm_types.specs.declared.numbers.Place.{Place};
+ghost use Rattle.std.specs.Prelude.{Bool};
 ghost use Rattle.mm_spaces.specs.Tables.{owned_in};
 ghost use Rattle.mm_tables.specs.Effects.{Makes, Ends, Leaves, Stored, Roomier, CanMake, keys_of};
 ghost use Rattle.mm_tables.specs.Fits.{new_pages};
@@ -19,6 +24,7 @@ ghost use Rattle.mm_pages.specs.Store.{changed};
 ghost use Rattle.mm_world.specs.Processes.{no_regions, with_slots, most_slots};
 
 use crate::keys::{add_pages, remove_pages};
+use crate::removals;
 use crate::tables::Process;
 use mm_commit::Commit;
 use mm_pages::Pages;
@@ -60,6 +66,7 @@ pub(crate) fn copy_page(process: &mut Option<Process>, page: u32)
 
 /// Commits pages of one private region of a living process, and adds their keys. `total` is what all keys then come to at most.
 /// After `NoMemory` there may be more room.
+#[tactic(auto, using(mm_pages::proofs::Passed::turns_same, mm_pages::proofs::Passed::makes_then))]
 pub(crate) fn commit_pages<G: Pages>(
     process: &mut Option<Process>,
     g: &mut G,
@@ -81,6 +88,8 @@ pub(crate) fn commit_pages<G: Pages>(
     ensures room { OnOk result (total ≤ (G.store g.new).room) }
     ensures kept { OnErr result (Became process.old process.new (regions_of process.old)) }
     ensures err { OnErr result (Roomier (G.contents g.old) (G.contents g.new) (G.store g.old) (G.store g.new)) }
+    ensures passes { PassesIn G.unpaged (Turns Making) (G.store g.old) (G.store g.new) (G.behind g.old) (G.behind g.new) }
+    ensures idle { OnErr result ((turn : Turn) → PassesIn G.unpaged (Turns turn) (G.store g.old) (G.store g.new) (G.behind g.old) (G.behind g.new)) }
     ensures loans { G.loans g.new ≡ G.loans g.old }
 {
     let Some(process) = process else {
@@ -109,6 +118,7 @@ pub(crate) fn decommit_pages<G: Pages>(
     ensures stored { Stored pid range Ends Leaves true (G.contents g.old) (G.contents g.new) (G.store g.old) (G.store g.new) }
     ensures counted { (G.store g.new).paging_keys ≡ (G.store g.old).paging_keys - passing (is_live pid (G.contents g.old)) range.first range.count }
     ensures room { (G.store g.new).room ≡ (G.store g.old).room }
+    ensures passes { (held : Place → Bool) (from to : ℕ) → AreAmong held from to pid range → PassesIn G.unpaged (Turns (Ending held from to)) (G.store g.old) (G.store g.new) (G.behind g.old) (G.behind g.new) }
     ensures loans { G.loans g.new ≡ G.loans g.old }
 {
     let Some(process) = process else {
@@ -120,8 +130,9 @@ pub(crate) fn decommit_pages<G: Pages>(
     owned
 }
 
-/// Releases the private region of a living process that begins at the address and has these pages: their keys and their places go.
-/// Tells how many were committed.
+/// Releases the private region of a living process that begins at the address and has these pages: their keys and their places go,
+/// page by page. Tells how many were committed.
+#[tactic(auto, using(crate::proofs::EndingPages::can_release, crate::proofs::EndingPages::stored))]
 pub(crate) fn release_pages<G: Pages>(
     process: &mut Option<Process>,
     g: &mut G,
@@ -140,19 +151,20 @@ pub(crate) fn release_pages<G: Pages>(
     ensures stored { Stored pid range Ends Ends true (G.contents g.old) (G.contents g.new) (G.store g.old) (G.store g.new) }
     ensures counted { (G.store g.new).paging_keys ≡ (G.store g.old).paging_keys - passing (is_live pid (G.contents g.old)) range.first range.count }
     ensures room { (G.store g.new).room ≡ (G.store g.old).room }
+    ensures passes { (held : Place → Bool) (from to : ℕ) → AreAmong held from to pid range → PassesIn G.unpaged (Turns (Ending held from to)) (G.store g.old) (G.store g.new) (G.behind g.old) (G.behind g.new) }
     ensures loans { G.loans g.new ≡ G.loans g.old }
 {
     let Some(process) = process else {
         unreachable!()
     };
     let owned = process.space.owned(range);
-    remove_pages(g, &process.space, pid, range);
-    g.unbind(pid, Vpn(range.first), range.count);
+    removals::release_pages(g, &process.space, pid, range);
     process.space.remove(addr);
     owned
 }
 
 /// What a new region takes: room for it and its keys, and its places.
+#[tactic(auto, using(mm_pages::proofs::Passed::turns_same))]
 fn grow_for_region<G: Pages>(
     space: &mut AddressSpace,
     g: &mut G,
@@ -170,6 +182,7 @@ fn grow_for_region<G: Pages>(
     ensures counted { (G.store g.new).paging_keys ≡ (G.store g.old).paging_keys }
     ensures room { OnOk result (total ≤ (G.store g.new).room) }
     ensures err { OnErr result (Roomier (G.contents g.old) (G.contents g.new) (G.store g.old) (G.store g.new)) }
+    ensures passes { (turn : Turn) → PassesIn G.unpaged (Turns turn) (G.store g.old) (G.store g.new) (G.behind g.old) (G.behind g.new) }
     ensures loans { G.loans g.new ≡ G.loans g.old }
 {
     space.reserve()?;
@@ -179,6 +192,7 @@ fn grow_for_region<G: Pages>(
 }
 
 /// Adds the keys of a new region's pages, where its pages are committed.
+#[tactic(auto, using(mm_pages::proofs::Passed::turns_same))]
 fn fill_region<G: Pages>(space: &AddressSpace, g: &mut G, pid: Pid, range: PageRange, kind: u32)
     requires end { end_of range ≤ end_of_user_pages }
     requires can { (kind == reserve_type) ≡ false → CanAdd pid range space.now.regions (G.contents g.old) (G.store g.old) }
@@ -186,6 +200,7 @@ fn fill_region<G: Pages>(space: &AddressSpace, g: &mut G, pid: Pid, range: PageR
     ensures stored { Stored pid range (keys_of kind) Leaves false (G.contents g.old) (G.contents g.new) (G.store g.old) (G.store g.new) }
     ensures counted { (G.store g.new).paging_keys ≡ (G.store g.old).paging_keys + new_pages kind range }
     ensures room { (G.store g.new).room ≡ (G.store g.old).room }
+    ensures passes { PassesIn G.unpaged (Turns Making) (G.store g.old) (G.store g.new) (G.behind g.old) (G.behind g.new) }
     ensures loans { G.loans g.new ≡ G.loans g.old }
 {
     if kind != RESERVE_TYPE {
@@ -195,6 +210,7 @@ fn fill_region<G: Pages>(space: &AddressSpace, g: &mut G, pid: Pid, range: PageR
 
 /// Makes a private region of free pages in a living process, and adds its keys where it is committed. `total` is what all keys then
 /// come to at most. After `NoMemory` there may be more room.
+#[tactic(auto, using(mm_pages::proofs::Passed::turns_same, mm_pages::proofs::Passed::makes_then))]
 pub(crate) fn make_region<G: Pages>(
     alloc: Global,
     process: &mut Option<Process>,
@@ -217,6 +233,8 @@ pub(crate) fn make_region<G: Pages>(
     ensures room { OnOk result (total ≤ (G.store g.new).room) }
     ensures kept { OnErr result (Became process.old process.new (regions_of process.old)) }
     ensures err { OnErr result (Roomier (G.contents g.old) (G.contents g.new) (G.store g.old) (G.store g.new)) }
+    ensures passes { PassesIn G.unpaged (Turns Making) (G.store g.old) (G.store g.new) (G.behind g.old) (G.behind g.new) }
+    ensures idle { OnErr result ((turn : Turn) → PassesIn G.unpaged (Turns turn) (G.store g.old) (G.store g.new) (G.behind g.old) (G.behind g.new)) }
     ensures loans { G.loans g.new ≡ G.loans g.old }
 {
     let Some(process) = process else {
@@ -231,12 +249,14 @@ pub(crate) fn make_region<G: Pages>(
 
 /// Sees that there is room for `total` keys, as there was where `n` is 0. After `NoMemory`, which comes only where it is not, there may
 /// be more room.
+#[tactic(auto, using(mm_pages::proofs::Passed::turns_same))]
 pub(crate) fn grow_for_marks<G: Pages>(g: &mut G, n: u32, total: u32) -> Result<(), NoMemory>
     requires within { total ≤ limit_of (G.store g.old).machine }
     requires enough { n ≡ 0 → total ≤ (G.store g.old).room }
     ensures room { OnOk result (total ≤ (G.store g.new).room) }
     ensures some { n ≡ 0 → IsOk result }
     ensures more { Roomier (G.contents g.old) (G.contents g.new) (G.store g.old) (G.store g.new) }
+    ensures passes { (turn : Turn) → PassesIn G.unpaged (Turns turn) (G.store g.old) (G.store g.new) (G.behind g.old) (G.behind g.new) }
     ensures loans { G.loans g.new ≡ G.loans g.old }
 {
     if n > 0 {
@@ -261,6 +281,7 @@ pub(crate) fn protect_pages(process: &mut Option<Process>, range: PageRange, pro
 }
 
 /// Makes a process without regions in the store, at the end of those that there are. After `NoMemory` nothing has changed.
+#[tactic(auto, using(mm_pages::proofs::Passed::turns_same))]
 pub(crate) fn push_process<G: Pages>(
     processes: &mut Vec<Option<Process>>,
     allocator: Global,
@@ -276,6 +297,7 @@ pub(crate) fn push_process<G: Pages>(
     ensures store { OnOk result (G.store g.new ≡ record (G.store g.old) { is_open = changed ◌==◌ (G.store g.old).is_open pid.0 true }) }
     ensures kept { OnErr result (G.store g.new ≡ G.store g.old) }
     ensures contents { G.contents g.new ≡ G.contents g.old }
+    ensures passes { (turn : Turn) → PassesIn G.unpaged (Turns turn) (G.store g.old) (G.store g.new) (G.behind g.old) (G.behind g.new) }
     ensures loans { G.loans g.new ≡ G.loans g.old }
 {
     processes.push(Some(Process {

@@ -4,6 +4,8 @@ ghost use Rattle.mm_world.specs.Step.{first_world};
 ghost use Rattle.mm_world.specs.WellFormed.{WellFormed};
 ghost use Rattle.mm_tables.specs.References.{IsTidy};
 
+use crate::kept_accesses::{THREADS, no_accesses};
+use crate::waiting::Kept;
 use mm_commit::Commit;
 use mm_sections::{Directory, Handles, SectionPages};
 use mm_spaces::AddressSpace;
@@ -19,7 +21,7 @@ pub(crate) struct Process {
 }
 
 /// What the calls go by: a machine, its processes with their regions and handles, its sections, control areas and files, and the
-/// commit charge. Pages' bytes are not here.
+/// commit charge, and what each thread keeps. Pages' bytes are not here.
 ///
 /// Contracts see it as the tables of a world.
 #[derive(Drop)]
@@ -32,18 +34,20 @@ pub struct Tables {
     pub(crate) blocks_used: u32,
     pub(crate) fails_taken: u32,
     pub(crate) commit: Commit,
+    // By thread.
+    pub(crate) kept: [Option<Kept>; THREADS],
 }
 
 impl Model for Tables {
     ghost use Rattle.mm_world.specs.Contents.{Tables};
-    ghost use Rattle.mm_tables.specs.Shown.{shown_processes, tables_with};
+    ghost use Rattle.mm_tables.specs.Shown.{shown_processes, shown_accesses, tables_with};
     ghost use Rattle.mm_tables.specs.Sound.{IsKept};
 
     ghost Value = { Tables };
 
-    ghost view = { λ t. tables_with t.machine (shown_processes t.processes.items) t.directory.entries t.areas.items t.directory.files t.blocks_used t.fails_taken };
+    ghost view = { λ t. tables_with t.machine (shown_processes t.processes.items) t.directory.entries t.areas.items t.directory.files t.blocks_used t.fails_taken (shown_accesses t.kept) };
 
-    ghost invariant = { λ t. IsKept (tables_with t.machine (shown_processes t.processes.items) t.directory.entries t.areas.items t.directory.files t.blocks_used t.fails_taken) t.directory.entries t.commit };
+    ghost invariant = { λ t. IsKept (tables_with t.machine (shown_processes t.processes.items) t.directory.entries t.areas.items t.directory.files t.blocks_used t.fails_taken (shown_accesses t.kept)) t.directory.entries t.commit };
 }
 
 impl Tables {
@@ -59,6 +63,7 @@ impl Tables {
             blocks_used: 0,
             fails_taken: 0,
             commit: Commit::new(machine.limit()),
+            kept: no_accesses(),
         }
     }
 

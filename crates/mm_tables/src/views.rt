@@ -13,6 +13,8 @@ ghost use Rattle.mm_world.specs.Rows.{is_protection_among, all_protections, priv
 ghost use Rattle.mm_world.specs.Views.{view_region, is_copy};
 ghost use Rattle.mm_world.specs.WellFormed.{ViewFits};
 ghost use Rattle.mm_pages.specs.Conditions.{AllBound};
+ghost use Rattle.mm_pages.specs.Housekeeping.{Turn, Turns, Makes};
+ghost use Rattle.mm_pages.specs.Passing.{PassesIn};
 ghost use Rattle.mm_sections.specs.Pages.{uncommitted_in};
 ghost use Rattle.mm_tables.specs.Fits.{Fits, Settled};
 ghost use Rattle.mm_tables.specs.Shown.{shown_processes};
@@ -51,6 +53,7 @@ fn marked_pages(view: View, range: PageRange) -> u32
 }
 
 /// What a new view takes of an address space and of the store: room for it and for all keys, and its places.
+#[tactic(auto, using(mm_pages::proofs::Passed::turns_same))]
 fn grow_for_view<G: Pages>(
     space: &mut AddressSpace,
     g: &mut G,
@@ -68,6 +71,7 @@ fn grow_for_view<G: Pages>(
     ensures room { OnOk result (total ≤ (G.store g.new).room) }
     ensures contents { G.contents g.new ≡ G.contents g.old }
     ensures err { OnErr result (MoreRoom (G.store g.old) (G.store g.new)) }
+    ensures passes { (turn : Turn) → PassesIn G.unpaged (Turns turn) (G.store g.old) (G.store g.new) (G.behind g.old) (G.behind g.new) }
     ensures loans { G.loans g.new ≡ G.loans g.old }
 {
     space.reserve()?;
@@ -78,6 +82,7 @@ fn grow_for_view<G: Pages>(
 
 /// Makes a view of free pages in an address space. `total` is what all keys come to at most. After `NoMemory` there may be more
 /// room, and nothing else is other.
+#[tactic(auto, using(mm_pages::proofs::Passed::turns_same))]
 fn make_view<G: Pages>(
     alloc: Global,
     space: &mut AddressSpace,
@@ -98,6 +103,7 @@ fn make_view<G: Pages>(
     ensures contents { G.contents g.new ≡ G.contents g.old }
     ensures kept { OnErr result (space.new.regions ≡ space.old.regions) }
     ensures err { OnErr result (MoreRoom (G.store g.old) (G.store g.new)) }
+    ensures passes { (turn : Turn) → PassesIn G.unpaged (Turns turn) (G.store g.old) (G.store g.new) (G.behind g.old) (G.behind g.new) }
     ensures loans { G.loans g.new ≡ G.loans g.old }
 {
     let region = NewRegion::view(alloc, view, range)?;
@@ -107,6 +113,7 @@ fn make_view<G: Pages>(
 }
 
 /// Makes a view in the address space of a living process.
+#[tactic(auto, using(mm_pages::proofs::Passed::turns_same))]
 fn make_view_in<G: Pages>(
     alloc: Global,
     processes: &mut Vec<Option<Process>>,
@@ -129,6 +136,7 @@ fn make_view_in<G: Pages>(
     ensures contents { G.contents g.new ≡ G.contents g.old }
     ensures kept { OnErr result (shown_processes processes.new.items ≡ shown_processes processes.old.items) }
     ensures err { OnErr result (MoreRoom (G.store g.old) (G.store g.new)) }
+    ensures passes { (turn : Turn) → PassesIn G.unpaged (Turns turn) (G.store g.old) (G.store g.new) (G.behind g.old) (G.behind g.new) }
     ensures loans { G.loans g.new ≡ G.loans g.old }
 {
     match &mut processes[pid.0 as usize - 1] {
@@ -176,10 +184,12 @@ fn view_of(space: &AddressSpace, range: PageRange) -> (View, u32)
 }
 
 /// Adds the key of a section's page if it is not committed.
+#[tactic(auto, using(mm_pages::proofs::Passed::turns_same))]
 fn share_page<G: Pages>(g: &mut G, pages: &SectionPages, area: Area, index: u32)
     requires inside { index < length pages.now.pages }
     requires can { CanShare area index 1 pages.now (G.contents g.old) (G.store g.old) }
     ensures shares { Shares area index 1 pages.now (G.contents g.old) (G.contents g.new) (G.store g.old) (G.store g.new) }
+    ensures passes { PassesIn G.unpaged (Turns Makes) (G.store g.old) (G.store g.new) (G.behind g.old) (G.behind g.new) }
     ensures loans { G.loans g.new ≡ G.loans g.old }
 {
     if !pages.is_committed(index) {
@@ -188,10 +198,12 @@ fn share_page<G: Pages>(g: &mut G, pages: &SectionPages, area: Area, index: u32)
 }
 
 /// Adds the keys of those of a section's pages that are not committed, in rising order.
+#[tactic(auto, using(mm_pages::proofs::Passed::turns_same))]
 fn share_range<G: Pages>(g: &mut G, pages: &SectionPages, area: Area, first: u32, count: u32)
     requires end { first + count < 2 ^ 32 }
     requires can { CanShare area first count pages.now (G.contents g.old) (G.store g.old) }
     ensures shares { Shares area first count pages.now (G.contents g.old) (G.contents g.new) (G.store g.old) (G.store g.new) }
+    ensures passes { PassesIn G.unpaged (Turns Makes) (G.store g.old) (G.store g.new) (G.behind g.old) (G.behind g.new) }
     ensures loans { G.loans g.new ≡ G.loans g.old }
 {
     for i in 0..count {
@@ -217,6 +229,7 @@ fn share_in<G: Pages>(pages: &mut SectionPages, g: &mut G, view: View, offset: u
     requires can { CanShare view.area (view.first + offset) count pages.old (G.contents g.old) (G.store g.old) }
     ensures pages { pages.new ≡ commit_shared blank (view.first + offset) count pages.old }
     ensures shares { Shares view.area (view.first + offset) count pages.old (G.contents g.old) (G.contents g.new) (G.store g.old) (G.store g.new) }
+    ensures passes { PassesIn G.unpaged (Turns Makes) (G.store g.old) (G.store g.new) (G.behind g.old) (G.behind g.new) }
     ensures loans { G.loans g.new ≡ G.loans g.old }
 {
     let first = index_behind(pages, view.first, offset);
@@ -236,6 +249,7 @@ fn share_pages<G: Pages>(
     requires can { CanShare view.area (view.first + offset) count (area_in areas.old.items view.area.0) (G.contents g.old) (G.store g.old) }
     ensures areas { areas.new.items ≡ slice_set areas.old.items view.area.0 (commit_shared blank (view.first + offset) count (area_in areas.old.items view.area.0)) }
     ensures shares { Shares view.area (view.first + offset) count (area_in areas.old.items view.area.0) (G.contents g.old) (G.contents g.new) (G.store g.old) (G.store g.new) }
+    ensures passes { PassesIn G.unpaged (Turns Makes) (G.store g.old) (G.store g.new) (G.behind g.old) (G.behind g.new) }
     ensures loans { G.loans g.new ≡ G.loans g.old }
 {
     share_in(&mut areas[view.area.0 as usize], g, view, offset, count);
@@ -259,6 +273,7 @@ impl Tables {
     /// Commits the section pages under a range of one view of a page-file section, and gives the view's rows the protection, which
     /// they accept. `n` of the section pages are not committed, and the limit allows them. After `NoMemory` tables and bytes are as
     /// before.
+    #[tactic(auto, using(mm_pages::proofs::Passed::makes_then))]
     pub fn commit_view<G: Pages>(
         &mut self,
         g: &mut G,
@@ -281,6 +296,8 @@ impl Tables {
             self.new ≡ set_area (set_region self.old pid.0 p r.place (change_rows (protected r.thing.kind prot) range r.thing)) v.area.0 (commit_shared blank (v.first + (range.first - r.thing.base)) range.count (area_at self.old v.area.0))) }
         ensures err { OnErr result ((self.new ≡ self.old) × (G.contents g.new ≡ G.contents g.old)) }
         ensures settled { Settled self.new (G.contents g.old) (G.contents g.new) (G.store g.old) (G.store g.new) }
+        ensures passes { PassesIn G.unpaged (Turns Makes) (G.store g.old) (G.store g.new) (G.behind g.old) (G.behind g.new) }
+        ensures idle { OnErr result ((turn : Turn) → PassesIn G.unpaged (Turns turn) (G.store g.old) (G.store g.new) (G.behind g.old) (G.behind g.new)) }
         ensures loans { G.loans g.new ≡ G.loans g.old }
     {
         let (view, offset) = view_around(&self.processes, pid, range);
@@ -313,6 +330,7 @@ impl Tables {
             self.new ≡ set_regions self.old pid.0 p (add_region (view_region s view.access view.first range) p.regions)) }
         ensures err { OnErr result ((self.new ≡ self.old) × (G.contents g.new ≡ G.contents g.old)) }
         ensures settled { Settled self.new (G.contents g.old) (G.contents g.new) (G.store g.old) (G.store g.new) }
+        ensures passes { (turn : Turn) → PassesIn G.unpaged (Turns turn) (G.store g.old) (G.store g.new) (G.behind g.old) (G.behind g.new) }
         ensures loans { G.loans g.new ≡ G.loans g.old }
     {
         let charged = marked_pages(view, range);

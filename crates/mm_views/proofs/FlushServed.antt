@@ -6,7 +6,8 @@ use Rattle.mm_types.specs.declared.devices.Direction.TheVariants as way
 use Rattle.mm_blocks.specs.declared.device_calls.NamedCalls.{NamedCalls}
 use Rattle.mm_blocks.specs.Traffic.{one_further}
 use Rattle.mm_world.specs.Report.{Tally}
-use Rattle.mm_pages.specs.Devices.{DeviceOf, Call, AllServed, tallied, with_call}
+use Rattle.mm_blocks.specs.Devices.{DeviceOf, Call, AllServed}
+use Rattle.mm_pages.specs.Tallies.{tallied, with_call}
 use Rattle.mm_pages.specs.Reports.{Served}
 use Rattle.mm_pages.specs.Store.{StoreOf}
 

@@ -1,5 +1,5 @@
 -- Pages of a file are flushed one after another.
-use Rattle.std.proofs.Common.{◌≡◌, ◌≢◌, ◌≤◌, ◌<◌, ◌+◌, ℕ, zero, suc, Bool, true, Option, Some, None, List, [], ◌∷◌, refl, sym, ◌∙◌, ap, arith, length, slice_get, is_some, option_map, count_by, get_or, cond}
+use Rattle.std.proofs.Common.{◌≡◌, ◌≢◌, ◌≤◌, ◌<◌, ◌+◌, ℕ, zero, suc, Bool, true, false, Option, Some, None, List, [], ◌∷◌, refl, sym, ◌∙◌, ap, arith, length, slice_get, is_some, option_map, count_by, get_or, cond}
 use Rattle.std.proofs.Math.Decide.{dec_le}
 use Rattle.std.proofs.lemmas.List.Sums.{sum_by-cons, count_by-le-length}
 use Rattle.mm_types.specs.declared.numbers.Key.{Key}
@@ -11,7 +11,7 @@ use Rattle.mm_world.specs.World.{Page}
 use Rattle.mm_world.specs.Find.{area_at}
 use Rattle.mm_world.specs.Contents.{Tables}
 use Rattle.mm_world.specs.Keys.{shared_key}
-use Rattle.mm_pages.specs.Devices.{DeviceOf, Call, AllServed}
+use Rattle.mm_blocks.specs.Devices.{DeviceOf, Call, AllServed}
 use Rattle.mm_pages.specs.Reports.{Served, wrote}
 use Rattle.mm_pages.specs.Store.{StoreOf}
 use Rattle.mm_sections.specs.Pages.{number_of_block}
@@ -144,6 +144,10 @@ in_blocks t c s area first count block f tidy file inside =
 pub block_told : (o : Option ℕ) (b : Block) → option_map number_of_block o ≡ Some b → o ≡ Some b.0
 block_told None b e = cc
 block_told (Some n) b e = let same : number_of_block n ≡ b = cc in ap (λ (b : Block). Some b.0) same
+
+pub block_none : (o : Option ℕ) → option_map number_of_block o ≡ None → is_some o ≡ false
+block_none None e = refl
+block_none (Some n) e = cc
 
 pub on_err : {T E : Type 0} {P : Type 0} (r : Result T E) → P → OnErr r P
 on_err (Ok x) p = tt

@@ -5,3 +5,5 @@ mod Flushing
 mod Named
 mod Placing
 mod NewFiles
+mod FlushMoves
+mod FlushKeys

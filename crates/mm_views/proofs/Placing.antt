@@ -74,6 +74,10 @@ told_is (Some r) told e =
     let same : found_info r ≡ told = cc in
     record { region = r; found = refl; is = same }
 
+pub told_none : (o : Option (Found (RegionOf (Unit {0})))) → option_map found_info o ≡ None → o ≡ None
+told_none None e = refl
+told_none (Some r) e = cc
+
 -- what was found as a view is one
 pub told_view : (test : RegionOf (Unit {0}) → Bool) (rs : List (RegionOf (Unit {0}))) (told : RegionInfo) → option_map found_info (first_where (λ r. not (is_private r.kind) && test r) rs) ≡ Some told → is_private told.kind ≡ false
 told_view test rs told e =

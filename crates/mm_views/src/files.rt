@@ -1,14 +1,16 @@
-ghost use Rattle.std.specs.Prelude.{◌≡◌, ◌==◌, ◌≤◌, ◌<◌, ◌+◌, nat_lt, if◌then◌else◌, length, IfOk, OnOk, OnErr};
+ghost use Rattle.std.specs.Prelude.{[], false, is_some, ◌≡◌, ◌==◌, ◌≤◌, ◌<◌, ◌+◌, nat_lt, if◌then◌else◌, length, IfOk, OnOk, OnErr};
 ghost use Rattle.mm_types.specs.declared.moves.LineKind.TheVariants as line_kind;
 ghost use Rattle.mm_types.specs.declared.answers.Answer.TheVariants as answer;
 ghost use Rattle.mm_types.specs.Address.{range_of};
 ghost use Rattle.mm_types.specs.Outside.{Rose};
 ghost use Rattle.mm_world.specs.Find.{area_at};
 ghost use Rattle.mm_world.specs.Contents.{BytesAfterFile};
+ghost use Rattle.mm_pages.specs.Housekeeping.{Turns, Makes, Flushes};
+ghost use Rattle.mm_pages.specs.Passing.{PassesIn, NotesIn};
 ghost use Rattle.mm_pages.specs.Reports.{Served, wrote};
 ghost use Rattle.mm_tables.specs.References.{IsFew};
 ghost use Rattle.mm_tables.specs.Fits.{Fits, BlocksHold, filed, flushed, bytes_of, beside_file, block_in};
-ghost use Rattle.mm_views.specs.Stages.{AreHeld};
+ghost use Rattle.mm_views.specs.Stages.{AreHeld, NewFileMade, keys_from, flushed_keys};
 
 use crate::flushes::flush_pages;
 use crate::views::view_of;
@@ -23,6 +25,7 @@ use std::alloc::Global;
 ///
 /// In this order: `AlreadyExists` where a file has the name; `Full` where fewer blocks are left; `Fault` exactly where a write of the file
 /// device failed, and then there is no file. After `NoMemory` nothing has changed.
+#[tactic(auto, using(mm_tables::proofs::Turning::notes_nothing))]
 pub fn new_file<G: Pages>(
     allocator: Global,
     t: &mut Tables,
@@ -43,6 +46,8 @@ pub fn new_file<G: Pages>(
     ensures beside { G.store g.new ≡ beside_file (G.store g.old) (G.store g.new) }
     ensures served { Served (G.store g.old) (G.store g.new) }
     ensures blamed { IfOk result (λ a. a ≡ answer.Fault → Rose (G.store g.old).file_device.faults (G.store g.new).file_device.faults) }
+    ensures notes { NotesIn G.unpaged (Turns Makes) (G.behind g.old) (G.behind g.new) }
+    ensures file { G.unpaged ≡ false → IfOk result (λ a. NewFileMade t.old.blocks_used pages a (G.store g.old) (G.store g.new)) }
     ensures loans { G.loans g.new ≡ G.loans g.old }
 {
     if t.file_named(name).is_some() {
@@ -74,6 +79,7 @@ pub fn flush_view<G: Pages>(t: &Tables, g: &mut G, pid: Pid, addr: u32, size: u3
     ensures holds { result ≡ answer.Ok → BlocksHold t.now (G.contents g.new) (G.store g.new).file_blocks pid.0 addr size }
     ensures served { Served (G.store g.old) (G.store g.new) }
     ensures blamed { result ≡ answer.Fault → Rose (G.store g.old).file_device.faults (G.store g.new).file_device.faults }
+    ensures passes { PassesIn G.unpaged (Flushes (flushed_keys t.now pid.0 addr size)) (G.store g.old) (G.store g.new) (G.behind g.old) (G.behind g.new) }
     ensures loans { G.loans g.new ≡ G.loans g.old }
 {
     if !t.has(pid) {
@@ -123,6 +129,7 @@ fn flush_view_pages<G: Pages>(t: &Tables, g: &mut G, view: View, before: u32, co
     ensures held { result ≡ answer.Ok → AreHeld (λ k. block_in t.now k) (G.contents g.new) (G.store g.new).file_blocks view.area.0 (view.first + before) count }
     ensures served { Served (G.store g.old) (G.store g.new) }
     ensures blamed { result ≡ answer.Fault → Rose (G.store g.old).file_device.faults (G.store g.new).file_device.faults }
+    ensures passes { PassesIn G.unpaged (Flushes (if is_some (area_at t.now view.area.0).file_block then keys_from view.area.0 (view.first + before) count else [])) (G.store g.old) (G.store g.new) (G.behind g.old) (G.behind g.new) }
     ensures loans { G.loans g.new ≡ G.loans g.old }
 {
     t.sound();

@@ -8,6 +8,8 @@ ghost use Rattle.mm_world.specs.Outcome.{find_or};
 ghost use Rattle.mm_world.specs.Sections.{handle_section};
 ghost use Rattle.mm_world.specs.Views.{is_copy};
 ghost use Rattle.mm_world.specs.WellFormed.{ViewFits};
+ghost use Rattle.mm_pages.specs.Housekeeping.{Turn, Turns};
+ghost use Rattle.mm_pages.specs.Passing.{PassesIn};
 ghost use Rattle.mm_tables.specs.Fits.{Fits, Settled};
 ghost use Rattle.mm_views.specs.Stages.{are_viewed, place_view, map_section};
 
@@ -18,6 +20,7 @@ use mm_types::{Answer, Code, NoMemory, Pid, View, ViewAccess};
 use std::alloc::Global;
 
 /// Maps a view of the section of a handle of a living process.
+#[tactic(auto, using(mm_pages::proofs::Passed::turns_same))]
 pub(crate) fn map_handle<G: Pages>(
     allocator: Global,
     t: &mut Tables,
@@ -37,6 +40,7 @@ pub(crate) fn map_handle<G: Pages>(
         ≡ record { answer = a; world = t.new }) }
     ensures err { OnErr result ((t.new ≡ t.old) × (G.contents g.new ≡ G.contents g.old)) }
     ensures settled { Settled t.new (G.contents g.old) (G.contents g.new) (G.store g.old) (G.store g.new) }
+    ensures passes { (turn : Turn) → PassesIn G.unpaged (Turns turn) (G.store g.old) (G.store g.new) (G.behind g.old) (G.behind g.new) }
     ensures loans { G.loans g.new ≡ G.loans g.old }
 {
     t.sound();
@@ -85,6 +89,7 @@ fn viewed_pages(total: u32, first: u32, view_length: u32) -> Option<u32>
 }
 
 /// Places a view of `count` pages, which lies within its section.
+#[tactic(auto, using(mm_pages::proofs::Passed::turns_same))]
 fn place_view<G: Pages>(
     allocator: Global,
     t: &mut Tables,
@@ -104,6 +109,7 @@ fn place_view<G: Pages>(
         place_view t.old pid.0 p s view.access view.first count addr ≡ record { answer = a; world = t.new }) }
     ensures err { OnErr result ((t.new ≡ t.old) × (G.contents g.new ≡ G.contents g.old)) }
     ensures settled { Settled t.new (G.contents g.old) (G.contents g.new) (G.store g.old) (G.store g.new) }
+    ensures passes { (turn : Turn) → PassesIn G.unpaged (Turns turn) (G.store g.old) (G.store g.new) (G.behind g.old) (G.behind g.new) }
     ensures loans { G.loans g.new ≡ G.loans g.old }
 {
     let range = match t.space(pid).gap_for_view(addr, count) {

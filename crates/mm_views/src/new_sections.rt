@@ -7,6 +7,8 @@ ghost use Rattle.mm_world.specs.Contents.{blank};
 ghost use Rattle.mm_world.specs.Find.{process_of, section_of, section_named, area_at};
 ghost use Rattle.mm_world.specs.Outcome.{done, within_limit};
 ghost use Rattle.mm_world.specs.Sections.{next_handle, with_handle, new_section, paging_area, section_prot};
+ghost use Rattle.mm_pages.specs.Housekeeping.{Turn, Turns, Makes};
+ghost use Rattle.mm_pages.specs.Passing.{PassesIn};
 ghost use Rattle.mm_pages.specs.Store.{StoreOf};
 ghost use Rattle.mm_sections.specs.Directories.{id_of};
 ghost use Rattle.mm_tables.specs.References.{IsFew};
@@ -42,6 +44,7 @@ pub(crate) fn add_existing(t: &mut Tables, pid: Pid, id: SectionId) -> Result<An
 }
 
 /// A new section of the paging file; no section has its name.
+#[tactic(auto, using(mm_pages::proofs::Passed::turns_same))]
 pub(crate) fn add_paging_section<G: Pages>(
     allocator: Global,
     t: &mut Tables,
@@ -62,6 +65,8 @@ pub(crate) fn add_paging_section<G: Pages>(
         ≡ record { answer = a; world = t.new }) }
     ensures err { OnErr result ((t.new ≡ t.old) × (G.contents g.new ≡ G.contents g.old)) }
     ensures settled { Settled t.new (G.contents g.old) (G.contents g.new) (G.store g.old) (G.store g.new) }
+    ensures passes { PassesIn G.unpaged (Turns Makes) (G.store g.old) (G.store g.new) (G.behind g.old) (G.behind g.new) }
+    ensures idle { OnErr result ((turn : Turn) → PassesIn G.unpaged (Turns turn) (G.store g.old) (G.store g.new) (G.behind g.old) (G.behind g.new)) }
     ensures loans { G.loans g.new ≡ G.loans g.old }
 {
     let pages = pages_for(size);

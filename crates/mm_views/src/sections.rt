@@ -1,9 +1,12 @@
-ghost use Rattle.std.specs.Prelude.{◌≡◌, Option, IfOk, OnErr};
+ghost use Rattle.std.specs.Prelude.{◌≡◌, ℕ, Bool, Option, IfOk, OnErr};
 ghost use Rattle.mm_types.specs.declared.moves.LineKind.TheVariants as line_kind;
 ghost use Rattle.mm_types.specs.declared.numbers.Key.{Key};
 ghost use Rattle.mm_world.specs.World.{Page};
 ghost use Rattle.mm_world.specs.Contents.{blank};
 ghost use Rattle.mm_world.specs.Sections.{create, create_file, open_section, close};
+ghost use Rattle.mm_types.specs.declared.numbers.Place.{Place};
+ghost use Rattle.mm_pages.specs.Housekeeping.{Turn, Turns, Makes, Ends};
+ghost use Rattle.mm_pages.specs.Passing.{PassesIn};
 ghost use Rattle.mm_pages.specs.Store.{StoreOf};
 ghost use Rattle.mm_tables.specs.References.{IsFew};
 ghost use Rattle.mm_tables.specs.Fits.{Fits, Called, Settled, beside};
@@ -21,6 +24,7 @@ use std::alloc::Global;
 /// In this order: `InvalidHandle` for a process that does not live; `InvalidParameter` for flags that are no protection with or without
 /// SEC_COMMIT or SEC_RESERVE, a size of 0 or of more than 0x7FFE0000; `CommitmentLimit` where the charge of a new section's pages would
 /// pass the limit. After `NoMemory` tables and pages are as before.
+#[tactic(auto, using(mm_pages::proofs::Passed::turns_same))]
 pub fn create<G: Pages>(
     allocator: Global,
     t: &mut Tables,
@@ -37,6 +41,8 @@ pub fn create<G: Pages>(
     ensures err { OnErr result ((t.new ≡ t.old) × (G.contents g.new ≡ G.contents g.old)) }
     ensures fits { Fits t.new (G.contents g.new) (G.store g.new) }
     ensures beside { G.store g.new ≡ beside (G.store g.old) (G.store g.new) }
+    ensures passes { PassesIn G.unpaged (Turns Makes) (G.store g.old) (G.store g.new) (G.behind g.old) (G.behind g.new) }
+    ensures idle { OnErr result ((turn : Turn) → PassesIn G.unpaged (Turns turn) (G.store g.old) (G.store g.new) (G.behind g.old) (G.behind g.new)) }
     ensures loans { G.loans g.new ≡ G.loans g.old }
 {
     if !t.has(pid) {
@@ -109,12 +115,14 @@ pub fn open_section(t: &mut Tables, pid: Pid, name: &Name) -> Result<Answer, NoM
 /// refers ends, and a page-file section's pages with it.
 ///
 /// `InvalidHandle` for a process that does not live, or has no such handle.
+#[tactic(auto, using(mm_pages::proofs::Passed::turns_same))]
 pub fn close<G: Pages>(t: &mut Tables, g: &mut G, pid: Pid, handle: u32) -> Answer
     requires fits { Fits t.old (G.contents g.old) (G.store g.old) }
     requires kind { (G.store g.old).kind ≡ line_kind.Call }
     ensures called { Called (close t.old pid.0 handle) t.old (G.contents g.old) result t.new (G.contents g.new) }
     ensures fits { Fits t.new (G.contents g.new) (G.store g.new) }
     ensures beside { G.store g.new ≡ beside (G.store g.old) (G.store g.new) }
+    ensures passes { (held : Place → Bool) (from to : ℕ) → PassesIn G.unpaged (Turns (Ends held from to)) (G.store g.old) (G.store g.new) (G.behind g.old) (G.behind g.new) }
     ensures loans { G.loans g.new ≡ G.loans g.old }
 {
     if !t.has(pid) || t.section_at(pid, handle).is_none() {

@@ -3,7 +3,10 @@ ghost use Rattle.mm_types.specs.declared.moves.LineKind.TheVariants as line_kind
 ghost use Rattle.mm_types.specs.declared.views.Kind.TheVariants as view_kind;
 ghost use Rattle.mm_world.specs.Find.{process_of, is_private};
 ghost use Rattle.mm_world.specs.Views.{map_view, unmap};
-ghost use Rattle.mm_tables.specs.Fits.{Fits, Called, beside};
+ghost use Rattle.mm_types.specs.Address.{end_of_user_pages};
+ghost use Rattle.mm_pages.specs.Housekeeping.{Turn, Turns, Ends};
+ghost use Rattle.mm_pages.specs.Passing.{PassesIn};
+ghost use Rattle.mm_tables.specs.Fits.{Fits, Called, beside, is_uncommitted};
 
 use crate::mappings::map_handle;
 use crate::parameters::view_access;
@@ -19,6 +22,7 @@ use std::alloc::Global;
 /// `AccessDenied` for a write view of a section that is not READWRITE; `Misaligned` where offset or address is not that of a granule;
 /// `InvalidAddress` where the view does not lie within its section, or its pages are not free user pages; `CommitmentLimit` where the charge of
 /// a copy view would pass the limit. After `NoMemory` tables and pages are as before.
+#[tactic(auto, using(mm_pages::proofs::Passed::turns_same))]
 pub fn map<G: Pages>(
     allocator: Global,
     t: &mut Tables,
@@ -36,6 +40,7 @@ pub fn map<G: Pages>(
     ensures err { OnErr result ((t.new ≡ t.old) × (G.contents g.new ≡ G.contents g.old)) }
     ensures fits { Fits t.new (G.contents g.new) (G.store g.new) }
     ensures beside { G.store g.new ≡ beside (G.store g.old) (G.store g.new) }
+    ensures passes { (turn : Turn) → PassesIn G.unpaged (Turns turn) (G.store g.old) (G.store g.new) (G.behind g.old) (G.behind g.new) }
     ensures loans { G.loans g.new ≡ G.loans g.old }
 {
     if !t.has(pid) {
@@ -63,12 +68,14 @@ pub fn map<G: Pages>(
 /// ends.
 ///
 /// `InvalidHandle` for a process that does not live; `InvalidAddress` where no view has the address as its base, to the byte.
+#[tactic(auto, using(mm_pages::proofs::Passed::turns_same))]
 pub fn unmap<G: Pages>(t: &mut Tables, g: &mut G, pid: Pid, addr: u32) -> Answer
     requires fits { Fits t.old (G.contents g.old) (G.store g.old) }
     requires kind { is_some (process_of t.old pid.0) ≡ true → (G.store g.old).kind ≡ line_kind.Unbind pid }
     ensures called { Called (unmap t.old pid.0 addr) t.old (G.contents g.old) result t.new (G.contents g.new) }
     ensures fits { Fits t.new (G.contents g.new) (G.store g.new) }
     ensures beside { G.store g.new ≡ beside (G.store g.old) (G.store g.new) }
+    ensures passes { PassesIn G.unpaged (Turns (Ends (is_uncommitted t.new) 0 end_of_user_pages)) (G.store g.old) (G.store g.new) (G.behind g.old) (G.behind g.new) }
     ensures loans { G.loans g.new ≡ G.loans g.old }
 {
     if !t.has(pid) {

@@ -8,7 +8,10 @@ use crate::{World, is_built};
 use mm_blocks::{Blocks, Inject, Injected, MemBlocks};
 use mm_pages::Pages;
 use mm_plain::Plain;
-use mm_types::{Access, Answer, ByteBuf, Code, Event, Machine, Name, NoMemory, Pid, Prot, Raise};
+use mm_types::{
+    Access, AccessSpec, Answer, ByteBuf, Code, Event, Machine, Name, NoMemory, Pid, Prot, Raise,
+    Tid,
+};
 use std::alloc::Global;
 use std::test::Fail;
 
@@ -241,6 +244,50 @@ fn write_behind<F: Inject + Drop>(alloc: Global, files: F) -> Result<Option<Answ
     Ok(Some(read))
 }
 
+// A file's page is viewed, and threads access it: an unpaged store has no request, so each `begin` is answered at once.
+fn threads<F: Inject + Drop>(alloc: Global, files: F) -> Result<[Answer; 6], NoMemory>
+    requires opened { length (F.Blocks.blocks files) ≡ 2 }
+    requires plain { F.Blocks.named files ≡ [] }
+{
+    let mut world = one_process(alloc, 8, 8, files)?;
+    world.step(alloc, 3, &Event::File(name(), 1, 9))?;
+    world.step(alloc, 4, &Event::CreateFile(PID, name(), 0x02, None))?;
+    world.step(alloc, 5, &Event::Map(PID, 4, 4, 0, 0, 0))?;
+    let begun = world.step(
+        alloc,
+        6,
+        &Event::Begin(Tid(0), PID, AccessSpec::Read(PAGE, 1)),
+    )?;
+    let plain = world.step(alloc, 7, &Event::Read(PID, PAGE, 1))?;
+    let none = world.step(alloc, 8, &Event::Io(1))?;
+    let nothing = world.step(alloc, 9, &Event::Resume(Tid(0)))?;
+    let write = AccessSpec::Write(PAGE, one_byte(0xAA));
+    let refused = world.step(alloc, 10, &Event::Begin(Tid(3), PID, write))?;
+    let gone = world.step(
+        alloc,
+        11,
+        &Event::Begin(Tid(3), OTHER, AccessSpec::Read(PAGE, 1)),
+    )?;
+    Ok([begun, plain, none, nothing, refused, gone])
+}
+
+// A thread writes a page, then frames are asked for: an unpaged store has none.
+fn frames<F: Inject + Drop>(
+    alloc: Global,
+    files: F,
+) -> Result<(Answer, Answer, Answer, Answer), NoMemory>
+    requires opened { length (F.Blocks.blocks files) ≡ 2 }
+    requires plain { F.Blocks.named files ≡ [] }
+{
+    let mut world = one_page(alloc, files)?;
+    let write = AccessSpec::Write(PAGE, one_byte(0xAB));
+    let written = world.step(alloc, 4, &Event::Begin(Tid(255), PID, write))?;
+    let read = world.step(alloc, 5, &Event::Read(PID, PAGE, 1))?;
+    let writer = world.step(alloc, 6, &Event::Writer(1))?;
+    let counts = world.step(alloc, 7, &Event::Counts)?;
+    Ok((written, read, writer, counts))
+}
+
 // Whether these bytes were read.
 fn reads(answer: &Answer, expected: &[u8]) -> bool {
     match answer {
@@ -389,8 +436,41 @@ fn a_flush_writes_the_blocks_of_a_view(rt: HostRuntime) -> Result<(), Fail> {
 }
 
 #[test]
+fn a_thread_waits_for_no_request_of_unpaged_memory(rt: HostRuntime) -> Result<(), Fail> {
+    let mut memory = MemBlocks::new(rt.alloc(), Vec::new(rt.alloc()), 8)?;
+    let mut files = Injected::new(&mut memory);
+    files.open(2)?;
+    let answers = threads(rt.alloc(), files)?;
+    assert!(rt; reads(&answers[0], &[9]));
+    assert!(rt; reads(&answers[1], &[9]));
+    assert!(rt; matches!(&answers[2], Answer::Nothing));
+    assert!(rt; matches!(&answers[3], Answer::Nothing));
+    assert!(rt; matches!(&answers[4], Answer::Raised(Raise::AccessViolation)));
+    assert!(rt; matches!(&answers[5], Answer::Error(Code::InvalidHandle)));
+    Ok(())
+}
+
+#[test]
+fn unpaged_memory_counts_no_frames(rt: HostRuntime) -> Result<(), Fail> {
+    let mut memory = MemBlocks::new(rt.alloc(), Vec::new(rt.alloc()), 8)?;
+    let mut files = Injected::new(&mut memory);
+    files.open(2)?;
+    let (written, read, writer, counts) = frames(rt.alloc(), files)?;
+    assert!(rt; matches!(&written, Answer::Ok));
+    assert!(rt; reads(&read, &[0xAB]));
+    assert!(rt; matches!(&writer, Answer::Ok));
+    let Answer::Counts(counts) = counts else {
+        panic!(rt; "no counts")
+    };
+    assert_eq!(rt; counts.free, 0);
+    assert_eq!(rt; counts.requests, 0);
+    Ok(())
+}
+
+#[test]
 fn forms_are_built_or_not(rt: HostRuntime) {
     assert!(rt; is_built(&Event::Charge));
-    assert!(rt; !is_built(&Event::Counts));
+    assert!(rt; is_built(&Event::Counts));
+    assert!(rt; !is_built(&Event::ResetWatch(PID, PAGE, 1)));
     assert!(rt; !is_built(&Event::Alloc(PID, 0, 1, 0x202000, 0x04)));
 }

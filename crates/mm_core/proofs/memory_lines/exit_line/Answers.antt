@@ -1,4 +1,4 @@
-use Rattle.std.proofs.Common.{refl, subst, Option}
+use Rattle.std.proofs.Common.{refl, sym, subst, ap, ◌∙◌, ◌≡◌, ◌+◌, ℕ, Option}
 use Rattle.mm_types.specs.declared.events.Event.TheVariants as event
 use Rattle.mm_types.specs.declared.numbers.Key.{Key}
 use Rattle.mm_world.specs.World.{Page}
@@ -6,17 +6,40 @@ use Rattle.mm_tables.specs.Fits.{Called, bytes_of}
 use Rattle.mm_core.proofs.Serving.{quiet-beside}
 use Rattle.mm_world.specs.Processes.{exit}
 use Rattle.mm_world.proofs.Across.{exit_across}
+use Rattle.mm_pages.specs.Store.{StoreOf}
 use Rattle.mm_core.proofs.Making.{in_exit}
 use Rattle.mm_core.proofs.Lines.{decided-call}
+use Rattle.mm_core.proofs.Forgotten.{keeps-forgot, decided-forgot, ends-waits}
 use Rattle.mm_core.proofs.memory_lines.exit_line.Goals as goal
+
+pub begin_release-requires-clause-fits : goal.begin_release-requires-clause-fits
+begin_release-requires-clause-fits g c =
+    (keeps-forgot c.args.t.now _ _ _ _ c.requires.keeps c.forget_waits.ensures.contents c.forget_waits.ensures.forgot.rest).fits
+
+pub begin_release-requires-clause-next : goal.begin_release-requires-clause-next
+begin_release-requires-clause-next g c = c.requires.next ∙ ap (λ (s : StoreOf). s.line + 1) (sym c.forget_waits.ensures.forgot.rest)
 
 pub returns-clause-decided : goal.returns-clause-decided
 returns-clause-decided g c =
+    let u = g.G.Pages.unpaged in
     let t = c.args.t.now in
+    let s = g.G.Pages.store c.args.g.now in
+    let y = g.G.Pages.store c.forget_waits.new.g in
     let old = g.G.Pages.contents c.args.g.now in
+    let mid = g.G.Pages.contents c.forget_waits.new.g in
     let call = c.end_process in
     let new = g.G.Pages.contents call.new.g in
-    decided-call g.G.Pages.unpaged (event.Exit c.args.pid) c.args.line t old _ (g.G.Pages.store c.begin_release.new.g) call.result call.new.t new (g.G.Pages.store call.new.g)
-    (exit t c.args.pid.0) c.requires.keeps c.requires.next c.begin_release.ensures.begins (quiet-beside _ _ call.ensures.beside)
-    (exit_across t (bytes_of old) c.sound.ensures.sound.spaces c.args.pid.0) (in_exit t c.args.pid.0) refl tt tt
-    (subst (λ (old : Key → Option Page). Called (exit t c.args.pid.0) t old call.result call.new.t new) c.begin_release.ensures.contents call.ensures.called) call.ensures.fits
+    let rest = c.forget_waits.ensures.forgot.rest in
+    let keeps = keeps-forgot t old mid s y c.requires.keeps c.forget_waits.ensures.contents rest in
+    decided-forgot u c.args.pid c.args.line t old mid s y call.result call.new.t new (g.G.Pages.store call.new.g) c.forget_waits.ensures.contents rest
+    (decided-call u (event.Exit c.args.pid) c.args.line t mid y (g.G.Pages.store c.begin_release.new.g) call.result call.new.t new (g.G.Pages.store call.new.g)
+    (exit t c.args.pid.0) keeps (c.requires.next ∙ ap (λ (s : StoreOf). s.line + 1) (sym rest)) c.begin_release.ensures.begins (quiet-beside _ _ call.ensures.beside)
+    (exit_across t (bytes_of mid) c.sound.ensures.sound.spaces c.args.pid.0) (in_exit t c.args.pid.0) refl tt tt
+    (subst (λ (old : Key → Option Page). Called (exit t c.args.pid.0) t old call.result call.new.t new) c.begin_release.ensures.contents call.ensures.called) call.ensures.fits)
+
+pub returns-clause-waits : goal.returns-clause-waits
+returns-clause-waits g c =
+    ends-waits c.args.t.now c.args.pid c.end_process.result (g.G.Pages.store c.args.g.now) (g.G.Pages.store c.forget_waits.new.g) (g.G.Pages.store c.begin_release.new.g) (g.G.Pages.store c.end_process.new.g)
+    c.sound.ensures.sound.numbers.kept c.forget_waits.ensures.forgot
+    (ap (λ r. r.wait) c.begin_release.ensures.begins.report_is)
+    (ap (λ (s : StoreOf). s.report.wait) c.end_process.ensures.beside)

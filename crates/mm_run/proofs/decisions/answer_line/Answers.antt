@@ -2,7 +2,8 @@ use Rattle.std.proofs.Common.{◌≡◌, ◌++◌, take, refl, sym, ap, ◌∙�
 use Rattle.mm_script.specs.Grammar.{IsLine as IsLineFor}
 use Rattle.std.specs.Prelude.{Ok, Err, Bool}
 use Rattle.mm_core.specs.Serving.{Named}
-use Rattle.mm_core.specs.Shown.{paging_device, file_device}
+use Rattle.mm_core.specs.Shown.{report, paging_device, file_device}
+use Rattle.mm_run.proofs.Failures.{rose_in}
 use Rattle.mm_run.specs.Reading.{reading}
 use Rattle.mm_run.specs.Scenes.{Running, scene}
 use Rattle.mm_run.specs.Ends.{StandsAs}
@@ -45,7 +46,7 @@ returns-in-Ok-step-clause-went g c = λ left.
           lives = d.lives;
           asked = d.asked_files;
           named = subst (λ (u : Bool). Named u c.in-Ok.event c.in-Ok-step.answer (paging_device old) (paging_device new) (file_device old) (file_device new)) c.requires.unpaged d.named;
-          failed = d.failed;
+          failed = λ f. rose_in c.in-Ok.event (report old) (λ tid. (c.step.ensures.unwaited c.requires.unpaged tid).0) (d.failed f);
           paging_later = d.paging_later;
           files_later = d.files_later;
           flushed = d.flushed;

@@ -1,3 +1,4 @@
+use Rattle.mm_pages.proofs.Passed.{makes_then}
 use Rattle.std.proofs.Common.{◌≡◌, ℕ, ◌+◌, ◌<◌, ◌∙◌, sym, ap, subst, arith}
 use Rattle.mm_types.specs.Address.{Range}
 use Rattle.mm_tables.specs.Ranges.{CanAdd, Adds, only}
@@ -21,5 +22,6 @@ loop-i-preserved g c =
       adds = adds_then c.args.pid c.args.range c.loop-i.i (g.G.Pages.contents c.args.g.now) (g.G.Pages.contents c.loop-i.g) (g.G.Pages.contents c.add_page.new.g)
           (g.G.Pages.store c.args.g.now) (g.G.Pages.store c.loop-i.g) (g.G.Pages.store c.add_page.new.g) c.loop-i.invariant.adds
           (subst (λ (k : ℕ). Adds c.args.pid (only (k + c.loop-i.i)) (g.G.Pages.contents c.loop-i.g) (g.G.Pages.contents c.add_page.new.g) (g.G.Pages.store c.loop-i.g) (g.G.Pages.store c.add_page.new.g)) first c.add_page.ensures.adds);
+      passes = makes_then g.G.Pages.unpaged (g.G.Pages.store c.args.g.now) (g.G.Pages.store c.loop-i.g) (g.G.Pages.store c.add_page.new.g) (g.G.Pages.behind c.args.g.now) (g.G.Pages.behind c.loop-i.g) (g.G.Pages.behind c.add_page.new.g) c.loop-i.invariant.passes c.add_page.ensures.passes;
       loans = c.add_page.ensures.loans ∙ c.loop-i.invariant.loans;
     }

@@ -1,4 +1,6 @@
 use Rattle.mm_tables.proofs.EndingKeys.{shared_dead, emptied}
+use Rattle.mm_pages.specs.Housekeeping.{Ends}
+use Rattle.mm_tables.proofs.EndingPasses.{sections_then}
 use Rattle.mm_tables.proofs.removals.empty_area.Goals as goal
 
 pub close_area-requires-clause-dead : goal.close_area-requires-clause-dead
@@ -8,3 +10,8 @@ close_area-requires-clause-dead g c index =
 pub returns-clause-emptied : goal.returns-clause-emptied
 returns-clause-emptied g c =
     emptied c.args.area c.args.pages.now (g.G.Pages.contents c.args.g.now) (g.G.Pages.contents c.remove_shared.new.g) (g.G.Pages.contents c.close_area.new.self) (g.G.Pages.store c.args.g.now) (g.G.Pages.store c.remove_shared.new.g) (g.G.Pages.store c.close_area.new.self) c.requires.can c.remove_shared.ensures.gone c.close_area.ensures.contents c.close_area.ensures.store
+
+pub returns-clause-passes : goal.returns-clause-passes
+returns-clause-passes g c =
+    sections_then g.G.Pages.unpaged (g.G.Pages.store c.args.g.now) (g.G.Pages.store c.remove_shared.new.g) (g.G.Pages.store c.close_area.new.self) (g.G.Pages.behind c.args.g.now) (g.G.Pages.behind c.remove_shared.new.g) (g.G.Pages.behind c.close_area.new.self)
+    c.remove_shared.ensures.passes (λ held from to. c.close_area.ensures.passes (Ends held from to))

@@ -1,21 +1,70 @@
-use Rattle.std.proofs.Common.{◌≡◌, false, None, ◌∙◌, ap, arith}
+use Rattle.std.proofs.Common.{◌≡◌, ℕ, ◌+◌, ◌<◌, ◌∙◌, refl, sym, ap, subst, arith, is_some, cond}
 use Rattle.mm_types.specs.Address.{Range}
-use Rattle.mm_pages.specs.Store.{StoreOf, changed_in}
-use Rattle.mm_pages.specs.Reports.{rearranged}
-use Rattle.mm_tables.proofs.EndingKeys.{own_dead, released}
+use Rattle.mm_world.specs.Keys.{own_page}
+use Rattle.mm_pages.specs.Conditions.{place_at}
+use Rattle.mm_pages.specs.Housekeeping.{Ends}
+use Rattle.mm_pages.proofs.Passed.{turns_same}
+use Rattle.mm_tables.specs.Endings.{CanGiveUp, GivenUp, is_owned_at, owned_among}
+use Rattle.mm_tables.specs.Ranges.{only}
+use Rattle.mm_tables.proofs.EndingPages.{given_none, given_then, given_all, as_many, next_can, released}
+use Rattle.mm_tables.proofs.EndingPasses.{page_then, range_passes}
+use Rattle.mm_tables.proofs.Regions.{holds}
 use Rattle.mm_tables.proofs.removals.release_pages.Goals as goal
 
-pub unbind-requires-clause-dead : goal.unbind-requires-clause-dead
-unbind-requires-clause-dead g c page low high =
-    let range : Range = c.args.range in
-    let first : c.range.inside.first ≡ range.first = ap (λ (r : Range). r.first) c.range.view_is in
-    let count : c.range.inside.count ≡ range.count = ap (λ (r : Range). r.count) c.range.view_is in
-    own_dead c.args.pid c.args.range c.args.space.now.regions (g.G.Pages.contents c.args.g.now) (g.G.Pages.contents c.remove_own.new.g) (g.G.Pages.store c.args.g.now) (g.G.Pages.store c.remove_own.new.g) c.requires.can c.remove_own.ensures.gone page
-    (omega (arith, low, first)) (omega (arith, high, first, count))
+pub loop-i-init : goal.loop-i-init
+loop-i-init g c =
+    record {
+      given_up = given_none c.args.pid c.args.range (g.G.Pages.contents c.args.g.now) (g.G.Pages.store c.args.g.now);
+      passes = λ held each. turns_same g.G.Pages.unpaged (Ends held c.args.range.first (c.args.range.first + 0)) (g.G.Pages.store c.args.g.now) (g.G.Pages.behind c.args.g.now);
+      loans = refl;
+    }
+
+pub release_page-requires : goal.release_page-requires
+release_page-requires g c =
+    let first : c.range.inside.first ≡ c.args.range.first = ap (λ (r : Range). r.first) c.range.view_is in
+    let count : c.range.inside.count ≡ c.args.range.count = ap (λ (r : Range). r.count) c.range.view_is in
+    let few : c.loop-i.i < c.args.range.count = omega (arith, c.loop-i-test.true, count) in
+    let rs = c.args.space.now.regions in
+    record {
+      can = subst (λ (k : ℕ). CanGiveUp c.args.pid (k + c.loop-i.i) (is_some (own_page rs (k + c.loop-i.i))) (g.G.Pages.contents c.loop-i.g) (g.G.Pages.store c.loop-i.g)) (sym first)
+          (next_can c.args.pid c.args.range c.loop-i.i (owned_among (is_owned_at rs c.args.range.first) c.loop-i.i) rs (g.G.Pages.contents c.args.g.now) (g.G.Pages.contents c.loop-i.g) (g.G.Pages.store c.args.g.now) (g.G.Pages.store c.loop-i.g) c.requires.can few c.loop-i.invariant.given_up);
+    }
+
+pub loop-i-preserved : goal.loop-i-preserved
+loop-i-preserved g c =
+    let first : c.range.inside.first ≡ c.args.range.first = ap (λ (r : Range). r.first) c.range.view_is in
+    let count : c.range.inside.count ≡ c.args.range.count = ap (λ (r : Range). r.count) c.range.view_is in
+    let at : c.range.inside.first + c.loop-i.i ≡ c.args.range.first + c.loop-i.i = omega (arith, first) in
+    let few : c.args.range.first + c.loop-i.i < c.args.range.first + c.args.range.count = omega (arith, c.loop-i-test.true, count) in
+    let rs = c.args.space.now.regions in
+    record {
+      given_up = given_then c.args.pid c.args.range c.loop-i.i (is_owned_at rs c.args.range.first) (g.G.Pages.contents c.args.g.now) (g.G.Pages.contents c.loop-i.g) (g.G.Pages.contents c.release_page.new.g)
+          (g.G.Pages.store c.args.g.now) (g.G.Pages.store c.loop-i.g) (g.G.Pages.store c.release_page.new.g) c.loop-i.invariant.given_up
+          (subst (λ (k : ℕ). GivenUp c.args.pid (only (k + c.loop-i.i)) (cond (is_some (own_page rs (k + c.loop-i.i))) 1 0) (g.G.Pages.contents c.loop-i.g) (g.G.Pages.contents c.release_page.new.g) (g.G.Pages.store c.loop-i.g) (g.G.Pages.store c.release_page.new.g)) first c.release_page.ensures.given_up);
+      passes = λ held each. page_then g.G.Pages.unpaged held c.args.range.first c.loop-i.i (g.G.Pages.store c.args.g.now) (g.G.Pages.store c.loop-i.g) (g.G.Pages.store c.release_page.new.g)
+          (g.G.Pages.behind c.args.g.now) (g.G.Pages.behind c.loop-i.g) (g.G.Pages.behind c.release_page.new.g) (c.loop-i.invariant.passes held each)
+          (c.release_page.ensures.passes held (c.args.range.first + c.loop-i.i) (c.args.range.first + (c.loop-i.i + 1))
+          (ap (λ (k : ℕ). held (place_at c.args.pid k)) at ∙ each (c.args.range.first + c.loop-i.i) (holds c.args.range (c.args.range.first + c.loop-i.i) (omega arith) few))
+          (omega (arith, at)) (omega (arith, at)));
+      loans = c.release_page.ensures.loans ∙ c.loop-i.invariant.loans;
+    }
+
+pub returns-clause-given_up : goal.returns-clause-given_up
+returns-clause-given_up g c =
+    let count : c.range.inside.count ≡ c.args.range.count = ap (λ (r : Range). r.count) c.range.view_is in
+    as_many c.args.pid c.args.range c.args.space.now.regions (g.G.Pages.contents c.args.g.now) (g.G.Pages.contents c.loop-i.g) (g.G.Pages.store c.args.g.now) (g.G.Pages.store c.loop-i.g) c.requires.can
+    (given_all c.args.pid c.args.range c.loop-i.i (is_owned_at c.args.space.now.regions c.args.range.first) (g.G.Pages.contents c.args.g.now) (g.G.Pages.contents c.loop-i.g) (g.G.Pages.store c.args.g.now) (g.G.Pages.store c.loop-i.g)
+    (omega (arith, c.loop-i-test.false, c.loop-i.auto.i-end, count)) c.loop-i.invariant.given_up)
 
 pub returns-clause-released : goal.returns-clause-released
 returns-clause-released g c =
-    let y = g.G.Pages.store c.remove_own.new.g in
-    let z = g.G.Pages.store c.unbind.new.self in
-    released c.args.pid c.args.range c.args.space.now.regions (g.G.Pages.contents c.args.g.now) (g.G.Pages.contents c.remove_own.new.g) (g.G.Pages.contents c.unbind.new.self) (g.G.Pages.store c.args.g.now) y z c.requires.can c.remove_own.ensures.gone c.unbind.ensures.contents
-    (c.unbind.ensures.store ∙ ap (λ (range : Range). let made : StoreOf = record y { bound = changed_in c.args.pid range y.bound false; names = changed_in c.args.pid range y.names None; report = rearranged y.report z.report } in made) c.range.view_is)
+    let count : c.range.inside.count ≡ c.args.range.count = ap (λ (r : Range). r.count) c.range.view_is in
+    released c.args.pid c.args.range c.args.space.now.regions (g.G.Pages.contents c.args.g.now) (g.G.Pages.contents c.loop-i.g) (g.G.Pages.store c.args.g.now) (g.G.Pages.store c.loop-i.g)
+    (given_all c.args.pid c.args.range c.loop-i.i (is_owned_at c.args.space.now.regions c.args.range.first) (g.G.Pages.contents c.args.g.now) (g.G.Pages.contents c.loop-i.g) (g.G.Pages.store c.args.g.now) (g.G.Pages.store c.loop-i.g)
+    (omega (arith, c.loop-i-test.false, c.loop-i.auto.i-end, count)) c.loop-i.invariant.given_up)
+
+pub returns-clause-passes : goal.returns-clause-passes
+returns-clause-passes g c held from to among =
+    let count : c.range.inside.count ≡ c.args.range.count = ap (λ (r : Range). r.count) c.range.view_is in
+    range_passes g.G.Pages.unpaged held from to c.args.pid c.args.range c.loop-i.i (g.G.Pages.store c.args.g.now) (g.G.Pages.store c.loop-i.g)
+    (g.G.Pages.behind c.args.g.now) (g.G.Pages.behind c.loop-i.g) among (omega (arith, c.loop-i-test.false, c.loop-i.auto.i-end, count)) (c.loop-i.invariant.passes held among.each)

@@ -1,4 +1,5 @@
 use Rattle.std.proofs.Common.{◌∙◌, arith}
+use Rattle.mm_pages.proofs.Passed.{makes_then}
 use Rattle.mm_tables.proofs.SectionStore.{fills_then, next_dead, next_room, next_kind, next_area}
 use Rattle.mm_tables.proofs.sections.fill_area.Goals as goal
 
@@ -24,5 +25,6 @@ pub loop-i-preserved : goal.loop-i-preserved
 loop-i-preserved g c =
     record {
       fills = fills_then c.args.area c.loop-i.i (g.G.Pages.contents c.args.g.now) (g.G.Pages.contents c.loop-i.g) (g.G.Pages.contents c.add.new.self) (g.G.Pages.store c.args.g.now) (g.G.Pages.store c.loop-i.g) (g.G.Pages.store c.add.new.self) c.loop-i.invariant.fills c.add.ensures.contents c.add.ensures.store;
+      passes = makes_then g.G.Pages.unpaged (g.G.Pages.store c.args.g.now) (g.G.Pages.store c.loop-i.g) (g.G.Pages.store c.add.new.self) (g.G.Pages.behind c.args.g.now) (g.G.Pages.behind c.loop-i.g) (g.G.Pages.behind c.add.new.self) c.loop-i.invariant.passes c.add.ensures.passes;
       loans = c.add.ensures.loans ∙ c.loop-i.invariant.loans;
     }

@@ -1,5 +1,7 @@
 use Rattle.std.proofs.Common.{◌∙◌}
 use Rattle.mm_tables.proofs.SectionStore.{can_fill}
+use Rattle.mm_tables.proofs.Settled.{on_err}
+use Rattle.mm_tables.proofs.Turning.{idle_then}
 use Rattle.mm_tables.proofs.sections.open_paging_area.Goals as goal
 
 pub fill_area-requires : goal.fill_area-requires
@@ -8,3 +10,8 @@ fill_area-requires g c =
       can = can_fill c.args.area c.args.pages c.args.n c.args.total (g.G.Pages.contents c.args.g.now) (g.G.Pages.contents c.open_area.new.self) (g.G.Pages.store c.args.g.now) (g.G.Pages.store c.reserve.new.self) (g.G.Pages.store c.open_area.new.self)
           (c.in_ok-open_area.ensures.contents ∙ c.in_ok-reserve.ensures.contents) c.in_ok-reserve.ensures.store c.in_ok-reserve.ensures.ok c.in_ok-open_area.ensures.ok c.requires.dead c.requires.within c.requires.keys c.requires.kind;
     }
+
+pub returns-in_err-open_area-clause-idle : goal.returns-in_err-open_area-clause-idle
+returns-in_err-open_area-clause-idle g c =
+    on_err c.from_residual-in_err-open_area.result
+    (idle_then g.G.Pages.unpaged (g.G.Pages.store c.args.g.now) (g.G.Pages.store c.reserve.new.self) (g.G.Pages.store c.open_area.new.self) (g.G.Pages.behind c.args.g.now) (g.G.Pages.behind c.reserve.new.self) (g.G.Pages.behind c.open_area.new.self) c.reserve.ensures.passes c.open_area.ensures.passes)

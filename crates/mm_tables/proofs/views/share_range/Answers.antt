@@ -1,4 +1,5 @@
 use Rattle.std.proofs.Common.{◌∙◌, arith}
+use Rattle.mm_pages.proofs.Passed.{makes_then}
 use Rattle.mm_tables.proofs.ViewShares.{can_next, shares_then}
 use Rattle.mm_tables.proofs.views.share_range.Goals as goal
 
@@ -12,5 +13,6 @@ loop-i-preserved g c =
     record {
       shares = shares_then c.args.area c.args.first c.loop-i.i c.args.pages.now (g.G.Pages.contents c.args.g.now) (g.G.Pages.contents c.loop-i.g) (g.G.Pages.store c.args.g.now) (g.G.Pages.store c.loop-i.g)
           c.loop-i.invariant.shares (g.G.Pages.contents c.share_page.new.g) (g.G.Pages.store c.share_page.new.g) (omega (arith, c.requires.can.inside, c.loop-i-test.true)) c.share_page.ensures.shares;
+      passes = makes_then g.G.Pages.unpaged (g.G.Pages.store c.args.g.now) (g.G.Pages.store c.loop-i.g) (g.G.Pages.store c.share_page.new.g) (g.G.Pages.behind c.args.g.now) (g.G.Pages.behind c.loop-i.g) (g.G.Pages.behind c.share_page.new.g) c.loop-i.invariant.passes c.share_page.ensures.passes;
       loans = c.share_page.ensures.loans ∙ c.loop-i.invariant.loans;
     }

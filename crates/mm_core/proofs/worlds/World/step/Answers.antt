@@ -14,4 +14,4 @@ returns-clause-leaves g c =
     if-ok c.decide-result.result c.decide-result.ensures.ok (λ a h. step-leaves _ _ _ _ _ a _ h.stepped)
 
 pub returns-clause-lives : goal.returns-clause-lives
-returns-clause-lives g c = subst (λ (t : Tables). IsTidy t) (sym (tables_back (bytes_of (g.G.Pages.contents c.decide-result.new.g)) c.decide-result.new.t)) c.sound.ensures.tidy
+returns-clause-lives g c = subst (λ (t : Tables). IsTidy t) (sym (tables_back (bytes_of (g.G.Pages.contents c.decide-result.new.g)) c.decide-result.new.t)) c.sound-2.ensures.tidy

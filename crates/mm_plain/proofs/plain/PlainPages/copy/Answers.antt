@@ -1,6 +1,9 @@
-use Rattle.std.proofs.Common.{◌≡◌, ◌+◌, ◌∙◌, Some, refl, sym, ap, arith}
+use Rattle.std.proofs.Common.{◌≡◌, ◌+◌, ◌∙◌, Some, Option, refl, sym, ap, subst, arith}
+use Rattle.std.specs.Prelude.{IsSome}
+use Rattle.mm_types.specs.declared.numbers.Key.{Key}
+use Rattle.mm_world.specs.World.{Page}
 use Rattle.mm_world.specs.Failure.{same_key}
-use Rattle.mm_pages.specs.Store.{changed, same_place}
+use Rattle.mm_pages.specs.Store.{changed, same_place, own_key}
 use Rattle.mm_pages.proofs.Served.{served_nothing}
 use Rattle.mm_plain.specs.Areas.{area_in, count_in}
 use Rattle.mm_plain.specs.Places.{pages_at, pages_in}
@@ -9,6 +12,7 @@ use Rattle.mm_plain.specs.Stocks.{StockOf}
 use Rattle.mm_plain.proofs.Contents.{contents_at_place, paging_at_place}
 use Rattle.mm_plain.proofs.Fitting.{fits_then}
 use Rattle.mm_plain.proofs.Stores.{same_parts}
+use Rattle.mm_plain.proofs.Having.{copy_ends, copied_from, copied_to}
 use Rattle.mm_plain.proofs.plain.PlainPages.copy.Goals as goal
 
 pub name-requires : goal.name-requires
@@ -49,3 +53,8 @@ returns-clause-ok g c =
 
 pub returns-clause-served : goal.returns-clause-served
 returns-clause-served g c = served_nothing _ _ refl refl refl refl refl refl
+
+pub returns-clause-fault : goal.returns-clause-fault
+returns-clause-fault g c begun =
+    copy_ends c.args.from c.args.place _ _ (copied_from (contents_in c.args.self.now) _ c.args.from c.args.to (returns-clause-copied g c) c.requires.at.live)
+    (copied_to (contents_in c.args.self.now) _ c.args.from c.args.to c.args.place (returns-clause-copied g c) c.requires.own c.requires.at.live)

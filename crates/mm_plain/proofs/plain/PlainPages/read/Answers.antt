@@ -1,8 +1,12 @@
-use Rattle.std.proofs.Common.{Some}
+use Rattle.std.proofs.Common.{Some, Option, sym, subst}
+use Rattle.std.specs.Prelude.{IsSome}
+use Rattle.mm_types.specs.declared.numbers.Key.{Key}
+use Rattle.mm_world.specs.World.{Page}
 use Rattle.mm_pages.specs.Store.{changed, same_place}
 use Rattle.mm_plain.specs.Places.{names_in}
-use Rattle.mm_plain.specs.Plain.{store_in}
+use Rattle.mm_plain.specs.Plain.{contents_in, store_in}
 use Rattle.mm_plain.proofs.Stores.{fetched_named, served_named}
+use Rattle.mm_plain.proofs.Having.{touch_ends}
 use Rattle.mm_plain.proofs.plain.PlainPages.read.Goals as goal
 
 pub returns-clause-ok : goal.returns-clause-ok
@@ -12,3 +16,6 @@ returns-clause-ok g c =
 
 pub returns-clause-served : goal.returns-clause-served
 returns-clause-served g c = served_named _ _ _ c.name_place.ensures.store
+
+pub returns-clause-fault : goal.returns-clause-fault
+returns-clause-fault g c begun = touch_ends c.args.key _ (contents_in c.name_place.new.self) (subst (λ (d : Key → Option Page). IsSome (d c.args.key)) (sym c.name_place.ensures.contents) c.requires.at.live)

@@ -1,8 +1,12 @@
-use Rattle.std.proofs.Common.{Some, ap, ◌∙◌}
+use Rattle.std.proofs.Common.{Some, Option, ap, sym, subst, ◌∙◌}
+use Rattle.std.specs.Prelude.{IsSome}
+use Rattle.mm_types.specs.declared.numbers.Key.{Key}
+use Rattle.mm_world.specs.World.{Page}
 use Rattle.mm_pages.specs.Store.{StoreOf, changed, same_place}
 use Rattle.mm_plain.specs.Places.{names_in}
-use Rattle.mm_plain.specs.Plain.{store_in}
+use Rattle.mm_plain.specs.Plain.{contents_in, store_in}
 use Rattle.mm_plain.proofs.Stores.{fetched_named, served_named, eased_named, named_after}
+use Rattle.mm_plain.proofs.Having.{touch_ends, written_live}
 use Rattle.mm_plain.proofs.plain.PlainPages.write.Goals as goal
 
 pub name_place-requires : goal.name_place-requires
@@ -19,3 +23,6 @@ returns-clause-served g c = served_named _ _ _ (named_after _ _ _ c.args.place c
 
 pub returns-clause-eased : goal.returns-clause-eased
 returns-clause-eased g c ready = let s = c.args.self.now in eased_named (store_in s) (store_in c.name_place.new.self) (changed same_place (names_in s.places) c.args.place (Some c.args.key)) (named_after _ _ _ c.args.place c.args.key c.write_page.ensures.store c.name_place.ensures.store)
+
+pub returns-clause-fault : goal.returns-clause-fault
+returns-clause-fault g c begun = touch_ends c.args.key _ (contents_in c.name_place.new.self) (written_live (contents_in c.args.self.now) (contents_in c.name_place.new.self) c.args.key _ (c.name_place.ensures.contents ∙ c.write_page.ensures.contents) c.requires.at.live)

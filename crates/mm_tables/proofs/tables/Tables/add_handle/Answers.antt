@@ -3,26 +3,26 @@ use Rattle.mm_world.specs.World.{numbered}
 use Rattle.mm_world.specs.Contents.{Tables}
 use Rattle.mm_world.specs.Find.{process_of, section_of}
 use Rattle.mm_sections.specs.Directories.{DirectoryOf}
-use Rattle.mm_tables.specs.Shown.{shown_processes}
+use Rattle.mm_tables.specs.Shown.{shown_processes, shown_accesses}
 use Rattle.mm_tables.proofs.SectionKept.{Parts, same_kept, handle_few, GivesHandle, handle_kept, handle_now, handle_settled}
 use Rattle.mm_tables.proofs.SectionLists.{some_of}
 use Rattle.mm_tables.proofs.tables.Tables.add_handle.Goals as goal
 
 pub invariant_of-self : goal.invariant_of-self
 invariant_of-self c =
-    let x : Parts = record { machine = c.self.inside.machine; processes = shown_processes c.self.inside.processes.items; entries = c.self.inside.directory.entries; areas = c.self.inside.areas.items; files = c.self.inside.directory.files; used = c.self.inside.blocks_used; fails = c.self.inside.fails_taken } in
+    let x : Parts = record { machine = c.self.inside.machine; processes = shown_processes c.self.inside.processes.items; entries = c.self.inside.directory.entries; areas = c.self.inside.areas.items; files = c.self.inside.directory.files; used = c.self.inside.blocks_used; fails = c.self.inside.fails_taken; kept = shown_accesses c.self.inside.kept } in
     let y : Parts = record x { processes = shown_processes c.grow_handles_of.new.processes.items } in
-    same_kept x y c.self.inside.commit (record { machine = refl; processes = c.grow_handles_of.ensures.same; entries = refl; areas = refl; files = refl; used = refl; fails = refl }) c.self.invariant
+    same_kept x y c.self.inside.commit (record { machine = refl; processes = c.grow_handles_of.ensures.same; entries = refl; areas = refl; files = refl; used = refl; fails = refl; kept = refl }) c.self.invariant
 
 pub add_handle-requires-clause-few : goal.add_handle-requires-clause-few
 add_handle-requires-clause-few c =
-    let x : Parts = record { machine = c.self.inside.machine; processes = shown_processes c.self.inside.processes.items; entries = c.self.inside.directory.entries; areas = c.self.inside.areas.items; files = c.self.inside.directory.files; used = c.self.inside.blocks_used; fails = c.self.inside.fails_taken } in
+    let x : Parts = record { machine = c.self.inside.machine; processes = shown_processes c.self.inside.processes.items; entries = c.self.inside.directory.entries; areas = c.self.inside.areas.items; files = c.self.inside.directory.files; used = c.self.inside.blocks_used; fails = c.self.inside.fails_taken; kept = shown_accesses c.self.inside.kept } in
     handle_few x c.args.self.now c.self.inside.commit c.args.id.0 c.self.view_is c.self.invariant c.requires.few
 
 pub invariant_of-self-2 : goal.invariant_of-self-2
 invariant_of-self-2 c =
     let ps = shown_processes c.self.inside.processes.items in
-    let x : Parts = record { machine = c.self.inside.machine; processes = shown_processes c.self.inside.processes.items; entries = c.self.inside.directory.entries; areas = c.self.inside.areas.items; files = c.self.inside.directory.files; used = c.self.inside.blocks_used; fails = c.self.inside.fails_taken } in
+    let x : Parts = record { machine = c.self.inside.machine; processes = shown_processes c.self.inside.processes.items; entries = c.self.inside.directory.entries; areas = c.self.inside.areas.items; files = c.self.inside.directory.files; used = c.self.inside.blocks_used; fails = c.self.inside.fails_taken; kept = shown_accesses c.self.inside.kept } in
     let y : Parts = record x { processes = shown_processes c.give_handle_of.new.processes.items; entries = c.add_handle.new.self.entries; files = c.add_handle.new.self.files } in
     let p = some_of (numbered (shown_processes c.self.inside.processes.items) c.args.pid.0) (ap (λ (t : Tables). is_some (process_of t c.args.pid.0)) c.self.view_is ∙ c.requires.lives) in
     let q = ap (λ ps. numbered ps c.args.pid.0) c.grow_handles_of.ensures.same ∙ p.1 in
@@ -35,12 +35,13 @@ invariant_of-self-2 c =
       files = ap (λ (d : DirectoryOf). d.files) c.add_handle.ensures;
       used = refl;
       fails = refl;
+      kept = refl;
     } in
     handle_kept x y c.args.pid.0 p.0 c.args.id.0 p.1 made c.self.inside.commit (ap (λ (t : Tables). is_some (section_of t c.args.id.0)) c.self.view_is ∙ c.requires.section) c.self.invariant
 
 pub returns-clause-ok : goal.returns-clause-ok
 returns-clause-ok c p lives =
-    let x : Parts = record { machine = c.self.inside.machine; processes = shown_processes c.self.inside.processes.items; entries = c.self.inside.directory.entries; areas = c.self.inside.areas.items; files = c.self.inside.directory.files; used = c.self.inside.blocks_used; fails = c.self.inside.fails_taken } in
+    let x : Parts = record { machine = c.self.inside.machine; processes = shown_processes c.self.inside.processes.items; entries = c.self.inside.directory.entries; areas = c.self.inside.areas.items; files = c.self.inside.directory.files; used = c.self.inside.blocks_used; fails = c.self.inside.fails_taken; kept = shown_accesses c.self.inside.kept } in
     let y : Parts = record x { processes = shown_processes c.give_handle_of.new.processes.items; entries = c.add_handle.new.self.entries; files = c.add_handle.new.self.files } in
     let here : numbered (shown_processes c.self.inside.processes.items) c.args.pid.0 ≡ Some p = ap (λ (t : Tables). process_of t c.args.pid.0) c.self.view_is ∙ lives in
     let q = ap (λ ps. numbered ps c.args.pid.0) c.grow_handles_of.ensures.same ∙ here in
@@ -53,12 +54,13 @@ returns-clause-ok c p lives =
       files = ap (λ (d : DirectoryOf). d.files) c.add_handle.ensures;
       used = refl;
       fails = refl;
+      kept = refl;
     } in
     (c.give_handle_of.ensures.handle p q, handle_now x y c.args.pid.0 p c.args.id.0 here made c.args.self.now c.self.view_is)
 
 pub returns-clause-settled : goal.returns-clause-settled
 returns-clause-settled c old s fits =
-    let x : Parts = record { machine = c.self.inside.machine; processes = shown_processes c.self.inside.processes.items; entries = c.self.inside.directory.entries; areas = c.self.inside.areas.items; files = c.self.inside.directory.files; used = c.self.inside.blocks_used; fails = c.self.inside.fails_taken } in
+    let x : Parts = record { machine = c.self.inside.machine; processes = shown_processes c.self.inside.processes.items; entries = c.self.inside.directory.entries; areas = c.self.inside.areas.items; files = c.self.inside.directory.files; used = c.self.inside.blocks_used; fails = c.self.inside.fails_taken; kept = shown_accesses c.self.inside.kept } in
     let y : Parts = record x { processes = shown_processes c.give_handle_of.new.processes.items; entries = c.add_handle.new.self.entries; files = c.add_handle.new.self.files } in
     let p = some_of (numbered (shown_processes c.self.inside.processes.items) c.args.pid.0) (ap (λ (t : Tables). is_some (process_of t c.args.pid.0)) c.self.view_is ∙ c.requires.lives) in
     let q = ap (λ ps. numbered ps c.args.pid.0) c.grow_handles_of.ensures.same ∙ p.1 in
@@ -71,5 +73,6 @@ returns-clause-settled c old s fits =
       files = ap (λ (d : DirectoryOf). d.files) c.add_handle.ensures;
       used = refl;
       fails = refl;
+      kept = refl;
     } in
     handle_settled x y c.args.pid.0 p.0 c.args.id.0 p.1 made c.args.self.now old s c.self.view_is fits

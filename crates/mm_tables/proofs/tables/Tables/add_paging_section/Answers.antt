@@ -10,7 +10,7 @@ use Rattle.mm_types.specs.declared.numbers.Area.{Area}
 use Rattle.mm_world.specs.WellFormed.{Spaces}
 use Rattle.std.proofs.Common.{false}
 use Rattle.mm_tables.specs.SectionSteps.{Opens}
-use Rattle.mm_tables.specs.Shown.{shown_processes}
+use Rattle.mm_tables.specs.Shown.{shown_processes, shown_accesses}
 use Rattle.mm_tables.proofs.SectionKept.{Parts, tables, same_kept, same_tables, MakesSection}
 use Rattle.mm_tables.proofs.SectionLists.{some_of}
 use Rattle.mm_tables.proofs.SectionPaging.{paging_pages, committed_pages, keys_most, area_free, key_free, paging_kept, paging_now, paging_settled, more_settled}
@@ -18,9 +18,9 @@ use Rattle.mm_tables.proofs.tables.Tables.add_paging_section.Goals as goal
 
 pub invariant_of-self : goal.invariant_of-self
 invariant_of-self g c =
-    let x : Parts = record { machine = c.self.inside.machine; processes = shown_processes c.self.inside.processes.items; entries = c.self.inside.directory.entries; areas = c.self.inside.areas.items; files = c.self.inside.directory.files; used = c.self.inside.blocks_used; fails = c.self.inside.fails_taken } in
+    let x : Parts = record { machine = c.self.inside.machine; processes = shown_processes c.self.inside.processes.items; entries = c.self.inside.directory.entries; areas = c.self.inside.areas.items; files = c.self.inside.directory.files; used = c.self.inside.blocks_used; fails = c.self.inside.fails_taken; kept = shown_accesses c.self.inside.kept } in
     let y : Parts = record x { processes = shown_processes c.grow_for_paging.new.processes.items; entries = c.grow_for_paging.new.directory.entries; areas = c.grow_for_paging.new.areas.items; files = c.grow_for_paging.new.directory.files } in
-    same_kept x y c.self.inside.commit (record { machine = refl; processes = c.grow_for_paging.ensures.processes; entries = c.grow_for_paging.ensures.entries; areas = c.grow_for_paging.ensures.areas; files = c.grow_for_paging.ensures.files; used = refl; fails = refl }) c.self.invariant
+    same_kept x y c.self.inside.commit (record { machine = refl; processes = c.grow_for_paging.ensures.processes; entries = c.grow_for_paging.ensures.entries; areas = c.grow_for_paging.ensures.areas; files = c.grow_for_paging.ensures.files; used = refl; fails = refl; kept = refl }) c.self.invariant
 
 pub open_paging_area-requires-clause-new : goal.open_paging_area-requires-clause-new
 open_paging_area-requires-clause-new g c =
@@ -34,26 +34,26 @@ open_paging_area-requires-clause-dead g c i =
 
 pub open_paging_area-requires-clause-keys : goal.open_paging_area-requires-clause-keys
 open_paging_area-requires-clause-keys g c =
-    let x : Parts = record { machine = c.self.inside.machine; processes = shown_processes c.self.inside.processes.items; entries = c.self.inside.directory.entries; areas = c.self.inside.areas.items; files = c.self.inside.directory.files; used = c.self.inside.blocks_used; fails = c.self.inside.fails_taken } in
+    let x : Parts = record { machine = c.self.inside.machine; processes = shown_processes c.self.inside.processes.items; entries = c.self.inside.directory.entries; areas = c.self.inside.areas.items; files = c.self.inside.directory.files; used = c.self.inside.blocks_used; fails = c.self.inside.fails_taken; kept = shown_accesses c.self.inside.kept } in
     let spaces = subst (λ (t : Tables). Spaces t) c.self.view_is c.self.invariant.sound.spaces in
     omega (arith, keys_most c.args.self.now spaces, c.requires.fits.counted, c.now.ensures.charge, c.self.invariant.charged, ap (λ (t : Tables). charge t) c.self.view_is)
 
 pub invariant_of-self-in_err-open_paging_area : goal.invariant_of-self-in_err-open_paging_area
 invariant_of-self-in_err-open_paging_area g c =
-    let x : Parts = record { machine = c.self.inside.machine; processes = shown_processes c.self.inside.processes.items; entries = c.self.inside.directory.entries; areas = c.self.inside.areas.items; files = c.self.inside.directory.files; used = c.self.inside.blocks_used; fails = c.self.inside.fails_taken } in
+    let x : Parts = record { machine = c.self.inside.machine; processes = shown_processes c.self.inside.processes.items; entries = c.self.inside.directory.entries; areas = c.self.inside.areas.items; files = c.self.inside.directory.files; used = c.self.inside.blocks_used; fails = c.self.inside.fails_taken; kept = shown_accesses c.self.inside.kept } in
     let y : Parts = record x { processes = shown_processes c.grow_for_paging.new.processes.items; entries = c.grow_for_paging.new.directory.entries; areas = c.grow_for_paging.new.areas.items; files = c.grow_for_paging.new.directory.files } in
-    same_kept x y c.self.inside.commit (record { machine = refl; processes = c.grow_for_paging.ensures.processes; entries = c.grow_for_paging.ensures.entries; areas = c.grow_for_paging.ensures.areas; files = c.grow_for_paging.ensures.files; used = refl; fails = refl }) c.self.invariant
+    same_kept x y c.self.inside.commit (record { machine = refl; processes = c.grow_for_paging.ensures.processes; entries = c.grow_for_paging.ensures.entries; areas = c.grow_for_paging.ensures.areas; files = c.grow_for_paging.ensures.files; used = refl; fails = refl; kept = refl }) c.self.invariant
 
 pub returns-in_err-open_paging_area-clause-settled : goal.returns-in_err-open_paging_area-clause-settled
 returns-in_err-open_paging_area-clause-settled g c =
-    let x : Parts = record { machine = c.self.inside.machine; processes = shown_processes c.self.inside.processes.items; entries = c.self.inside.directory.entries; areas = c.self.inside.areas.items; files = c.self.inside.directory.files; used = c.self.inside.blocks_used; fails = c.self.inside.fails_taken } in
+    let x : Parts = record { machine = c.self.inside.machine; processes = shown_processes c.self.inside.processes.items; entries = c.self.inside.directory.entries; areas = c.self.inside.areas.items; files = c.self.inside.directory.files; used = c.self.inside.blocks_used; fails = c.self.inside.fails_taken; kept = shown_accesses c.self.inside.kept } in
     let y : Parts = record x { processes = shown_processes c.grow_for_paging.new.processes.items; entries = c.grow_for_paging.new.directory.entries; areas = c.grow_for_paging.new.areas.items; files = c.grow_for_paging.new.directory.files } in
     more_settled c.args.self.now (tables y) (g.G.Pages.contents c.args.g.now) (g.G.Pages.contents c.open_paging_area.new.g) (g.G.Pages.store c.args.g.now) (g.G.Pages.store c.open_paging_area.new.g)
-    (same_tables x y c.args.self.now (record { machine = refl; processes = c.grow_for_paging.ensures.processes; entries = c.grow_for_paging.ensures.entries; areas = c.grow_for_paging.ensures.areas; files = c.grow_for_paging.ensures.files; used = refl; fails = refl }) c.self.view_is) c.requires.fits c.in_err-open_paging_area.ensures.err
+    (same_tables x y c.args.self.now (record { machine = refl; processes = c.grow_for_paging.ensures.processes; entries = c.grow_for_paging.ensures.entries; areas = c.grow_for_paging.ensures.areas; files = c.grow_for_paging.ensures.files; used = refl; fails = refl; kept = refl }) c.self.view_is) c.requires.fits c.in_err-open_paging_area.ensures.err
 
 pub invariant_of-self-2 : goal.invariant_of-self-2
 invariant_of-self-2 g c =
-    let x : Parts = record { machine = c.self.inside.machine; processes = shown_processes c.self.inside.processes.items; entries = c.self.inside.directory.entries; areas = c.self.inside.areas.items; files = c.self.inside.directory.files; used = c.self.inside.blocks_used; fails = c.self.inside.fails_taken } in
+    let x : Parts = record { machine = c.self.inside.machine; processes = shown_processes c.self.inside.processes.items; entries = c.self.inside.directory.entries; areas = c.self.inside.areas.items; files = c.self.inside.directory.files; used = c.self.inside.blocks_used; fails = c.self.inside.fails_taken; kept = shown_accesses c.self.inside.kept } in
     let y : Parts = record x { processes = shown_processes c.list_section-handle.new.processes.items; entries = c.list_section-handle.new.directory.entries; areas = c.push_area.new.areas.items; files = c.list_section-handle.new.directory.files } in
     let s : SectionOf = record { prot = c.args.prot.0; name = c.args.name; area = c.len.result } in
     let p = some_of (numbered (shown_processes c.self.inside.processes.items) c.args.pid.0) (ap (λ (t : Tables). is_some (process_of t c.args.pid.0)) c.self.view_is ∙ c.requires.lives) in
@@ -67,6 +67,7 @@ invariant_of-self-2 g c =
       files = c.list_section-handle.ensures.files ∙ c.grow_for_paging.ensures.files;
       used = refl;
       fails = refl;
+      kept = refl;
     } in
     let at : c.len.result ≡ length c.self.inside.areas.items = omega (arith, c.len.ensures, c.self.inside.areas.ok.0) in
     let room : charge (tables x) + committed_pages c.args.pages c.args.committed ≤ limit (tables x) = omega (arith, c.requires.room, ap (λ (t : Tables). charge t) c.self.view_is, ap (λ (t : Tables). limit t) c.self.view_is) in
@@ -76,7 +77,7 @@ invariant_of-self-2 g c =
 
 pub returns-clause-ok : goal.returns-clause-ok
 returns-clause-ok g c p lives =
-    let x : Parts = record { machine = c.self.inside.machine; processes = shown_processes c.self.inside.processes.items; entries = c.self.inside.directory.entries; areas = c.self.inside.areas.items; files = c.self.inside.directory.files; used = c.self.inside.blocks_used; fails = c.self.inside.fails_taken } in
+    let x : Parts = record { machine = c.self.inside.machine; processes = shown_processes c.self.inside.processes.items; entries = c.self.inside.directory.entries; areas = c.self.inside.areas.items; files = c.self.inside.directory.files; used = c.self.inside.blocks_used; fails = c.self.inside.fails_taken; kept = shown_accesses c.self.inside.kept } in
     let y : Parts = record x { processes = shown_processes c.list_section-handle.new.processes.items; entries = c.list_section-handle.new.directory.entries; areas = c.push_area.new.areas.items; files = c.list_section-handle.new.directory.files } in
     let s : SectionOf = record { prot = c.args.prot.0; name = c.args.name; area = c.len.result } in
     let here : numbered (shown_processes c.self.inside.processes.items) c.args.pid.0 ≡ Some p = ap (λ (t : Tables). process_of t c.args.pid.0) c.self.view_is ∙ lives in
@@ -90,6 +91,7 @@ returns-clause-ok g c p lives =
       files = c.list_section-handle.ensures.files ∙ c.grow_for_paging.ensures.files;
       used = refl;
       fails = refl;
+      kept = refl;
     } in
     let at : c.len.result ≡ length c.self.inside.areas.items = omega (arith, c.len.ensures, c.self.inside.areas.ok.0) in
     let number : c.len.result ≡ length c.args.self.now.areas = omega (arith, at, ap (λ (t : Tables). length t.areas) c.self.view_is) in
@@ -101,7 +103,7 @@ returns-clause-ok g c p lives =
 
 pub returns-clause-settled : goal.returns-clause-settled
 returns-clause-settled g c =
-    let x : Parts = record { machine = c.self.inside.machine; processes = shown_processes c.self.inside.processes.items; entries = c.self.inside.directory.entries; areas = c.self.inside.areas.items; files = c.self.inside.directory.files; used = c.self.inside.blocks_used; fails = c.self.inside.fails_taken } in
+    let x : Parts = record { machine = c.self.inside.machine; processes = shown_processes c.self.inside.processes.items; entries = c.self.inside.directory.entries; areas = c.self.inside.areas.items; files = c.self.inside.directory.files; used = c.self.inside.blocks_used; fails = c.self.inside.fails_taken; kept = shown_accesses c.self.inside.kept } in
     let y : Parts = record x { processes = shown_processes c.list_section-handle.new.processes.items; entries = c.list_section-handle.new.directory.entries; areas = c.push_area.new.areas.items; files = c.list_section-handle.new.directory.files } in
     let s : SectionOf = record { prot = c.args.prot.0; name = c.args.name; area = c.len.result } in
     let old = g.G.Pages.contents c.args.g.now in
@@ -120,6 +122,7 @@ returns-clause-settled g c =
       files = c.list_section-handle.ensures.files ∙ c.grow_for_paging.ensures.files;
       used = refl;
       fails = refl;
+      kept = refl;
     } in
     let at : c.len.result ≡ length c.self.inside.areas.items = omega (arith, c.len.ensures, c.self.inside.areas.ok.0) in
     let opened = subst (λ (n : ℕ). Opens area c.args.pages n old new st z) c.pages_if-n.ensures c.in_ok-open_paging_area.ensures.ok in

@@ -2,7 +2,7 @@ use Rattle.std.proofs.Common.{◌≤◌, ◌+◌, sym, ap, subst, arith}
 use Rattle.mm_types.specs.Machine.{MachineOf}
 use Rattle.mm_world.specs.Contents.{Tables}
 use Rattle.mm_world.specs.Processes.{most_slots}
-use Rattle.mm_tables.specs.Shown.{shown_processes, tables_with}
+use Rattle.mm_tables.specs.Shown.{shown_processes, tables_with, shown_accesses}
 use Rattle.mm_tables.specs.Sound.{IsKept}
 use Rattle.mm_tables.proofs.Grown.{slots_kept}
 use Rattle.mm_tables.proofs.tables.Tables.add_slots.Goals as goal
@@ -12,5 +12,5 @@ invariant_of-self c =
     let i = c.self.inside in
     let m : MachineOf = i.machine in
     let room : m.slots + c.args.n ≤ most_slots = omega (arith, ap (λ (t : Tables). t.machine.slots) c.self.view_is, c.requires.most) in
-    subst (λ (m : MachineOf). IsKept (tables_with m (shown_processes i.processes.items) i.directory.entries i.areas.items i.directory.files i.blocks_used i.fails_taken) i.directory.entries c.raise.new.self) (sym c.with_slots-self-inside.ensures.made)
-    (slots_kept (tables_with m (shown_processes i.processes.items) i.directory.entries i.areas.items i.directory.files i.blocks_used i.fails_taken) c.args.n i.directory.entries i.commit c.raise.new.self c.self.invariant room c.with_slots-self-inside.ensures.limit c.raise.ensures)
+    subst (λ (m : MachineOf). IsKept (tables_with m (shown_processes i.processes.items) i.directory.entries i.areas.items i.directory.files i.blocks_used i.fails_taken (shown_accesses i.kept)) i.directory.entries c.raise.new.self) (sym c.with_slots-self-inside.ensures.made)
+    (slots_kept (tables_with m (shown_processes i.processes.items) i.directory.entries i.areas.items i.directory.files i.blocks_used i.fails_taken (shown_accesses i.kept)) c.args.n i.directory.entries i.commit c.raise.new.self c.self.invariant room c.with_slots-self-inside.ensures.limit c.raise.ensures)

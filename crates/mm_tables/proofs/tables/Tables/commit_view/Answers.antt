@@ -6,7 +6,7 @@ use Rattle.mm_world.specs.World.{AreaOf}
 use Rattle.mm_world.specs.Find.{process_of, region_around, area_at}
 use Rattle.mm_pages.specs.Store.{StoreOf}
 use Rattle.mm_commit.specs.Charge.{CommitOf}
-use Rattle.mm_tables.specs.Shown.{shown_processes, tables_with}
+use Rattle.mm_tables.specs.Shown.{shown_processes, tables_with, shown_accesses}
 use Rattle.mm_tables.specs.Sound.{IsKept}
 use Rattle.mm_tables.specs.ViewChanges.{area_in, CanShare, Shares}
 use Rattle.mm_tables.proofs.ViewAdded.{some_is}
@@ -52,10 +52,10 @@ invariant_of-self g c =
     let count : c.range.inside.count ≡ range.count = ap (λ (r : Range). r.count) c.range.view_is in
     let made : c.share_pages.new.areas.items ≡ set y.areas.items v.area.0 (commit_shared blank (v.first + (range.first - r.0.thing.base)) range.count (area_in y.areas.items v.area.0)) =
     c.share_pages.ensures.areas ∙ (λ i. set y.areas.items v.area.0 (commit_shared blank (v.first + told.1 i) (count i) (area_in y.areas.items v.area.0))) in
-    let is = pages_tables y.machine (shown_processes y.processes.items) (shown_processes c.protect_view.new.processes.items) y.directory.entries y.areas.items c.share_pages.new.areas.items y.directory.files y.blocks_used y.fails_taken t c.args.pid.0 p.0
+    let is = pages_tables y.machine (shown_processes y.processes.items) (shown_processes c.protect_view.new.processes.items) y.directory.entries y.areas.items c.share_pages.new.areas.items y.directory.files y.blocks_used y.fails_taken (shown_accesses y.kept) t c.args.pid.0 p.0
     (set p.0.regions r.0.place (region_now c.args.prot range r.0.thing)) v.area.0 (v.first + (range.first - r.0.thing.base)) range.count c.self.view_is (c.protect_view.ensures p.0 r.0 lives r.1) made in
     pages_kept t c.args.pid.0 p.0 r.0 v range x
-    (tables_with y.machine (shown_processes c.protect_view.new.processes.items) y.directory.entries c.share_pages.new.areas.items y.directory.files y.blocks_used y.fails_taken) y.directory.entries y.commit c.take.new.commit c.args.prot c.args.n is
+    (tables_with y.machine (shown_processes c.protect_view.new.processes.items) y.directory.entries c.share_pages.new.areas.items y.directory.files y.blocks_used y.fails_taken (shown_accesses y.kept)) y.directory.entries y.commit c.take.new.commit c.args.prot c.args.n is
     c.requires.prot (c.requires.accepted p.0 r.0 p.1 r.1) (c.requires.counted p.0 r.0 v p.1 r.1 told.0) c.requires.room
     (omega (arith, ap (λ (k : CommitOf). k.charge) c.take.ensures, kept.charged)) (ap (λ (k : CommitOf). k.limit) c.take.ensures ∙ kept.limited) kept
 
@@ -81,13 +81,13 @@ returns-clause-settled g c =
     let area : area_in y.areas.items v.area.0 ≡ area_at t v.area.0 = ap (λ (t : Tables). area_at t v.area.0) c.self.view_is in
     let made : c.share_pages.new.areas.items ≡ set y.areas.items v.area.0 (commit_shared blank (v.first + (range.first - r.0.thing.base)) range.count (area_in y.areas.items v.area.0)) =
     c.share_pages.ensures.areas ∙ (λ i. set y.areas.items v.area.0 (commit_shared blank (v.first + told.1 i) (count i) (area_in y.areas.items v.area.0))) in
-    let is = pages_tables y.machine (shown_processes y.processes.items) (shown_processes c.protect_view.new.processes.items) y.directory.entries y.areas.items c.share_pages.new.areas.items y.directory.files y.blocks_used y.fails_taken t c.args.pid.0 p.0
+    let is = pages_tables y.machine (shown_processes y.processes.items) (shown_processes c.protect_view.new.processes.items) y.directory.entries y.areas.items c.share_pages.new.areas.items y.directory.files y.blocks_used y.fails_taken (shown_accesses y.kept) t c.args.pid.0 p.0
     (set p.0.regions r.0.place (region_now c.args.prot range r.0.thing)) v.area.0 (v.first + (range.first - r.0.thing.base)) range.count c.self.view_is (c.protect_view.ensures p.0 r.0 lives r.1) made in
     let shares : Shares v.area (v.first + (range.first - r.0.thing.base)) range.count (area_at t v.area.0) mid new m z =
     subst (λ (n : ℕ). Shares v.area (v.first + n) range.count (area_at t v.area.0) mid new m z) told.1
     (subst (λ (n : ℕ). Shares v.area (v.first + c.view_around-offset.result.1) n (area_at t v.area.0) mid new m z) count
     (subst (λ (a : AreaOf (Unit {0})). Shares v.area (v.first + c.view_around-offset.result.1) c.range.inside.count a mid new m z) area c.share_pages.ensures.shares)) in
     pages_settled t c.args.pid.0 p.0 r.0 v range x kept.sound
-    (tables_with y.machine (shown_processes c.protect_view.new.processes.items) y.directory.entries c.share_pages.new.areas.items y.directory.files y.blocks_used y.fails_taken)
+    (tables_with y.machine (shown_processes c.protect_view.new.processes.items) y.directory.entries c.share_pages.new.areas.items y.directory.files y.blocks_used y.fails_taken (shown_accesses y.kept))
     old mid new s m z c.args.prot c.args.n is c.requires.prot (c.requires.counted p.0 r.0 v p.1 r.1 told.0) c.requires.fits c.reserve.ensures.contents c.reserve.ensures.store c.reserve.ensures.later
     (omega (arith, c.in_ok-reserve.ensures.ok, c.now.ensures.charge, kept.charged)) shares

@@ -27,7 +27,7 @@ returns-in-Private-clause-lives g c =
 pub returns-in-Private-clause-fewer : goal.returns-in-Private-clause-fewer
 returns-in-Private-clause-fewer g c p q lives now =
     let low = has_lowest p c.args.info.pages c.args.info.kind (c.requires.there p lives) in
-    fewer_by p q 0 low.region low.at
+    fewer_by p q low.region low.at
     (same_process (process_of c.release_lowest.new.self c.args.pid.0) q (unmapped p 0) now (after_set c.args.self.now c.release_lowest.new.self c.args.pid.0 p (unmapped p 0) lives (c.release_lowest.ensures.removed p lives)))
 
 pub returns-in-View-clause-toward : goal.returns-in-View-clause-toward
@@ -50,6 +50,6 @@ pub returns-in-View-clause-fewer : goal.returns-in-View-clause-fewer
 returns-in-View-clause-fewer g c p q lives now =
     let first : c.range.inside.first ≡ c.args.info.pages.first = ap (λ (r : Range). r.first) c.range.view_is in
     let low = (has_lowest p c.args.info.pages (kind.View c.in-View.view) (c.requires.there p lives ∙ (λ i. Some (record { pages = c.args.info.pages; kind = c.in-View.is i })))) in
-    fewer_by p q 0 low.region low.at
+    fewer_by p q low.region low.at
     (same_process (process_of c.unmap_view.new.self c.args.pid.0) q (unmapped p 0) now (after_settled c.args.self.now c.unmap_view.new.self c.args.pid.0 p (unmapped p 0) lives
     (c.unmap_view.ensures.removed p (record { place = 0; thing = low.region }) lives (view_lowest p c.args.info.pages c.in-View.view c.range.inside.first low first))))

@@ -1,21 +1,34 @@
-use Rattle.std.proofs.Common.{None, sym, ◌∙◌, ap}
+use Rattle.std.proofs.Common.{None, ◌∙◌, ap}
 use Rattle.mm_world.specs.Contents.{Tables}
 use Rattle.mm_world.specs.Find.{set_process}
 use Rattle.mm_world.specs.Sections.{settle}
 use Rattle.mm_tables.proofs.EndingFits.{less_then, beside_then, carries_less}
-use Rattle.mm_tables.proofs.EndingExits.{toward_then, none_waits}
+use Rattle.mm_tables.proofs.EndingExits.{toward_then, toward_nobody}
+use Rattle.mm_types.specs.Address.{end_of_user_pages}
+use Rattle.mm_tables.proofs.EndingPasses.{exit_then}
 use Rattle.mm_tables.proofs.tables.Tables.end_process.Goals as goal
+
+pub close_process-requires-clause-nobody : goal.close_process-requires-clause-nobody
+close_process-requires-clause-nobody g c =
+    let steps = toward_then c.args.pid.0 c.drop_kept.new.self c.close_handles.new.self c.drop_regions.new.self (g.G.Pages.contents c.args.g.now) (g.G.Pages.contents c.close_handles.new.g) (g.G.Pages.contents c.drop_regions.new.g) (g.G.Pages.store c.args.g.now) (g.G.Pages.store c.close_handles.new.g) (g.G.Pages.store c.drop_regions.new.g) c.close_handles.ensures.toward c.drop_regions.ensures.toward in
+    toward_nobody c.args.pid.0 c.drop_kept.new.self c.drop_regions.new.self (g.G.Pages.contents c.args.g.now) (g.G.Pages.contents c.drop_regions.new.g) (g.G.Pages.store c.args.g.now) (g.G.Pages.store c.drop_regions.new.g) steps c.drop_kept.ensures.nobody
 
 pub returns-clause-ended : goal.returns-clause-ended
 returns-clause-ended g c =
-    let steps = toward_then c.args.pid.0 c.args.self.now c.close_handles.new.self c.drop_regions.new.self (g.G.Pages.contents c.args.g.now) (g.G.Pages.contents c.close_handles.new.g) (g.G.Pages.contents c.drop_regions.new.g) (g.G.Pages.store c.args.g.now) (g.G.Pages.store c.close_handles.new.g) (g.G.Pages.store c.drop_regions.new.g) c.close_handles.ensures.toward c.drop_regions.ensures.toward in
-    c.close_process.ensures.ended ∙ steps.same ∙ sym (ap (λ (w : Tables). settle (set_process w c.args.pid.0 None)) (none_waits c.args.self.now c.args.pid.0 c.close_handles.ensures.none_kept))
+    let steps = toward_then c.args.pid.0 c.drop_kept.new.self c.close_handles.new.self c.drop_regions.new.self (g.G.Pages.contents c.args.g.now) (g.G.Pages.contents c.close_handles.new.g) (g.G.Pages.contents c.drop_regions.new.g) (g.G.Pages.store c.args.g.now) (g.G.Pages.store c.close_handles.new.g) (g.G.Pages.store c.drop_regions.new.g) c.close_handles.ensures.toward c.drop_regions.ensures.toward in
+    c.close_process.ensures.ended ∙ steps.same ∙ ap (λ (w : Tables). settle (set_process w c.args.pid.0 None)) c.drop_kept.ensures.dropped
 
 pub returns-clause-settled : goal.returns-clause-settled
 returns-clause-settled g c =
-    let steps = toward_then c.args.pid.0 c.args.self.now c.close_handles.new.self c.drop_regions.new.self (g.G.Pages.contents c.args.g.now) (g.G.Pages.contents c.close_handles.new.g) (g.G.Pages.contents c.drop_regions.new.g) (g.G.Pages.store c.args.g.now) (g.G.Pages.store c.close_handles.new.g) (g.G.Pages.store c.drop_regions.new.g) c.close_handles.ensures.toward c.drop_regions.ensures.toward in
+    let steps = toward_then c.args.pid.0 c.drop_kept.new.self c.close_handles.new.self c.drop_regions.new.self (g.G.Pages.contents c.args.g.now) (g.G.Pages.contents c.close_handles.new.g) (g.G.Pages.contents c.drop_regions.new.g) (g.G.Pages.store c.args.g.now) (g.G.Pages.store c.close_handles.new.g) (g.G.Pages.store c.drop_regions.new.g) c.close_handles.ensures.toward c.drop_regions.ensures.toward in
     record {
       fits = c.close_process.ensures.settled.fits;
       carries = carries_less (g.G.Pages.contents c.args.g.now) (g.G.Pages.contents c.close_process.new.g) (less_then (g.G.Pages.contents c.args.g.now) (g.G.Pages.contents c.drop_regions.new.g) (g.G.Pages.contents c.close_process.new.g) steps.less c.close_process.ensures.less);
       rest = beside_then (g.G.Pages.store c.args.g.now) (g.G.Pages.store c.drop_regions.new.g) (g.G.Pages.store c.close_process.new.g) steps.rest c.close_process.ensures.settled.rest;
     }
+
+pub returns-clause-passes : goal.returns-clause-passes
+returns-clause-passes g c held all =
+    exit_then g.G.Pages.unpaged held end_of_user_pages (g.G.Pages.store c.args.g.now) (g.G.Pages.store c.close_handles.new.g) (g.G.Pages.store c.drop_regions.new.g) (g.G.Pages.store c.close_process.new.g)
+    (g.G.Pages.behind c.args.g.now) (g.G.Pages.behind c.close_handles.new.g) (g.G.Pages.behind c.drop_regions.new.g) (g.G.Pages.behind c.close_process.new.g)
+    c.close_handles.ensures.passes (c.drop_regions.ensures.passes held all) c.close_process.ensures.passes

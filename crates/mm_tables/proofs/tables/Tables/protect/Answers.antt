@@ -5,7 +5,7 @@ use Rattle.mm_world.specs.Find.{region_around, set_regions}
 use Rattle.mm_world.specs.Rows.{protected, change_rows}
 use Rattle.mm_commit.specs.Charge.{CommitOf}
 use Rattle.mm_spaces.specs.Tables.{owned_in}
-use Rattle.mm_tables.specs.Shown.{shown_process}
+use Rattle.mm_tables.specs.Shown.{shown_process, shown_accesses}
 use Rattle.mm_tables.specs.Spaces.{Became}
 use Rattle.mm_tables.proofs.Looking.{some_found}
 use Rattle.mm_tables.proofs.OneProcess.{process_is}
@@ -22,10 +22,10 @@ protect_pages-requires-clause-lives g c =
     let i = c.self.inside in
     let t = c.args.self.now in
     let o = c.index_mut.result.now in
-    let h = standing i.machine i.processes.items i.directory.entries i.areas.items i.directory.files i.blocks_used i.fails_taken t c.self.view_is c.args.pid.0 o c.requires.lives c.index_mut.ensures.value in
+    let h = standing i.machine i.processes.items i.directory.entries i.areas.items i.directory.files i.blocks_used i.fails_taken (shown_accesses i.kept) t c.self.view_is c.args.pid.0 o c.requires.lives c.index_mut.ensures.value in
     let p = shown_process h.process in
     let same = standing_regions t c.args.pid.0 i.processes.items o h in
-    let kept = kept_as i.machine i.processes.items i.directory.entries i.areas.items i.directory.files i.blocks_used i.fails_taken t c.self.view_is i.commit c.self.invariant in
+    let kept = kept_as i.machine i.processes.items i.directory.entries i.areas.items i.directory.files i.blocks_used i.fails_taken (shown_accesses i.kept) t c.self.view_is i.commit c.self.invariant in
     ap is_some h.is
 
 pub protect_pages-requires-clause-inside : goal.protect_pages-requires-clause-inside
@@ -33,10 +33,10 @@ protect_pages-requires-clause-inside g c =
     let i = c.self.inside in
     let t = c.args.self.now in
     let o = c.index_mut.result.now in
-    let h = standing i.machine i.processes.items i.directory.entries i.areas.items i.directory.files i.blocks_used i.fails_taken t c.self.view_is c.args.pid.0 o c.requires.lives c.index_mut.ensures.value in
+    let h = standing i.machine i.processes.items i.directory.entries i.areas.items i.directory.files i.blocks_used i.fails_taken (shown_accesses i.kept) t c.self.view_is c.args.pid.0 o c.requires.lives c.index_mut.ensures.value in
     let p = shown_process h.process in
     let same = standing_regions t c.args.pid.0 i.processes.items o h in
-    let kept = kept_as i.machine i.processes.items i.directory.entries i.areas.items i.directory.files i.blocks_used i.fails_taken t c.self.view_is i.commit c.self.invariant in
+    let kept = kept_as i.machine i.processes.items i.directory.entries i.areas.items i.directory.files i.blocks_used i.fails_taken (shown_accesses i.kept) t c.self.view_is i.commit c.self.invariant in
     ap (λ rs. is_some (region_around rs c.args.range)) same ∙ c.requires.inside p h.lives
 
 pub protect_pages-requires-clause-accepted : goal.protect_pages-requires-clause-accepted
@@ -44,10 +44,10 @@ protect_pages-requires-clause-accepted g c r found =
     let i = c.self.inside in
     let t = c.args.self.now in
     let o = c.index_mut.result.now in
-    let h = standing i.machine i.processes.items i.directory.entries i.areas.items i.directory.files i.blocks_used i.fails_taken t c.self.view_is c.args.pid.0 o c.requires.lives c.index_mut.ensures.value in
+    let h = standing i.machine i.processes.items i.directory.entries i.areas.items i.directory.files i.blocks_used i.fails_taken (shown_accesses i.kept) t c.self.view_is c.args.pid.0 o c.requires.lives c.index_mut.ensures.value in
     let p = shown_process h.process in
     let same = standing_regions t c.args.pid.0 i.processes.items o h in
-    let kept = kept_as i.machine i.processes.items i.directory.entries i.areas.items i.directory.files i.blocks_used i.fails_taken t c.self.view_is i.commit c.self.invariant in
+    let kept = kept_as i.machine i.processes.items i.directory.entries i.areas.items i.directory.files i.blocks_used i.fails_taken (shown_accesses i.kept) t c.self.view_is i.commit c.self.invariant in
     c.requires.accepted p r h.lives (ap (λ rs. region_around rs c.args.range) (sym same) ∙ found)
 
 pub protect_pages-requires-clause-committed : goal.protect_pages-requires-clause-committed
@@ -55,10 +55,10 @@ protect_pages-requires-clause-committed g c r found private =
     let i = c.self.inside in
     let t = c.args.self.now in
     let o = c.index_mut.result.now in
-    let h = standing i.machine i.processes.items i.directory.entries i.areas.items i.directory.files i.blocks_used i.fails_taken t c.self.view_is c.args.pid.0 o c.requires.lives c.index_mut.ensures.value in
+    let h = standing i.machine i.processes.items i.directory.entries i.areas.items i.directory.files i.blocks_used i.fails_taken (shown_accesses i.kept) t c.self.view_is c.args.pid.0 o c.requires.lives c.index_mut.ensures.value in
     let p = shown_process h.process in
     let same = standing_regions t c.args.pid.0 i.processes.items o h in
-    let kept = kept_as i.machine i.processes.items i.directory.entries i.areas.items i.directory.files i.blocks_used i.fails_taken t c.self.view_is i.commit c.self.invariant in
+    let kept = kept_as i.machine i.processes.items i.directory.entries i.areas.items i.directory.files i.blocks_used i.fails_taken (shown_accesses i.kept) t c.self.view_is i.commit c.self.invariant in
     let at = ap (λ rs. region_around rs c.args.range) (sym same) ∙ found in
     let a = around p.regions c.args.range r at in
     ap (λ rs. owned_in rs c.args.range) same ∙ a.owned
@@ -69,10 +69,10 @@ invariant_of-self g c =
     let i = c.self.inside in
     let t = c.args.self.now in
     let o = c.index_mut.result.now in
-    let h = standing i.machine i.processes.items i.directory.entries i.areas.items i.directory.files i.blocks_used i.fails_taken t c.self.view_is c.args.pid.0 o c.requires.lives c.index_mut.ensures.value in
+    let h = standing i.machine i.processes.items i.directory.entries i.areas.items i.directory.files i.blocks_used i.fails_taken (shown_accesses i.kept) t c.self.view_is c.args.pid.0 o c.requires.lives c.index_mut.ensures.value in
     let p = shown_process h.process in
     let same = standing_regions t c.args.pid.0 i.processes.items o h in
-    let kept = kept_as i.machine i.processes.items i.directory.entries i.areas.items i.directory.files i.blocks_used i.fails_taken t c.self.view_is i.commit c.self.invariant in
+    let kept = kept_as i.machine i.processes.items i.directory.entries i.areas.items i.directory.files i.blocks_used i.fails_taken (shown_accesses i.kept) t c.self.view_is i.commit c.self.invariant in
     let old = g.G.Pages.contents c.args.g.now in
     let s = g.G.Pages.store c.args.g.now in
     let new = g.G.Pages.contents c.grow_for_marks.new.g in
@@ -85,7 +85,7 @@ invariant_of-self g c =
     let ss = set p.regions r.0.place (change_rows (protected r.0.thing.kind c.args.prot) c.args.range r.0.thing) in
     let became = subst (λ rs. Became o c.protect_pages.new.process (set rs r.0.place (change_rows (protected r.0.thing.kind c.args.prot) c.args.range r.0.thing))) same
     (c.protect_pages.ensures.changed r.0 (ap (λ rs. region_around rs c.args.range) same ∙ r.1)) in
-    still_kept i.machine i.processes.items i.directory.entries i.areas.items i.directory.files i.blocks_used i.fails_taken t c.self.view_is c.args.pid.0 o c.protect_pages.new.process ss i.commit c.take.new.commit (charge t + marks_of r.0.thing.kind c.args.prot (in_range c.args.range r.0.thing)) h became c.self.invariant done.stands done.charged (omega (arith, c.requires.room, marked))
+    still_kept i.machine i.processes.items i.directory.entries i.areas.items i.directory.files i.blocks_used i.fails_taken (shown_accesses i.kept) t c.self.view_is c.args.pid.0 o c.protect_pages.new.process ss i.commit c.take.new.commit (charge t + marks_of r.0.thing.kind c.args.prot (in_range c.args.range r.0.thing)) h became c.self.invariant done.stands done.charged (omega (arith, c.requires.room, marked))
     (omega (arith, ap (λ (k : CommitOf). k.charge) c.take.ensures, kept.charged, marked)) (ap (λ (k : CommitOf). k.limit) c.take.ensures)
 
 pub returns-clause-ok : goal.returns-clause-ok
@@ -93,24 +93,24 @@ returns-clause-ok g c q r lives found =
     let i = c.self.inside in
     let t = c.args.self.now in
     let o = c.index_mut.result.now in
-    let h = standing i.machine i.processes.items i.directory.entries i.areas.items i.directory.files i.blocks_used i.fails_taken t c.self.view_is c.args.pid.0 o c.requires.lives c.index_mut.ensures.value in
+    let h = standing i.machine i.processes.items i.directory.entries i.areas.items i.directory.files i.blocks_used i.fails_taken (shown_accesses i.kept) t c.self.view_is c.args.pid.0 o c.requires.lives c.index_mut.ensures.value in
     let p = shown_process h.process in
     let same = standing_regions t c.args.pid.0 i.processes.items o h in
-    let kept = kept_as i.machine i.processes.items i.directory.entries i.areas.items i.directory.files i.blocks_used i.fails_taken t c.self.view_is i.commit c.self.invariant in
+    let kept = kept_as i.machine i.processes.items i.directory.entries i.areas.items i.directory.files i.blocks_used i.fails_taken (shown_accesses i.kept) t c.self.view_is i.commit c.self.invariant in
     let regions = same ∙ ap (λ (p : ProcessOf (Unit {0})). p.regions) (process_is t c.args.pid.0 p q h.lives lives) in
     let became = subst (λ rs. Became o c.protect_pages.new.process (set rs r.place (change_rows (protected r.thing.kind c.args.prot) c.args.range r.thing))) regions
     (c.protect_pages.ensures.changed r (ap (λ rs. region_around rs c.args.range) regions ∙ found)) in
-    new_tables i.machine i.processes.items i.directory.entries i.areas.items i.directory.files i.blocks_used i.fails_taken t c.self.view_is c.args.pid.0 o c.protect_pages.new.process q (set q.regions r.place (change_rows (protected r.thing.kind c.args.prot) c.args.range r.thing)) h became lives
+    new_tables i.machine i.processes.items i.directory.entries i.areas.items i.directory.files i.blocks_used i.fails_taken (shown_accesses i.kept) t c.self.view_is c.args.pid.0 o c.protect_pages.new.process q (set q.regions r.place (change_rows (protected r.thing.kind c.args.prot) c.args.range r.thing)) h became lives
 
 pub returns-clause-settled : goal.returns-clause-settled
 returns-clause-settled g c =
     let i = c.self.inside in
     let t = c.args.self.now in
     let o = c.index_mut.result.now in
-    let h = standing i.machine i.processes.items i.directory.entries i.areas.items i.directory.files i.blocks_used i.fails_taken t c.self.view_is c.args.pid.0 o c.requires.lives c.index_mut.ensures.value in
+    let h = standing i.machine i.processes.items i.directory.entries i.areas.items i.directory.files i.blocks_used i.fails_taken (shown_accesses i.kept) t c.self.view_is c.args.pid.0 o c.requires.lives c.index_mut.ensures.value in
     let p = shown_process h.process in
     let same = standing_regions t c.args.pid.0 i.processes.items o h in
-    let kept = kept_as i.machine i.processes.items i.directory.entries i.areas.items i.directory.files i.blocks_used i.fails_taken t c.self.view_is i.commit c.self.invariant in
+    let kept = kept_as i.machine i.processes.items i.directory.entries i.areas.items i.directory.files i.blocks_used i.fails_taken (shown_accesses i.kept) t c.self.view_is i.commit c.self.invariant in
     let old = g.G.Pages.contents c.args.g.now in
     let s = g.G.Pages.store c.args.g.now in
     let new = g.G.Pages.contents c.grow_for_marks.new.g in
@@ -123,7 +123,7 @@ returns-clause-settled g c =
     let ss = set p.regions r.0.place (change_rows (protected r.0.thing.kind c.args.prot) c.args.range r.0.thing) in
     let became = subst (λ rs. Became o c.protect_pages.new.process (set rs r.0.place (change_rows (protected r.0.thing.kind c.args.prot) c.args.range r.0.thing))) same
     (c.protect_pages.ensures.changed r.0 (ap (λ rs. region_around rs c.args.range) same ∙ r.1)) in
-    settled_as (set_regions t c.args.pid.0 p ss) _ old new s z (new_tables i.machine i.processes.items i.directory.entries i.areas.items i.directory.files i.blocks_used i.fails_taken t c.self.view_is c.args.pid.0 o c.protect_pages.new.process p ss h became h.lives) done.settled
+    settled_as (set_regions t c.args.pid.0 p ss) _ old new s z (new_tables i.machine i.processes.items i.directory.entries i.areas.items i.directory.files i.blocks_used i.fails_taken (shown_accesses i.kept) t c.self.view_is c.args.pid.0 o c.protect_pages.new.process p ss h became h.lives) done.settled
 
 pub returns-in_err-grow_for_marks-clause-settled :
     goal.returns-in_err-grow_for_marks-clause-settled

@@ -1,4 +1,4 @@
-use Rattle.std.proofs.Common.{◌-◌, ◌∙◌, sym, ap, subst, arith, is_some, option_map}
+use Rattle.std.proofs.Common.{◌-◌, ◌∙◌, true, sym, ap, subst, arith, is_some, option_map}
 use Rattle.std.specs.Prelude.{remove}
 use Rattle.mm_world.specs.World.{ProcessOf, RegionOf, pages_of}
 use Rattle.mm_world.specs.Charge.{charge}
@@ -7,7 +7,7 @@ use Rattle.mm_world.specs.Free.{private_at}
 use Rattle.mm_commit.specs.Charge.{CommitOf}
 use Rattle.mm_spaces.specs.Tables.{owned_in}
 use Rattle.mm_tables.specs.Ranges.{CanRemove}
-use Rattle.mm_tables.specs.Shown.{shown_process}
+use Rattle.mm_tables.specs.Shown.{shown_process, shown_accesses}
 use Rattle.mm_tables.specs.Spaces.{Became}
 use Rattle.mm_tables.proofs.OneProcess.{process_is}
 use Rattle.mm_tables.proofs.Paging.{own_rows}
@@ -17,6 +17,12 @@ use Rattle.mm_tables.proofs.Rows.{private_charge}
 use Rattle.mm_tables.proofs.Settled.{settled_as, release_done}
 use Rattle.mm_tables.proofs.Standing.{standing, standing_regions, new_tables}
 use Rattle.mm_tables.proofs.Whole.{kept_as, still_kept}
+use Rattle.mm_types.specs.Address.{end_of_user_pages}
+use Rattle.mm_world.specs.Contents.{Tables}
+use Rattle.mm_pages.specs.Conditions.{AreAmong}
+use Rattle.mm_tables.specs.Effects.{Ends}
+use Rattle.mm_tables.specs.Fits.{is_uncommitted}
+use Rattle.mm_tables.proofs.Uncommitted.{among_unbound, stored_unbound}
 use Rattle.mm_tables.proofs.tables.Tables.release.Goals as goal
 
 pub release_pages-freed-requires-clause-lives : goal.release_pages-freed-requires-clause-lives
@@ -24,10 +30,10 @@ release_pages-freed-requires-clause-lives g c =
     let i = c.self.inside in
     let t = c.args.self.now in
     let o = c.index_mut.result.now in
-    let h = standing i.machine i.processes.items i.directory.entries i.areas.items i.directory.files i.blocks_used i.fails_taken t c.self.view_is c.args.pid.0 o c.requires.lives c.index_mut.ensures.value in
+    let h = standing i.machine i.processes.items i.directory.entries i.areas.items i.directory.files i.blocks_used i.fails_taken (shown_accesses i.kept) t c.self.view_is c.args.pid.0 o c.requires.lives c.index_mut.ensures.value in
     let p = shown_process h.process in
     let same = standing_regions t c.args.pid.0 i.processes.items o h in
-    let kept = kept_as i.machine i.processes.items i.directory.entries i.areas.items i.directory.files i.blocks_used i.fails_taken t c.self.view_is i.commit c.self.invariant in
+    let kept = kept_as i.machine i.processes.items i.directory.entries i.areas.items i.directory.files i.blocks_used i.fails_taken (shown_accesses i.kept) t c.self.view_is i.commit c.self.invariant in
     ap is_some h.is
 
 pub release_pages-freed-requires-clause-end : goal.release_pages-freed-requires-clause-end
@@ -35,10 +41,10 @@ release_pages-freed-requires-clause-end g c =
     let i = c.self.inside in
     let t = c.args.self.now in
     let o = c.index_mut.result.now in
-    let h = standing i.machine i.processes.items i.directory.entries i.areas.items i.directory.files i.blocks_used i.fails_taken t c.self.view_is c.args.pid.0 o c.requires.lives c.index_mut.ensures.value in
+    let h = standing i.machine i.processes.items i.directory.entries i.areas.items i.directory.files i.blocks_used i.fails_taken (shown_accesses i.kept) t c.self.view_is c.args.pid.0 o c.requires.lives c.index_mut.ensures.value in
     let p = shown_process h.process in
     let same = standing_regions t c.args.pid.0 i.processes.items o h in
-    let kept = kept_as i.machine i.processes.items i.directory.entries i.areas.items i.directory.files i.blocks_used i.fails_taken t c.self.view_is i.commit c.self.invariant in
+    let kept = kept_as i.machine i.processes.items i.directory.entries i.areas.items i.directory.files i.blocks_used i.fails_taken (shown_accesses i.kept) t c.self.view_is i.commit c.self.invariant in
     let old = g.G.Pages.contents c.args.g.now in
     let s = g.G.Pages.store c.args.g.now in
     let r = pages_found (private_at p.regions c.args.addr) c.args.range (c.requires.there p h.lives) in
@@ -51,10 +57,10 @@ release_pages-freed-requires-clause-there g c =
     let i = c.self.inside in
     let t = c.args.self.now in
     let o = c.index_mut.result.now in
-    let h = standing i.machine i.processes.items i.directory.entries i.areas.items i.directory.files i.blocks_used i.fails_taken t c.self.view_is c.args.pid.0 o c.requires.lives c.index_mut.ensures.value in
+    let h = standing i.machine i.processes.items i.directory.entries i.areas.items i.directory.files i.blocks_used i.fails_taken (shown_accesses i.kept) t c.self.view_is c.args.pid.0 o c.requires.lives c.index_mut.ensures.value in
     let p = shown_process h.process in
     let same = standing_regions t c.args.pid.0 i.processes.items o h in
-    let kept = kept_as i.machine i.processes.items i.directory.entries i.areas.items i.directory.files i.blocks_used i.fails_taken t c.self.view_is i.commit c.self.invariant in
+    let kept = kept_as i.machine i.processes.items i.directory.entries i.areas.items i.directory.files i.blocks_used i.fails_taken (shown_accesses i.kept) t c.self.view_is i.commit c.self.invariant in
     ap (λ rs. option_map (λ (r : Found (RegionOf (Unit {0}))). pages_of r.thing) (private_at rs c.args.addr)) same ∙ c.requires.there p h.lives
 
 pub release_pages-freed-requires-clause-inside : goal.release_pages-freed-requires-clause-inside
@@ -62,10 +68,10 @@ release_pages-freed-requires-clause-inside g c =
     let i = c.self.inside in
     let t = c.args.self.now in
     let o = c.index_mut.result.now in
-    let h = standing i.machine i.processes.items i.directory.entries i.areas.items i.directory.files i.blocks_used i.fails_taken t c.self.view_is c.args.pid.0 o c.requires.lives c.index_mut.ensures.value in
+    let h = standing i.machine i.processes.items i.directory.entries i.areas.items i.directory.files i.blocks_used i.fails_taken (shown_accesses i.kept) t c.self.view_is c.args.pid.0 o c.requires.lives c.index_mut.ensures.value in
     let p = shown_process h.process in
     let same = standing_regions t c.args.pid.0 i.processes.items o h in
-    let kept = kept_as i.machine i.processes.items i.directory.entries i.areas.items i.directory.files i.blocks_used i.fails_taken t c.self.view_is i.commit c.self.invariant in
+    let kept = kept_as i.machine i.processes.items i.directory.entries i.areas.items i.directory.files i.blocks_used i.fails_taken (shown_accesses i.kept) t c.self.view_is i.commit c.self.invariant in
     let r = pages_found (private_at p.regions c.args.addr) c.args.range (c.requires.there p h.lives) in
     let b = begins p.regions c.args.addr r.0 r.1.0 in
     let inside = whole_inside r.0.thing c.args.range r.1.1 in
@@ -76,10 +82,10 @@ release_pages-freed-requires-clause-bound g c page held =
     let i = c.self.inside in
     let t = c.args.self.now in
     let o = c.index_mut.result.now in
-    let h = standing i.machine i.processes.items i.directory.entries i.areas.items i.directory.files i.blocks_used i.fails_taken t c.self.view_is c.args.pid.0 o c.requires.lives c.index_mut.ensures.value in
+    let h = standing i.machine i.processes.items i.directory.entries i.areas.items i.directory.files i.blocks_used i.fails_taken (shown_accesses i.kept) t c.self.view_is c.args.pid.0 o c.requires.lives c.index_mut.ensures.value in
     let p = shown_process h.process in
     let same = standing_regions t c.args.pid.0 i.processes.items o h in
-    let kept = kept_as i.machine i.processes.items i.directory.entries i.areas.items i.directory.files i.blocks_used i.fails_taken t c.self.view_is i.commit c.self.invariant in
+    let kept = kept_as i.machine i.processes.items i.directory.entries i.areas.items i.directory.files i.blocks_used i.fails_taken (shown_accesses i.kept) t c.self.view_is i.commit c.self.invariant in
     let old = g.G.Pages.contents c.args.g.now in
     let s = g.G.Pages.store c.args.g.now in
     let r = pages_found (private_at p.regions c.args.addr) c.args.range (c.requires.there p h.lives) in
@@ -92,10 +98,10 @@ release_pages-freed-requires-clause-can g c =
     let i = c.self.inside in
     let t = c.args.self.now in
     let o = c.index_mut.result.now in
-    let h = standing i.machine i.processes.items i.directory.entries i.areas.items i.directory.files i.blocks_used i.fails_taken t c.self.view_is c.args.pid.0 o c.requires.lives c.index_mut.ensures.value in
+    let h = standing i.machine i.processes.items i.directory.entries i.areas.items i.directory.files i.blocks_used i.fails_taken (shown_accesses i.kept) t c.self.view_is c.args.pid.0 o c.requires.lives c.index_mut.ensures.value in
     let p = shown_process h.process in
     let same = standing_regions t c.args.pid.0 i.processes.items o h in
-    let kept = kept_as i.machine i.processes.items i.directory.entries i.areas.items i.directory.files i.blocks_used i.fails_taken t c.self.view_is i.commit c.self.invariant in
+    let kept = kept_as i.machine i.processes.items i.directory.entries i.areas.items i.directory.files i.blocks_used i.fails_taken (shown_accesses i.kept) t c.self.view_is i.commit c.self.invariant in
     let old = g.G.Pages.contents c.args.g.now in
     let s = g.G.Pages.store c.args.g.now in
     let r = pages_found (private_at p.regions c.args.addr) c.args.range (c.requires.there p h.lives) in
@@ -109,10 +115,10 @@ refund-requires g c =
     let i = c.self.inside in
     let t = c.args.self.now in
     let o = c.index_mut.result.now in
-    let h = standing i.machine i.processes.items i.directory.entries i.areas.items i.directory.files i.blocks_used i.fails_taken t c.self.view_is c.args.pid.0 o c.requires.lives c.index_mut.ensures.value in
+    let h = standing i.machine i.processes.items i.directory.entries i.areas.items i.directory.files i.blocks_used i.fails_taken (shown_accesses i.kept) t c.self.view_is c.args.pid.0 o c.requires.lives c.index_mut.ensures.value in
     let p = shown_process h.process in
     let same = standing_regions t c.args.pid.0 i.processes.items o h in
-    let kept = kept_as i.machine i.processes.items i.directory.entries i.areas.items i.directory.files i.blocks_used i.fails_taken t c.self.view_is i.commit c.self.invariant in
+    let kept = kept_as i.machine i.processes.items i.directory.entries i.areas.items i.directory.files i.blocks_used i.fails_taken (shown_accesses i.kept) t c.self.view_is i.commit c.self.invariant in
     let old = g.G.Pages.contents c.args.g.now in
     let s = g.G.Pages.store c.args.g.now in
     let new = g.G.Pages.contents c.release_pages-freed.new.g in
@@ -133,10 +139,10 @@ invariant_of-self g c =
     let i = c.self.inside in
     let t = c.args.self.now in
     let o = c.index_mut.result.now in
-    let h = standing i.machine i.processes.items i.directory.entries i.areas.items i.directory.files i.blocks_used i.fails_taken t c.self.view_is c.args.pid.0 o c.requires.lives c.index_mut.ensures.value in
+    let h = standing i.machine i.processes.items i.directory.entries i.areas.items i.directory.files i.blocks_used i.fails_taken (shown_accesses i.kept) t c.self.view_is c.args.pid.0 o c.requires.lives c.index_mut.ensures.value in
     let p = shown_process h.process in
     let same = standing_regions t c.args.pid.0 i.processes.items o h in
-    let kept = kept_as i.machine i.processes.items i.directory.entries i.areas.items i.directory.files i.blocks_used i.fails_taken t c.self.view_is i.commit c.self.invariant in
+    let kept = kept_as i.machine i.processes.items i.directory.entries i.areas.items i.directory.files i.blocks_used i.fails_taken (shown_accesses i.kept) t c.self.view_is i.commit c.self.invariant in
     let old = g.G.Pages.contents c.args.g.now in
     let s = g.G.Pages.store c.args.g.now in
     let new = g.G.Pages.contents c.release_pages-freed.new.g in
@@ -149,7 +155,7 @@ invariant_of-self g c =
     let ss = remove p.regions r.0.place in
     let became = subst (λ rs. Became o c.release_pages-freed.new.process (remove rs r.0.place)) same (c.release_pages-freed.ensures.changed r.0 (ap (λ rs. private_at rs c.args.addr) same ∙ r.1.0)) in
     let n = c.release_pages-freed.ensures.owned ∙ ap (λ rs. owned_in rs c.args.range) same ∙ whole_owned t c.args.pid.0 p r.0.place r.0.thing c.args.range h.lives kept.sound b.at r.1.1 in
-    still_kept i.machine i.processes.items i.directory.entries i.areas.items i.directory.files i.blocks_used i.fails_taken t c.self.view_is c.args.pid.0 o c.release_pages-freed.new.process ss i.commit c.refund.new.self (charge t - own_rows r.0.thing) h became c.self.invariant done.stands done.charged (omega (arith, kept.sound.charged))
+    still_kept i.machine i.processes.items i.directory.entries i.areas.items i.directory.files i.blocks_used i.fails_taken (shown_accesses i.kept) t c.self.view_is c.args.pid.0 o c.release_pages-freed.new.process ss i.commit c.refund.new.self (charge t - own_rows r.0.thing) h became c.self.invariant done.stands done.charged (omega (arith, kept.sound.charged))
     (omega (arith, ap (λ (k : CommitOf). k.charge) c.refund.ensures, kept.charged, n)) (ap (λ (k : CommitOf). k.limit) c.refund.ensures)
 
 pub returns-clause-changed : goal.returns-clause-changed
@@ -157,23 +163,23 @@ returns-clause-changed g c q r lives found =
     let i = c.self.inside in
     let t = c.args.self.now in
     let o = c.index_mut.result.now in
-    let h = standing i.machine i.processes.items i.directory.entries i.areas.items i.directory.files i.blocks_used i.fails_taken t c.self.view_is c.args.pid.0 o c.requires.lives c.index_mut.ensures.value in
+    let h = standing i.machine i.processes.items i.directory.entries i.areas.items i.directory.files i.blocks_used i.fails_taken (shown_accesses i.kept) t c.self.view_is c.args.pid.0 o c.requires.lives c.index_mut.ensures.value in
     let p = shown_process h.process in
     let same = standing_regions t c.args.pid.0 i.processes.items o h in
-    let kept = kept_as i.machine i.processes.items i.directory.entries i.areas.items i.directory.files i.blocks_used i.fails_taken t c.self.view_is i.commit c.self.invariant in
+    let kept = kept_as i.machine i.processes.items i.directory.entries i.areas.items i.directory.files i.blocks_used i.fails_taken (shown_accesses i.kept) t c.self.view_is i.commit c.self.invariant in
     let regions = same ∙ ap (λ (p : ProcessOf (Unit {0})). p.regions) (process_is t c.args.pid.0 p q h.lives lives) in
     let became = subst (λ rs. Became o c.release_pages-freed.new.process (remove rs r.place)) regions (c.release_pages-freed.ensures.changed r (ap (λ rs. private_at rs c.args.addr) regions ∙ found)) in
-    new_tables i.machine i.processes.items i.directory.entries i.areas.items i.directory.files i.blocks_used i.fails_taken t c.self.view_is c.args.pid.0 o c.release_pages-freed.new.process q (remove q.regions r.place) h became lives
+    new_tables i.machine i.processes.items i.directory.entries i.areas.items i.directory.files i.blocks_used i.fails_taken (shown_accesses i.kept) t c.self.view_is c.args.pid.0 o c.release_pages-freed.new.process q (remove q.regions r.place) h became lives
 
 pub returns-clause-settled : goal.returns-clause-settled
 returns-clause-settled g c =
     let i = c.self.inside in
     let t = c.args.self.now in
     let o = c.index_mut.result.now in
-    let h = standing i.machine i.processes.items i.directory.entries i.areas.items i.directory.files i.blocks_used i.fails_taken t c.self.view_is c.args.pid.0 o c.requires.lives c.index_mut.ensures.value in
+    let h = standing i.machine i.processes.items i.directory.entries i.areas.items i.directory.files i.blocks_used i.fails_taken (shown_accesses i.kept) t c.self.view_is c.args.pid.0 o c.requires.lives c.index_mut.ensures.value in
     let p = shown_process h.process in
     let same = standing_regions t c.args.pid.0 i.processes.items o h in
-    let kept = kept_as i.machine i.processes.items i.directory.entries i.areas.items i.directory.files i.blocks_used i.fails_taken t c.self.view_is i.commit c.self.invariant in
+    let kept = kept_as i.machine i.processes.items i.directory.entries i.areas.items i.directory.files i.blocks_used i.fails_taken (shown_accesses i.kept) t c.self.view_is i.commit c.self.invariant in
     let old = g.G.Pages.contents c.args.g.now in
     let s = g.G.Pages.store c.args.g.now in
     let new = g.G.Pages.contents c.release_pages-freed.new.g in
@@ -186,4 +192,29 @@ returns-clause-settled g c =
     let ss = remove p.regions r.0.place in
     let became = subst (λ rs. Became o c.release_pages-freed.new.process (remove rs r.0.place)) same (c.release_pages-freed.ensures.changed r.0 (ap (λ rs. private_at rs c.args.addr) same ∙ r.1.0)) in
     let n = c.release_pages-freed.ensures.owned ∙ ap (λ rs. owned_in rs c.args.range) same ∙ whole_owned t c.args.pid.0 p r.0.place r.0.thing c.args.range h.lives kept.sound b.at r.1.1 in
-    settled_as (set_regions t c.args.pid.0 p ss) _ old new s z (new_tables i.machine i.processes.items i.directory.entries i.areas.items i.directory.files i.blocks_used i.fails_taken t c.self.view_is c.args.pid.0 o c.release_pages-freed.new.process p ss h became h.lives) done.settled
+    settled_as (set_regions t c.args.pid.0 p ss) _ old new s z (new_tables i.machine i.processes.items i.directory.entries i.areas.items i.directory.files i.blocks_used i.fails_taken (shown_accesses i.kept) t c.self.view_is c.args.pid.0 o c.release_pages-freed.new.process p ss h became h.lives) done.settled
+
+pub returns-clause-among : goal.returns-clause-among
+returns-clause-among g c =
+    let i = c.self.inside in
+    let t = c.args.self.now in
+    let o = c.index_mut.result.now in
+    let h = standing i.machine i.processes.items i.directory.entries i.areas.items i.directory.files i.blocks_used i.fails_taken (shown_accesses i.kept) t c.self.view_is c.args.pid.0 o c.requires.lives c.index_mut.ensures.value in
+    let p = shown_process h.process in
+    let same = standing_regions t c.args.pid.0 i.processes.items o h in
+    let kept = kept_as i.machine i.processes.items i.directory.entries i.areas.items i.directory.files i.blocks_used i.fails_taken (shown_accesses i.kept) t c.self.view_is i.commit c.self.invariant in
+    let old = g.G.Pages.contents c.args.g.now in
+    let s = g.G.Pages.store c.args.g.now in
+    let new = g.G.Pages.contents c.release_pages-freed.new.g in
+    let z = g.G.Pages.store c.release_pages-freed.new.g in
+    let r = pages_found (private_at p.regions c.args.addr) c.args.range (c.requires.there p h.lives) in
+    let b = begins p.regions c.args.addr r.0 r.1.0 in
+    let inside = whole_inside r.0.thing c.args.range r.1.1 in
+    let done = release_done t c.args.pid p c.args.range old new s z h.lives kept.sound c.requires.fits r.0.place r.0.thing b.at r.1.1 b.private
+    c.release_pages-freed.ensures.stored c.release_pages-freed.ensures.counted c.release_pages-freed.ensures.room in
+    let ss = remove p.regions r.0.place in
+    let became = subst (λ rs. Became o c.release_pages-freed.new.process (remove rs r.0.place)) same (c.release_pages-freed.ensures.changed r.0 (ap (λ rs. private_at rs c.args.addr) same ∙ r.1.0)) in
+    subst (λ (w : Tables). AreAmong (is_uncommitted w) 0 end_of_user_pages c.args.pid c.args.range)
+    (sym (new_tables i.machine i.processes.items i.directory.entries i.areas.items i.directory.files i.blocks_used i.fails_taken (shown_accesses i.kept) t c.self.view_is c.args.pid.0 o c.release_pages-freed.new.process p ss h became h.lives))
+    (among_unbound (set_regions t c.args.pid.0 p ss) new z c.args.pid c.args.range done.settled.fits
+    (stored_unbound c.args.pid c.args.range Ends true old new s z (ends t c.args.pid p old s h.lives kept.sound c.requires.fits r.0.place r.0.thing c.args.range b.at inside) c.release_pages-freed.ensures.stored))

@@ -1,11 +1,11 @@
 use Rattle.std.proofs.Common.{ap, arith}
 use Rattle.mm_world.specs.Contents.{Tables}
-use Rattle.mm_tables.specs.Shown.{shown_processes, tables_with}
+use Rattle.mm_tables.specs.Shown.{shown_processes, tables_with, shown_accesses}
 use Rattle.mm_tables.proofs.Grown.{fail_kept}
 use Rattle.mm_tables.proofs.tables.Tables.take_fail.Goals as goal
 
 pub invariant_of-self : goal.invariant_of-self
 invariant_of-self c =
     let i = c.self.inside in
-    fail_kept (tables_with i.machine (shown_processes i.processes.items) i.directory.entries i.areas.items i.directory.files i.blocks_used i.fails_taken) i.directory.entries i.commit c.self.invariant
+    fail_kept (tables_with i.machine (shown_processes i.processes.items) i.directory.entries i.areas.items i.directory.files i.blocks_used i.fails_taken (shown_accesses i.kept)) i.directory.entries i.commit c.self.invariant
     (omega (arith, c.requires.most, ap (λ (t : Tables). t.fails_taken) c.self.view_is))

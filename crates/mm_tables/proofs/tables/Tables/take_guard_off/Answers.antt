@@ -5,7 +5,7 @@ use Rattle.mm_world.specs.Find.{region_with}
 use Rattle.mm_world.specs.Keys.{committed_at}
 use Rattle.mm_world.proofs.Finding.{committed_is}
 use Rattle.mm_tables.specs.Fits.{Fits}
-use Rattle.mm_tables.specs.Shown.{shown_process}
+use Rattle.mm_tables.specs.Shown.{shown_process, shown_accesses}
 use Rattle.mm_tables.specs.Spaces.{Became}
 use Rattle.mm_tables.proofs.Looking.{some_found}
 use Rattle.mm_tables.proofs.OneProcess.{process_is}
@@ -17,7 +17,7 @@ use Rattle.mm_tables.proofs.tables.Tables.take_guard_off.Goals as goal
 pub take_guard_off-requires-clause-lives : goal.take_guard_off-requires-clause-lives
 take_guard_off-requires-clause-lives c =
     let i = c.self.inside in
-    let h = standing i.machine i.processes.items i.directory.entries i.areas.items i.directory.files i.blocks_used i.fails_taken c.args.self.now c.self.view_is c.args.pid.0 c.index_mut.result.now c.requires.lives c.index_mut.ensures.value in
+    let h = standing i.machine i.processes.items i.directory.entries i.areas.items i.directory.files i.blocks_used i.fails_taken (shown_accesses i.kept) c.args.self.now c.self.view_is c.args.pid.0 c.index_mut.result.now c.requires.lives c.index_mut.ensures.value in
     ap is_some h.is
 
 pub take_guard_off-requires-clause-there : goal.take_guard_off-requires-clause-there
@@ -25,7 +25,7 @@ take_guard_off-requires-clause-there c =
     let i = c.self.inside in
     let t = c.args.self.now in
     let o = c.index_mut.result.now in
-    let h = standing i.machine i.processes.items i.directory.entries i.areas.items i.directory.files i.blocks_used i.fails_taken t c.self.view_is c.args.pid.0 o c.requires.lives c.index_mut.ensures.value in
+    let h = standing i.machine i.processes.items i.directory.entries i.areas.items i.directory.files i.blocks_used i.fails_taken (shown_accesses i.kept) t c.self.view_is c.args.pid.0 o c.requires.lives c.index_mut.ensures.value in
     let p = shown_process h.process in
     let k = some_found (committed_at t p.regions c.args.page) (c.requires.committed p h.lives) in
     ap (λ rs. is_some (region_with rs c.args.page)) (standing_regions t c.args.pid.0 i.processes.items o h) ∙ ap is_some (committed_is t p.regions c.args.page k.0 k.1).region
@@ -37,7 +37,7 @@ invariant_of-self c =
     let pid = c.args.pid.0 in
     let page = c.args.page in
     let o = c.index_mut.result.now in
-    let h = standing i.machine i.processes.items i.directory.entries i.areas.items i.directory.files i.blocks_used i.fails_taken t c.self.view_is pid o c.requires.lives c.index_mut.ensures.value in
+    let h = standing i.machine i.processes.items i.directory.entries i.areas.items i.directory.files i.blocks_used i.fails_taken (shown_accesses i.kept) t c.self.view_is pid o c.requires.lives c.index_mut.ensures.value in
     let p = shown_process h.process in
     let k = some_found (committed_at t p.regions page) (c.requires.committed p h.lives) in
     let is = committed_is t p.regions page k.0 k.1 in
@@ -45,8 +45,8 @@ invariant_of-self c =
     let r = k.0.region in
     let new : RegionOf (Unit {0}) = record r.thing { rows = set r.thing.rows (page - r.thing.base) (record (k.0.row) { guard = false }) } in
     let became = subst (λ rs. Became o c.take_guard_off.new.process (set rs r.place new)) same (c.take_guard_off.ensures.changed r k.0.row (ap (λ rs. region_with rs page) same ∙ is.region) is.row_there) in
-    let kept = kept_as i.machine i.processes.items i.directory.entries i.areas.items i.directory.files i.blocks_used i.fails_taken t c.self.view_is i.commit c.self.invariant in
-    still_kept i.machine i.processes.items i.directory.entries i.areas.items i.directory.files i.blocks_used i.fails_taken t c.self.view_is pid o c.take_guard_off.new.process (set p.regions r.place new) i.commit i.commit i.commit.charge h became c.self.invariant
+    let kept = kept_as i.machine i.processes.items i.directory.entries i.areas.items i.directory.files i.blocks_used i.fails_taken (shown_accesses i.kept) t c.self.view_is i.commit c.self.invariant in
+    still_kept i.machine i.processes.items i.directory.entries i.areas.items i.directory.files i.blocks_used i.fails_taken (shown_accesses i.kept) t c.self.view_is pid o c.take_guard_off.new.process (set p.regions r.place new) i.commit i.commit i.commit.charge h became c.self.invariant
     (guard_stands t c.args.pid p page k.0 h.lives k.1 kept.sound)
     (guard_charge t c.args.pid p page k.0 h.lives k.1 kept.sound ∙ sym kept.charged) (omega (arith, kept.charged, kept.sound.charged)) refl refl
 
@@ -57,13 +57,13 @@ returns-clause-off c p k lives there =
     let pid = c.args.pid.0 in
     let page = c.args.page in
     let o = c.index_mut.result.now in
-    let h = standing i.machine i.processes.items i.directory.entries i.areas.items i.directory.files i.blocks_used i.fails_taken t c.self.view_is pid o c.requires.lives c.index_mut.ensures.value in
+    let h = standing i.machine i.processes.items i.directory.entries i.areas.items i.directory.files i.blocks_used i.fails_taken (shown_accesses i.kept) t c.self.view_is pid o c.requires.lives c.index_mut.ensures.value in
     let same = standing_regions t pid i.processes.items o h ∙ ap (λ (p : ProcessOf (Unit {0})). p.regions) (process_is t pid (shown_process h.process) p h.lives lives) in
     let is = committed_is t p.regions page k there in
     let r = k.region in
     let new : RegionOf (Unit {0}) = record r.thing { rows = set r.thing.rows (page - r.thing.base) (record (k.row) { guard = false }) } in
     let became = subst (λ rs. Became o c.take_guard_off.new.process (set rs r.place new)) same (c.take_guard_off.ensures.changed r k.row (ap (λ rs. region_with rs page) same ∙ is.region) is.row_there) in
-    new_tables i.machine i.processes.items i.directory.entries i.areas.items i.directory.files i.blocks_used i.fails_taken t c.self.view_is pid o c.take_guard_off.new.process p (set p.regions r.place new) h became lives
+    new_tables i.machine i.processes.items i.directory.entries i.areas.items i.directory.files i.blocks_used i.fails_taken (shown_accesses i.kept) t c.self.view_is pid o c.take_guard_off.new.process p (set p.regions r.place new) h became lives
 
 pub returns-clause-fits : goal.returns-clause-fits
 returns-clause-fits c contents s f =
@@ -72,7 +72,7 @@ returns-clause-fits c contents s f =
     let pid = c.args.pid.0 in
     let page = c.args.page in
     let o = c.index_mut.result.now in
-    let h = standing i.machine i.processes.items i.directory.entries i.areas.items i.directory.files i.blocks_used i.fails_taken t c.self.view_is pid o c.requires.lives c.index_mut.ensures.value in
+    let h = standing i.machine i.processes.items i.directory.entries i.areas.items i.directory.files i.blocks_used i.fails_taken (shown_accesses i.kept) t c.self.view_is pid o c.requires.lives c.index_mut.ensures.value in
     let p = shown_process h.process in
     let k = some_found (committed_at t p.regions page) (c.requires.committed p h.lives) in
     let is = committed_is t p.regions page k.0 k.1 in
@@ -80,6 +80,6 @@ returns-clause-fits c contents s f =
     let r = k.0.region in
     let new : RegionOf (Unit {0}) = record r.thing { rows = set r.thing.rows (page - r.thing.base) (record (k.0.row) { guard = false }) } in
     let became = subst (λ rs. Became o c.take_guard_off.new.process (set rs r.place new)) same (c.take_guard_off.ensures.changed r k.0.row (ap (λ rs. region_with rs page) same ∙ is.region) is.row_there) in
-    let kept = kept_as i.machine i.processes.items i.directory.entries i.areas.items i.directory.files i.blocks_used i.fails_taken t c.self.view_is i.commit c.self.invariant in
-    subst (λ (t : Tables). Fits t contents s) (sym (new_tables i.machine i.processes.items i.directory.entries i.areas.items i.directory.files i.blocks_used i.fails_taken t c.self.view_is pid o c.take_guard_off.new.process p (set p.regions r.place new) h became h.lives))
+    let kept = kept_as i.machine i.processes.items i.directory.entries i.areas.items i.directory.files i.blocks_used i.fails_taken (shown_accesses i.kept) t c.self.view_is i.commit c.self.invariant in
+    subst (λ (t : Tables). Fits t contents s) (sym (new_tables i.machine i.processes.items i.directory.entries i.areas.items i.directory.files i.blocks_used i.fails_taken (shown_accesses i.kept) t c.self.view_is pid o c.take_guard_off.new.process p (set p.regions r.place new) h became h.lives))
     (guard_moved t c.args.pid p page k.0 h.lives k.1 kept.sound contents s f)

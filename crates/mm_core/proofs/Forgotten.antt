@@ -1,0 +1,125 @@
+-- Waits that are forgotten before a process ends.
+use Rattle.std.proofs.Common.{◌≡◌, ◌≢◌, ◌<◌, ◌≤◌, ℕ, ◌+◌, Bool, true, false, Option, Some, None, refl, sym, ◌∙◌, ap, subst, cond, inl, inr, arith, length, nat_lt, ◌&&◌}
+use Rattle.std.specs.Prelude.{◌==◌}
+use Rattle.std.specs.Cmp.{unsigned_Decides}
+use Rattle.std.proofs.lemmas.Bool.{lt-ltb, ltb-true, le-ltb, ltb-false}
+use Rattle.mm_types.proofs.Cells.{same_or_not}
+use Rattle.mm_types.specs.declared.answers.Answer.{Answer}
+use Rattle.mm_types.specs.declared.answers.Wait.{Wait}
+use Rattle.mm_types.specs.declared.answers.Wait.TheVariants as wait
+use Rattle.mm_types.specs.declared.events.Event.TheVariants as event
+use Rattle.mm_types.specs.declared.numbers.Key.{Key}
+use Rattle.mm_types.specs.declared.numbers.Pid.{Pid}
+use Rattle.mm_world.specs.World.{Page, KeptOf, numbered}
+use Rattle.mm_world.specs.Step.{kept_by, threads}
+use Rattle.mm_world.specs.Contents.{Tables}
+use Rattle.mm_world.proofs.Finding.{numbered_inside}
+use Rattle.mm_pages.specs.Store.{StoreOf, changed}
+use Rattle.mm_tables.specs.Fits.{Fits, beside}
+use Rattle.mm_core.specs.Forgetting.{is_of, wait_left, waits_but, waited, Forgot, EndsWaits}
+use Rattle.mm_core.specs.Deciding.{Keeps, Decided}
+
+-- ---- one thread more
+
+module _ (t : Tables) (pid : ℕ) (w y z : ℕ → Wait) (i : ℕ) where
+  abbrev of : ℕ → Bool
+  of tid = is_of pid (kept_by t tid)
+
+  at_it : (b : Bool) → b ≡ of i → z ≡ cond b (changed ◌==◌ y i wait.None) y → y i ≡ wait_left t pid i w i → z i ≡ cond b wait.None (w i)
+  at_it true e is before = ap (λ (f : ℕ → Wait). f i) is ∙ ap (λ c. cond c wait.None (y i)) ((unsigned_Decides i i).1 refl)
+  at_it false e is before = ap (λ (f : ℕ → Wait). f i) is ∙ before ∙ ap (λ c. cond (c && of i) wait.None (w i)) (le-ltb i i (omega arith))
+
+  at_other : (tid : ℕ) → tid ≢ i → (b : Bool) → z ≡ cond b (changed ◌==◌ y i wait.None) y → z tid ≡ y tid
+  at_other tid other true is = ap (λ (f : ℕ → Wait). f tid) is ∙ ap (λ c. cond c wait.None (y tid)) (not_same (tid == i) refl)
+    where
+      not_same : (c : Bool) → (tid == i) ≡ c → c ≡ false
+      not_same true e = absurd (other ((unsigned_Decides tid i).0 e))
+      not_same false e = refl
+  at_other tid other false is = ap (λ (f : ℕ → Wait). f tid) is
+
+  same_test : (tid : ℕ) → tid ≢ i → nat_lt tid i ≡ nat_lt tid (i + 1)
+  same_test tid other = by_test (nat_lt tid i) refl
+    where
+      by_test : (x : Bool) → nat_lt tid i ≡ x → x ≡ nat_lt tid (i + 1)
+      by_test true e = let l = ltb-true tid i e in sym (lt-ltb tid (i + 1) (omega arith))
+      by_test false e = let l = ltb-false tid i e in sym (le-ltb tid (i + 1) (omega arith))
+
+  pub left_one_more : ((tid : ℕ) → y tid ≡ wait_left t pid i w tid) → z ≡ waits_but t pid i y → (tid : ℕ) → z tid ≡ wait_left t pid (i + 1) w tid
+  left_one_more before is tid = elim (same_or_not tid i) [
+    | inl e ↦
+        subst (λ (k : ℕ). z k ≡ wait_left t pid (i + 1) w k) (sym e)
+        (at_it (of i) refl is (before i) ∙ ap (λ c. cond (c && of i) wait.None (w i)) (sym (lt-ltb i (i + 1) (omega arith))))
+    | inr other ↦
+        at_other tid other (of i) is ∙ before tid ∙ ap (λ c. cond (c && of tid) wait.None (w tid)) (same_test tid other)
+  ]
+
+-- ---- all threads
+
+module _ (t : Tables) (pid : ℕ) (s : StoreOf) where
+  pub forgot-none : Forgot t pid 0 s s
+  forgot-none = record { waits = λ tid. ap (λ c. cond (c && is_of pid (kept_by t tid)) wait.None (s.report.wait tid)) (sym (le-ltb tid 0 (omega arith))); rest = refl }
+
+  pub forgot-more : (i : ℕ) (y z : StoreOf) → Forgot t pid i s y → z ≡ waited y z → z.report.wait ≡ waits_but t pid i y.report.wait → Forgot t pid (i + 1) s z
+  forgot-more i y z h rest waits = record {
+    waits = left_one_more t pid s.report.wait y.report.wait z.report.wait i h.waits waits;
+    rest = rest ∙ ap (λ (y : StoreOf). waited y z) h.rest;
+  }
+
+-- ---- the store goes on fitting the tables
+
+pub keeps-forgot : (t : Tables) (c d : Key → Option Page) (s z : StoreOf) → Keeps t c s → d ≡ c → z ≡ waited s z → Keeps t d z
+keeps-forgot t c d s z keeps same rest =
+    let f = keeps.fits in
+    subst (λ (c : Key → Option Page). Keeps t c z) (sym same)
+    (subst (λ (z : StoreOf). Keeps t c z) (sym rest)
+    (record {
+      fits = record {
+        machine = f.machine;
+        opened = f.opened;
+        last_pid = f.last_pid;
+        areas = f.areas;
+        bound = f.bound;
+        live = f.live;
+        paging = f.paging;
+        counted = f.counted;
+        room = f.room;
+        named = f.named;
+        blocks = f.blocks;
+        used = f.used;
+        stored = f.stored;
+        named_paging = f.named_paging;
+        named_file = f.named_file;
+      };
+      few = keeps.few;
+    }))
+
+-- ---- the line
+
+module _ (u : Bool) (pid : Pid) (n : ℕ) (t : Tables) (c d : Key → Option Page) (s m : StoreOf) (a : Answer) (after : Tables) (new : Key → Option Page) (z : StoreOf) where
+  -- the devices and the world were not touched by it
+  pub decided-forgot : d ≡ c → m ≡ waited s m → Decided u (event.Exit pid) n t d m a after new z → Decided u (event.Exit pid) n t c s a after new z
+  decided-forgot same rest h =
+      from (subst (λ (m : StoreOf). Decided u (event.Exit pid) n t c m a after new z) rest (subst (λ (c : Key → Option Page). Decided u (event.Exit pid) n t c m a after new z) same h))
+    where
+      from : Decided u (event.Exit pid) n t c (waited s m) a after new z → Decided u (event.Exit pid) n t c s a after new z
+      from h = record {
+        stepped = record { decided = h.stepped.decided; told = h.stepped.told };
+        devices = record {
+          asked_files = h.devices.asked_files;
+          asked_paging = h.devices.asked_paging;
+          named = h.devices.named;
+          failed = h.devices.failed;
+          paging_later = h.devices.paging_later;
+          files_later = h.devices.files_later;
+        };
+        flushed = h.flushed;
+        keeps = h.keeps;
+        line_is = h.line_is;
+      }
+
+-- no thread waits any more whose access was of the process
+pub ends-waits : (t : Tables) (pid : Pid) (a : Answer) (s y m z : StoreOf) → length t.kept ≡ threads → Forgot t pid.0 threads s y → m.report.wait ≡ y.report.wait → z.report.wait ≡ m.report.wait → EndsWaits t (event.Exit pid) a z.report
+ends-waits t pid a s y m z count h began ended tid k kept of =
+    let below : tid < threads = omega (arith, numbered_inside t.kept tid k kept, count) in
+    let is : is_of pid.0 (kept_by t tid) ≡ true = ap (is_of pid.0) kept ∙ (unsigned_Decides k.pid pid.0).1 of in
+    ap (λ (f : ℕ → Wait). f tid) (ended ∙ began) ∙ h.waits tid ∙ (λ i. cond (lt-ltb tid threads below i && is i) wait.None (s.report.wait tid))

@@ -1,0 +1,95 @@
+use Rattle.std.proofs.Common.{◌≡◌, true, false, Some, is_some, refl, sym, ◌∙◌, ap}
+use Rattle.mm_world.specs.World.{World}
+use Rattle.mm_world.specs.Find.{process_of}
+use Rattle.mm_world.specs.Access.{address_in, attempt_in}
+use Rattle.mm_world.specs.Contents.{Tables, world_with}
+use Rattle.mm_world.specs.Step.{kept_by, keep}
+use Rattle.mm_tables.specs.Fits.{bytes_of}
+use Rattle.mm_tables.specs.Shown.{kept_of}
+use Rattle.mm_core.proofs.Accesses.{no_process}
+use Rattle.mm_core.proofs.AccessLines.{keeps-begun}
+use Rattle.mm_core.proofs.Rows.{lives-by, gone-by}
+use Rattle.mm_core.proofs.Serving.{served-quiet, quiet-same}
+use Rattle.mm_core.proofs.ThreadLines.{begin-nobody, begin-busy, begin-refused, begin-made, begin-waits}
+use Rattle.mm_core.proofs.Waiting.{kept_told, keeps_kept, tables_same}
+use Rattle.mm_core.proofs.thread_lines.begin_line.Goals as goal
+
+pub returns-then-not-begin_thread-clause-decided : goal.returns-then-not-begin_thread-clause-decided
+returns-then-not-begin_thread-clause-decided g c =
+    let t = c.args.t.now in
+    let old = g.G.Pages.contents c.args.g.now in
+    let s = g.G.Pages.store c.args.g.now in
+    let mid = g.G.Pages.contents c.begin_thread.new.g in
+    let m = g.G.Pages.store c.begin_thread.new.g in
+    let what = c.args.what.now in
+    let b = c.begin_thread.ensures in
+    let gone = gone-by t c.args.pid.0 (sym b.lives ∙ c.if-not-begin_thread.true) in
+    begin-nobody g.G.Pages.unpaged c.args.line t old mid s m b.contents b.begins c.args.tid c.args.pid what
+    (keeps-begun c.args.line t old mid s m c.requires.keeps c.requires.next b.begins b.fits) (served-quiet m m (quiet-same m m refl)) gone
+    (no_process t (bytes_of mid) c.args.pid.0 (address_in what) (attempt_in what) gone)
+
+pub returns-then-busy-clause-decided : goal.returns-then-busy-clause-decided
+returns-then-busy-clause-decided g c =
+    let t = c.args.t.now in
+    let old = g.G.Pages.contents c.args.g.now in
+    let s = g.G.Pages.store c.args.g.now in
+    let mid = g.G.Pages.contents c.begin_thread.new.g in
+    let m = g.G.Pages.store c.begin_thread.new.g in
+    let b = c.begin_thread.ensures in
+    begin-busy g.G.Pages.unpaged c.args.line t old mid s m b.contents b.begins c.args.tid c.args.pid c.args.what.now
+    (keeps-begun c.args.line t old mid s m c.requires.keeps c.requires.next b.begins b.fits) (served-quiet m m (quiet-same m m refl))
+    (lives-by t c.args.pid.0 (sym b.lives ∙ c.if-not-begin_thread.false))
+    (kept_told kept_of c.kept.result (kept_by t c.args.tid.0) c.kept.ensures.kept ∙ sym c.is_some-busy.ensures ∙ c.if-busy.true)
+
+pub keep-requires-clause-lives : goal.keep-requires-clause-lives
+keep-requires-clause-lives g c =
+    let same = tables_same c.access_on.new.t c.args.t.now (bytes_of (g.G.Pages.contents c.access_on.new.g)) (bytes_of (g.G.Pages.contents c.begin_thread.new.g)) c.in-Waiting.ensures.turned.2 in
+    ap (λ (t : Tables). is_some (process_of t c.args.pid.0)) same ∙ sym c.begin_thread.ensures.lives ∙ c.if-not-begin_thread.false
+
+pub returns-in-Waiting-clause-decided : goal.returns-in-Waiting-clause-decided
+returns-in-Waiting-clause-decided g c =
+    let t = c.args.t.now in
+    let old = g.G.Pages.contents c.args.g.now in
+    let s = g.G.Pages.store c.args.g.now in
+    let mid = g.G.Pages.contents c.begin_thread.new.g in
+    let m = g.G.Pages.store c.begin_thread.new.g in
+    let new = g.G.Pages.contents c.access_on.new.g in
+    let z = g.G.Pages.store c.access_on.new.g in
+    let b = c.begin_thread.ensures in
+    let h = c.in-Waiting.ensures in
+    begin-waits g.G.Pages.unpaged c.args.line t old mid s m b.contents b.begins c.args.tid c.args.pid c.args.what.now
+    (lives-by t c.args.pid.0 (sym b.lives ∙ c.if-not-begin_thread.false))
+    (kept_told kept_of c.kept.result (kept_by t c.args.tid.0) c.kept.ensures.kept ∙ sym c.is_some-busy.ensures ∙ c.if-busy.false)
+    c.keep.new.self new z (keeps_kept c.access_on.new.t c.keep.new.self new z c.args.tid.0 _ h.keeps c.keep.ensures.kept (c.keep.ensures.fits new z h.keeps.fits)) h.line
+    c.in-Waiting.why (λ e. h.unpaged e c.in-Waiting.why refl) h.turned.1
+    (ap (λ (t : Tables). world_with t (bytes_of new)) c.keep.ensures.kept ∙ ap (λ (w : World). keep w c.args.tid.0 (Some (record { pid = c.args.pid.0; access = c.args.what.now }))) h.turned.2)
+
+pub returns-in-Refused-clause-decided : goal.returns-in-Refused-clause-decided
+returns-in-Refused-clause-decided g c =
+    let t = c.args.t.now in
+    let old = g.G.Pages.contents c.args.g.now in
+    let s = g.G.Pages.store c.args.g.now in
+    let mid = g.G.Pages.contents c.begin_thread.new.g in
+    let m = g.G.Pages.store c.begin_thread.new.g in
+    let z = g.G.Pages.store c.access_on.new.g in
+    let b = c.begin_thread.ensures in
+    let h = c.in-Refused.ensures in
+    begin-refused g.G.Pages.unpaged c.args.line t old mid s m b.contents b.begins c.args.tid c.args.pid c.args.what.now
+    (lives-by t c.args.pid.0 (sym b.lives ∙ c.if-not-begin_thread.false))
+    (kept_told kept_of c.kept.result (kept_by t c.args.tid.0) c.kept.ensures.kept ∙ sym c.is_some-busy.ensures ∙ c.if-busy.false)
+    c.access_on.new.t (g.G.Pages.contents c.access_on.new.g) z h.keeps h.line c.in-Refused.answer (served-quiet m z (quiet-same m z h.turned.1)) h.turned.0
+
+pub returns-in-Made-clause-decided : goal.returns-in-Made-clause-decided
+returns-in-Made-clause-decided g c =
+    let t = c.args.t.now in
+    let old = g.G.Pages.contents c.args.g.now in
+    let s = g.G.Pages.store c.args.g.now in
+    let mid = g.G.Pages.contents c.begin_thread.new.g in
+    let m = g.G.Pages.store c.begin_thread.new.g in
+    let z = g.G.Pages.store c.access_on.new.g in
+    let b = c.begin_thread.ensures in
+    let h = c.in-Made.ensures in
+    begin-made g.G.Pages.unpaged c.args.line t old mid s m b.contents b.begins c.args.tid c.args.pid c.args.what.now
+    (lives-by t c.args.pid.0 (sym b.lives ∙ c.if-not-begin_thread.false))
+    (kept_told kept_of c.kept.result (kept_by t c.args.tid.0) c.kept.ensures.kept ∙ sym c.is_some-busy.ensures ∙ c.if-busy.false)
+    c.access_on.new.t (g.G.Pages.contents c.access_on.new.g) z h.keeps h.line c.in-Made.answer h.turned.1

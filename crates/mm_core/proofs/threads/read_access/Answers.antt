@@ -1,0 +1,21 @@
+use Rattle.std.proofs.Common.{refl, sym, subst, ap}
+use Rattle.mm_world.specs.Contents.{Tables, world_with}
+use Rattle.mm_world.specs.WellFormed.{Spaces}
+use Rattle.mm_tables.specs.Fits.{bytes_of}
+use Rattle.mm_core.proofs.Accesses.{read-needs}
+use Rattle.mm_core.proofs.threads.read_access.Goals as goal
+
+pub returns-in-Err-clause-keeps : goal.returns-in-Err-clause-keeps
+returns-in-Err-clause-keeps g c = c.admit.ensures.keeps _ _ c.requires.keeps
+
+pub returns-then-failed-clause-turned : goal.returns-then-failed-clause-turned
+returns-then-failed-clause-turned g c =
+    let old = bytes_of (g.G.Pages.contents c.args.g.now) in (
+      c.if-failed.true,
+      record { need = _; needs = read-needs c.args.t.now old c.args.pid.0 c.args.addr c.args.len c.in-Ok.row c.in-Ok.ensures.admitted },
+      refl,
+      ap (λ (t : Tables). world_with t old) c.in-Ok.ensures.unchanged,
+    )
+
+pub read_on-requires-clause-spaces : goal.read_on-requires-clause-spaces
+read_on-requires-clause-spaces g c = subst (λ (v : Tables). Spaces v) (sym c.in-Ok.ensures.unchanged) c.sound.ensures.sound.spaces

@@ -1,0 +1,40 @@
+-- Accesses of threads, which may have to wait.
+use Rattle.std.specs.Prelude.{◌≡◌, ℕ, Bool, true, false, Option, Some, None}
+use Rattle.mm_types.specs.declared.answers.Answer.{Answer}
+use Rattle.mm_types.specs.declared.answers.Why.{Why}
+use Rattle.mm_world.specs.World.{World}
+use Rattle.mm_world.specs.Access.{Attempt, access}
+use Rattle.mm_world.specs.Failure.{Need, pending}
+use Rattle.mm_world.specs.Step.{need_at}
+use Rattle.mm_pages.specs.Store.{StoreOf}
+use Rattle.mm_pages.specs.Reports.{Served}
+use Rattle.mm_core.specs.declared.threads.Threaded.{Threaded}
+use Rattle.mm_core.specs.declared.threads.Threaded.TheVariants as threaded
+use Rattle.mm_core.specs.Accessing.{Refuses}
+
+-- a permitted access of a thread has to wait, by the reports before and after
+pub record Waits (depth : ℕ) (w : World) (pid addr : ℕ) (what : Attempt) (m z : StoreOf) (why : Why) : Type 0 where
+  pub need : Need
+  pub needs : need_at w pid addr what ≡ Some need
+  pub pends : pending depth need m.report z.report ≡ Some why
+  pub served : Served m z
+
+-- it had what it needs, and was made
+pub record Went (depth : ℕ) (w : World) (pid addr : ℕ) (what : Attempt) (m z : StoreOf) (a : Answer) (v : World) : Type 0 where
+  pub need : Need
+  pub needs : need_at w pid addr what ≡ Some need
+  pub ready : pending depth need m.report z.report ≡ None
+  pub outcome : access w pid addr what ≡ record { answer = a; world = v }
+  pub served : Served m z
+
+-- the access is permitted
+pub record Permitted (w : World) (pid addr : ℕ) (what : Attempt) : Type 0 where
+  pub need : Need
+  pub needs : need_at w pid addr what ≡ Some need
+
+-- how an access of a thread went, whose wait failed or not
+abbrev pub Turned : Threaded → Bool → ℕ → World → ℕ → ℕ → Attempt → StoreOf → StoreOf → World → Type 0
+Turned (threaded.Refused a) failed depth w pid addr what m z v = Refuses w pid addr what a v × (z ≡ m)
+Turned threaded.Failed failed depth w pid addr what m z v = (failed ≡ true) × Permitted w pid addr what × (z ≡ m) × (v ≡ w)
+Turned (threaded.Made a) failed depth w pid addr what m z v = (failed ≡ false) × Went depth w pid addr what m z a v
+Turned (threaded.Waiting why) failed depth w pid addr what m z v = (failed ≡ false) × Waits depth w pid addr what m z why × (v ≡ w)

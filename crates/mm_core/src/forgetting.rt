@@ -1,0 +1,43 @@
+ghost use Rattle.std.specs.Prelude.{◌≡◌};
+ghost use Rattle.mm_world.specs.Step.{kept_by};
+ghost use Rattle.mm_core.specs.Forgetting.{Forgot, is_of, waits_but, waited};
+
+use mm_pages::Pages;
+use mm_tables::Tables;
+use mm_types::{Pid, Tid};
+
+/// How many threads there are.
+const THREADS: u16 = 256;
+
+/// Whether a thread keeps an access of the process.
+fn keeps_of(t: &Tables, tid: Tid, pid: Pid) -> bool
+    ensures { result ≡ is_of pid.0 (kept_by t.now tid.0) }
+{
+    match t.kept(tid) {
+        Some(kept) => kept.pid.0 == pid.0,
+        None => false,
+    }
+}
+
+/// A thread waits for nothing any more, if it keeps an access of the process.
+fn forget_wait<G: Pages>(t: &Tables, g: &mut G, tid: Tid, pid: Pid)
+    ensures waits { (G.store g.new).report.wait ≡ waits_but t.now pid.0 tid.0 (G.store g.old).report.wait }
+    ensures rest { G.store g.new ≡ waited (G.store g.old) (G.store g.new) }
+    ensures contents { G.contents g.new ≡ G.contents g.old }
+    ensures loans { G.loans g.new ≡ G.loans g.old }
+{
+    if keeps_of(t, tid, pid) {
+        g.forget(tid);
+    }
+}
+
+/// No thread that keeps an access of the process waits any more.
+pub(crate) fn forget_waits<G: Pages>(t: &Tables, g: &mut G, pid: Pid)
+    ensures forgot { Forgot t.now pid.0 256 (G.store g.old) (G.store g.new) }
+    ensures contents { G.contents g.new ≡ G.contents g.old }
+    ensures loans { G.loans g.new ≡ G.loans g.old }
+{
+    for tid in 0..THREADS {
+        forget_wait(t, g, Tid(tid as u8), pid);
+    }
+}

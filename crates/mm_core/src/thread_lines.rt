@@ -1,0 +1,162 @@
+ghost use Rattle.std.specs.Prelude.{◌≡◌, ◌+◌, ℕ, not, ◌&&◌, true, false, is_some, Some, None};
+ghost use Rattle.mm_types.specs.declared.answers.Wait.TheVariants as wait;
+ghost use Rattle.mm_types.specs.declared.events.Event.TheVariants as event;
+ghost use Rattle.mm_types.specs.declared.moves.LineKind.TheVariants as line_kind;
+ghost use Rattle.mm_world.specs.Access.{address_in, attempt_in};
+ghost use Rattle.mm_world.specs.Contents.{world_with};
+ghost use Rattle.mm_world.specs.Failure.{wait_failed};
+ghost use Rattle.mm_world.specs.Find.{process_of};
+ghost use Rattle.mm_pages.specs.Reports.{IsBegun};
+ghost use Rattle.mm_tables.specs.Fits.{Fits, bytes_of};
+ghost use Rattle.mm_tables.specs.Threads.{FitsPage};
+ghost use Rattle.mm_core.specs.Pending.{Turned};
+ghost use Rattle.mm_core.specs.declared.threads.Threaded.TheVariants as threaded;
+ghost use Rattle.mm_core.specs.Deciding.{Keeps, Begins, Decided};
+ghost use Rattle.mm_core.specs.Forgetting.{waited, EndsWaits};
+ghost use Rattle.mm_world.specs.Step.{keep};
+ghost use Rattle.mm_types.specs.declared.answers.Why.{Why};
+
+use crate::beginning::begin;
+use crate::threads::{Threaded, read_access, write_access};
+use mm_pages::Pages;
+use mm_tables::Tables;
+use mm_types::{AccessSpec, Answer, Code, LineKind, Pid, Raise, Tid, Wait};
+
+/// A thread reads or writes.
+fn access_on<G: Pages>(
+    t: &mut Tables,
+    g: &mut G,
+    tid: Tid,
+    pid: Pid,
+    what: &AccessSpec,
+    failed: bool,
+) -> Threaded
+    requires lives { is_some (process_of t.old pid.0) ≡ true }
+    requires keeps { Keeps t.old (G.contents g.old) (G.store g.old) }
+    requires form { (G.store g.old).kind ≡ line_kind.Thread pid }
+    requires begun { IsBegun (G.store g.old).report }
+    requires fits { FitsPage what.now }
+    ensures turned { Turned result failed t.old.machine.depth (world_with t.old (bytes_of (G.contents g.old))) pid.0 (address_in what.now) (attempt_in what.now) (G.store g.old) (G.store g.new) (world_with t.new (bytes_of (G.contents g.new))) }
+    ensures keeps { Keeps t.new (G.contents g.new) (G.store g.new) }
+    ensures line { (G.store g.new).line ≡ (G.store g.old).line }
+    ensures unpaged { G.unpaged ≡ true → (why : Why) → result ≡ threaded.Waiting why → ⊥ }
+    ensures loans { G.loans g.new ≡ G.loans g.old }
+{
+    match what {
+        AccessSpec::Read(addr, len) => read_access(t, g, tid, pid, *addr, *len, failed),
+        AccessSpec::Write(addr, bytes) => write_access(t, g, tid, pid, *addr, bytes, failed),
+    }
+}
+
+/// Begins the line of a thread's access to a process, and tells whether that lives. A thread that is busy accesses nothing.
+fn begin_thread<G: Pages>(t: &Tables, g: &mut G, line: u32, pid: Pid, busy: bool) -> bool
+    requires fits { Fits t.now (G.contents g.old) (G.store g.old) }
+    requires next { line ≡ (G.store g.old).line + 1 }
+    ensures lives { result ≡ is_some (process_of t.now pid.0) }
+    ensures fits { Fits t.now (G.contents g.new) (G.store g.new) }
+    ensures begins { Begins line (G.store g.old) (G.store g.new) }
+    ensures form { result ≡ true → busy ≡ false → (G.store g.new).kind ≡ line_kind.Thread pid }
+    ensures contents { G.contents g.new ≡ G.contents g.old }
+    ensures loans { G.loans g.new ≡ G.loans g.old }
+{
+    let lives = t.has(pid);
+    if lives && !busy {
+        begin(g, line, LineKind::Thread(pid));
+    } else {
+        begin(g, line, LineKind::Call);
+    }
+    lives
+}
+
+/// Decides a `begin` line (own): an access of a thread that waits for no device. The thread keeps an access that has to wait.
+pub(crate) fn begin_line<G: Pages>(
+    t: &mut Tables,
+    g: &mut G,
+    line: u32,
+    tid: Tid,
+    pid: Pid,
+    what: &AccessSpec,
+) -> Answer
+    requires keeps { Keeps t.old (G.contents g.old) (G.store g.old) }
+    requires next { line ≡ (G.store g.old).line + 1 }
+    requires fits { FitsPage what.now }
+    ensures decided { Decided G.unpaged (event.Begin tid pid what.now) line t.old (G.contents g.old) (G.store g.old) result t.new (G.contents g.new) (G.store g.new) }
+    ensures loans { G.loans g.new ≡ G.loans g.old }
+{
+    let busy = t.kept(tid).is_some();
+    if !begin_thread(t, g, line, pid, busy) {
+        return Answer::Error(Code::InvalidHandle);
+    }
+    if busy {
+        return Answer::Busy;
+    }
+    match access_on(t, g, tid, pid, what, false) {
+        Threaded::Refused(answer) => answer,
+        Threaded::Made(answer) => answer,
+        Threaded::Failed => unreachable!(),
+        Threaded::Waiting(why) => {
+            t.keep(tid, pid, what);
+            Answer::Pending(why)
+        }
+    }
+}
+
+/// Whether the read that a thread waited for has failed.
+fn has_failed<G: Pages>(g: &G, tid: Tid) -> bool
+    ensures { result ≡ wait_failed ((G.store g.now).report.wait tid.0) }
+{
+    match g.outcome(tid) {
+        Wait::Failed => true,
+        _ => false,
+    }
+}
+
+/// A thread's access has ended: it keeps none, and waits for nothing.
+fn end_access<G: Pages>(t: &mut Tables, g: &mut G, tid: Tid)
+    requires keeps { Keeps t.old (G.contents g.old) (G.store g.old) }
+    ensures keeps { Keeps t.new (G.contents g.new) (G.store g.new) }
+    ensures ended { t.new ≡ keep t.old tid.0 None }
+    ensures idle { (G.store g.new).report.wait tid.0 ≡ wait.None }
+    ensures rest { G.store g.new ≡ waited (G.store g.old) (G.store g.new) }
+    ensures contents { G.contents g.new ≡ G.contents g.old }
+    ensures loans { G.loans g.new ≡ G.loans g.old }
+{
+    g.forget(tid);
+    t.end_kept(tid);
+}
+
+/// Decides a `resume` line (own): the access that a thread keeps is decided anew, in the world that there is now. Any answer but
+/// `pending` ends it.
+pub(crate) fn resume_line<G: Pages>(t: &mut Tables, g: &mut G, line: u32, tid: Tid) -> Answer
+    requires keeps { Keeps t.old (G.contents g.old) (G.store g.old) }
+    requires next { line ≡ (G.store g.old).line + 1 }
+    requires idle { G.unpaged ≡ true → (n : ℕ) → (G.store g.old).report.wait n ≡ wait.None }
+    ensures decided { Decided G.unpaged (event.Resume tid) line t.old (G.contents g.old) (G.store g.old) result t.new (G.contents g.new) (G.store g.new) }
+    ensures waits { EndsWaits t.old (event.Resume tid) result (G.store g.new).report }
+    ensures loans { G.loans g.new ≡ G.loans g.old }
+{
+    let kept = match t.kept(tid) {
+        Some(kept) => kept,
+        None => {
+            begin(g, line, LineKind::Call);
+            return Answer::Nothing;
+        }
+    };
+    begin(g, line, LineKind::Thread(kept.pid));
+    let failed = has_failed(g, tid);
+    match access_on(t, g, tid, kept.pid, &kept.access, failed) {
+        Threaded::Waiting(why) => Answer::Pending(why),
+        Threaded::Made(answer) => {
+            end_access(t, g, tid);
+            answer
+        }
+        Threaded::Refused(answer) => {
+            end_access(t, g, tid);
+            answer
+        }
+        Threaded::Failed => {
+            end_access(t, g, tid);
+            Answer::Raised(Raise::InPageError)
+        }
+    }
+}

@@ -1,0 +1,212 @@
+ghost use Rattle.std.specs.Prelude.{◌≡◌, ◌≤◌, ◌+◌, ◌%◌, ℕ, true, false, Some, None, is_some, IsOk, IfOk, IfErr, OnErr, length};
+ghost use Rattle.mm_types.specs.declared.moves.LineKind.TheVariants as line_kind;
+ghost use Rattle.mm_types.specs.declared.protections.Access.TheVariants as access_kind;
+ghost use Rattle.mm_types.specs.Address.{page_of};
+ghost use Rattle.mm_world.specs.Access.{ReadOf, WriteOf};
+ghost use Rattle.mm_world.specs.Contents.{world_with};
+ghost use Rattle.mm_world.specs.WellFormed.{Spaces};
+ghost use Rattle.mm_pages.specs.Reports.{IsBegun};
+ghost use Rattle.mm_pages.specs.Conditions.{place_at};
+ghost use Rattle.mm_tables.specs.Fits.{key_at, bytes_of};
+ghost use Rattle.mm_core.specs.Accessing.{Admits};
+ghost use Rattle.mm_world.specs.Access.{address_in, attempt_in};
+ghost use Rattle.mm_world.specs.Find.{process_of};
+ghost use Rattle.mm_tables.specs.Threads.{FitsPage};
+ghost use Rattle.mm_types.specs.declared.answers.Why.{Why};
+ghost use Rattle.mm_core.specs.declared.threads.Threaded.TheVariants as threaded;
+ghost use Rattle.mm_core.specs.Pending.{Waits, Went, Turned};
+ghost use Rattle.mm_core.specs.Deciding.{Keeps};
+
+use crate::access_lines::{read_at, write_at, write_to_copy};
+use crate::fetching::place_of;
+use crate::refusals::admit;
+use mm_pages::{Need, Pages, Start};
+use mm_tables::{CommittedRow, Tables};
+use mm_types::{Access, AccessSpec, Answer, ByteBuf, Pid, Tid, Why};
+
+/// How an access of a thread went.
+pub(crate) enum Threaded {
+    /// It is refused, or met a guard.
+    Refused(Answer),
+    /// It is permitted, and the read that the thread waited for has failed.
+    Failed,
+    /// It had what it needs, and was made.
+    Made(Answer),
+    /// It has to wait.
+    Waiting(Why),
+}
+
+/// A thread reads 1 to 64 bytes, which the row of their page permits, or has to wait for the page.
+pub(crate) fn read_on<G: Pages>(
+    t: &Tables,
+    g: &mut G,
+    tid: Tid,
+    pid: Pid,
+    addr: u32,
+    row: CommittedRow,
+    len: u32,
+) -> Result<Answer, Why>
+    requires keeps { Keeps t.now (G.contents g.old) (G.store g.old) }
+    requires spaces { Spaces t.now }
+    requires admitted { Admits t.now pid.0 addr access_kind.Read row }
+    requires at { key_at t.now (place_at pid (page_of addr)) ≡ Some row.key }
+    requires form { (G.store g.old).kind ≡ line_kind.Thread pid }
+    requires begun { IsBegun (G.store g.old).report }
+    requires some { 1 ≤ len }
+    requires few { len ≤ 64 }
+    requires inside { addr % 4096 + len ≤ 4096 }
+    ensures went { IfOk result (λ a. Went t.now.machine.depth (world_with t.now (bytes_of (G.contents g.old))) pid.0 addr (ReadOf len) (G.store g.old) (G.store g.new) a (world_with t.now (bytes_of (G.contents g.new)))) }
+    ensures waits { IfErr result (λ why. Waits t.now.machine.depth (world_with t.now (bytes_of (G.contents g.old))) pid.0 addr (ReadOf len) (G.store g.old) (G.store g.new) why) }
+    ensures same { OnErr result (G.contents g.new ≡ G.contents g.old) }
+    ensures keeps { Keeps t.now (G.contents g.new) (G.store g.new) }
+    ensures line { (G.store g.new).line ≡ (G.store g.old).line }
+    ensures unpaged { G.unpaged ≡ true → IsOk result }
+    ensures loans { G.loans g.new ≡ G.loans g.old }
+{
+    match g.start(tid, place_of(pid, addr), row.key, Need::Touch) {
+        Start::Pending(why) => Err(why),
+        Start::Ready => Ok(read_at(t, g, pid, addr, row, len)),
+    }
+}
+
+/// A thread writes bytes where they are, which the row of their page permits, or has to wait for the page.
+pub(crate) fn write_on<G: Pages>(
+    t: &Tables,
+    g: &mut G,
+    tid: Tid,
+    pid: Pid,
+    addr: u32,
+    row: CommittedRow,
+    bytes: &ByteBuf,
+) -> Result<Answer, Why>
+    requires keeps { Keeps t.now (G.contents g.old) (G.store g.old) }
+    requires spaces { Spaces t.now }
+    requires admitted { Admits t.now pid.0 addr access_kind.Write row }
+    requires at { key_at t.now (place_at pid (page_of addr)) ≡ Some row.key }
+    requires form { (G.store g.old).kind ≡ line_kind.Thread pid }
+    requires begun { IsBegun (G.store g.old).report }
+    requires stays { row.copies ≡ false }
+    requires inside { addr % 4096 + length bytes.now ≤ 4096 }
+    ensures went { IfOk result (λ a. Went t.now.machine.depth (world_with t.now (bytes_of (G.contents g.old))) pid.0 addr (WriteOf bytes.now) (G.store g.old) (G.store g.new) a (world_with t.now (bytes_of (G.contents g.new)))) }
+    ensures waits { IfErr result (λ why. Waits t.now.machine.depth (world_with t.now (bytes_of (G.contents g.old))) pid.0 addr (WriteOf bytes.now) (G.store g.old) (G.store g.new) why) }
+    ensures same { OnErr result (G.contents g.new ≡ G.contents g.old) }
+    ensures keeps { Keeps t.now (G.contents g.new) (G.store g.new) }
+    ensures line { (G.store g.new).line ≡ (G.store g.old).line }
+    ensures unpaged { G.unpaged ≡ true → IsOk result }
+    ensures loans { G.loans g.new ≡ G.loans g.old }
+{
+    match g.start(tid, place_of(pid, addr), row.key, Need::Touch) {
+        Start::Pending(why) => Err(why),
+        Start::Ready => Ok(write_at(t, g, pid, addr, row, bytes)),
+    }
+}
+
+/// A thread writes bytes, which the row of their page permits, to a copy that is the page's own from then on, or has to wait for the
+/// page or for a frame of the copy.
+pub(crate) fn write_to_copy_on<G: Pages>(
+    t: &mut Tables,
+    g: &mut G,
+    tid: Tid,
+    pid: Pid,
+    addr: u32,
+    row: CommittedRow,
+    bytes: &ByteBuf,
+) -> Result<Answer, Why>
+    requires keeps { Keeps t.old (G.contents g.old) (G.store g.old) }
+    requires spaces { Spaces t.old }
+    requires admitted { Admits t.old pid.0 addr access_kind.Write row }
+    requires at { key_at t.old (place_at pid (page_of addr)) ≡ Some row.key }
+    requires form { (G.store g.old).kind ≡ line_kind.Thread pid }
+    requires begun { IsBegun (G.store g.old).report }
+    requires copies { row.copies ≡ true }
+    requires inside { addr % 4096 + length bytes.now ≤ 4096 }
+    ensures went { IfOk result (λ a. Went t.old.machine.depth (world_with t.old (bytes_of (G.contents g.old))) pid.0 addr (WriteOf bytes.now) (G.store g.old) (G.store g.new) a (world_with t.new (bytes_of (G.contents g.new)))) }
+    ensures waits { IfErr result (λ why. Waits t.old.machine.depth (world_with t.old (bytes_of (G.contents g.old))) pid.0 addr (WriteOf bytes.now) (G.store g.old) (G.store g.new) why) }
+    ensures same { OnErr result ((t.new ≡ t.old) × (G.contents g.new ≡ G.contents g.old)) }
+    ensures keeps { Keeps t.new (G.contents g.new) (G.store g.new) }
+    ensures line { (G.store g.new).line ≡ (G.store g.old).line }
+    ensures unpaged { G.unpaged ≡ true → IsOk result }
+    ensures loans { G.loans g.new ≡ G.loans g.old }
+{
+    match g.start(tid, place_of(pid, addr), row.key, Need::Copy) {
+        Start::Pending(why) => Err(why),
+        Start::Ready => Ok(write_to_copy(t, g, pid, addr, row, bytes)),
+    }
+}
+
+/// A thread reads 1 to 64 bytes. Where it is permitted and the wait has failed, the store is not asked.
+pub(crate) fn read_access<G: Pages>(
+    t: &mut Tables,
+    g: &mut G,
+    tid: Tid,
+    pid: Pid,
+    addr: u32,
+    len: u32,
+    failed: bool,
+) -> Threaded
+    requires lives { is_some (process_of t.old pid.0) ≡ true }
+    requires keeps { Keeps t.old (G.contents g.old) (G.store g.old) }
+    requires form { (G.store g.old).kind ≡ line_kind.Thread pid }
+    requires begun { IsBegun (G.store g.old).report }
+    requires some { 1 ≤ len }
+    requires few { len ≤ 64 }
+    requires inside { addr % 4096 + len ≤ 4096 }
+    ensures turned { Turned result failed t.old.machine.depth (world_with t.old (bytes_of (G.contents g.old))) pid.0 addr (ReadOf len) (G.store g.old) (G.store g.new) (world_with t.new (bytes_of (G.contents g.new))) }
+    ensures keeps { Keeps t.new (G.contents g.new) (G.store g.new) }
+    ensures line { (G.store g.new).line ≡ (G.store g.old).line }
+    ensures unpaged { G.unpaged ≡ true → (why : Why) → result ≡ threaded.Waiting why → ⊥ }
+    ensures loans { G.loans g.new ≡ G.loans g.old }
+{
+    t.sound();
+    let row = match admit(t, pid, addr, Access::Read) {
+        Ok(row) => row,
+        Err(answer) => return Threaded::Refused(answer),
+    };
+    if failed {
+        return Threaded::Failed;
+    }
+    match read_on(t, g, tid, pid, addr, row, len) {
+        Ok(answer) => Threaded::Made(answer),
+        Err(why) => Threaded::Waiting(why),
+    }
+}
+
+/// A thread writes bytes. Where it is permitted and the wait has failed, the store is not asked.
+pub(crate) fn write_access<G: Pages>(
+    t: &mut Tables,
+    g: &mut G,
+    tid: Tid,
+    pid: Pid,
+    addr: u32,
+    bytes: &ByteBuf,
+    failed: bool,
+) -> Threaded
+    requires lives { is_some (process_of t.old pid.0) ≡ true }
+    requires keeps { Keeps t.old (G.contents g.old) (G.store g.old) }
+    requires form { (G.store g.old).kind ≡ line_kind.Thread pid }
+    requires begun { IsBegun (G.store g.old).report }
+    requires inside { addr % 4096 + length bytes.now ≤ 4096 }
+    ensures turned { Turned result failed t.old.machine.depth (world_with t.old (bytes_of (G.contents g.old))) pid.0 addr (WriteOf bytes.now) (G.store g.old) (G.store g.new) (world_with t.new (bytes_of (G.contents g.new))) }
+    ensures keeps { Keeps t.new (G.contents g.new) (G.store g.new) }
+    ensures line { (G.store g.new).line ≡ (G.store g.old).line }
+    ensures unpaged { G.unpaged ≡ true → (why : Why) → result ≡ threaded.Waiting why → ⊥ }
+    ensures loans { G.loans g.new ≡ G.loans g.old }
+{
+    t.sound();
+    let row = match admit(t, pid, addr, Access::Write) {
+        Ok(row) => row,
+        Err(answer) => return Threaded::Refused(answer),
+    };
+    if failed {
+        return Threaded::Failed;
+    }
+    let written = if row.copies {
+        write_to_copy_on(t, g, tid, pid, addr, row, bytes)
+    } else {
+        write_on(t, g, tid, pid, addr, row, bytes)
+    };
+    match written {
+        Ok(answer) => Threaded::Made(answer),
+        Err(why) => Threaded::Waiting(why),
+    }
+}

@@ -1,0 +1,250 @@
+-- What a line does to the life of the frames, by the worlds and the reports before and after it.
+use Rattle.std.specs.Prelude.{◌≡◌, ◌≢◌, ◌⊎◌, ℕ, ◌+◌, ◌-◌, ◌==◌, Bool, true, false, not, ◌&&◌, if◌then◌else◌, is_some, List, [], ◌∷◌, map, Option, Some, None, option_map, option_and_then, unwrap_or}
+use Rattle.mm_types.specs.declared.answers.Answer.{Answer}
+use Rattle.mm_types.specs.declared.answers.Answer.TheVariants as answer
+use Rattle.mm_types.specs.declared.answers.Why.TheVariants as why
+use Rattle.mm_types.specs.declared.codes.Raise.TheVariants as raise
+use Rattle.mm_types.specs.declared.events.Event.{Event}
+use Rattle.mm_types.specs.declared.events.Event.TheVariants as line
+use Rattle.mm_types.specs.declared.frames.Held.{Held}
+use Rattle.mm_types.specs.declared.frames.Held.TheVariants as held
+use Rattle.mm_types.specs.declared.moves.Move.{Move}
+use Rattle.mm_types.specs.declared.moves.Move.TheVariants as move
+use Rattle.mm_types.specs.declared.numbers.Frame.{Frame}
+use Rattle.mm_types.specs.declared.numbers.Key.{Key}
+use Rattle.mm_types.specs.declared.numbers.Pid.{Pid}
+use Rattle.mm_types.specs.declared.numbers.Place.{Place}
+use Rattle.mm_types.specs.declared.views.View.{View}
+use Rattle.mm_types.specs.declared.views.Kind.{Kind}
+use Rattle.mm_types.specs.declared.views.Kind.TheVariants as view_kind
+use Rattle.mm_types.specs.Address.{Range, end_of_user_pages}
+use Rattle.mm_blocks.specs.declared.device_calls.DeviceCall.{DeviceCall}
+use Rattle.mm_life.specs.Frames.{record_at}
+use Rattle.mm_life.specs.Life.{FrameLife, is_live, numbers_from, counts_of}
+use Rattle.mm_life.specs.Effect.{after_move}
+use Rattle.mm_life.specs.Logs.{Grew}
+use Rattle.mm_life.specs.MoveText.{AreMoves, spelled_moves}
+use Rattle.mm_life.specs.Replay.{Replays}
+use Rattle.mm_types.specs.declared.moves.LineKind.{LineKind}
+use Rattle.mm_world.specs.World.{Page, World, WorldOf, KeptOf, numbered, RegionOf, ProcessOf}
+use Rattle.mm_world.specs.Find.{Found, process_of, area_at}
+use Rattle.mm_world.specs.Keys.{content_of, shared_key}
+use Rattle.mm_world.specs.Views.{flushed_view, flushed_range}
+use Rattle.mm_world.specs.Report.{Report}
+use Rattle.mm_world.specs.Step.{kept_by}
+use Rattle.mm_blocks.specs.Devices.{DeviceOf, Call, AllServed, logged_call}
+use Rattle.mm_pages.specs.Store.{changed, same_place}
+use Rattle.mm_pages.specs.Behind.{Behind}
+use Rattle.mm_walks.specs.Waits.{Waiting, Idle, ForFrame, wait_of}
+use Rattle.mm_walks.specs.Walks.{waits_through, ages_through, walked_all}
+use Rattle.mm_pages.specs.Told.{told_of, told_through, paging_traffic, file_traffic}
+use Rattle.mm_walks.specs.Searches.{is_valid, Starved}
+use Rattle.mm_pages.specs.Accesses.{Aim, AccessMoves, walk_from}
+use Rattle.mm_walks.specs.Chores.{all_aged, clearings, writes_begun, Flushing}
+use Rattle.mm_pages.specs.Housekeeping.{Turn, Makes, Ends, AllTurn, IsInOrder, pages_gone, Trims, Completes}
+use Rattle.mm_pages.specs.Standing.{where_of}
+use Rattle.mm_paging.specs.Kinds.{row_key, kind_of_line, aim_of, lives}
+
+-- ---- the state after a line
+
+-- the frames' half tells of the world after the line, and of its report
+pub record Agrees (v : World) (after : Report) (c : Behind) : Type 0 where
+  -- the keys of the world are those that live
+  pub keys : (k : Key) → is_live c.life k ≡ is_some (content_of v k)
+  -- a valid place is a committed row, and its frame is that of the row's key
+  pub places : (p : Place) (f : Frame) → c.life.valid p ≡ Some f → (k : Key) × ((row_key v p ≡ Some k) × ((record_at c.life.frames f.0).owner ≡ Some k))
+  -- the report tells of the frames
+  pub counts : after.counts ≡ counts_of c.life
+  pub whereabouts : (k : Key) → after.whereabouts k ≡ where_of c.life (c.life.stands k)
+  pub waits : (tid : ℕ) → after.wait tid ≡ wait_of (c.waits tid)
+
+-- ---- keys
+
+-- each `add` is of a key that the world has after the line and not before it, and each `drop` the reverse
+abbrev pub TurnsOne : World → World → Move → Type 0
+TurnsOne w v (move.Add k b) = (content_of w k ≡ None) × (is_some (content_of v k) ≡ true)
+TurnsOne w v (move.Drop k) = (is_some (content_of w k) ≡ true) × (content_of v k ≡ None)
+TurnsOne w v _ = Unit {0}
+
+abbrev pub TurnsKeys : World → World → List Move → Type 0
+TurnsKeys w v [] = Unit {0}
+TurnsKeys w v (m ∷ ms) = TurnsOne w v m × TurnsKeys w v ms
+
+-- ---- accesses
+
+-- of an answer that gives the access its bytes
+abbrev pub is_had : Answer → Bool
+is_had answer.Ok = true
+is_had (answer.Bytes b) = true
+is_had _ = false
+
+abbrev pub is_failed : Answer → Bool
+is_failed (answer.Raised raise.InPageError) = true
+is_failed _ = false
+
+-- what it leaves: a place that was had is valid; one that wanted a frame and got none leaves hardly a place valid
+pub record Accesses (plain : Bool) (a : Aim) (r : Answer) (after : Report) (b : Behind) (moves : List Move) (c : Behind) : Type 0 where
+  pub made : AccessMoves a b moves
+  pub valid : is_had r ≡ true → is_valid c.life a.place ≡ true
+  pub starved : plain ≡ true → is_failed r ≡ true → after.last_failed_read ≡ None → Starved (c.life.valid a.place) (walked_all (walk_from b) moves)
+
+-- an access that is not permitted makes no move
+abbrev pub AccessesBy : Bool → Option Aim → Answer → Report → Behind → List Move → Behind → Type 0
+AccessesBy plain None r after b moves c = moves ≡ []
+AccessesBy plain (Some a) r after b moves c = Accesses plain a r after b moves c
+
+-- ---- calls
+
+-- of a line that takes pages away: places among these are valid no more, and keys go, page by page in rising order
+pub record GivesUp (held : Place → Bool) (moves : List Move) : Type 0 where
+  pub all : AllTurn (Ends held 0 end_of_user_pages) moves
+  pub order : IsInOrder (Ends held 0 end_of_user_pages) moves
+
+-- each place that is unmapped is no committed row after the line
+abbrev pub is_uncommitted : World → Place → Bool
+is_uncommitted v p = not (is_some (row_key v p))
+
+-- the shared pages of the range of a flush, in rising order, where the section is a file
+abbrev pub file_pages : World → View → ℕ → Range → List Key
+file_pages w v base range =
+    if is_some (area_at w v.area.0).file_block
+    then map (λ page. shared_key v.area.0 (v.first + (page - base))) (numbers_from range.first range.count)
+    else []
+
+abbrev pub flushed_in : World → ℕ → ℕ → Kind → Found (RegionOf Page) → List Key
+flushed_in w addr size view_kind.Private r = []
+flushed_in w addr size (view_kind.View v) r = file_pages w v r.thing.base (flushed_range r.thing addr size)
+
+abbrev pub flushed_keys : World → ℕ → ℕ → ℕ → List Key
+flushed_keys w pid addr size =
+    unwrap_or
+    (option_and_then (λ p. option_map (λ r. flushed_in w addr size r.thing.kind r) (flushed_view p.regions addr size)) (process_of w pid))
+    []
+
+-- ---- what the moves behind a line's `at` are
+
+abbrev pub Trimming : Bool → Pid → ℕ → Behind → List Move → Behind → Type 0
+Trimming true pid n b moves c = Trims pid n b moves c
+Trimming false pid n b moves c = moves ≡ []
+
+abbrev pub Completing : ℕ → Answer → Behind → List Move → Behind → Type 0
+Completing i answer.Ok b moves c = Completes i true b moves c
+Completing i answer.Fault b moves c = Completes i false b moves c
+Completing i _ b moves c = moves ≡ []
+
+-- each form of line, from what stood behind the store once its `at` was noted
+abbrev pub Does : World → Event → Answer → World → Report → Behind → List Move → Behind → Type 0
+Does w (line.Read pid addr len) a v r b ms c = AccessesBy true (aim_of w b.life (line.Read pid addr len)) a r b ms c
+Does w (line.Write pid addr bytes) a v r b ms c = AccessesBy true (aim_of w b.life (line.Write pid addr bytes)) a r b ms c
+Does w (line.Exec pid addr) a v r b ms c = AccessesBy true (aim_of w b.life (line.Exec pid addr)) a r b ms c
+Does w (line.Begin tid pid what) a v r b ms c = AccessesBy false (aim_of w b.life (line.Begin tid pid what)) a r b ms c
+Does w (line.Resume tid) a v r b ms c = AccessesBy false (aim_of w b.life (line.Resume tid)) a r b ms c
+Does w (line.Trim pid n) a v r b ms c = Trimming (lives w pid) pid n b ms c
+Does w (line.Writer n) a v r b ms c = ms ≡ writes_begun n b.life b.life.frames.modified
+Does w (line.Zeroer n) a v r b ms c = ms ≡ clearings n b.life
+Does w (line.Io i) a v r b ms c = Completing i a b ms c
+Does w (line.Flush pid addr size) a v r b ms c = Flushing b.life (flushed_keys w pid.0 addr size) ms
+Does w (line.Exit pid) a v r b ms c = GivesUp (is_uncommitted v) ms
+Does w (line.Free pid addr size type) a v r b ms c = GivesUp (is_uncommitted v) ms
+Does w (line.Unmap pid addr) a v r b ms c = GivesUp (is_uncommitted v) ms
+Does w (line.Close pid handle) a v r b ms c = GivesUp (λ _. false) ms × (pages_gone ms ≡ [])
+Does w (line.Alloc pid addr size type prot) a v r b ms c = AllTurn Makes ms
+Does w (line.Create pid size flags name) a v r b ms c = AllTurn Makes ms
+Does w (line.File name pages byte) a v r b ms c = AllTurn Makes ms
+Does w (line.Stack tid pid reserve commit) a v r b ms c = AllTurn Makes ms
+Does w (line.Probe tid addr) a v r b ms c = AllTurn Makes ms
+Does w _ a v r b ms c = ms ≡ []
+
+-- ---- ages and waits
+
+abbrev pub place_had : Option Aim → Answer → (Place → ℕ) → Place → ℕ
+place_had None r ages p = ages p
+place_had (Some a) r ages p = if is_had r then changed same_place ages a.place 0 p else ages p
+
+abbrev pub ages_of_line : World → Event → Answer → Behind → List Move → Place → ℕ
+ages_of_line w (line.Age pid) a b ms p = if lives w pid then all_aged pid b.life b.ages p else b.ages p
+ages_of_line w e a b ms p = place_had (aim_of w b.life e) a (ages_through ms b.ages) p
+
+-- the frame that a read brings the access's page into
+abbrev pub awaited : Option Aim → FrameLife → Waiting
+awaited None l = Idle
+awaited (Some a) l = unwrap_or (option_map ForFrame (frame_in (l.stands a.need.key))) Idle
+  where
+    frame_in : Held → Option ℕ
+    frame_in (held.Frame f) = Some f.0
+    frame_in (held.Slot s) = None
+    frame_in (held.Block b) = None
+    frame_in held.Zero = None
+    frame_in held.Dead = None
+
+abbrev pub is_pending_read : Answer → Bool
+is_pending_read (answer.Pending why.Read) = true
+is_pending_read _ = false
+
+abbrev pub keeps_for : Option KeptOf → Pid → Bool
+keeps_for None pid = false
+keeps_for (Some k) pid = k.pid == pid.0
+
+abbrev pub wait_of_begin : Option Aim → ℕ → Answer → (ℕ → Waiting) → FrameLife → ℕ → Waiting
+wait_of_begin None tid a waits l t = waits t
+wait_of_begin (Some aim) tid a waits l t = changed ◌==◌ waits tid (if is_pending_read a then awaited (Some aim) l else Idle) t
+
+-- a thread waits from a `pending read` on; any other answer of its `resume`, and the end of its process, end that
+abbrev pub waits_of_line : World → Event → Answer → Behind → (ℕ → Waiting) → FrameLife → ℕ → Waiting
+waits_of_line w (line.Begin tid pid what) a b waits l t = wait_of_begin (aim_of w b.life (line.Begin tid pid what)) tid.0 a waits l t
+waits_of_line w (line.Resume tid) a b waits l t =
+    changed ◌==◌ waits tid.0 (if is_pending_read a then awaited (aim_of w b.life (line.Resume tid)) l else Idle) t
+waits_of_line w (line.Exit pid) a b waits l t = if keeps_for (kept_by w t) pid then Idle else waits t
+waits_of_line w _ a b waits l t = waits t
+
+-- ---- devices
+
+-- the calls that the moves stand for are those of the devices: each stands in its device's log, or was named
+pub record Traffic (l : FrameLife) (moves : List Move) (paging paging' files files' : DeviceOf) : Type 0 where
+  pub paging_calls : List Call
+  pub paging_served : AllServed paging_calls paging paging'
+  pub paging_are : map logged_call paging_calls ≡ paging_traffic l moves
+  pub file_calls : List Call
+  pub files_served : AllServed file_calls files files'
+  pub files_are : map logged_call file_calls ≡ file_traffic l moves
+
+-- lines that ask devices for what is no move: a file's blocks are written, the paging device grows, calls are named
+abbrev pub asks_beside : Event → Bool
+asks_beside (line.File name pages byte) = true
+asks_beside (line.Grow n) = true
+asks_beside (line.Fail device direction k n) = true
+asks_beside _ = false
+
+-- ---- a line
+
+-- what stands behind a store once a line has begun
+abbrev pub with_line : Move → Behind → Behind
+with_line m b = record b { life = after_move b.life m }
+
+-- A line, with its piece of the log: its `at`, and its moves behind it.
+pub record Line (w : World) (before : Report) (b : Behind) (paging files : DeviceOf) (e : Event) (a : Answer) (piece : List Move) (v : World) (after : Report) (c : Behind) (paging' files' : DeviceOf) : Type 0 where
+  pub moves : List Move
+  pub begins : piece ≡ move.At (b.life.line + 1) (kind_of_line w e a) ∷ moves
+  pub agrees : Agrees v after c
+  pub keys : TurnsKeys w v moves
+  pub does : Does w e a v after (with_line (move.At (b.life.line + 1) (kind_of_line w e a)) b) moves c
+  pub ages : c.ages ≡ ages_of_line w e a b moves
+  pub waits : c.waits ≡ waits_of_line w e a b (waits_through moves b.waits) c.life
+  pub told : asks_beside e ≡ false → told_of after ≡ told_through b.life piece (told_of before)
+  pub traffic : asks_beside e ≡ false → Traffic b.life piece paging paging' files files'
+
+-- A line that was decided, of a store that pages: its piece of the log, by which the log grew, and which replays.
+pub record Noted (w : World) (before : Report) (b : Behind) (paging files : DeviceOf) (e : Event) (a : Answer) (v : World) (after : Report) (c : Behind) (paging' files' : DeviceOf) : Type 0 where
+  pub piece : List Move
+  pub in_range : AreMoves piece
+  pub grew : Grew b.log c.log (spelled_moves piece)
+  pub replays : Replays piece b.life c.life
+  pub line : Line w before b paging files e a piece v after c paging' files'
+
+-- A line that wanted memory: its `at` alone, of whatever kind, or none.
+pub record Broken (b c : Behind) : Type 0 where
+  pub piece : List Move
+  pub in_range : AreMoves piece
+  pub grew : Grew b.log c.log (spelled_moves piece)
+  pub replays : Replays piece b.life c.life
+  pub at_most : (piece ≡ []) ⊎ ((k : LineKind) × (piece ≡ move.At (b.life.line + 1) k ∷ []))

@@ -1,0 +1,9 @@
+pub mod Counting
+pub mod Ordering
+pub mod Unmapping
+pub mod Writing
+pub mod Walks
+pub mod Turns
+pub mod Going
+pub mod InOrder
+pub mod Sets

@@ -1,0 +1,8 @@
+use Rattle.mm_tables.proofs.Turning.{idle_then}
+use Rattle.mm_tables.proofs.steps.grow_for_region.Goals as goal
+
+pub returns-in_err-bind-clause-passes : goal.returns-in_err-bind-clause-passes
+returns-in_err-bind-clause-passes g c = idle_then g.G.Pages.unpaged (g.G.Pages.store c.args.g.now) (g.G.Pages.store c.reserve-2.new.self) (g.G.Pages.store c.bind.new.self) (g.G.Pages.behind c.args.g.now) (g.G.Pages.behind c.reserve-2.new.self) (g.G.Pages.behind c.bind.new.self) c.reserve-2.ensures.passes c.bind.ensures.passes
+
+pub returns-clause-passes : goal.returns-clause-passes
+returns-clause-passes g c = idle_then g.G.Pages.unpaged (g.G.Pages.store c.args.g.now) (g.G.Pages.store c.reserve-2.new.self) (g.G.Pages.store c.bind.new.self) (g.G.Pages.behind c.args.g.now) (g.G.Pages.behind c.reserve-2.new.self) (g.G.Pages.behind c.bind.new.self) c.reserve-2.ensures.passes c.bind.ensures.passes

@@ -1,0 +1,5 @@
+pub mod Order
+pub mod Waits
+pub mod Walks
+pub mod Searches
+pub mod Chores

@@ -1,0 +1,15 @@
+use Rattle.std.proofs.Common.{ap}
+use Rattle.mm_words.specs.Words.{bare}
+use Rattle.mm_radix.specs.Pages.{pages}
+use Rattle.mm_words.proofs.PageChanges.{after_bind}
+use Rattle.mm_words.proofs.KeptProcesses.{bind_kept}
+use Rattle.mm_words.proofs.processes.Process.bind.Goals as goal
+
+pub invariant_of-self : goal.invariant_of-self
+invariant_of-self c = record {
+  kept = bind_kept c.args.self.now.table c.args.self.now.set c.args.self.now.is_open c.args.self.now.kept c.reserve.new.self
+      (after_bind c.reserve.result c.args.self.now.table c.reserve.new.self (pages c.args.first.0 c.args.n) c.reserve.ensures.ok c.reserve.ensures.err) c.requires.opened;
+}
+
+pub returns-clause-at : goal.returns-clause-at
+returns-clause-at c q = ap bare (after_bind c.reserve.result c.args.self.now.table c.reserve.new.self (pages c.args.first.0 c.args.n) c.reserve.ensures.ok c.reserve.ensures.err q)
