@@ -1,0 +1,285 @@
+-- The moves that change the word of a key and the record of a frame: give, read, steal, bad, drop, add.
+use Rattle.std.proofs.Common.{◌≡◌, ◌≢◌, ◌⊎◌, ℕ, ◌+◌, ◌-◌, ◌<◌, ◌≤◌, Bool, true, false, cond, List, [], ◌∷◌, ◌++◌, Option, Some, None, refl, sym, ap, ◌∙◌, subst, inl, inr, arith, length, length-set, get_or-set_same, get_or-set_other}
+use Rattle.std.specs.Prelude.{◌==◌, ◌&&◌, ◌||◌, not, is_some, nat_lt, map, option_map, if◌then◌else◌, slice_set, slice_index_or}
+use Rattle.std.proofs.lemmas.Bool.{and_parts, or_left, or_right, not-true, ltb-true, eqb-true, eq-eqb}
+use Rattle.mm_types.proofs.Cells.{same_or_not}
+use Rattle.mm_types.specs.Machine.{limit_of}
+use Rattle.mm_types.specs.declared.numbers.Frame.{Frame}
+use Rattle.mm_types.specs.declared.numbers.Slot.{Slot}
+use Rattle.mm_types.specs.declared.numbers.Block.{Block}
+use Rattle.mm_types.specs.declared.numbers.Area.{Area}
+use Rattle.mm_types.specs.declared.numbers.Pid.{Pid}
+use Rattle.mm_types.specs.declared.numbers.Vpn.{Vpn}
+use Rattle.mm_types.specs.declared.numbers.Key.{Key}
+use Rattle.mm_types.specs.declared.numbers.Key.TheVariants.{Private, Shared}
+use Rattle.mm_types.specs.declared.numbers.Place.{Place}
+use Rattle.mm_types.specs.declared.frames.Record.{Record}
+use Rattle.mm_types.specs.declared.frames.Backing.{Backing}
+use Rattle.mm_types.specs.declared.frames.Backing.TheVariants as backing
+use Rattle.mm_types.specs.declared.frames.Held.{Held}
+use Rattle.mm_types.specs.declared.frames.Held.TheVariants as held
+use Rattle.mm_types.specs.declared.moves.LineKind.{LineKind}
+use Rattle.mm_types.specs.declared.moves.LineKind.TheVariants as kind
+use Rattle.mm_types.specs.declared.moves.Move.TheVariants as move
+use Rattle.mm_life.specs.Frames.{FrameTable, blank, record_at, has_request, is_read, is_first, is_empty, rest, without, given, being_read, disowned, taken_for_read, off_lists, to_free, with_record, after_give, after_read, after_steal, after_bad, after_drop, slot_after_read, slot_after_drop}
+use Rattle.mm_life.specs.Life.{FrameLife, changed, same_key, same_place, is_shared, is_live, is_dead}
+use Rattle.mm_life.specs.Legal.{IsLegal, is_touch, is_access, is_thread, is_io, is_call, is_unbind, is_zero, is_stored, has_depth, is_unmapped}
+use Rattle.mm_life.specs.Effect.{after_move, freed, backing_of, homed, dropped_at, unlisted}
+use Rattle.mm_laws.specs.Fits.{is_backed}
+use Rattle.mm_laws.proofs.Requests.{read_has}
+use Rattle.mm_laws.proofs.Sights.{kept_inside}
+use Rattle.mm_laws.proofs.Sound.{some_owner, no_owner}
+use Rattle.mm_laws.proofs.Changes.{changes_give, first_zeroed}
+use Rattle.mm_laws.proofs.Taking.{Standby, first_standby, Fresh, fresh_read}
+use Rattle.mm_laws.specs.Sights.{Sight}
+use Rattle.mm_frames.specs.Base.{has_block}
+use Rattle.mm_flight.specs.Requests.{FlightOf, ended}
+use Rattle.mm_entry.specs.declared.entries.Entry.{Entry}
+use Rattle.mm_entry.specs.declared.entries.Entry.TheVariants as entry
+use Rattle.mm_words.specs.declared.aside.Aside.{Aside}
+use Rattle.mm_words.specs.Words.{WordsOf, word_of, with_word, is_there, has_word, is_valid, is_aside, place_of}
+use Rattle.mm_parts.specs.Shown.{JoinedParts, PartsOf, LineOf, owners, owned_by, held_by, stands_of, valid_of, names_of, is_paging, paging_of, life_of, life_in, shown_of, requests, requests_in, own_is, is_own_line}
+use Rattle.mm_parts.specs.Words.{WordsKept, is_aside_entry}
+use Rattle.mm_parts.specs.Kept.{Kept, LineKept, AreWaits}
+use Rattle.mm_parts.specs.Moves.{after, own_after, own_ended, flight_begun, flight_ended, names_given, names_after_give, names_after_drop, home_entry, words_sent, CanSend, read_end}
+use Rattle.mm_parts.proofs.Facts.{Facts}
+use Rattle.mm_parts.proofs.Stands.{same_life, sets_set}
+use Rattle.mm_parts.proofs.FrameChanges.{Rewrites, rewrites_by, waits_frame}
+use Rattle.mm_parts.proofs.NameChanges.{is_used, names_moved, names_used, names_gone}
+use Rattle.mm_parts.proofs.Keeping.{Step, known}
+use Rattle.mm_parts.proofs.RequestLists.{begun_requests, begun_within, begun_depth, begun_waits, waits_begun, ended_requests, ended_waits, ended_depth, ended_within, waits_ended}
+use Rattle.mm_parts.proofs.FrameSteps.{Holding, held_by_request, end_step}
+use Rattle.mm_parts.proofs.Conditions.{home_can}
+use Rattle.mm_parts.proofs.KeyChanges.{Rewords, is_resting, is_beside, beyond, beyond_blank, key_step, key_life, key_stands, key_paging, key_valid}
+use Rattle.mm_parts.proofs.StandingWords.{resting_word, zero_word, slot_word, stored_word, away_calm, home_held, home_paging, home_lands, home_resting, home_used, home_aside, stored_backed, stored_paging, own_backing, stored_used}
+
+-- a frame that nobody owns is no key's
+pub none_in : (t : JoinedParts) → Kept t → (f : Frame) (k : Key) → (record_at t.table f.0).owner ≡ None → (q : Key) → stands_of (owners t.table) t.words q ≡ held.Frame f → q ≡ k
+none_in t kept f k none q at = let bad : Some q ≡ None = sym ((known t kept).owner q f at) ∙ none in cc
+
+pub own_in : (t : JoinedParts) → Kept t → (f : Frame) (k : Key) → (record_at t.table f.0).owner ≡ Some k → (q : Key) → stands_of (owners t.table) t.words q ≡ held.Frame f → q ≡ k
+own_in t kept f k owner q at = let both : Some q ≡ Some k = sym ((known t kept).owner q f at) ∙ owner in cc
+
+resting_transition : (k : Key) (f : Frame) → is_resting k (entry.Transition f) ≡ true
+resting_transition (Private p v) f = refl
+resting_transition (Shared a i) f = refl
+
+lands_here : (f g : Frame) → entry.Transition f ≡ entry.Transition g → g.0 ≡ f.0
+lands_here f g e = let same : f ≡ g = cc in ap (λ (x : Frame). x.0) (sym same)
+
+-- ---- give
+
+names_give : (t : JoinedParts) (k : Key) (f : Frame) (q : Place) → names_of (owners t.table) (with_word t.words k (entry.Transition f)) q ≡ names_after_give (shown_of t) k q
+names_give t (Private p v) f q = names_used (owners t.table) t.words p v (entry.Transition f) refl q
+names_give t (Shared a i) f q = refl
+
+pub give_step : (t : JoinedParts) → Kept t → (f : Frame) (k : Key) → IsLegal (move.Give f k) (life_in t)
+    → Step (record t { table = after_give t.table f.0 k; words = with_word t.words k (entry.Transition f) }) (record (after (shown_of t) (move.Give f k)) { names = names_after_give (shown_of t) k })
+give_step t kept f k legal =
+    let facts = known t kept in
+    let d = t.table in
+    let parts = and_parts (is_first f.0 d.zeroed) (is_zero ((life_in t).stands k)) (and_parts (is_first f.0 d.zeroed && is_zero ((life_in t).stands k)) (is_touch t.line.kind) legal).0 in
+    let bare : record_at d f.0 ≡ blank = first_zeroed d (requests_in t) f.0 facts.standing parts.0 in
+    let word : word_of t.words k ≡ entry.Zero = zero_word (owned_by (owners d) k) (word_of t.words k) parts.1 in
+    let c = changes_give d (requests_in t) f.0 facts.standing k parts.0 in
+    let change : Rewrites d (after_give d f.0 k) f.0 (given k) = record { elsewhere = λ g m. ap (λ (s : Sight). s.what) (c.elsewhere g m); here = c.here } in
+    let re : Rewords t (after_give d f.0 k) f (given k) k (entry.Transition f) = record {
+      change = change;
+      unshared = ap (λ (x : Record). x.shares) bare;
+      bare = refl;
+      only = none_in t kept f k (ap (λ (x : Record). x.owner) bare);
+      resting = resting_transition k f;
+      beside = λ h. refl;
+      lands = lands_here f;
+      calm = ap is_valid word;
+    } in
+    key_step t kept (after_give d f.0 k) f (given k) k (entry.Transition f) re (move.Give f k) legal t.line t.bytes t.free t.flight t.own (names_after_give (shown_of t) k)
+    (key_life t kept (after_give d f.0 k) f (given k) k (entry.Transition f) re t.free (requests_in t)
+    (ap (λ (x : Record). not (has_block x.backing)) c.here ∙ sym (ap (λ e. is_paging d (held_by (owned_by (owners d) k) e)) word)))
+    (names_give t k f)
+    kept.line refl refl kept.within.requesting refl
+    (waits_frame d (after_give d f.0 k) f.0 (given k) t.flight change (λ read. let bad : true ≡ false = sym read ∙ ap (λ (x : Record). is_read x.request) bare in cc) kept.waits)
+
+-- ---- read
+
+records_taken : (d : FrameTable) → (taken_for_read d).records ≡ d.records
+records_taken d = by (is_empty d.free)
+  where
+    by : (b : Bool) → (if b then record d { zeroed = rest d.zeroed } else record d { free = rest d.free }).records ≡ d.records
+    by true = refl
+    by false = refl
+
+pub read_step : (t : JoinedParts) → Kept t → (f : Frame) (k : Key) → IsLegal (move.Read f k) (life_in t) → (is_own_line t.line.kind ≡ true → t.own ≡ None)
+    → Step (record t { table = after_read t.table f.0 k (backing_of ((life_in t).stands k)); words = with_word t.words k (entry.Transition f); flight = flight_begun (is_own_line t.line.kind) t.flight f; own = own_after t.line.kind t.own f })
+    (record (after (shown_of t) (move.Read f k)) { own = own_after t.line.kind t.own f })
+read_step t kept f k legal can =
+    let facts = known t kept in
+    let d = t.table in
+    let l = life_in t in
+    let home = backing_of (l.stands k) in
+    let there = is_first f.0 d.free || (is_empty d.free && is_first f.0 d.zeroed) in
+    let parts = and_parts there (is_stored (l.stands k)) (and_parts (there && is_stored (l.stands k)) (is_access t.line.kind || (is_thread t.line.kind && has_depth l)) legal).0 in
+    let fresh : Fresh d (requests_in t) f.0 facts.standing = fresh_read d (requests_in t) f.0 facts.standing parts.0 in
+    let bare = fresh.bare in
+    let change = rewrites_by d (after_read d f.0 k home) f.0 (being_read k home) fresh.low (ap (λ (xs : List Record). slice_set xs f.0 (being_read k home)) (records_taken d)) in
+    let re : Rewords t (after_read d f.0 k home) f (being_read k home) k (entry.Transition f) = record {
+      change = change;
+      unshared = ap (λ (x : Record). x.shares) bare;
+      bare = refl;
+      only = none_in t kept f k (ap (λ (x : Record). x.owner) bare);
+      resting = resting_transition k f;
+      beside = λ h. refl;
+      lands = lands_here f;
+      calm = away_calm (word_of t.words k) (stored_word (owned_by (owners d) k) (word_of t.words k) parts.1);
+    } in
+    let flight' = flight_begun (is_own_line t.line.kind) t.flight f in
+    let own' = own_after t.line.kind t.own f in
+    let step = key_step t kept (after_read d f.0 k home) f (being_read k home) k (entry.Transition f) re (move.Read f k) legal t.line t.bytes t.free flight' own' (names_of (owners d) t.words)
+    (key_life t kept (after_read d f.0 k home) f (being_read k home) k (entry.Transition f) re t.free (requests flight'.frames own')
+    (stored_paging d (after_read d f.0 k home) (l.stands k) f parts.1 (ap (λ (x : Record). x.backing) change.here))
+    ∙ ap (λ q. record l { frames = after_read d f.0 k home; stands = changed same_key l.stands k (held.Frame f); flight = q }) (begun_requests t.flight t.own t.line.kind f kept.within.requesting can))
+    (names_moved (owners d) t.words k (entry.Transition f) (λ own. (refl, stored_used t kept k parts.1 own)))
+    kept.line refl refl (begun_within t.own t.line.kind f kept.within.requesting) (begun_depth (is_own_line t.line.kind) t.flight f)
+    (waits_begun (is_own_line t.line.kind) (after_read d f.0 k home) t.flight f
+    (waits_frame d (after_read d f.0 k home) f.0 (being_read k home) t.flight change (λ read. refl) kept.waits)) in
+    record {
+      kept = step.kept;
+      shown = step.shown ∙ ap (λ ws. record (after (shown_of t) (move.Read f k)) { waits = ws; own = own' }) (begun_waits (is_own_line t.line.kind) t.flight f);
+    }
+
+-- ---- a page goes home: steal, bad
+
+-- a frame at rest, with its page and where that goes
+record Leaves (t : JoinedParts) (f : Frame) (k : Key) : Type 0 where
+  low : f.0 < length t.table.records
+  owner : (record_at t.table f.0).owner ≡ Some k
+  unshared : (record_at t.table f.0).shares ≡ 0
+  backed : is_backed (record_at t.table f.0).backing ≡ true
+
+module _ (t : JoinedParts) (kept : Kept t) (f : Frame) (k : Key) (leaves : Leaves t f k) where
+  abbrev home_of : Backing
+  home_of = (record_at t.table f.0).backing
+
+  leaving_word : word_of t.words k ≡ entry.Transition f
+  leaving_word = resting_word t kept k f ((known t kept).owned f.0 k leaves.owner) leaves.unshared
+
+  leaving_aside : is_beside t.words k ≡ true → is_aside_entry (home_entry (record_at t.table f.0).backing) ≡ true
+  leaving_aside = by k leaves.owner
+    where
+      by : (q : Key) → (record_at t.table f.0).owner ≡ Some q → is_beside t.words q ≡ true → is_aside_entry (home_entry (record_at t.table f.0).backing) ≡ true
+      by (Private p v) o h = home_aside t kept (Private p v) f o refl
+      by (Shared a i) o h = cc
+
+  leaving : (d' : FrameTable) → d'.records ≡ slice_set t.table.records f.0 blank → Rewords t d' f blank k (home_entry (record_at t.table f.0).backing)
+  leaving d' records = record {
+    change = rewrites_by t.table d' f.0 blank leaves.low records;
+    unshared = leaves.unshared;
+    bare = refl;
+    only = own_in t kept f k leaves.owner;
+    resting = home_resting k home_of (own_backing t kept k f leaves.owner);
+    beside = leaving_aside;
+    lands = λ g e. home_lands home_of g f e;
+    calm = ap is_valid leaving_word;
+  }
+
+  leaving_names : (q : Place) → names_of (owners t.table) (with_word t.words k (home_entry (record_at t.table f.0).backing)) q ≡ names_of (owners t.table) t.words q
+  leaving_names = names_moved (owners t.table) t.words k (home_entry home_of) (λ own. (home_used home_of (own_backing t kept k f leaves.owner own) leaves.backed, ap is_used leaving_word))
+
+  leaving_life : (d' : FrameTable) → d'.records ≡ slice_set t.table.records f.0 blank → (free' : List Bool) (flight' : List ℕ)
+      → life_of t.line d' free' (with_word t.words k (home_entry (record_at t.table f.0).backing)) flight'
+      ≡ record (life_in t) { frames = d'; free_slots = free'; stands = homed (life_in t) (record_at t.table f.0).owner (record_at t.table f.0).backing; flight = flight' }
+  leaving_life d' records free' flight' =
+      key_life t kept d' f blank k (home_entry home_of) (leaving d' records) free' flight'
+      (home_paging d' (owned_by (owners d') k) home_of ∙ sym (ap (is_paging t.table) ((known t kept).owned f.0 k leaves.owner)))
+      ∙ ap (λ h. record (life_in t) { frames = d'; free_slots = free'; stands = changed same_key (stands_of (owners t.table) t.words) k h; flight = flight' }) (home_held (owned_by (owners d') k) home_of)
+      ∙ ap (λ o. record (life_in t) { frames = d'; free_slots = free'; stands = homed (life_in t) o home_of; flight = flight' }) (sym leaves.owner)
+
+pub steal_step : (t : JoinedParts) → Kept t → (f : Frame) (k : Key) → IsLegal (move.Steal f) (life_in t) → (record_at t.table f.0).owner ≡ Some k
+    → Step (record t { table = after_steal t.table f.0; words = with_word t.words k (home_entry (record_at t.table f.0).backing) }) (after (shown_of t) (move.Steal f))
+steal_step t kept f k legal owner =
+    let facts = known t kept in
+    let d = t.table in
+    let first = (and_parts (is_first f.0 d.standby) (is_empty d.zeroed) (and_parts (is_first f.0 d.standby && is_empty d.zeroed) (is_empty d.free) (and_parts (is_first f.0 d.standby && is_empty d.zeroed && is_empty d.free) (is_touch t.line.kind) legal).0).0).0 in
+    let standby : Standby d (requests_in t) f.0 facts.standing = first_standby d (requests_in t) f.0 facts.standing first in
+    let leaves : Leaves t f k = record {
+      low = kept_inside d f.0 standby.idle.kept;
+      owner = owner;
+      unshared = standby.idle.unshared;
+      backed = (facts.standing f.0).fit.clean standby.idle.kept standby.clean;
+    } in
+    let re = leaving t kept f k leaves (after_steal d f.0) refl in
+    key_step t kept (after_steal d f.0) f blank k (home_entry (record_at d f.0).backing) re (move.Steal f) legal t.line t.bytes t.free t.flight t.own (names_of (owners d) t.words)
+    (leaving_life t kept f k leaves (after_steal d f.0) refl t.free (requests_in t))
+    (leaving_names t kept f k leaves)
+    kept.line refl refl kept.within.requesting refl
+    (waits_frame d (after_steal d f.0) f.0 blank t.flight re.change (λ read. let bad : true ≡ false = sym (read_has (record_at d f.0).request read) ∙ standby.idle.quiet in cc) kept.waits)
+
+-- a page that is being read is unchanged and valid nowhere
+record Reading (t : JoinedParts) (f : Frame) : Type 0 where
+  reading : is_read (record_at t.table f.0).request ≡ true
+  unshared : (record_at t.table f.0).shares ≡ 0
+  backed : is_backed (record_at t.table f.0).backing ≡ true
+  held : Holding t f.0
+
+reading_in : (t : JoinedParts) → Kept t → (f : Frame) → IsLegal (move.Bad f) (life_in t) → Reading t f
+reading_in t kept f legal =
+    let r = record_at t.table f.0 in
+    let fit = ((known t kept).standing f.0).fit in
+    let reading = (and_parts (is_read r.request) (is_io t.line.kind || is_access t.line.kind) legal).0 in
+    record {
+      reading = reading;
+      unshared = (fit.reading reading).0;
+      backed = fit.clean (or_right (is_some r.owner) (has_request r.request) (read_has r.request reading)) (fit.reading reading).1;
+      held = held_by_request t kept f.0 (read_has r.request reading);
+    }
+
+abbrev BadStep : JoinedParts → Frame → WordsOf → Type 0
+BadStep t f w =
+    Step (record t { table = after_bad t.table f.0; free = freed t.free (slot_after_read (record_at t.table f.0)); words = w; flight = flight_ended (own_is t.own f.0) t.flight f.0 false; own = own_ended t.own f.0 })
+    (record (after (shown_of t) (move.Bad f)) { waits = map (ended f.0 false) t.flight.waits; own = own_ended t.own f.0 })
+
+bad_orphan : (t : JoinedParts) → Kept t → (f : Frame) → IsLegal (move.Bad f) (life_in t) → Reading t f → (record_at t.table f.0).owner ≡ None → BadStep t f t.words
+bad_orphan t kept f legal r none =
+    end_step t kept (move.Bad f) legal (after_bad t.table f.0) t.bytes (freed t.free (slot_after_read (record_at t.table f.0))) f.0 blank false (read_has (record_at t.table f.0).request r.reading) refl
+    (record { owner = sym none; shares = sym r.unshared; blocks = λ k e. let bad : Some k ≡ None = sym e ∙ none in cc })
+    (ap (λ o. record (life_in t) { frames = after_bad t.table f.0; free_slots = freed t.free (slot_after_read (record_at t.table f.0)); stands = homed (life_in t) o (record_at t.table f.0).backing; flight = without f.0 (requests_in t) }) (sym none))
+
+bad_owned : (t : JoinedParts) → Kept t → (f : Frame) (k : Key) → IsLegal (move.Bad f) (life_in t) → Reading t f → (record_at t.table f.0).owner ≡ Some k
+    → BadStep t f (with_word t.words k (home_entry (record_at t.table f.0).backing))
+bad_owned t kept f k legal r owner =
+    let d = t.table in
+    let free' = freed t.free (slot_after_read (record_at d f.0)) in
+    let leaves : Leaves t f k = record { low = r.held.low; owner = owner; unshared = r.unshared; backed = r.backed } in
+    let re = leaving t kept f k leaves (after_bad d f.0) refl in
+    let flight' = flight_ended (own_is t.own f.0) t.flight f.0 false in
+    let own' = own_ended t.own f.0 in
+    let step = key_step t kept (after_bad d f.0) f blank k (home_entry (record_at d f.0).backing) re (move.Bad f) legal t.line t.bytes free' flight' own' (names_of (owners d) t.words)
+    (leaving_life t kept f k leaves (after_bad d f.0) refl free' (requests flight'.frames own')
+    ∙ ap (λ q. record (life_in t) { frames = after_bad d f.0; free_slots = free'; stands = homed (life_in t) (record_at d f.0).owner (record_at d f.0).backing; flight = q }) (ended_requests t.flight t.own f.0 false r.held.once))
+    (leaving_names t kept f k leaves)
+    kept.line refl refl (λ h. kept.within.requesting (ended_within t.own f.0 h)) (ended_depth (own_is t.own f.0) t.flight f.0 false)
+    (waits_ended d (after_bad d f.0) t.flight t.own f.0 blank false re.change kept.waits r.held.once) in
+    record {
+      kept = step.kept;
+      shown = step.shown ∙ ap (λ ws. record (after (shown_of t) (move.Bad f)) { waits = ws; own = own' }) (ended_waits d t.flight t.own f.0 false kept.waits r.held.once);
+    }
+
+pub bad_step : (t : JoinedParts) → Kept t → (f : Frame) → IsLegal (move.Bad f) (life_in t) → BadStep t f (words_sent (record_at t.table f.0).owner (record_at t.table f.0).backing t.words)
+bad_step t kept f legal = by (record_at t.table f.0).owner refl
+  where
+    by : (o : Option Key) → (record_at t.table f.0).owner ≡ o → BadStep t f (words_sent o (record_at t.table f.0).backing t.words)
+    by None e = bad_orphan t kept f legal (reading_in t kept f legal) e
+    by (Some k) e = bad_owned t kept f k legal (reading_in t kept f legal) e
+
+-- the page, if it lives, can go home
+pub send_can : (t : JoinedParts) → Kept t → (f : Frame) → IsLegal (move.Bad f) (life_in t) → ((k : Key) → is_there (word_of t.words k) ≡ true → has_word t.words k ≡ true)
+    → CanSend t.words (record_at t.table f.0).owner (record_at t.table f.0).backing
+send_can t kept f legal has = by (record_at t.table f.0).owner refl
+  where
+    by : (o : Option Key) → (record_at t.table f.0).owner ≡ o → CanSend t.words o (record_at t.table f.0).backing
+    by None e = tt
+    by (Some k) e = let can = home_can t kept f k e (reading_in t kept f legal).unshared in (has k can.there, can.fits, can.places)
+
+pub reading_busy : (t : JoinedParts) (f : Frame) (ok : Bool) → IsLegal (read_end ok f) (life_in t) → has_request (record_at t.table f.0).request ≡ true
+reading_busy t f true legal = read_has (record_at t.table f.0).request (and_parts (is_read (record_at t.table f.0).request) (is_io t.line.kind || is_access t.line.kind) legal).0
+reading_busy t f false legal = read_has (record_at t.table f.0).request (and_parts (is_read (record_at t.table f.0).request) (is_io t.line.kind || is_access t.line.kind) legal).0

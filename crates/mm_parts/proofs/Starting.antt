@@ -1,0 +1,100 @@
+-- The parts of a machine at rest.
+use Rattle.std.proofs.Common.{◌≡◌, ℕ, zero, suc, ◌+◌, ◌*◌, ◌<◌, ◌≤◌, Bool, true, false, List, [], ◌∷◌, Option, Some, None, refl, sym, ap, ◌∙◌, subst, arith, length, replicate}
+use Rattle.std.specs.Prelude.{◌==◌, ◌&&◌, nat_le, is_some, slice_get, slice_index_or, unwrap_or}
+use Rattle.std.proofs.lemmas.Bool.{le-leb}
+use Rattle.mm_types.specs.Machine.{MachineOf, IsMachine}
+use Rattle.mm_types.specs.declared.numbers.Frame.{Frame}
+use Rattle.mm_types.specs.declared.numbers.Key.{Key}
+use Rattle.mm_types.specs.declared.numbers.Key.TheVariants.{Private, Shared}
+use Rattle.mm_types.specs.declared.frames.Held.TheVariants as held
+use Rattle.mm_life.specs.declared.sets.ResidentSet.{ResidentSet}
+use Rattle.mm_life.specs.Life.{FrameLife, free_table, unstarted, set_in}
+use Rattle.mm_life.specs.Legal.{IsLegal, is_machine}
+use Rattle.mm_life.specs.Effect.{after_move}
+use Rattle.mm_laws.specs.Reached.{Reached}
+use Rattle.mm_laws.proofs.Deduced.{reached_start, reached_next}
+use Rattle.mm_flight.specs.declared.flights.Waiting.{Waiting}
+use Rattle.mm_flight.specs.declared.flights.Waiting.TheVariants as waiting
+use Rattle.mm_entry.specs.declared.entries.Entry.TheVariants as entry
+use Rattle.mm_words.specs.Words.{word_of}
+use Rattle.mm_words.specs.Shown.{no_words}
+use Rattle.mm_parts.specs.Shown.{JoinedParts, PartsOf, owners, stands_of, is_paging, life_in, shown_of}
+use Rattle.mm_parts.specs.Kept.{Kept}
+use Rattle.mm_parts.specs.Start.{started, started_parts, first_kind, first_move}
+use Rattle.mm_parts.proofs.Stands.{same_life}
+use Rattle.mm_parts.proofs.Keeping.{Step}
+
+both : (a b : Bool) → a ≡ true → b ≡ true → (a && b) ≡ true
+both true true e f = refl
+both true false e f = f
+both false b e f = e
+
+machine_passes : (m : MachineOf) → IsMachine m → is_machine m ≡ true
+machine_passes m h =
+    both _ (nat_le (2 * m.depth + 4) m.frames)
+    (both _ (nat_le m.blocks 65536)
+    (both _ (nat_le m.depth 64)
+    (both _ (nat_le 1 m.depth)
+    (both _ (nat_le m.slots 262144)
+    (both (nat_le 6 m.frames) (nat_le m.frames 262144) (le-leb 6 m.frames h.least_frames) (le-leb m.frames 262144 h.most_frames))
+    (le-leb m.slots 262144 h.most_slots))
+    (le-leb 1 m.depth h.least_depth))
+    (le-leb m.depth 64 h.most_depth))
+    (le-leb m.blocks 65536 h.most_blocks))
+    (le-leb (2 * m.depth + 4) m.frames h.enough_frames)
+
+first_legal : (m : MachineOf) → IsMachine m → IsLegal (first_move m) unstarted
+first_legal m h = machine_passes m h
+
+dead_at_start : (m : MachineOf) (k : Key) → stands_of (owners (free_table m.frames)) no_words k ≡ held.Dead
+dead_at_start m (Private p v) = refl
+dead_at_start m (Shared a i) = refl
+
+none_added : (n x : ℕ) → slice_index_or (replicate n false) x false ≡ false
+none_added zero x = refl
+none_added (suc n) zero = refl
+none_added (suc n) (suc x) = none_added n x
+
+life_at_start : (m : MachineOf) → life_in (started_parts m) ≡ after_move unstarted (first_move m)
+life_at_start m =
+    same_life (record { machine = m; line = 1; kind = first_kind m; paging_keys = 0; added = replicate m.blocks false }) (free_table m.frames) (replicate m.slots true) [] _ _ _ _ _ _ _ _ (λ b. slice_index_or (replicate m.blocks false) b false)
+    refl (dead_at_start m) (λ k. ap (is_paging (free_table m.frames)) (dead_at_start m k)) (λ p. refl)
+    ∙ (λ i. record (after_move unstarted (first_move m)) { added = λ b. none_added m.blocks b i })
+
+no_set : (pid : ℕ) (s : ResidentSet) → set_in [] pid ≡ Some s → (1 ≤ s.max) × (s.max ≤ 65536)
+no_set zero s e = cc
+no_set (suc k) s e = cc
+
+nobody_waits : (n t : ℕ) (f : Frame) → slice_get (replicate n waiting.Nothing) t ≡ Some (waiting.For f) → ⊥
+nobody_waits zero t f e = cc
+nobody_waits (suc n) zero f e = cc
+nobody_waits (suc n) (suc t) f e = nobody_waits n t f e
+
+length_repeat : {A : Type 0} (n : ℕ) (x : A) → length (replicate n x) ≡ n
+length_repeat zero x = refl
+length_repeat (suc n) x = let e = length_repeat n x in omega (arith, e)
+
+pub start_step : (m : MachineOf) → IsMachine m → Step (started_parts m) (started m)
+start_step m h = record {
+  kept = record {
+    reached = ∣ subst Reached (sym (life_at_start m)) (reached_next (first_move m) unstarted reached_start (first_legal m h)) ∣₁;
+    line = record { machine = h; begun = omega arith; blocks = length_repeat m.blocks false };
+    words = record {
+      transition = λ k f e. let bad = by k f e in absurd bad;
+      valid_shared = λ a i f n e. cc;
+      no_file = λ p b e. cc;
+      no_proto = λ a i b j e. cc;
+      beside = λ x e. cc;
+      beside_bound = λ x e. cc;
+    };
+    within = record { requesting = λ e. cc; copying = λ e. cc };
+    ranges = record { areas = λ a e. cc; sets = no_set };
+    depth = refl;
+    waits = λ t f e. absurd (nobody_waits 256 t f e);
+  };
+  shown = λ i. record (started m) { life = life_at_start m i };
+}
+  where
+    by : (k : Key) (f : Frame) → word_of no_words k ≡ entry.Transition f → ⊥
+    by (Private p v) f e = cc
+    by (Shared a i) f e = cc

@@ -1,0 +1,28 @@
+use Rattle.std.proofs.Common.{◌≡◌, ℕ, ◌+◌, ◌-◌, ◌<◌, List, Bool, Option, Some, refl, sym, ap, ◌∙◌, subst, arith, length}
+use Rattle.mm_types.specs.declared.numbers.Frame.{Frame}
+use Rattle.mm_types.specs.declared.numbers.Place.{Place}
+use Rattle.mm_life.specs.Life.{changed, same_place}
+use Rattle.mm_ram.specs.Ram.{bytes_of, bytes_from, overwritten, with_page}
+use Rattle.mm_frames.specs.Base.{FramesOf}
+use Rattle.mm_parts.specs.Shown.{JoinedParts, shown_of}
+use Rattle.mm_parts.specs.PartsShown.{joined, shown}
+use Rattle.mm_parts.proofs.Keeping.{step_to}
+use Rattle.mm_parts.proofs.WordSteps.{used_step, bytes_step, aged_step}
+use Rattle.mm_parts.proofs.Using.{one_frame, valid_entry}
+use Rattle.mm_parts.proofs.parts.Parts.read.Goals as goal
+
+pub touch-requires : goal.touch-requires
+touch-requires c = valid_entry (joined c.args.self.now) c.args.place c.frame_at-f.result c.frame_at-f.ensures.frame
+
+pub invariant_of-self : goal.invariant_of-self
+invariant_of-self c =
+    let s = c.args.self.now in
+    record { kept = (step_to _ _ _ (λ i. record (joined s) { words = c.touch.ensures.words i; ages = c.touch.ensures.ages i }) (used_step (joined s) s.kept c.args.place s.frames.bytes)).kept }
+
+pub returns-clause-bytes : goal.returns-clause-bytes
+returns-clause-bytes c = λ f v. c.read.ensures.bytes ∙ ap (λ (g : Frame). bytes_from (bytes_of c.args.self.now.frames.bytes g.0) c.args.off (length c.args.out.now)) (one_frame (joined c.args.self.now) c.args.place c.frame_at-f.result f c.frame_at-f.ensures.frame v)
+
+pub returns-clause-made : goal.returns-clause-made
+returns-clause-made c =
+    let s = c.args.self.now in
+    (step_to _ _ _ (λ i. record (joined s) { words = c.touch.ensures.words i; ages = c.touch.ensures.ages i }) (used_step (joined s) s.kept c.args.place s.frames.bytes)).shown

@@ -1,0 +1,30 @@
+-- What the parts keep of words, beside what follows from the replay's state.
+use Rattle.std.specs.Prelude.{◌≡◌, ◌≢◌, ◌≤◌, ℕ, Bool, true, false, Some}
+use Rattle.mm_types.specs.declared.numbers.Area.{Area}
+use Rattle.mm_types.specs.declared.numbers.Block.{Block}
+use Rattle.mm_types.specs.declared.numbers.Frame.{Frame}
+use Rattle.mm_types.specs.declared.numbers.Key.{Key}
+use Rattle.mm_types.specs.declared.numbers.Place.{Place}
+use Rattle.mm_life.specs.Frames.{FrameTable, record_at}
+use Rattle.mm_entry.specs.declared.entries.Entry.{Entry}
+use Rattle.mm_entry.specs.declared.entries.Entry.TheVariants as entry
+use Rattle.mm_words.specs.declared.aside.Aside.{Aside}
+use Rattle.mm_words.specs.Words.{WordsOf, word_of}
+
+-- an entry that a private key can have beside the tables
+abbrev pub is_aside_entry : Entry → Bool
+is_aside_entry entry.Empty = false
+is_aside_entry entry.Zero = true
+is_aside_entry (entry.Paged s) = true
+is_aside_entry (entry.InFile b) = false
+is_aside_entry (entry.Transition f) = true
+is_aside_entry (entry.Valid f n) = false
+is_aside_entry (entry.Proto a i) = false
+
+pub record WordsKept (d : FrameTable) (w : WordsOf) : Type 0 where
+  pub transition : (k : Key) (f : Frame) → word_of w k ≡ entry.Transition f → (record_at d f.0).shares ≡ 0
+  pub valid_shared : (a : Area) (i : ℕ) (f : Frame) (n : ℕ) → w.proto a.0 i ≡ entry.Valid f n → (1 ≤ (record_at d f.0).shares) × (n ≡ 0)
+  pub no_file : (p : Place) (b : Block) → w.at p ≢ entry.InFile b
+  pub no_proto : (a i : ℕ) (b : Area) (j : ℕ) → w.proto a i ≢ entry.Proto b j
+  pub beside : (x : Aside) → w.aside ≡ Some x → is_aside_entry x.entry ≡ true
+  pub beside_bound : (x : Aside) → w.aside ≡ Some x → w.bound x.place ≡ true

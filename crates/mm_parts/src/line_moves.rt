@@ -1,0 +1,124 @@
+ghost use Rattle.std.specs.Prelude.{◌≡◌, ◌≤◌, None, false, IfOk, OnOk, replicate};
+ghost use Rattle.mm_types.specs.declared.moves.LineKind.TheVariants as kind;
+ghost use Rattle.mm_types.specs.declared.moves.Move.TheVariants as move;
+ghost use Rattle.mm_life.specs.Legal.{IsLegal};
+ghost use Rattle.mm_words.specs.Shown as tables;
+ghost use Rattle.mm_parts.specs.Moves.{after, IsPlainLine, words_begun, CanBeginSet};
+ghost use Rattle.mm_types.specs.Machine.{IsMachine};
+ghost use Rattle.mm_parts.specs.Start.{started, first_kind, more_slots};
+
+use crate::parts::Parts;
+use mm_flight::Flight;
+use mm_frames::Frames;
+use mm_slots::Slots;
+use mm_types::{LineKind, Machine, NoMemory};
+use mm_words::Words;
+use std::alloc::{AllocError, Global};
+
+/// No block was ever added.
+fn none_added(alloc: Global, blocks: u32) -> Result<Vec<bool>, AllocError>
+    ensures { IfOk result (λ v. v.items ≡ replicate blocks false) }
+{
+    vec![in alloc; false; blocks as usize]
+}
+
+/// The kind of the first line.
+fn kind_of(machine: Machine) -> LineKind
+    ensures { result ≡ first_kind machine }
+{
+    LineKind::Machine(
+        machine.frames(),
+        machine.slots(),
+        machine.depth(),
+        machine.blocks(),
+    )
+}
+
+/// The machine with further slots.
+fn with_slots(machine: Machine, n: u32) -> Machine
+    requires { IsMachine (more_slots machine n) }
+    ensures { result ≡ more_slots machine n }
+{
+    Machine::new(
+        machine.frames(),
+        machine.slots() + n,
+        machine.depth(),
+        machine.blocks(),
+    )
+}
+
+/// A line begins: a new process has a working set.
+fn begin_set(words: &mut Words, kind: LineKind)
+    requires { CanBeginSet kind (tables.words words.old) }
+    ensures words { tables.words words.new ≡ words_begun kind (tables.words words.old) }
+    ensures ages { tables.ages words.new ≡ tables.ages words.old }
+{
+    if let LineKind::Process(_, min, max) = kind {
+        words.begin_process(min, max);
+    }
+}
+
+impl Parts {
+    ghost use Rattle.mm_parts.specs.PartsShown.{shown, spare_slots};
+
+    /// A machine at rest, whose first line has begun. It takes the memory of all frames, slots, blocks and requests.
+    pub fn new(alloc: Global, machine: Machine) -> Result<Parts, NoMemory>
+        ensures { IfOk result (λ p. shown p ≡ started machine) }
+    {
+        let added = none_added(alloc, machine.blocks())?;
+        let frames = Frames::new(alloc, machine.frames())?;
+        let words = Words::new(alloc)?;
+        let slots = Slots::new(alloc, machine.slots())?;
+        let flight = Flight::new(alloc, machine.depth())?;
+        let kind = kind_of(machine);
+        Ok(Parts {
+            machine,
+            line: 1,
+            kind,
+            paging_keys: 0,
+            added,
+            frames,
+            words,
+            slots,
+            flight,
+            own: None,
+        })
+    }
+
+    /// A line begins, of any kind but one in which the paging file grows. The last line's own request is done, and nothing
+    /// stands beside the tables. A process's working set has room for 1 to 65,536 pages.
+    pub fn at(&mut self, line: u32, kind: LineKind)
+        requires legal { IsLegal (move.At line kind) (shown self.old).life }
+        requires plain { IsPlainLine kind }
+        requires done { (shown self.old).own ≡ None }
+        requires alone { (shown self.old).aside ≡ None }
+        ensures made { shown self.new ≡ after (shown self.old) (move.At line kind) }
+    {
+        self.line = line;
+        self.kind = kind;
+        begin_set(&mut self.words, kind);
+    }
+
+    /// Takes the memory for `n` further slots. Nothing changes but how many can be added.
+    pub fn reserve_slots(&mut self, n: u32) -> Result<(), NoMemory>
+        ensures shown { shown self.new ≡ shown self.old }
+        ensures ok { OnOk result (n ≤ spare_slots self.new) }
+        ensures kept { spare_slots self.old ≤ spare_slots self.new }
+    {
+        self.slots.reserve(n)
+    }
+
+    /// A line begins in which the paging file grows by `n` slots, for which there is memory.
+    pub fn grow(&mut self, line: u32, n: u32)
+        requires legal { IsLegal (move.At line (kind.Grow n)) (shown self.old).life }
+        requires spare { n ≤ spare_slots self.old }
+        requires done { (shown self.old).own ≡ None }
+        requires alone { (shown self.old).aside ≡ None }
+        ensures made { shown self.new ≡ after (shown self.old) (move.At line (kind.Grow n)) }
+    {
+        self.line = line;
+        self.kind = LineKind::Grow(n);
+        self.machine = with_slots(self.machine, n);
+        self.slots.grow(n);
+    }
+}

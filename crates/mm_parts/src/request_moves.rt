@@ -1,0 +1,134 @@
+ghost use Rattle.std.specs.Prelude.{◌≡◌, ◌≢◌, Some, true, false, is_some, option_map, map};
+ghost use Rattle.mm_types.specs.declared.moves.Move.TheVariants as move;
+ghost use Rattle.mm_life.specs.Frames.{record_at, is_write, is_empty, taken_for_read};
+ghost use Rattle.mm_life.specs.Legal.{IsLegal};
+ghost use Rattle.mm_ram.specs.Ram.{page_at};
+ghost use Rattle.mm_frames.specs.Base.{IsDirty, has_block};
+ghost use Rattle.mm_flight.specs.Requests.{ended};
+ghost use Rattle.mm_parts.specs.Moves.{after, own_after, own_ended, front_or, front_for_read, read_end, write_end, write_target, CanBegin, page_filled, words_sent, CanSend, goes_to, lowest_free, slots_to};
+ghost use Rattle.mm_words.specs.Shown as tables;
+ghost use Rattle.mm_slots.specs.Slots.{free_count};
+
+use crate::backings::{backing_of, give_back, home, target};
+use crate::parts::Parts;
+use crate::requests::{begin_request, end_request};
+use mm_entry::Entry;
+use mm_frames::{Dirty, Frames};
+use mm_slots::Slots;
+use mm_types::{Backing, Frame, Key, Stored};
+use mm_words::Words;
+
+/// The frame that a page is read into is taken: the first free one, or where none is free the first zeroed one.
+#[tactic(auto, using(crate::proofs::Tokens::taken_free, crate::proofs::Tokens::taken_zeroed))]
+fn take_for_read(frames: &mut Frames) -> Dirty
+    requires { is_empty frames.old.table.free ≡ true → is_empty frames.old.table.zeroed ≡ false }
+    ensures first { result ≡ (front_or frames.old.table.free frames.old.table.zeroed).0 }
+    ensures table { frames.new.table ≡ taken_for_read frames.old.table }
+    ensures bytes { frames.new.bytes ≡ frames.old.bytes }
+    ensures in_hand { IsDirty frames.new result }
+{
+    match frames.take_free() {
+        Some(dirty) => dirty,
+        None => match frames.take_zeroed() {
+            Some(blank) => frames.soil_blank(blank),
+            None => unreachable!(),
+        },
+    }
+}
+
+/// The page of a frame, if it lives, is where it was read from.
+fn send_home(words: &mut Words, owner: Option<Key>, backing: Backing)
+    requires { CanSend (tables.words words.old) owner backing }
+    ensures words { tables.words words.new ≡ words_sent owner backing (tables.words words.old) }
+    ensures ages { tables.ages words.new ≡ tables.ages words.old }
+{
+    if let Some(key) = owner {
+        words.set_word(key, home(backing));
+    }
+}
+
+/// Where a page is written to: the block that backs its frame, else the lowest free slot, which is taken.
+#[tactic(auto, using(crate::proofs::Requesting::lowest_is))]
+fn take_target(slots: &mut Slots, backing: Backing) -> Stored
+    requires { has_block backing ≡ false → free_count slots.old.free ≢ 0 }
+    ensures to { result ≡ goes_to backing (lowest_free slots.old.free) }
+    ensures slots { slots.new.free ≡ slots_to result slots.old.free }
+{
+    match backing {
+        Backing::Block(b) => Stored::Block(b),
+        _ => match slots.take() {
+            Some(s) => Stored::Slot(s),
+            None => unreachable!(),
+        },
+    }
+}
+
+impl Parts {
+    ghost use Rattle.mm_parts.specs.PartsShown.{shown};
+
+    /// A read of a page begins, into the first free frame, or where none is free the first zeroed one.
+    pub fn start_read(&mut self, key: Key) -> Frame
+        requires legal { IsLegal (move.Read (front_for_read (shown self.old).life) key) (shown self.old).life }
+        requires room { CanBegin (shown self.old) }
+        ensures frame { result ≡ front_for_read (shown self.old).life }
+        ensures made { shown self.new ≡ record (after (shown self.old) (move.Read result key)) { own = own_after (shown self.old).life.kind (shown self.old).own result } }
+    {
+        self.words.words_hold();
+        let backing = backing_of(self.words.word(key));
+        let dirty = take_for_read(&mut self.frames);
+        let f = self.frames.bind_read(dirty, key, backing);
+        self.words.set_word(key, Entry::Transition(f));
+        begin_request(&mut self.flight, &mut self.own, self.kind, f);
+        f
+    }
+
+    /// A read has ended: well, with the bytes of the page, or not. The waits for it have ended too.
+    pub fn end_read(&mut self, f: Frame, page: Option<&[u8; 4096]>)
+        requires legal { IsLegal (read_end (is_some page) f) (shown self.old).life }
+        ensures made { shown self.new ≡ record (after (shown self.old) (read_end (is_some page.entry) f)) {
+          bytes = page_filled (option_map (λ p. p.now) page.entry) (shown self.old).bytes f.0;
+          waits = map (ended f.0 (is_some page.entry)) (shown self.old).waits;
+          own = own_ended (shown self.old).own f.0;
+        } }
+    {
+        self.words.words_hold();
+        let ok = page.is_some();
+        let ended = self.frames.end_read(f, page);
+        give_back(&mut self.slots, ended.slot);
+        end_request(&mut self.flight, &mut self.own, f, ok);
+        if !ok {
+            send_home(&mut self.words, ended.owner, ended.home);
+        }
+    }
+
+    /// A write of a page begins: to the block that backs its frame, or for a page of the paging file to the lowest free slot.
+    pub fn start_write(&mut self, f: Frame) -> Stored
+        requires legal { IsLegal (move.Write f (write_target (shown self.old).life f)) (shown self.old).life }
+        requires room { CanBegin (shown self.old) }
+        ensures to { result ≡ write_target (shown self.old).life f }
+        ensures made { shown self.new ≡ record (after (shown self.old) (move.Write f result)) { own = own_after (shown self.old).life.kind (shown self.old).own f } }
+    {
+        let to = take_target(&mut self.slots, self.frames.look(f).backing);
+        self.frames.start_write(f, target(to));
+        begin_request(&mut self.flight, &mut self.own, self.kind, f);
+        to
+    }
+
+    /// The bytes of a frame that is being written.
+    pub fn take(&self, f: Frame, out: &mut [u8; 4096])
+        requires { is_write (record_at (shown self.now).life.frames f.0).request ≡ true }
+        ensures { page_at (shown self.now).bytes f.0 ≡ Some out.new }
+    {
+        self.frames.take(f, out);
+    }
+
+    /// A write has ended, well or not.
+    pub fn end_write(&mut self, f: Frame, ok: bool)
+        requires legal { IsLegal (write_end ok f) (shown self.old).life }
+        ensures made { shown self.new ≡ record (after (shown self.old) (write_end ok f)) { own = own_ended (shown self.old).own f.0 } }
+    {
+        let ended = self.frames.end_write(f, ok);
+        give_back(&mut self.slots, ended.slot);
+        end_request(&mut self.flight, &mut self.own, f, ok);
+    }
+}
