@@ -1,4 +1,5 @@
 -- The frame database: what is kept of each page frame, the four lists, and what each move does to them.
+-- Profile, "Logs of moves".
 use Rattle.std.specs.Prelude.{ℕ, ◌+◌, ◌-◌, Bool, true, false, not, ◌&&◌, ◌==◌, if◌then◌else◌, is_some, List, [], ◌∷◌, ◌++◌, filter, Option, Some, None, slice_set, slice_index_or}
 use Rattle.std.specs.List.{list_any}
 use Rattle.mm_types.specs.declared.numbers.Key.{Key}

@@ -1,4 +1,5 @@
 -- When a move is legal.
+-- Profile, "Logs of moves".
 use Rattle.std.specs.Prelude.{ℕ, zero, suc, ◌+◌, ◌*◌, Bool, true, false, not, ◌&&◌, ◌||◌, nat_le, nat_lt, ◌==◌, is_some, is_none, List, [], ◌∷◌, length, Option, Some, None, option_map, unwrap_or}
 use Rattle.std.specs.Bool.{IsTrue}
 use Rattle.mm_types.specs.Machine.{MachineOf, limit_of}

@@ -1,4 +1,5 @@
 -- The state of a replay: the life of the frames, line by line.
+-- Profile, "Logs of moves".
 use Rattle.std.specs.Prelude.{ℕ, zero, suc, ◌+◌, Bool, true, false, not, ◌&&◌, ◌==◌, nat_lt, if◌then◌else◌, List, [], ◌∷◌, length, replicate, count_by, Option, Some, None, slice_get, slice_set}
 use Rattle.mm_types.specs.Machine.{MachineOf}
 use Rattle.mm_types.specs.declared.answers.Counts.{Counts}

@@ -1,4 +1,5 @@
 -- How moves are written: a log is moves, each on a line.
+-- Profile, "Logs of moves".
 use Rattle.std.specs.Prelude.{◌≡◌, ℕ, ◌^◌, ◌<◌, List, [], ◌∷◌, ◌++◌, codes, flat_map, Option, Some, None}
 use Rattle.mm_types.specs.Spelling.{Text, decimal}
 use Rattle.mm_types.specs.declared.numbers.Block.{Block}

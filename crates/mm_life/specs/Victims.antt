@@ -1,4 +1,5 @@
 -- Which of two pages of a working set goes first, and which modified frame can be written.
+-- Profile, "Which frame moves, and when".
 use Rattle.std.specs.Prelude.{ℕ, ◌+◌, Bool, not, ◌&&◌, ◌||◌, nat_lt, ◌==◌, min}
 use Rattle.std.specs.List.{list_any}
 use Rattle.mm_life.specs.Frames.{record_at}

@@ -1,4 +1,5 @@
 -- Addresses, pages and granules of a 32-bit user address space (the layout of Windows on x86).
+-- Profile, "Machine, addresses, limits".
 use Rattle.std.specs.Prelude.{ℕ, zero, suc, ◌+◌, ◌-◌, ◌*◌, ◌/◌, ◌%◌, Bool, not, ◌&&◌, nat_le, nat_lt, ◌==◌, if◌then◌else◌, List, Option, Some, None, option_map}
 use Rattle.std.specs.List.{list_any}
 
@@ -47,7 +48,7 @@ pub record Range : Type 0 where
 abbrev pub end_of : Range → ℕ
 end_of r = r.first + r.count
 
--- the pages that hold one of the `size` bytes from `addr` on; sums are formed without a bound
+-- the pages that hold one of the `size` bytes from `addr` on, where the size is at least 1; sums are formed without a bound
 abbrev pub range_of : ℕ → ℕ → Range
 range_of addr size = record { first = page_of addr; count = page_of (addr + size - 1) + 1 - page_of addr }
 

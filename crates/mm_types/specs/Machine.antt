@@ -1,4 +1,5 @@
 -- A machine's numbers, and how many pages can be committed on it.
+-- Profile, "Machine, addresses, limits".
 use Rattle.std.specs.Prelude.{ℕ, ◌+◌, ◌-◌, ◌*◌, ◌≤◌}
 
 -- page frames, page-file slots, the most device requests in flight, file blocks

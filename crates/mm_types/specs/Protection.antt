@@ -1,4 +1,5 @@
 -- What a protection permits (Microsoft's memory protection constants).
+-- Profile, "Protections".
 use Rattle.std.specs.Prelude.{ℕ, ◌%◌, Bool, true, false, ◌==◌, if◌then◌else◌, List, [], ◌∷◌}
 use Rattle.mm_types.specs.declared.protections.Access.{Access}
 use Rattle.mm_types.specs.declared.protections.Access.TheVariants as access

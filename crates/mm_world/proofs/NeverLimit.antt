@@ -1,4 +1,4 @@
--- No line but five is refused for want of commitment.
+-- No line but five can be refused because the charge would pass the limit.
 use Rattle.std.proofs.Common.{◌≡◌, ℕ, false, Option, Some, None, refl, List}
 use Rattle.mm_types.specs.declared.codes.Code.{Code}
 use Rattle.mm_types.specs.declared.answers.Answer.{Answer}

@@ -1,4 +1,5 @@
 -- An access to the bytes of one page: what `read`, `write` and `exec` do to unpaged address spaces.
+-- Profile, "Accesses".
 use Rattle.std.specs.Prelude.{ℕ, ◌+◌, ◌%◌, Bool, not, ◌&&◌, if◌then◌else◌, List, ◌++◌, length, take, drop, Option, Some, None, unwrap_or}
 use Rattle.mm_types.specs.declared.answers.Answer.TheVariants as answer
 use Rattle.mm_types.specs.declared.codes.Raise.TheVariants as raise

@@ -1,4 +1,5 @@
 -- `alloc`: VirtualAlloc.
+-- Profile, "Calls".
 use Rattle.std.specs.Prelude.{ℕ, ◌+◌, ◌-◌, Bool, not, ◌&&◌, ◌||◌, ◌==◌, if◌then◌else◌, is_none, List, [], ◌∷◌, replicate, Some, unwrap_or}
 use Rattle.mm_types.specs.declared.answers.Answer.TheVariants as answer
 use Rattle.mm_types.specs.declared.codes.Code.TheVariants as code

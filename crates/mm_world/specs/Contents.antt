@@ -1,4 +1,5 @@
 -- A world with what each page holds changed by a function, and the tables that are left of a world when its bytes are taken away.
+-- No rule of the profile: it says that calls look at no byte, and which bytes they keep.
 use Rattle.std.specs.Prelude.{◌≡◌, ℕ, ◌+◌, ◌%◌, ◌&&◌, if◌then◌else◌, is_some, List, [], ◌∷◌, Option, map, option_map, unwrap_or}
 use Rattle.mm_types.specs.declared.numbers.Key.{Key}
 use Rattle.mm_types.specs.declared.numbers.Key.TheVariants as key

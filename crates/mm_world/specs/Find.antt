@@ -1,4 +1,5 @@
 -- Looking things up in a world, and changing one of them at its place.
+-- Profile, "Regions, rows, sections"; for the lowest free range "Calls".
 use Rattle.std.specs.Prelude.{ℕ, suc, Bool, true, false, nat_lt, ◌==◌, if◌then◌else◌, List, [], ◌∷◌, ◌++◌, map, take, drop, insert, count_by, Option, Some, None, slice_get, slice_set, position, unwrap_or, option_map, bytes_eq}
 use Rattle.mm_types.specs.declared.views.Kind.{Kind}
 use Rattle.mm_types.specs.declared.views.Kind.TheVariants as kind

@@ -1,4 +1,5 @@
 -- `free`: VirtualFree.
+-- Profile, "Calls".
 use Rattle.std.specs.Prelude.{ℕ, Bool, ◌&&◌, ◌||◌, ◌==◌, if◌then◌else◌, List, remove, Option}
 use Rattle.mm_types.specs.declared.answers.Answer.TheVariants as answer
 use Rattle.mm_types.specs.declared.codes.Code.TheVariants as code

@@ -1,4 +1,5 @@
 -- Committed rows, and the keys that their bytes belong to.
+-- Profile, "Regions, rows, sections".
 use Rattle.std.specs.Prelude.{ℕ, ◌+◌, ◌-◌, Bool, false, is_some, List, Option, Some, None, slice_set, option_and_then, option_map}
 use Rattle.mm_types.specs.declared.numbers.Key.{Key}
 use Rattle.mm_types.specs.declared.numbers.Key.TheVariants as key

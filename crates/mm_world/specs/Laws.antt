@@ -1,4 +1,5 @@
 -- Words for the laws over the definitions.
+-- No rule of the profile: what the laws of src/laws.rt say.
 use Rattle.std.specs.Prelude.{◌≡◌, ◌≤◌, ◌<◌, ℕ, Bool, true, false, Some}
 use Rattle.mm_types.specs.declared.answers.Answer.{Answer}
 use Rattle.mm_types.specs.declared.answers.Answer.TheVariants as answer

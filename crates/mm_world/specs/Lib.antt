@@ -1,27 +1,34 @@
+-- In the order of reading. The definitions are the lines up to System; below it stand words of laws and worked rows.
+
+-- private memory
 pub mod World
 pub mod Find
-pub mod Charge
 pub mod Outcome
+pub mod Charge
 pub mod Rows
 pub mod Alloc
 pub mod Free
 pub mod Protect
 pub mod Query
+pub mod Keys
+pub mod Access
+-- sections, views, processes
 pub mod Sections
 pub mod Views
 pub mod Processes
-pub mod Keys
-pub mod Access
+-- where an answer looks at paging, and one line as a whole
 pub mod Report
 pub mod Failure
 pub mod Step
+-- stacks and watched regions beside a world
 pub mod Stack
 pub mod Watch
 pub mod System
-pub mod RunText
+-- what holds of worlds, and words of laws
 pub mod WellFormed
 pub mod Contents
 pub mod Laws
+-- worked rows
 pub mod Worked
 pub mod WorkedPrivate
 pub mod WorkedSections

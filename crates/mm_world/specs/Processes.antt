@@ -1,4 +1,5 @@
 -- Processes and what is counted for the whole run: `process`, `exit`, `file`, `fail`, `charge`, `grow`.
+-- Profile, "Calls"; the greatest numbers are those of "Machine, addresses, limits".
 use Rattle.std.specs.Prelude.{ℕ, zero, suc, ◌+◌, ◌%◌, nat_le, nat_lt, ◌==◌, if◌then◌else◌, is_none, List, [], ◌∷◌, ◌++◌, length, map, Option, Some, None}
 use Rattle.mm_types.specs.declared.answers.Answer.TheVariants as answer
 use Rattle.mm_types.specs.declared.codes.Code.TheVariants as code

@@ -1,4 +1,5 @@
 -- `query`: VirtualQuery.
+-- Profile, "Calls".
 use Rattle.std.specs.Prelude.{ℕ, ◌+◌, ◌-◌, Bool, true, false, ◌&&◌, ◌==◌, nat_lt, List, [], ◌∷◌, length, drop, take_while, find, Option, Some, None, unwrap_or, option_map}
 use Rattle.mm_types.specs.declared.answers.Answer.TheVariants as answer
 use Rattle.mm_types.specs.declared.answers.QueryInfo.{QueryInfo}

@@ -1,4 +1,5 @@
 -- The pages of a region: what each accepts, and what calls make of it.
+-- Profile, "Protections", "Regions, rows, sections" and, for what calls make of a row, "Calls".
 use Rattle.std.specs.Prelude.{ℕ, zero, suc, ◌+◌, ◌-◌, ◌/◌, Bool, true, false, not, ◌&&◌, ◌||◌, ◌==◌, nat_lt, if◌then◌else◌, is_some, List, [], ◌∷◌, Option, Some, None, slice_get, unwrap_or, option_map}
 use Rattle.std.specs.List.{list_any}
 use Rattle.mm_types.specs.declared.views.Kind.{Kind}

@@ -1,4 +1,5 @@
 -- Sections and their handles: `create`, `createfile`, `open`, `close`.
+-- Profile, "Calls"; for the lives of sections, names and pages "Regions, rows, sections".
 use Rattle.std.specs.Prelude.{ℕ, ◌+◌, ◌*◌, ◌/◌, ◌%◌, Bool, true, false, not, ◌&&◌, ◌||◌, nat_le, ◌==◌, if◌then◌else◌, is_some, List, [], ◌∷◌, ◌++◌, length, replicate, find, Option, Some, None, slice_set, option_and_then, option_map, bytes_eq}
 use Rattle.std.specs.List.{list_any}
 use Rattle.mm_types.specs.declared.answers.Answer.TheVariants as answer

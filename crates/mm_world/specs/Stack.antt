@@ -1,5 +1,6 @@
 -- Stacks of threads that grow through their guard page: `stack` and `probe` (this profile's own).
 -- They are decided without bytes, so they never page.
+-- Profile, "Watched regions and stacks".
 use Rattle.std.specs.Prelude.{ℕ, ◌+◌, ◌-◌, ◌*◌, ◌/◌, Bool, not, ◌&&◌, ◌||◌, nat_le, ◌==◌, if◌then◌else◌, is_some, is_none, ◌∷◌, ◌++◌, replicate, Option, Some, None}
 use Rattle.mm_types.specs.declared.answers.Answer.TheVariants as answer
 use Rattle.mm_types.specs.declared.codes.Code.TheVariants as code

@@ -1,4 +1,5 @@
 -- One line: a function of the world, the line, and the reports before and after it.
+-- Profile, "Answers"; for `begin` and `resume` "Accesses", for what the report tells "Paging, as far as answers show it".
 use Rattle.std.specs.Prelude.{ℕ, ◌+◌, Bool, true, false, not, ◌&&◌, nat_le, nat_lt, if◌then◌else◌, is_some, List, [], ◌∷◌, replicate, Option, Some, None, slice_set, option_and_then, option_map}
 use Rattle.mm_types.specs.declared.answers.Answer.{Answer}
 use Rattle.mm_types.specs.declared.answers.Answer.TheVariants as answer

@@ -1,4 +1,5 @@
 -- A world with what stands beside it: the stacks of threads and the watched regions. Each line of a script is decided here.
+-- Profile, "Watched regions and stacks"; each other line is decided as in Step.
 use Rattle.std.specs.Prelude.{ℕ, ◌-◌, Bool, true, false, ◌==◌, if◌then◌else◌, List, [], ◌∷◌, ◌++◌, map, replicate, Option, Some, None, slice_set, unwrap_or, option_map}
 use Rattle.mm_types.specs.declared.answers.Answer.{Answer}
 use Rattle.mm_types.specs.declared.answers.Answer.TheVariants as answer

@@ -1,4 +1,5 @@
 -- Write watch: the written pages of watched regions (GetWriteWatch, ResetWriteWatch).
+-- Profile, "Watched regions and stacks".
 use Rattle.std.specs.Prelude.{ℕ, ◌+◌, ◌-◌, Bool, false, not, ◌&&◌, ◌==◌, if◌then◌else◌, List, [], ◌∷◌, map, take, drop, length, replicate, Option}
 use Rattle.mm_types.specs.declared.answers.Answer.TheVariants as answer
 use Rattle.mm_types.specs.declared.codes.Code.TheVariants as code

@@ -1,4 +1,5 @@
 -- Well-formed worlds: what holds in each world that lines reach, and what the calls of later crates keep.
+-- It follows from the calls of the profile; what it says of regions and rows is "Regions, rows, sections".
 use Rattle.std.specs.Prelude.{◌≡◌, ℕ, ◌+◌, ◌%◌, ◌≤◌, ◌<◌, Bool, true, false, if◌then◌else◌, is_some, List, [], ◌∷◌, length, Option, Some, None, slice_get}
 use Rattle.mm_types.specs.declared.views.Kind.{Kind}
 use Rattle.mm_types.specs.declared.views.Kind.TheVariants as kind

@@ -1,5 +1,5 @@
 -- How worked rows are written: each line of a script with the text of its answer, and the report after it where one matters.
-use Rattle.std.specs.Prelude.{◌≡◌, ℕ, if◌then◌else◌, List, [], ◌∷◌, ◌++◌, map, flat_map, Option, Some, None}
+use Rattle.std.specs.Prelude.{◌≡◌, ℕ, zero, suc, if◌then◌else◌, List, [], ◌∷◌, ◌++◌, map, flat_map, Option, Some, None}
 use Rattle.mm_types.specs.declared.answers.Counts.{Counts}
 use Rattle.mm_types.specs.declared.answers.Wait.TheVariants as wait
 use Rattle.mm_types.specs.declared.events.Event.{Event}
@@ -8,9 +8,10 @@ use Rattle.mm_types.specs.declared.numbers.Pid.{Pid}
 use Rattle.mm_types.specs.declared.numbers.Tid.{Tid}
 use Rattle.mm_types.specs.Machine.{MachineOf}
 use Rattle.mm_types.specs.Spelling.{Text}
+use Rattle.mm_types.specs.AnswerText.{spelled}
+use Rattle.mm_world.specs.Keys.{private_key}
 use Rattle.mm_world.specs.Failure.{same_key}
 use Rattle.mm_world.specs.Report.{Report, Tally, Whereabouts, InFrame}
-use Rattle.mm_world.specs.RunText.{Status, run_text}
 use Rattle.mm_world.specs.System.{script_answers}
 
 abbrev pub machine : ℕ → ℕ → ℕ → ℕ → MachineOf
@@ -61,6 +62,20 @@ abbrev pub among : List (Key × Option Whereabouts) → Key → Option Whereabou
 among [] k = Some InFrame
 among (e ∷ es) k = let later = among es k in if same_key k e.0 then e.1 else later
 
+-- these keys are live and stand so, and no other key is live
+abbrev pub only : List (Key × Whereabouts) → Key → Option Whereabouts
+only [] k = None
+only (e ∷ es) k = let later = only es k in if same_key k e.0 then Some e.1 else later
+
+-- so many page numbers from the first on
+abbrev pub pages_from : ℕ → ℕ → List ℕ
+pages_from first zero = []
+pages_from first (suc count) = first ∷ pages_from (suc first) count
+
+-- these private pages of process 1 stand so
+abbrev pub standing : Whereabouts → List ℕ → List (Key × Whereabouts)
+standing here pages = map (λ page. (private_key 1 page, here)) pages
+
 abbrev pub telling : Counts → List (Key × Option Whereabouts) → Report
 telling c keys = record quiet { counts = c; whereabouts = among keys }
 
@@ -86,10 +101,10 @@ reported r l = record l { report = r }
 abbrev pub text_of : List Text → Text
 text_of texts = flat_map (λ t. t ++ 0x0A ∷ []) texts
 
--- the text of the whole run: after the answer to the `machine` line those to the lines, and then what ends it
-abbrev pub run_of : MachineOf → List WorkedLine → Status → Text
-run_of m ls status = run_text (script_answers m quiet (map (λ l. (l.event, l.report)) ls)) status
+-- the answer lines of the run, that to the `machine` line first, as the program spells them
+abbrev pub answers_of : MachineOf → List WorkedLine → Text
+answers_of m ls = spelled (script_answers m quiet (map (λ l. (l.event, l.report)) ls))
 
--- the run writes what the row says
-abbrev pub Gives : MachineOf → Text → List WorkedLine → Status → Text → Type 0
-Gives m first ls status last = run_of m ls status ≡ text_of (first ∷ map (λ l. l.text) ls) ++ last
+-- the answers of the run are those that the row says
+abbrev pub Gives : MachineOf → Text → List WorkedLine → Type 0
+Gives m first ls = answers_of m ls ≡ text_of (first ∷ map (λ l. l.text) ls)

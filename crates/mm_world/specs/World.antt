@@ -1,5 +1,6 @@
 -- A world: unpaged address spaces that share section contents.
 -- What a page holds is the parameter `B`: its bytes in a world proper, nothing in the tables that calls go by.
+-- Profile, "Regions, rows, sections".
 use Rattle.std.specs.Prelude.{ℕ, Bool, List, Option, None, length, replicate, slice_index_or}
 use Rattle.mm_types.specs.declared.events.AccessSpec.{AccessSpec}
 use Rattle.mm_types.specs.declared.views.Kind.{Kind}
