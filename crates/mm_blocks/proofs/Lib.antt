@@ -1,3 +1,4 @@
 pub mod Fronts
 pub mod Logs
 pub mod Serving
+pub mod Stored

@@ -1,5 +1,5 @@
 -- The calls that a store made of a device, one list behind another.
-use Rattle.std.proofs.Common.{◌≡◌, List, [], ◌∷◌, ◌++◌, refl, sym, ap, ◌∙◌}
+use Rattle.std.proofs.Common.{◌≡◌, List, [], ◌∷◌, ◌++◌, refl, sym, ap}
 use Rattle.std.specs.Prelude.{map}
 use Rattle.mm_blocks.specs.Devices.{DeviceOf, Call, logged_call, Serves, AllServed}
 

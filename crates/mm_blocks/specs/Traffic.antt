@@ -54,10 +54,11 @@ is_named d calls = list_any (is_due d) calls
 abbrev pub after_call : Direction → List NamedCalls → List NamedCalls
 after_call d calls = map (one_further d) calls
 
--- A count of faults never falls, and the device failed only where it rose.
+-- A count of faults never falls, and the device failed only where it rose; it stays where there was no memory.
 pub record HasOpenCause {T : Type 0} (before now : ℕ) (result : Result T OpenFault) : Type 0 where
   pub later : before ≤ now
   pub failed : IsErrOf result fault.Failed → Rose before now
+  pub quiet : IsErrOf result fault.Memory → now ≡ before
 
 -- the log of a device over another, which tells it as long as the other names no call itself
 abbrev pub told_by : List NamedCalls → Option (List DeviceCall) → Option (List DeviceCall)

@@ -8,6 +8,7 @@ mod fail_lists;
 mod injections;
 mod mem_blocks;
 mod plans;
+mod stores;
 
 ghost use Rattle.std.specs.Prelude.{◌≡◌, ◌≤◌, ◌<◌, ◌+◌, ◌-◌, ◌++◌, [], ◌∷◌, List, ℕ, Option, Some, OnOk, OnErr, IsErr, length, replicate, slice_get, slice_set};
 ghost use Rattle.std.specs.Bool.{OnTrue, OnFalse};

@@ -8,6 +8,7 @@ ghost use Rattle.mm_blocks.specs.Traffic.{Logged, NoneLogged, HasOpenCause, made
 
 use crate::call_logs::CallLog;
 use crate::fail_lists::FailList;
+use crate::stores::Store;
 use crate::{Blocks, DeviceCall};
 use mm_types::{Direction, Failed, NoMemory, OpenFault};
 use std::alloc::Global;
@@ -17,22 +18,10 @@ use std::alloc::Global;
 /// reads and writes were made since `open` as it was made with room for. Reads and writes take no memory.
 #[derive(Drop)]
 pub struct MemBlocks {
-    blocks: Vec<[u8; 4096]>,
+    blocks: Store,
     list: FailList,
+    alloc: Global,
     log: CallLog,
-}
-
-/// Puts n blocks of zeros at the end. There is room for them.
-fn push_empty(blocks: &mut Vec<[u8; 4096]>, n: u32)
-    requires room { vec_len blocks.old + n ≤ vec_capacity blocks.old }
-    ensures { blocks.new.items ≡ blocks.old.items ++ replicate n empty_block }
-{
-    for _ in 0..n {
-        match blocks.push([0; 4096]) {
-            Ok(()) => {}
-            Err(_) => unreachable!(),
-        }
-    }
 }
 
 impl MemBlocks {
@@ -48,13 +37,14 @@ impl MemBlocks {
     {
         let log = CallLog::new(alloc, log)?;
         Ok(MemBlocks {
-            blocks: Vec::new(alloc),
+            blocks: Store::new(alloc),
             list: FailList {
                 fails,
                 calls: 0,
                 faults: 0,
             },
             log,
+            alloc,
         })
     }
 
@@ -71,19 +61,19 @@ impl MemBlocks {
         requires { i < length (⟦<MemBlocks as Blocks>⟧.blocks self.now) }
         ensures { slice_get (⟦<MemBlocks as Blocks>⟧.blocks self.now) i ≡ Some result.now }
     {
-        &self.blocks[i as usize]
+        self.blocks.block(i)
     }
 
     /// How many blocks it has.
     pub fn count(&self) -> usize
         ensures { result ≡ length (⟦<MemBlocks as Blocks>⟧.blocks self.now) }
     {
-        self.blocks.len()
+        self.blocks.count()
     }
 }
 
 impl Blocks for MemBlocks {
-    ghost blocks = { λ d. d.blocks.items };
+    ghost blocks = { λ d. d.blocks };
 
     ghost log = { λ d. told d.log.room d.log.made d.log.calls.items };
 
@@ -94,12 +84,12 @@ impl Blocks for MemBlocks {
     ghost loans = { λ d. NoLoan };
 
     fn open(&mut self, n: u32) -> Result<(), OpenFault>
-        ensures ok { OnOk result (self.new.blocks.items ≡ replicate n empty_block) }
+        ensures ok { OnOk result (self.new.blocks ≡ replicate n empty_block) }
         ensures log { OnOk result (NoneLogged (told self.new.log.room self.new.log.made self.new.log.calls.items)) }
         ensures named { none_named ≡ none_named }
         ensures cause { HasOpenCause self.old.list.faults self.new.list.faults result }
         ensures loans { NoLoan ≡ NoLoan }
-        ensures err { OnErr result (self.new.blocks.items ≡ self.old.blocks.items) }
+        ensures err { OnErr result (self.new.blocks ≡ self.old.blocks) }
         ensures err_log { OnErr result (self.new.log ≡ self.old.log) }
         ensures fails { IsErrOf result fault.Failed ↔ NextFails self.old.list.fails.items self.old.list.calls }
         ensures calls { self.new.list.calls ≡ next_call self.old.list.calls }
@@ -110,18 +100,18 @@ impl Blocks for MemBlocks {
         if self.list.next_fails() {
             return Err(OpenFault::Failed);
         }
-        if self.blocks.reserve(n as usize).is_err() {
+        let mut blocks = Store::new(self.alloc);
+        if blocks.add(n).is_err() {
             return Err(OpenFault::Memory);
         }
-        self.blocks.clear();
-        push_empty(&mut self.blocks, n);
+        self.blocks = blocks;
         self.log.begin();
         Ok(())
     }
 
     fn extend(&mut self, n: u32) -> Result<(), OpenFault>
-        ensures ok { OnOk result (self.new.blocks.items ≡ self.old.blocks.items ++ replicate n empty_block) }
-        ensures err { OnErr result (self.new.blocks.items ≡ self.old.blocks.items) }
+        ensures ok { OnOk result (self.new.blocks ≡ self.old.blocks ++ replicate n empty_block) }
+        ensures err { OnErr result (self.new.blocks ≡ self.old.blocks) }
         ensures log { told self.new.log.room self.new.log.made self.new.log.calls.items ≡ told self.old.log.room self.old.log.made self.old.log.calls.items }
         ensures named { none_named ≡ none_named }
         ensures cause { HasOpenCause self.old.list.faults self.new.list.faults result }
@@ -134,17 +124,16 @@ impl Blocks for MemBlocks {
         if self.list.next_fails() {
             return Err(OpenFault::Failed);
         }
-        if self.blocks.reserve(n as usize).is_err() {
+        if self.blocks.add(n).is_err() {
             return Err(OpenFault::Memory);
         }
-        push_empty(&mut self.blocks, n);
         Ok(())
     }
 
     fn read(&mut self, i: u32, out: &mut [u8; 4096]) -> Result<(), Failed>
-        requires { i < length self.old.blocks.items }
-        ensures ok { OnOk result (slice_get self.old.blocks.items i ≡ Some out.new) }
-        ensures blocks { self.new.blocks.items ≡ self.old.blocks.items }
+        requires { i < length self.old.blocks }
+        ensures ok { OnOk result (slice_get self.old.blocks i ≡ Some out.new) }
+        ensures blocks { self.new.blocks ≡ self.old.blocks }
         ensures named_fails { OnTrue (is_named way.Read none_named) (IsErr result) }
         ensures named_quiet { OnTrue (is_named way.Read none_named) (told self.new.log.room self.new.log.made self.new.log.calls.items ≡ told self.old.log.room self.old.log.made self.old.log.calls.items) }
         ensures logged { OnFalse (is_named way.Read none_named) (Logged (told self.old.log.room self.old.log.made self.old.log.calls.items) (told self.new.log.room self.new.log.made self.new.log.calls.items) (made_call way.Read i result ∷ [])) }
@@ -166,14 +155,14 @@ impl Blocks for MemBlocks {
         if fails {
             return Err(Failed);
         }
-        *out = self.blocks[i as usize];
+        *out = *self.blocks.block(i);
         Ok(())
     }
 
     fn write(&mut self, i: u32, bytes: &[u8; 4096]) -> Result<(), Failed>
-        requires { i < length self.old.blocks.items }
-        ensures ok { OnOk result (self.new.blocks.items ≡ slice_set self.old.blocks.items i bytes.now) }
-        ensures err { OnErr result (self.new.blocks.items ≡ self.old.blocks.items) }
+        requires { i < length self.old.blocks }
+        ensures ok { OnOk result (self.new.blocks ≡ slice_set self.old.blocks i bytes.now) }
+        ensures err { OnErr result (self.new.blocks ≡ self.old.blocks) }
         ensures named_fails { OnTrue (is_named way.Write none_named) (IsErr result) }
         ensures named_quiet { OnTrue (is_named way.Write none_named) (told self.new.log.room self.new.log.made self.new.log.calls.items ≡ told self.old.log.room self.old.log.made self.old.log.calls.items) }
         ensures logged { OnFalse (is_named way.Write none_named) (Logged (told self.old.log.room self.old.log.made self.old.log.calls.items) (told self.new.log.room self.new.log.made self.new.log.calls.items) (made_call way.Write i result ∷ [])) }
@@ -195,7 +184,7 @@ impl Blocks for MemBlocks {
         if fails {
             return Err(Failed);
         }
-        self.blocks[i as usize] = *bytes;
+        self.blocks.put(i, bytes);
         Ok(())
     }
 }

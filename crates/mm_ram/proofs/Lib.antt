@@ -1,2 +1,3 @@
-pub mod Parts
-pub mod PageLemmas
+mod Memory
+mod Sharing
+pub mod Slots

@@ -1,2 +1,5 @@
+pub mod Lends
+pub mod Ownership
+pub mod Places
 pub mod Ram
-pub mod Pages
+pub mod Frames

@@ -3,9 +3,12 @@
 //! A frame that was never written has no bytes, and none can be read from it.
 #![tactic(auto)]
 
-mod bytes;
+mod cells;
 mod ram;
 
+// A crate can name `Ram` in a contract only if the types of its fields are exported.
+#[doc(hidden)]
+pub use cells::{Base, Cells, Deed};
 pub use ram::Ram;
 
 #[cfg(test)]

@@ -1,35 +1,35 @@
-ghost use Rattle.std.specs.Prelude.{◌≡◌, ◌≢◌, ℕ, List, ◌+◌, ◌<◌, ◌≤◌, false, length, replicate, Some, None, IfOk, IsSome};
+ghost use Rattle.std.specs.Prelude.{◌≡◌, ◌≢◌, ℕ, List, ◌+◌, ◌<◌, ◌≤◌, false, length, replicate, Some, None, IfOk, IsSome, map};
+ghost use Rattle.mm_ram.specs.Frames.{is_written};
 ghost use Rattle.mm_ram.specs.Ram.{page_at, bytes_of, bytes_from, overwritten, with_page, zero_page, page_size};
 
-use crate::bytes::{PAGE, copy_bytes, get_bytes, put_bytes, put_zeros};
+use crate::cells::{Base, Cells, Deed, allocate, deallocate};
 use mm_types::{Frame, NoMemory};
 use std::alloc::Global;
 use std::marker::Model;
 
+/// A page of zeros.
+static ZEROS: [u8; 4096] = [0; 4096];
+
 /// The bytes of a machine's page frames.
 ///
 /// Contracts see a list: for each frame its 4,096 bytes, or `None` where it was never written.
-#[derive(Drop)]
 pub struct Ram {
-    bytes: Vec<u8>,
+    base: Base<[u8; 4096]>,
+    cells: Cells<[u8; 4096]>,
+    deed: Deed<[u8; 4096], Global>,
     written: Vec<bool>,
+    alloc: Global,
 }
 
 impl Model for Ram {
-    ghost use Rattle.std.specs.Prelude.{◌≡◌, ◌*◌, ℕ, List, Option, length};
-    ghost use Rattle.mm_ram.specs.Pages.{pages};
+    ghost use Rattle.std.specs.Prelude.{ℕ, List, Option};
+    ghost use Rattle.mm_ram.specs.Frames.{IsRam};
 
     ghost Value = { List (Option (List ℕ)) };
 
-    ghost view = { λ r. pages 4096 r.written.items r.bytes.items };
+    ghost view = { λ r. r.cells.slots };
 
-    ghost invariant = { λ r. length r.bytes.items ≡ length r.written.items * 4096 };
-}
-
-fn zeros(alloc: Global, n: usize) -> Result<Vec<u8>, NoMemory>
-    ensures { IfOk result (λ v. length v.items ≡ n) }
-{
-    Ok(vec![in alloc; 0; n]?)
+    ghost invariant = { λ r. IsRam r.base.ptr r.cells.at r.deed.at r.deed.len r.deed.alloc r.alloc r.cells.slots r.written.items };
 }
 
 fn unwritten(alloc: Global, n: usize) -> Result<Vec<bool>, NoMemory>
@@ -38,15 +38,38 @@ fn unwritten(alloc: Global, n: usize) -> Result<Vec<bool>, NoMemory>
     Ok(vec![in alloc; false; n]?)
 }
 
+/// Reads bytes from a place on.
+fn get_bytes(page: &[u8], at: usize, out: &mut [u8])
+    requires { at + length out.old ≤ length page.now }
+    ensures { out.new ≡ bytes_from page.now at (length out.old) }
+{
+    let end = at + out.len();
+    out.copy_from_slice(&page[at..end]);
+}
+
+/// Writes the bytes from a place on.
+fn put_bytes(page: &mut [u8], at: usize, new: &[u8])
+    requires { at + length new.now ≤ length page.old }
+    ensures { page.new ≡ overwritten page.old at new.now }
+{
+    let end = at + new.len();
+    page[at..end].copy_from_slice(new);
+}
+
 impl Ram {
     /// So many frames, none of which was written.
     pub fn new(alloc: Global, frames: u32) -> Result<Ram, NoMemory>
         ensures { IfOk result (λ r. r ≡ replicate frames None) }
     {
         let frames = frames as usize;
+        let written = unwritten(alloc, frames)?;
+        let (base, cells, deed) = allocate(&alloc, frames)?;
         Ok(Ram {
-            bytes: zeros(alloc, frames * PAGE)?,
-            written: unwritten(alloc, frames)?,
+            base,
+            cells,
+            deed,
+            written,
+            alloc,
         })
     }
 
@@ -55,8 +78,7 @@ impl Ram {
         requires { f.0 < length self.old }
         ensures { self.new ≡ with_page self.old f.0 zero_page }
     {
-        put_zeros(&mut self.bytes, f.0 as usize * PAGE);
-        self.written[f.0 as usize] = true;
+        self.fill(f, &ZEROS);
     }
 
     /// The frame holds these bytes.
@@ -64,8 +86,13 @@ impl Ram {
         requires { f.0 < length self.old }
         ensures { self.new ≡ with_page self.old f.0 bytes.now }
     {
-        put_bytes(&mut self.bytes, f.0 as usize * PAGE, bytes);
-        self.written[f.0 as usize] = true;
+        let i = f.0 as usize;
+        if self.written[i] {
+            *self.cells.get_mut(self.base, i) = *bytes;
+        } else {
+            self.cells.write(self.base, i, *bytes);
+            self.written[i] = true;
+        }
     }
 
     /// The frame `to` holds the bytes of `from`, which was written.
@@ -75,9 +102,8 @@ impl Ram {
         requires other { from.0 ≢ to.0 }
         ensures { self.new ≡ with_page self.old to.0 (bytes_of self.old from.0) }
     {
-        let at = from.0 as usize * PAGE;
-        copy_bytes(&mut self.bytes, at, to.0 as usize * PAGE, PAGE);
-        self.written[to.0 as usize] = true;
+        let page = *self.cells.get(self.base, from.0 as usize);
+        self.fill(to, &page);
     }
 
     /// Reads bytes of a frame that was written, from an offset on.
@@ -87,7 +113,8 @@ impl Ram {
         ensures bytes { out.new ≡ bytes_from (bytes_of self.now f.0) off (length out.old) }
         ensures whole { length (bytes_of self.now f.0) ≡ page_size }
     {
-        get_bytes(&self.bytes, f.0 as usize * PAGE + off as usize, out);
+        let page = self.cells.get(self.base, f.0 as usize);
+        get_bytes(page, off as usize, out);
     }
 
     /// Writes bytes of a frame that was written, from an offset on.
@@ -97,7 +124,8 @@ impl Ram {
         ensures { self.new
             ≡ with_page self.old f.0 (overwritten (bytes_of self.old f.0) off bytes.now) }
     {
-        put_bytes(&mut self.bytes, f.0 as usize * PAGE + off as usize, bytes);
+        let page = self.cells.get_mut(self.base, f.0 as usize);
+        put_bytes(page, off as usize, bytes);
     }
 
     /// Reads all bytes of a frame that was written.
@@ -105,13 +133,41 @@ impl Ram {
         requires { IsSome (page_at self.now f.0) }
         ensures { out.new ≡ bytes_of self.now f.0 }
     {
-        get_bytes(&self.bytes, f.0 as usize * PAGE, out);
+        *out = *self.cells.get(self.base, f.0 as usize);
     }
 
     /// A law, which does nothing: each frame that was written has 4,096 bytes.
     pub fn pages_are_whole(&self)
         ensures { (f : ℕ) (page : List ℕ) → page_at self.now f ≡ Some page → length page ≡ page_size }
     {
-        let _ = &self.bytes;
+        let _ = &self.written;
+    }
+}
+
+/// Empties each place that was written, so that the block may be given back.
+fn empty(base: Base<[u8; 4096]>, cells: &mut Cells<[u8; 4096]>, written: &[bool])
+    requires at { base.ptr ≡ cells.old.at }
+    requires flags { written.now ≡ map is_written cells.old.slots }
+    ensures at { cells.new.at ≡ cells.old.at }
+    ensures slots { cells.new.slots ≡ replicate (length written.now) None }
+{
+    for i in 0..written.len() {
+        if written[i] {
+            let _ = cells.read(base, i);
+        }
+    }
+}
+
+impl Drop for Ram {
+    fn drop(self) {
+        let Ram {
+            base,
+            mut cells,
+            deed,
+            written,
+            alloc,
+        } = self;
+        empty(base, &mut cells, &written);
+        deallocate(&alloc, base, written.len(), cells, deed);
     }
 }

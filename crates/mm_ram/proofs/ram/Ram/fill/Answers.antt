@@ -1,34 +1,25 @@
-use Rattle.std.proofs.Common.{◌≡◌, ◌*◌, ◌<◌, true, ap, ◌∙◌, length, set, List, ℕ, Option, Some, arith}
-use Rattle.std.proofs.lemmas.List.{with_items_is}
-use Rattle.mm_ram.specs.Pages.{pages, put}
-use Rattle.mm_ram.proofs.Parts.{page_end, length-put}
-use Rattle.mm_ram.proofs.PageLemmas.{frame_there, page_put}
+use Rattle.std.proofs.Common.{◌<◌, ◌∙◌, length, ap, sym, arith, false}
+use Rattle.std.proofs.lemmas.List.{get_or_read}
+use Rattle.mm_ram.proofs.Slots.{as_long, filled_at, ram_written, ram_rewritten, ram_moved}
 use Rattle.mm_ram.proofs.ram.Ram.fill.Goals as goal
 
-pub put_bytes-requires : goal.put_bytes-requires
-put_bytes-requires c =
-    let w = c.self.inside.written.items in
-    let b = c.self.inside.bytes.items in
-    let there : c.args.f.0 < length w = frame_there 4096 w b c.args.f.0 c.args.self.now c.self.view_is c.requires in
-    let len : length c.args.bytes.now ≡ 4096 = omega arith in
-    omega (arith, ap length c.deref_mut.ensures.value, c.self.invariant, page_end 4096 c.args.f.0 (length w) there, len)
+pub get_mut-requires : goal.get_mut-requires
+get_mut-requires c =
+    let r = c.self.inside in
+    let there : c.args.f.0 < length r.cells.slots = omega (arith, c.requires, ap length c.self.view_is) in
+    let long = as_long r.cells.slots r.written.items c.self.invariant.flags in
+    let flag = sym (get_or_read r.written.items c.args.f.0 _ (omega (arith, there, long)) c.index.ensures false) ∙ c.if-index.true in
+    (sym c.self.invariant.at, filled_at r.cells.slots r.written.items c.self.invariant.flags c.args.f.0 flag)
 
-pub index_mut-requires : goal.index_mut-requires
-index_mut-requires c =
-    let w = c.self.inside.written.items in
-    let b = c.self.inside.bytes.items in
-    let there : c.args.f.0 < length w = frame_there 4096 w b c.args.f.0 c.args.self.now c.self.view_is c.requires in
-    omega (arith, there)
+pub invariant_of-self : goal.invariant_of-self
+invariant_of-self c =
+    let r = c.self.inside in
+    let there : c.args.f.0 < length r.cells.slots = omega (arith, c.requires, ap length c.self.view_is) in
+    ram_rewritten _ _ _ _ _ _ r.cells.slots r.written.items c.self.invariant c.args.f.0 c.args.bytes.now there c.told-bytes c.get_mut.result.now c.get_mut.ensures.value
 
-pub returns : goal.returns
-returns c =
-    let w = c.self.inside.written.items in
-    let b = c.self.inside.bytes.items in
-    let there : c.args.f.0 < length w = frame_there 4096 w b c.args.f.0 c.args.self.now c.self.view_is c.requires in
-    let len : length c.args.bytes.now ≡ 4096 = omega arith in
-    let new : c.put_bytes.new.bytes ≡ put b (c.args.f.0 * 4096) c.args.bytes.now = c.put_bytes.ensures ∙ ap (λ (xs : List ℕ). put xs (c.args.f.0 * 4096) c.args.bytes.now) c.deref_mut.ensures.value in
-    let kept : length c.put_bytes.new.bytes ≡ length b = ap length new ∙ length-put b c.args.bytes.now (c.args.f.0 * 4096) (omega (arith, c.self.invariant, page_end 4096 c.args.f.0 (length w) there, len)) in
-    let items = with_items_is c.self.inside.bytes c.put_bytes.new.bytes (omega (arith, kept, c.self.inside.bytes.ok.0)) in
-    ap (λ (xs : List ℕ). pages 4096 (set w c.args.f.0 true) xs) (items ∙ new)
-    ∙ page_put 4096 w b c.self.invariant c.args.f.0 c.args.bytes.now there len
-    ∙ ap (λ (r : List (Option (List ℕ))). set r c.args.f.0 (Some c.args.bytes.now)) c.self.view_is
+pub invariant_of-self-else-index : goal.invariant_of-self-else-index
+invariant_of-self-else-index c =
+    let r = c.self.inside in
+    let there : c.args.f.0 < length r.cells.slots = omega (arith, c.requires, ap length c.self.view_is) in
+    ram_moved _ _ _ _ _ _ _ _ _ _ c.write.ensures.0 c.write.ensures.1
+    (ram_written _ _ _ _ _ _ r.cells.slots r.written.items c.self.invariant c.args.f.0 c.args.bytes.now there c.told-bytes)

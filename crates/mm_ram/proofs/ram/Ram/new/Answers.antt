@@ -1,9 +1,7 @@
-use Rattle.std.proofs.Common.{ap, ◌∙◌, List}
-use Rattle.std.specs.Prelude.{Bool}
-use Rattle.mm_ram.specs.Pages.{pages}
-use Rattle.mm_ram.proofs.PageLemmas.{pages_unwritten}
+use Rattle.mm_ram.proofs.Slots.{ram_new}
 use Rattle.mm_ram.proofs.ram.Ram.new.Goals as goal
 
-pub returns : goal.returns
-returns c =
-    ap (λ (w : List Bool). pages 4096 w c.in_ok-zeros.field-0.items) c.in_ok-unwritten.ensures ∙ pages_unwritten 4096 c.args.frames c.in_ok-zeros.field-0.items
+pub invariant_of-result : goal.invariant_of-result
+invariant_of-result c =
+    let a = c.in_ok-base.ensures in
+    ram_new _ _ _ _ _ _ _ _ c.args.frames a.0 a.1 a.2 a.3 a.4 c.in_ok-written.ensures
