@@ -95,9 +95,12 @@ impl Flight {
         frame_at(&self.frames, i - 1)
     }
 
-    /// That no frame has two requests, and that each thread that waits waits for a frame in flight. It does nothing.
+    /// That no frame has two requests, that each thread that waits waits for a frame in flight, that at most depth requests are in
+    /// flight, and that there are 256 threads. It does nothing.
     pub fn requests_hold(&self)
-        ensures { Holds self.now }
+        ensures holds { Holds self.now }
+        ensures few { length self.now.frames ≤ self.now.depth }
+        ensures threads { length self.now.waits ≡ 256 }
     {
         let _frames = &self.frames;
     }
@@ -126,7 +129,8 @@ impl Flight {
     /// The thread waits for the request of a frame in flight from now on.
     pub fn wait(&mut self, t: Tid, f: Frame)
         requires { is_in f.0 self.old.frames ≡ true }
-        ensures { self.new ≡ record self.old { waits = slice_set self.old.waits t.0 (Waiting.For f) } }
+        ensures waits { self.new ≡ record self.old { waits = slice_set self.old.waits t.0 (Waiting.For f) } }
+        ensures there { t.0 < length self.old.waits }
     {
         self.waits[t.0 as usize] = Waiting::For(f);
     }
@@ -145,7 +149,8 @@ impl Flight {
 
     /// The thread waits for nothing from now on.
     pub fn forget(&mut self, t: Tid)
-        ensures { self.new ≡ record self.old { waits = slice_set self.old.waits t.0 Waiting.Nothing } }
+        ensures waits { self.new ≡ record self.old { waits = slice_set self.old.waits t.0 Waiting.Nothing } }
+        ensures there { t.0 < length self.old.waits }
     {
         self.waits[t.0 as usize] = Waiting::Nothing;
     }

@@ -100,6 +100,27 @@ impl Frames {
         }
     }
 
+    /// The first zeroed frame, `None` exactly where none is zeroed.
+    pub fn front_zeroed(&self) -> Option<Frame>
+        ensures { option_map (λ f. f.0) result ≡ slice_get self.now.table.zeroed 0 }
+    {
+        Some(Frame(self.lists.front(ZEROED)?))
+    }
+
+    /// The first free frame, `None` exactly where none is free.
+    pub fn front_free(&self) -> Option<Frame>
+        ensures { option_map (λ f. f.0) result ≡ slice_get self.now.table.free 0 }
+    {
+        Some(Frame(self.lists.front(FREE)?))
+    }
+
+    /// The first frame on standby, `None` exactly where none is there.
+    pub fn front_standby(&self) -> Option<Frame>
+        ensures { option_map (λ f. f.0) result ≡ slice_get self.now.table.standby 0 }
+    {
+        Some(Frame(self.lists.front(STANDBY)?))
+    }
+
     /// The first modified frame, `None` exactly where none is modified.
     pub fn front_modified(&self) -> Option<Frame>
         ensures first { option_map (λ f. f.0) result ≡ slice_get self.now.table.modified 0 }

@@ -12,6 +12,3 @@ mod tokens;
 pub use frames::{FrameCounts, Frames};
 pub use standing::Standing;
 pub use tokens::{Blank, Dirty, Ended, Stolen};
-
-#[cfg(test)]
-mod tests;

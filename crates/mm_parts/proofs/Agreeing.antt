@@ -1,29 +1,37 @@
--- What the parts keep makes entries, slots and requests agree.
-use Rattle.std.proofs.Common.{◌≡◌, ◌≢◌, ◌⊎◌, ℕ, ◌+◌, ◌<◌, ◌≤◌, Bool, true, false, List, [], ◌∷◌, ◌++◌, Option, Some, None, refl, sym, ap, ◌∙◌, inl, inr, arith, length, length-append}
-use Rattle.std.specs.Prelude.{◌||◌, is_some}
+-- What the parts keep makes entries, slots, requests and working sets agree.
+use Rattle.std.proofs.Common.{◌≡◌, ◌⊎◌, ℕ, ◌+◌, ◌≤◌, Bool, true, false, cond, List, [], ◌∷◌, Option, Some, None, refl, sym, ap, ◌∙◌, inl, inr, arith, length, length-append}
+use Rattle.std.specs.Prelude.{is_some, option_map, unwrap_or}
 use Rattle.std.proofs.Math.Logic.{∥∥₁_elim, ∥∥₁_map}
 use Rattle.std.proofs.Props.{props}
 use Rattle.std.proofs.lemmas.Bool.{lt-ltb}
+use Rattle.mm_types.specs.declared.numbers.Area.{Area}
+use Rattle.mm_types.specs.declared.numbers.Block.{Block}
 use Rattle.mm_types.specs.declared.numbers.Frame.{Frame}
 use Rattle.mm_types.specs.declared.numbers.Key.{Key}
 use Rattle.mm_types.specs.declared.numbers.Key.TheVariants.{Private, Shared}
 use Rattle.mm_types.specs.declared.numbers.Place.{Place}
 use Rattle.mm_types.specs.declared.frames.Held.TheVariants as held
+use Rattle.mm_life.specs.declared.sets.ResidentSet.{ResidentSet}
 use Rattle.mm_life.specs.Frames.{record_at}
-use Rattle.mm_life.specs.Life.{FrameLife, key_of_place, is_shared}
+use Rattle.mm_life.specs.Life.{FrameLife, key_of_place, is_shared, set_in}
 use Rattle.mm_life.specs.Legal.{owner_is}
 use Rattle.mm_laws.specs.Reached.{Reached}
-use Rattle.mm_laws.specs.Holders.{Holder}
 use Rattle.mm_laws.proofs.Deduced.{reached_sound}
 use Rattle.mm_laws.proofs.FromSound.{slot_free, slot_has, slot_one, slot_there, places_counted}
 use Rattle.mm_laws.proofs.PlaceCounts.{same_place-true}
+use Rattle.mm_entry.specs.declared.entries.Entry.{Entry}
 use Rattle.mm_entry.specs.declared.entries.Entry.TheVariants as entry
-use Rattle.mm_words.specs.Words.{word_of, valid_frame, place_of}
-use Rattle.mm_parts.specs.Shown.{JoinedParts, owners, owned_by, held_by, life_in, requests, requests_in, own_request}
-use Rattle.mm_parts.specs.Agree.{EntriesAgree, SlotsAgree, RequestsAgree}
+use Rattle.mm_words.specs.declared.aside.Aside.{Aside}
+use Rattle.mm_words.specs.Words.{word_of, own_word, place_of, is_aside, aside_or, is_valid}
+use Rattle.mm_parts.specs.Shown.{JoinedParts, owners, owned_by, held_by, life_in, requests}
+use Rattle.mm_parts.specs.Words.{is_aside_entry}
+use Rattle.mm_parts.specs.Agree.{EntriesAgree, SlotsAgree, RequestsAgree, SetsAgree, InFrame, IsValidFor, Says}
 use Rattle.mm_parts.specs.Kept.{Kept}
-use Rattle.mm_parts.proofs.Facts.{Facts}
 use Rattle.mm_parts.proofs.Keeping.{known}
+use Rattle.mm_parts.proofs.Stands.{at_place}
+use Rattle.mm_parts.proofs.StandingWords.{in_frame, beside_word, beside_shared}
+use Rattle.mm_parts.proofs.Using.{valid_owned}
+use Rattle.mm_parts.proofs.WordSteps.{valid_is}
 
 pub slots_agree : (l : FrameLife) → ∥ Reached l ∥₁ → SlotsAgree l
 slots_agree l r = record {
@@ -33,34 +41,87 @@ slots_agree l r = record {
   there = λ s h e. ∥∥₁_elim r (hlevel props) (λ x. let sound = reached_sound l x in let low = slot_there l sound s h e in let size = sound.slotted in omega (arith, low, size));
 }
 
--- a valid place has a shared page, or its own
-valid_own : (t : JoinedParts) → Kept t → (p : Place) (f : Frame) → (life_in t).valid p ≡ Some f → (owner_is is_shared (record_at t.table f.0) ≡ true) ⊎ ((life_in t).stands (key_of_place p) ≡ held.Frame f)
-valid_own t kept p f v = at (record_at t.table f.0).owner refl
-  where
-    some : is_some (record_at t.table f.0).owner ≡ true
-    some = let h = (known t kept).shares p f v in ((known t kept).standing f.0).fit.shown (lt-ltb 0 (record_at t.table f.0).shares (omega (arith, h)))
+-- ---- entries
 
-    at : (o : Option Key) → (record_at t.table f.0).owner ≡ o → (owner_is is_shared (record_at t.table f.0) ≡ true) ⊎ ((life_in t).stands (key_of_place p) ≡ held.Frame f)
-    at None e = let bad : false ≡ true = sym (ap is_some e) ∙ some in cc
-    at (Some (Shared a i)) e = inl (rw e refl)
-    at (Some (Private q u)) e =
-        let same : place_of q u ≡ p = same_place-true (place_of q u) p ((known t kept).fits p f (Private q u) v e) in
-        inr (ap (λ (x : Place). (life_in t).stands (key_of_place x)) (sym same) ∙ (known t kept).owned f.0 (Private q u) e)
+module _ (t : JoinedParts) (kept : Kept t) where
+  -- a valid place has a shared page, or its own
+  valid_own : (p : Place) (f : Frame) → (life_in t).valid p ≡ Some f → (owner_is is_shared (record_at t.table f.0) ≡ true) ⊎ InFrame (life_in t) (key_of_place p) f
+  valid_own p f v = at (record_at t.table f.0).owner refl
+    where
+      some : is_some (record_at t.table f.0).owner ≡ true
+      some = let h = (known t kept).shares p f v in ((known t kept).standing f.0).fit.shown (lt-ltb 0 (record_at t.table f.0).shares (omega (arith, h)))
 
-pub entries_agree : (t : JoinedParts) → Kept t → EntriesAgree (life_in t) t.words
-entries_agree t kept = record {
-  zero = λ k e. ap (held_by (owned_by (owners t.table) k)) e;
-  paged = λ k s e. ap (held_by (owned_by (owners t.table) k)) e;
-  in_file = λ k b e. ap (held_by (owned_by (owners t.table) k)) e;
-  transition = λ k f e. let there = ap (held_by (owned_by (owners t.table) k)) e in (there, (known t kept).owner k f there, kept.words.transition k f e);
-  valid_private = λ p f m e. let v = ap valid_frame e in (v, (known t kept).shares p f v, valid_own t kept p f v);
-  valid_shared = λ a i f m e. let was = kept.words.valid_shared a i f m e in (ap (held_by (λ _. true)) e, was.0, was.1);
-  live = λ k h e. h (ap (held_by (owned_by (owners t.table) k)) e);
-  no_file = kept.words.no_file;
-  no_proto = kept.words.no_proto;
-  shares = ∥∥₁_map kept.reached (λ x. places_counted (life_in t) (reached_sound (life_in t) x));
-  beside = λ x e. (kept.words.beside_bound x e, kept.words.beside x e);
-}
+      at : (o : Option Key) → (record_at t.table f.0).owner ≡ o → (owner_is is_shared (record_at t.table f.0) ≡ true) ⊎ InFrame (life_in t) (key_of_place p) f
+      at None e = let bad : false ≡ true = sym (ap is_some e) ∙ some in cc
+      at (Some (Shared a i)) e = inl (rw e refl)
+      at (Some (Private q u)) e =
+          let same : place_of q u ≡ p = same_place-true (place_of q u) p ((known t kept).fits p f (Private q u) v e) in
+          inr (record {
+            stands = ap (λ (x : Place). (life_in t).stands (key_of_place x)) (sym same) ∙ (known t kept).owned f.0 (Private q u) e;
+            owner = e ∙ ap (λ (x : Place). Some (key_of_place x)) same;
+          })
+
+  pub valid_for : (p : Place) (f : Frame) → (life_in t).valid p ≡ Some f → IsValidFor (life_in t) p f
+  valid_for p f v = record { valid = v; shared = (known t kept).shares p f v; page = valid_own p f v }
+
+  -- a private key is on no block
+  own_no_file : (p : Place) (b : Block) → own_word t.words p ≡ entry.InFile b → ⊥
+  own_no_file p b e = from t.words.aside refl (is_aside t.words.aside p) refl e
+    where
+      from : (a : Option Aside) → t.words.aside ≡ a → (c : Bool) → is_aside a p ≡ c → aside_or a p (t.words.at p) ≡ entry.InFile b → ⊥
+      from None g c h e = kept.words.no_file p b e
+      from (Some a) g false h e = kept.words.no_file p b (sym (ap (λ d. cond d a.entry (t.words.at p)) h) ∙ e)
+      from (Some a) g true h e =
+          let is : a.entry ≡ entry.InFile b = sym (ap (λ d. cond d a.entry (t.words.at p)) h) ∙ e in
+          let bad : true ≡ false = sym (kept.words.beside a g) ∙ ap is_aside_entry is in cc
+
+  pub in_its_frame : (k : Key) (f : Frame) → (life_in t).stands k ≡ held.Frame f → InFrame (life_in t) k f
+  in_its_frame k f stands = record { stands = stands; owner = (known t kept).owner k f stands }
+
+  pub says_by : (k : Key) (e : Entry) → word_of t.words k ≡ e → Says (life_in t) k e
+  says_by k entry.Empty h = ap (held_by (owned_by (owners t.table) k)) h
+  says_by k entry.Zero h = ap (held_by (owned_by (owners t.table) k)) h
+  says_by k (entry.Paged s) h = ap (held_by (owned_by (owners t.table) k)) h
+  says_by (Private p v) (entry.InFile b) h = own_no_file (place_of p v) b h
+  says_by (Shared a i) (entry.InFile b) h = ap (held_by (owned_by (owners t.table) (Shared a i))) h
+  says_by k (entry.Transition f) h = (in_its_frame k f (ap (held_by (owned_by (owners t.table) k)) h), kept.words.transition k f h)
+  says_by (Private p v) (entry.Valid f n) h = valid_for (place_of p v) f (at_place t.words (place_of p v) f n kept.words.beside h)
+  says_by (Shared a i) (entry.Valid f n) h = (in_its_frame (Shared a i) f (ap (held_by (λ _. true)) h), (kept.words.valid_shared a i f n h).0)
+  says_by (Private p v) (entry.Proto a i) h = ap (held_by (owned_by (owners t.table) (Private p v))) h
+  says_by (Shared a i) (entry.Proto b j) h = kept.words.no_proto a.0 i b j h
+
+  -- the prototype word of a shared page that is valid somewhere
+  prototype_by : (p : Place) (f : Frame) (a : Area) (i : ℕ) → (life_in t).valid p ≡ Some f → (record_at t.table f.0).owner ≡ Some (Shared a i) → t.words.proto a.0 i ≡ entry.Valid f 0
+  prototype_by p f a i v e = elim (in_frame (λ _. true) (t.words.proto a.0 i) f ((known t kept).owned f.0 (Shared a i) e)) [
+    | inl rests ↦ (let some = (known t kept).shares p f v in let none = kept.words.transition (Shared a i) f rests in absurd (omega (arith, some, none)))
+    | inr x ↦ x.1 ∙ ap (entry.Valid f) (kept.words.valid_shared a i f x.0 x.1).1
+  ]
+
+  -- the place of the key beside the tables is not valid for its own page
+  beside_other : (x : Aside) → t.words.aside ≡ Some x → (f : Frame) → (life_in t).valid x.place ≡ Some f → owner_is is_shared (record_at t.table f.0) ≡ true
+  beside_other x e f v = by (record_at t.table f.0).owner refl
+    where
+      by : (o : Option Key) → (record_at t.table f.0).owner ≡ o → owner_is is_shared (record_at t.table f.0) ≡ true
+      by None g = let bad : false ≡ true = sym (ap is_some g) ∙ valid_owned t kept x.place f v in cc
+      by (Some k) g = ap (λ o. unwrap_or (option_map is_shared o) false) g ∙ beside_shared t kept x e f v k g
+
+  pub entries_agree : EntriesAgree (life_in t) t.words
+  entries_agree = record {
+    says = λ k. says_by k (word_of t.words k) refl;
+    valid = λ p. refl;
+    page = valid_for;
+    prototype = prototype_by;
+    shares = ∥∥₁_map kept.reached (λ x. places_counted (life_in t) (reached_sound (life_in t) x));
+    beside = λ x e. record {
+      bound = kept.words.beside_bound x e;
+      entry = kept.words.beside x e;
+      says = says_by (key_of_place x.place) x.entry (beside_word t x e);
+      other = beside_other x e;
+      named = kept.words.beside_other x e;
+    };
+  }
+
+-- ---- requests and working sets
 
 one_more : (flight : List ℕ) (own : Option Frame) (n : ℕ) → length flight ≤ n → length (requests flight own) ≤ n + 1
 one_more flight None n h = let e = length-append flight [] in omega (arith, h, e)
@@ -77,3 +138,12 @@ requests_agree t kept few =
       most = one_more t.flight.frames t.own t.line.machine.depth low;
       own_line = kept.within.requesting;
     }
+
+pub sets_agree : (t : JoinedParts) → Kept t → ((p : Place) → is_some (t.ages p) ≡ is_valid (t.words.at p)) → ((p : Place) (age : ℕ) → t.ages p ≡ Some age → age ≤ 7)
+    → ((pid : ℕ) (s : ResidentSet) → set_in t.words.sets pid ≡ Some s → s.resident ≤ s.max) → SetsAgree (life_in t) t.ages
+sets_agree t kept aged young within = record {
+  aged = λ p. aged p ∙ valid_is (t.words.at p);
+  young = young;
+  counted = ∥∥₁_map kept.reached (λ x. places_counted (life_in t) (reached_sound (life_in t) x));
+  within = within;
+}

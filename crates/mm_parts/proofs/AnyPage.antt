@@ -1,18 +1,18 @@
 -- The moves map and unmap, whatever page the frame has.
-use Rattle.std.proofs.Common.{◌≡◌, ◌≢◌, ◌⊎◌, ℕ, ◌+◌, ◌<◌, ◌≤◌, Bool, true, false, Option, Some, None, refl, sym, ap, ◌∙◌, inl, inr, arith}
-use Rattle.std.specs.Prelude.{◌==◌, is_some, if◌then◌else◌}
-use Rattle.std.proofs.lemmas.Bool.{eqb-true, eq-eqb, lt-ltb}
+use Rattle.std.proofs.Common.{◌≡◌, ◌≢◌, ◌⊎◌, ℕ, ◌≤◌, Bool, true, false, Option, Some, None, refl, sym, ap, ◌∙◌, inl, inr, arith}
+use Rattle.std.specs.Prelude.{◌==◌}
+use Rattle.std.proofs.lemmas.Bool.{eqb-true, eq-eqb}
 use Rattle.mm_types.specs.declared.numbers.Frame.{Frame}
 use Rattle.mm_types.specs.declared.numbers.Key.{Key}
 use Rattle.mm_types.specs.declared.numbers.Key.TheVariants.{Private, Shared}
 use Rattle.mm_types.specs.declared.numbers.Place.{Place}
 use Rattle.mm_types.specs.declared.moves.Move.TheVariants as move
 use Rattle.mm_life.specs.Frames.{record_at, after_map, after_unmap}
-use Rattle.mm_life.specs.Life.{changed, same_place, key_of_place, is_shared}
-use Rattle.mm_life.specs.Legal.{IsLegal, owner_is}
+use Rattle.mm_life.specs.Life.{changed, same_place, key_of_place}
+use Rattle.mm_life.specs.Legal.{IsLegal}
 use Rattle.mm_laws.proofs.PlaceCounts.{same_place-true}
-use Rattle.mm_words.specs.Words.{WordsOf, made_valid, place_of}
-use Rattle.mm_parts.specs.Shown.{JoinedParts, PartsOf, life_in, shown_of}
+use Rattle.mm_words.specs.Words.{made_valid, place_of}
+use Rattle.mm_parts.specs.Shown.{JoinedParts, life_in, shown_of}
 use Rattle.mm_parts.specs.Kept.{Kept}
 use Rattle.mm_parts.specs.Moves.{after, left_by, names_after_map, MayMap, words_named, words_left}
 use Rattle.mm_parts.proofs.Keeping.{Step, known}

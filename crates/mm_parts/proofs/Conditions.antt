@@ -1,43 +1,37 @@
 -- What the moves' conditions say to the calls that they are made of.
-use Rattle.std.proofs.Common.{◌≡◌, ◌≢◌, ◌⊎◌, ℕ, ◌+◌, ◌<◌, ◌≤◌, ◌^◌, Bool, true, false, List, Option, Some, None, refl, sym, ap, ◌∙◌, inl, inr, arith, length}
+use Rattle.std.proofs.Common.{◌≡◌, ℕ, ◌+◌, ◌<◌, ◌≤◌, ◌^◌, true, false, Option, Some, None, refl, sym, ap, ◌∙◌, inl, inr, arith, length}
 use Rattle.std.specs.Prelude.{◌&&◌, ◌||◌, not, is_some, is_none, option_map, unwrap_or, nat_lt, slice_get}
 use Rattle.std.proofs.lemmas.Bool.{and_parts, or_left, not-true, lt-ltb}
 use Rattle.mm_types.proofs.Cells.{get_within}
 use Rattle.mm_types.specs.declared.numbers.Frame.{Frame}
-use Rattle.mm_types.specs.declared.numbers.Slot.{Slot}
-use Rattle.mm_types.specs.declared.numbers.Block.{Block}
 use Rattle.mm_types.specs.declared.numbers.Area.{Area}
 use Rattle.mm_types.specs.declared.numbers.Pid.{Pid}
 use Rattle.mm_types.specs.declared.numbers.Vpn.{Vpn}
 use Rattle.mm_types.specs.declared.numbers.Key.{Key}
 use Rattle.mm_types.specs.declared.numbers.Key.TheVariants.{Private, Shared}
 use Rattle.mm_types.specs.declared.numbers.Place.{Place}
-use Rattle.mm_types.specs.declared.frames.Record.{Record}
 use Rattle.mm_types.specs.declared.frames.Backing.{Backing}
 use Rattle.mm_types.specs.declared.frames.Backing.TheVariants as backing
-use Rattle.mm_types.specs.declared.frames.Held.{Held}
-use Rattle.mm_types.specs.declared.frames.Held.TheVariants as held
 use Rattle.mm_types.specs.declared.moves.Move.TheVariants as move
 use Rattle.mm_life.specs.Frames.{record_at, is_first, is_empty, slot_of, is_read, has_request}
-use Rattle.mm_life.specs.Life.{FrameLife, set_in, set_of, same_place, key_of_place}
+use Rattle.mm_life.specs.Life.{set_in, set_of, same_place, key_of_place}
 use Rattle.mm_life.specs.Legal.{IsLegal, owner_is, fits_place, is_below_max, touches, is_touch, is_access, is_thread, is_zero, is_stored, has_depth}
 use Rattle.mm_laws.specs.FileBlocks.{block_of, block_in, block_held}
 use Rattle.mm_laws.proofs.Sights.{kept_inside}
 use Rattle.mm_laws.proofs.Taking.{Standby, first_standby}
-use Rattle.mm_laws.proofs.Sound.{some_owner, owner_passes}
+use Rattle.mm_laws.proofs.Sound.{owner_passes}
 use Rattle.mm_laws.proofs.PlaceCounts.{same_place-true}
 use Rattle.mm_entry.specs.Words.{IsEntry}
 use Rattle.mm_entry.specs.declared.entries.Entry.{Entry}
 use Rattle.mm_entry.specs.declared.entries.Entry.TheVariants as entry
 use Rattle.mm_words.specs.Words.{WordsOf, word_of, is_valid, is_there, keeps_places, has_word, valid_frame, made_valid, place_of, bare}
-use Rattle.mm_parts.specs.Shown.{JoinedParts, valid_of, owners, owned_by, life_in, requests_in, stands_of, held_by}
+use Rattle.mm_parts.specs.Shown.{JoinedParts, valid_of, owners, owned_by, life_in, requests_in}
 use Rattle.mm_parts.specs.Kept.{Kept}
 use Rattle.mm_life.specs.Effect.{backing_of}
 use Rattle.mm_parts.specs.Moves.{front, home_entry, entry_backing, CanLeave, CanName}
 use Rattle.mm_parts.proofs.Tokens.{front_is}
-use Rattle.mm_parts.proofs.Facts.{Facts}
 use Rattle.mm_parts.proofs.Keeping.{known}
-use Rattle.mm_parts.proofs.KeyChanges.{places_kept, resting_calm}
+use Rattle.mm_parts.proofs.KeyChanges.{places_kept}
 use Rattle.mm_parts.proofs.StandingWords.{in_frame, resting_word, zero_word, stored_word, away_calm, is_away, backing_bare, backing_held}
 
 -- ---- numbers that a word has room for

@@ -1,26 +1,21 @@
 -- What a state that was reached is known to be.
-use Rattle.std.proofs.Common.{◌≡◌, ◌≢◌, ℕ, ◌<◌, ◌≤◌, Bool, true, false, List, [], ◌∷◌, ◌++◌, Option, Some, None, refl, sym, ap, ◌∙◌, subst, arith, length}
-use Rattle.std.specs.Prelude.{slice_get, is_some, not}
-use Rattle.std.proofs.Math.Logic.{∥∥₁_elim, ∥∥₁_map, ∥∥₁_prop}
+use Rattle.std.proofs.Common.{◌≡◌, ℕ, ◌<◌, ◌≤◌, true, false, Some, sym, subst, length}
+use Rattle.std.specs.Prelude.{slice_get}
+use Rattle.std.proofs.Math.Logic.{∥∥₁_elim, ∥∥₁_map}
 use Rattle.std.proofs.Props.{props}
 use Rattle.mm_types.specs.declared.moves.Move.{Move}
-use Rattle.mm_life.specs.Life.{FrameLife, unstarted, same_key, same_place}
+use Rattle.mm_life.specs.Life.{FrameLife}
 use Rattle.mm_life.specs.Legal.{IsLegal}
 use Rattle.mm_life.specs.Effect.{after_move}
-use Rattle.mm_life.specs.Replay.{Replays}
-use Rattle.mm_life.proofs.Replays.{replays_then}
 use Rattle.mm_laws.specs.Reached.{Reached}
 use Rattle.mm_laws.specs.Sound.{Sound}
-use Rattle.mm_laws.specs.Holders.{Holder, Home, Behind, slot_held}
+use Rattle.mm_laws.specs.Holders.{Home, Behind}
 use Rattle.mm_laws.specs.FileBlocks.{block_held}
 use Rattle.mm_laws.proofs.Deduced.{reached_sound, reached_next, share_most, blocks_apart}
 use Rattle.mm_laws.proofs.FromSound.{place_shares, slot_taken, some_keys}
 use Rattle.mm_laws.proofs.SetSizes.{private_share}
 use Rattle.mm_life.specs.declared.sets.ResidentSet.{ResidentSet}
 use Rattle.mm_life.specs.Life.{set_of}
-use Rattle.mm_laws.proofs.Owners.{same_key-self}
-use Rattle.mm_laws.specs.Tally.{tally, one_if}
-use Rattle.mm_laws.specs.Places.{is_frame}
 use Rattle.mm_life.specs.Frames.{record_at}
 use Rattle.mm_types.specs.declared.numbers.Key.{Key}
 use Rattle.mm_types.specs.declared.numbers.Key.TheVariants.{Private}
@@ -28,7 +23,6 @@ use Rattle.mm_types.specs.declared.numbers.Pid.{Pid}
 use Rattle.mm_types.specs.declared.numbers.Vpn.{Vpn}
 use Rattle.mm_types.specs.declared.numbers.Frame.{Frame}
 use Rattle.mm_types.specs.declared.numbers.Place.{Place}
-use Rattle.std.proofs.lemmas.Bool.{eqb-true}
 use Rattle.mm_life.specs.Frames.{slot_of}
 use Rattle.mm_life.specs.Life.{is_shared, is_live}
 use Rattle.mm_life.specs.Legal.{is_access, is_call, fits_place}

@@ -1,18 +1,15 @@
 -- One frame's record changes, and no word: where keys stand, what places name, what threads wait for.
-use Rattle.std.proofs.Common.{◌≡◌, ◌≢◌, ◌⊎◌, ℕ, ◌<◌, ◌≤◌, Bool, true, false, List, Option, Some, None, [], ◌∷◌, ◌++◌, refl, sym, ap, ◌∙◌, inl, inr, arith, length, get_or-set_same, get_or-set_other}
-use Rattle.std.specs.Prelude.{is_some, if◌then◌else◌, slice_get, slice_set, slice_index_or, not}
+use Rattle.std.proofs.Common.{◌≡◌, ◌≢◌, ℕ, ◌<◌, Bool, true, false, List, Some, None, [], ◌∷◌, ◌++◌, refl, sym, ap, ◌∙◌, inl, inr, arith, length, get_or-set_same, get_or-set_other}
+use Rattle.std.specs.Prelude.{is_some, if◌then◌else◌, slice_set, slice_index_or}
 use Rattle.mm_types.proofs.Cells.{same_or_not}
-use Rattle.mm_types.specs.declared.numbers.Frame.{Frame}
 use Rattle.mm_types.specs.declared.numbers.Key.{Key}
 use Rattle.mm_types.specs.declared.numbers.Place.{Place}
 use Rattle.mm_types.specs.declared.frames.Record.{Record}
-use Rattle.mm_types.specs.declared.frames.Held.TheVariants as held
 use Rattle.mm_life.specs.Frames.{FrameTable, blank, record_at, is_idle, is_read, with_record, settled, settled_by}
-use Rattle.mm_life.specs.Life.{FrameLife}
 use Rattle.mm_laws.specs.Fits.{Fit}
 use Rattle.mm_laws.proofs.Sound.{no_owner, orphan_unshared}
 use Rattle.mm_frames.specs.Base.{has_block}
-use Rattle.mm_flight.specs.Requests.{FlightOf, is_in}
+use Rattle.mm_flight.specs.Requests.{FlightOf}
 use Rattle.mm_words.specs.Words.{WordsOf}
 use Rattle.mm_parts.specs.Shown.{owners, stands_of, valid_of, names_of, is_paging, paging_of, LineOf, life_of}
 use Rattle.mm_parts.specs.Words.{WordsKept}
@@ -79,6 +76,7 @@ module _ (d d' : FrameTable) (f : ℕ) (r : Record) (w : WordsOf) (change : Rewr
         no_proto = kept.no_proto;
         beside = kept.beside;
         beside_bound = kept.beside_bound;
+        beside_other = kept.beside_other;
       }
 
 -- a read that is waited for goes on

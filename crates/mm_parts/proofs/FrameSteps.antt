@@ -1,11 +1,10 @@
 -- The moves that change one frame's record and no word: clear, soil, got, write, wrote, lost.
-use Rattle.std.proofs.Common.{◌≡◌, ◌≢◌, ◌⊎◌, ℕ, ◌+◌, ◌<◌, ◌≤◌, Bool, true, false, List, [], ◌∷◌, ◌++◌, Option, Some, None, refl, sym, ap, ◌∙◌, inl, inr, arith, length}
-use Rattle.std.specs.Prelude.{◌==◌, ◌&&◌, ◌||◌, not, is_some, nat_lt, map, if◌then◌else◌, slice_set, slice_get}
+use Rattle.std.proofs.Common.{◌≡◌, ℕ, ◌<◌, Bool, true, false, List, [], ◌∷◌, ◌++◌, Option, Some, None, refl, sym, ap, ◌∙◌, arith, length}
+use Rattle.std.specs.Prelude.{◌&&◌, ◌||◌, not, is_some, nat_lt, map, if◌then◌else◌, slice_set, slice_get}
 use Rattle.std.proofs.lemmas.Bool.{and_parts, or_left, or_right, not-true, ltb-true}
 use Rattle.mm_types.specs.declared.numbers.Frame.{Frame}
 use Rattle.mm_types.specs.declared.numbers.Block.{Block}
 use Rattle.mm_types.specs.declared.numbers.Slot.{Slot}
-use Rattle.mm_types.specs.declared.numbers.Key.{Key}
 use Rattle.mm_types.specs.declared.frames.Record.{Record}
 use Rattle.mm_types.specs.declared.frames.Backing.{Backing}
 use Rattle.mm_types.specs.declared.frames.Backing.TheVariants as backing
@@ -16,22 +15,20 @@ use Rattle.mm_types.specs.declared.moves.Move.TheVariants as move
 use Rattle.mm_types.specs.declared.moves.Stored.{Stored}
 use Rattle.mm_types.specs.declared.moves.Stored.TheVariants as stored
 use Rattle.mm_life.specs.Frames.{FrameTable, blank, record_at, has_request, is_read, is_write, is_again, is_on, slot_of, without, without_slot, soiled, read_done, write_done, write_lost, being_written, with_record, settled, to_free, slot_after_soil, slot_after_read, slot_after_wrote, slot_after_lost, after_clear, after_soil, after_got, after_write, after_wrote, after_lost}
-use Rattle.mm_life.specs.Life.{FrameLife}
 use Rattle.mm_life.specs.Legal.{IsLegal, is_touch, is_io, is_access, is_call, is_writer, is_block, is_lowest, owner_is, has_depth, may_write_block}
 use Rattle.mm_life.specs.Effect.{after_move, freed}
 use Rattle.mm_laws.specs.Tally.{one_if, times}
 use Rattle.mm_laws.specs.PagingKeys.{is_backing_for}
 use Rattle.mm_laws.proofs.Requests.{read_has, write_has}
 use Rattle.mm_laws.proofs.Sights.{kept_inside, on_modified}
-use Rattle.mm_laws.proofs.Sound.{OwnerPasses, owner_passes, no_owner, orphan_unshared}
+use Rattle.mm_laws.proofs.Sound.{owner_passes}
 use Rattle.mm_laws.proofs.Tallies.{times_on}
-use Rattle.mm_laws.proofs.Taking.{Idle, idle_is}
+use Rattle.mm_laws.proofs.Taking.{idle_is}
 use Rattle.mm_frames.specs.Base.{FramesOf, has_block, slot_after_write, write_ended}
 use Rattle.mm_flight.specs.Requests.{FlightOf, ended}
-use Rattle.mm_parts.specs.Shown.{JoinedParts, PartsOf, life_in, shown_of, requests, requests_in, own_is, is_own_line}
-use Rattle.mm_parts.specs.Kept.{Kept, AreWaits}
-use Rattle.mm_parts.specs.Moves.{after, own_after, own_ended, flight_begun, flight_ended, write_end, lowest_free, goes_to, write_target, backing_to, slots_to}
-use Rattle.mm_parts.proofs.Facts.{Facts}
+use Rattle.mm_parts.specs.Shown.{JoinedParts, life_in, shown_of, requests_in, own_is, is_own_line}
+use Rattle.mm_parts.specs.Kept.{Kept}
+use Rattle.mm_parts.specs.Moves.{after, own_after, own_ended, flight_begun, flight_ended, write_end, backing_to, slots_to}
 use Rattle.mm_parts.proofs.FrameChanges.{Rewrites, rewrites_by, rewrites_none, settled_records, waits_frame, Quiet, quiet_by}
 use Rattle.mm_parts.proofs.Keeping.{Step, known, quiet_step}
 use Rattle.mm_parts.proofs.RequestLists.{ended_requests, ended_waits, ended_depth, ended_within, waits_ended, unread_waits, begun_requests, begun_within, begun_depth, begun_waits, waits_begun}

@@ -1,18 +1,15 @@
 -- One legal move keeps what the parts keep.
-use Rattle.std.proofs.Common.{◌≡◌, ℕ, Bool, true, List, Option, length, refl, sym, ap, ◌∙◌, subst}
-use Rattle.std.specs.Prelude.{is_some, slice_index_or}
+use Rattle.std.proofs.Common.{◌≡◌, ℕ, Bool, true, List, Option, sym, ap, ◌∙◌, subst}
+use Rattle.std.specs.Prelude.{is_some}
 use Rattle.mm_types.specs.declared.numbers.Frame.{Frame}
-use Rattle.mm_types.specs.declared.numbers.Place.{Place}
 use Rattle.mm_types.specs.declared.moves.Move.{Move}
 use Rattle.mm_types.specs.declared.frames.Record.{Record}
 use Rattle.mm_life.specs.Frames.{FrameTable}
 use Rattle.mm_life.specs.Legal.{IsLegal}
 use Rattle.mm_life.specs.Effect.{after_move}
 use Rattle.mm_flight.specs.Requests.{FlightOf}
-use Rattle.mm_words.specs.Words.{WordsOf}
-use Rattle.mm_parts.specs.Shown.{JoinedParts, PartsOf, LineOf, life_of, life_in, shown_of, requests, requests_in, is_own_line, names_of, owners}
-use Rattle.mm_parts.specs.Words.{WordsKept}
-use Rattle.mm_parts.specs.Kept.{Kept, LineKept, WithinLine, RangesKept, AreWaits}
+use Rattle.mm_parts.specs.Shown.{JoinedParts, PartsOf, life_of, life_in, shown_of, requests, requests_in, is_own_line}
+use Rattle.mm_parts.specs.Kept.{Kept, AreWaits}
 use Rattle.mm_parts.specs.Moves.{after}
 use Rattle.mm_parts.proofs.Facts.{Facts, facts_of, reached_by}
 use Rattle.mm_parts.proofs.FrameChanges.{Rewrites, Quiet, life_quiet, words_frame, names_frame}

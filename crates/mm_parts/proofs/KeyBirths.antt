@@ -1,11 +1,10 @@
 -- Keys come to be: add.
-use Rattle.std.proofs.Common.{◌≡◌, ◌≢◌, ◌⊎◌, ℕ, ◌+◌, ◌-◌, ◌<◌, ◌≤◌, ◌^◌, Bool, true, false, cond, List, [], ◌∷◌, ◌++◌, Option, Some, None, refl, sym, ap, ◌∙◌, subst, inl, inr, arith, length, length-set, get_or-set_same, get_or-set_other}
-use Rattle.std.specs.Prelude.{◌==◌, ◌&&◌, ◌||◌, not, is_some, nat_lt, map, option_map, unwrap_or, if◌then◌else◌, slice_set, slice_index_or}
-use Rattle.std.proofs.lemmas.Bool.{and_parts, or_left, or_right, not-true, ltb-true, lt-ltb, eqb-true, eq-eqb}
+use Rattle.std.proofs.Common.{◌≡◌, ◌≢◌, ◌⊎◌, ℕ, ◌+◌, ◌<◌, ◌^◌, Bool, true, false, cond, List, Option, Some, None, refl, sym, ap, ◌∙◌, subst, inl, inr, arith, length, length-set, get_or-set_same, get_or-set_other}
+use Rattle.std.specs.Prelude.{◌==◌, ◌&&◌, ◌||◌, not, is_some, nat_lt, option_map, unwrap_or, if◌then◌else◌, slice_set, slice_index_or}
+use Rattle.std.proofs.lemmas.Bool.{and_parts, ltb-true, lt-ltb, eqb-true, eq-eqb}
 use Rattle.mm_types.proofs.Cells.{same_or_not}
 use Rattle.mm_types.specs.Machine.{limit_of}
 use Rattle.mm_types.specs.declared.numbers.Frame.{Frame}
-use Rattle.mm_types.specs.declared.numbers.Slot.{Slot}
 use Rattle.mm_types.specs.declared.numbers.Area.{Area}
 use Rattle.mm_types.specs.declared.numbers.Block.{Block}
 use Rattle.mm_types.specs.declared.numbers.Pid.{Pid}
@@ -13,39 +12,30 @@ use Rattle.mm_types.specs.declared.numbers.Vpn.{Vpn}
 use Rattle.mm_types.specs.declared.numbers.Key.{Key}
 use Rattle.mm_types.specs.declared.numbers.Key.TheVariants.{Private, Shared}
 use Rattle.mm_types.specs.declared.numbers.Place.{Place}
-use Rattle.mm_types.specs.declared.frames.Record.{Record}
 use Rattle.mm_types.specs.declared.frames.Held.{Held}
 use Rattle.mm_types.specs.declared.frames.Held.TheVariants as held
 use Rattle.mm_types.specs.declared.moves.LineKind.{LineKind}
 use Rattle.mm_types.specs.declared.moves.LineKind.TheVariants as kind
 use Rattle.mm_types.specs.declared.moves.Move.TheVariants as move
-use Rattle.mm_life.specs.Frames.{FrameTable, blank, record_at, has_request, is_read, disowned, off_lists, to_free, with_record, after_drop, slot_after_drop}
+use Rattle.mm_life.specs.Frames.{FrameTable, blank, record_at}
 use Rattle.mm_life.specs.Life.{FrameLife, changed, same_key, same_place, is_shared, is_live, is_dead}
-use Rattle.mm_life.specs.Legal.{IsLegal, is_touch, is_call, is_unbind, is_unmapped, may_copy, touches, shows_shared, owner_is}
-use Rattle.mm_life.specs.Effect.{after_move, freed, dropped_at, unlisted}
-use Rattle.mm_laws.specs.PagingKeys.{is_home_for}
+use Rattle.mm_life.specs.Legal.{IsLegal, is_touch, is_call, may_copy, touches, shows_shared, owner_is}
+use Rattle.mm_life.specs.Effect.{after_move}
 use Rattle.mm_laws.proofs.KeyMoves.{dead_is}
-use Rattle.mm_laws.proofs.Owners.{key_or_not}
-use Rattle.mm_laws.proofs.Requests.{read_has}
-use Rattle.mm_laws.proofs.Sights.{kept_inside}
-use Rattle.mm_laws.proofs.Sound.{OwnerPasses, owner_passes}
-use Rattle.mm_flight.specs.Requests.{FlightOf}
+use Rattle.mm_laws.proofs.Sound.{owner_passes}
 use Rattle.mm_entry.specs.declared.entries.Entry.{Entry}
 use Rattle.mm_entry.specs.declared.entries.Entry.TheVariants as entry
 use Rattle.mm_words.specs.declared.aside.Aside.{Aside}
-use Rattle.mm_words.specs.Words.{WordsOf, word_of, own_word, aside_or, with_word, with_aside, is_valid, is_aside, keeps_places, place_of, valid_frame}
-use Rattle.mm_parts.specs.Shown.{JoinedParts, PartsOf, LineOf, owners, owned_by, held_by, stands_of, valid_of, named_by, names_of, is_paging, paging_of, life_of, life_in, shown_of, requests, requests_in, is_own_line}
-use Rattle.mm_parts.specs.Words.{WordsKept, is_aside_entry}
-use Rattle.mm_parts.specs.Kept.{Kept, LineKept}
-use Rattle.mm_parts.specs.Moves.{after, names_after_drop, aside_added, aside_after_add, IsClear, HasHome, copy_place}
-use Rattle.mm_parts.proofs.Facts.{Facts, reached_by}
+use Rattle.mm_words.specs.Words.{WordsOf, word_of, aside_or, with_word, with_aside, is_valid, is_aside, keeps_places, place_of, valid_frame}
+use Rattle.mm_parts.specs.Shown.{JoinedParts, LineOf, owners, owned_by, held_by, stands_of, valid_of, named_by, names_of, is_paging, paging_of, life_of, life_in, shown_of, requests_in}
+use Rattle.mm_parts.specs.Words.{WordsKept, is_aside_entry, names_other}
+use Rattle.mm_parts.specs.Kept.{Kept}
+use Rattle.mm_parts.specs.Moves.{after, aside_added, aside_after_add, IsClear, HasHome, copy_place}
+use Rattle.mm_parts.proofs.Facts.{reached_by}
 use Rattle.mm_parts.proofs.Stands.{same_life, sets_set}
-use Rattle.mm_parts.proofs.FrameChanges.{Rewrites, rewrites_by, waits_frame}
-use Rattle.mm_parts.proofs.NameChanges.{names_none, names_gone}
+use Rattle.mm_parts.proofs.NameChanges.{names_none}
 use Rattle.mm_parts.proofs.Keeping.{Step, known}
-use Rattle.mm_parts.proofs.KeyChanges.{Rewords, is_resting, is_beside, beyond, beyond_blank, key_step, key_life, key_stands, key_paging, key_valid, places_kept}
-use Rattle.mm_parts.proofs.StandingWords.{shared_by}
-use Rattle.mm_parts.proofs.KeySteps.{none_in, own_in}
+use Rattle.mm_parts.proofs.KeyChanges.{is_resting, is_beside, beyond, key_step, key_life, key_stands, key_paging, key_valid, places_kept}
 use Rattle.mm_parts.proofs.KeyLives.{word_only}
 
 -- ---- add
@@ -217,6 +207,15 @@ add_block_step t kept k b legal =
 
 -- ---- the key of a copy comes to be, beside the tables
 
+other_shown : (test : Frame → Bool) (e : Entry) → unwrap_or (option_map test (valid_frame e)) false ≡ true → names_other e ≡ true
+other_shown test entry.Empty h = cc
+other_shown test entry.Zero h = cc
+other_shown test (entry.Paged s) h = cc
+other_shown test (entry.InFile b) h = cc
+other_shown test (entry.Transition f) h = cc
+other_shown test (entry.Valid f n) h = refl
+other_shown test (entry.Proto a i) h = cc
+
 module _ (t : JoinedParts) (p : Pid) (v : Vpn) (legal : IsLegal (move.Add (Private p v) None) (life_in t)) (touch : is_touch t.line.kind ≡ true) where
   touch_no_call : (k : LineKind) → is_touch k ≡ true → is_call k ≡ false
   touch_no_call (kind.Machine a b c d) h = refl
@@ -232,18 +231,22 @@ module _ (t : JoinedParts) (p : Pid) (v : Vpn) (legal : IsLegal (move.Add (Priva
   touch_no_call (kind.Grow n) h = refl
 
   -- the place names the page that is copied
+  shows : unwrap_or (option_map (λ f. owner_is is_shared (record_at t.table f.0)) (valid_of t.words (place_of p v))) false ≡ true
+  shows =
+      let may = or_false (is_call t.line.kind) (may_copy (life_in t) (Private p v)) (touch_no_call t.line.kind touch) (can_add t (Private p v) legal).where_it_may in
+      (and_parts (touches p.0 t.line.kind) (shows_shared (life_in t) (place_of p v)) may).1
+    where
+      or_false : (a b : Bool) → a ≡ false → (a || b) ≡ true → b ≡ true
+      or_false true b x y = cc
+      or_false false b x y = y
+
+  -- the place is valid for the page that is copied
+  pub shown_other : names_other (t.words.at (place_of p v)) ≡ true
+  shown_other = other_shown (λ f. owner_is is_shared (record_at t.table f.0)) (t.words.at (place_of p v)) shows
+
   pub shown_copied : (j : Key) × (names_of (owners t.table) t.words (place_of p v) ≡ Some j)
   shown_copied = at (t.words.at (place_of p v)) refl
     where
-      shows : unwrap_or (option_map (λ f. owner_is is_shared (record_at t.table f.0)) (valid_of t.words (place_of p v))) false ≡ true
-      shows =
-          let may = or_false (is_call t.line.kind) (may_copy (life_in t) (Private p v)) (touch_no_call t.line.kind touch) (can_add t (Private p v) legal).where_it_may in
-          (and_parts (touches p.0 t.line.kind) (shows_shared (life_in t) (place_of p v)) may).1
-        where
-          or_false : (a b : Bool) → a ≡ false → (a || b) ≡ true → b ≡ true
-          or_false true b x y = cc
-          or_false false b x y = y
-
       at : (e : Entry) → t.words.at (place_of p v) ≡ e → (j : Key) × (names_of (owners t.table) t.words (place_of p v) ≡ Some j)
       at (entry.Valid f n) e =
           let owns = owner_passes is_shared (record_at t.table f.0) (sym (ap (λ x. unwrap_or (option_map (λ g. owner_is is_shared (record_at t.table g.0)) (valid_frame x)) false) e) ∙ shows) in
@@ -293,6 +296,7 @@ module _ (t : JoinedParts) (kept : Kept t) (p : Pid) (v : Vpn) (legal : IsLegal 
     no_proto = kept.words.no_proto;
     beside = λ x h. let e : record { place = place_of p v; entry = entry.Zero } ≡ x = cc in ap (λ (y : Aside). is_aside_entry y.entry) (sym e);
     beside_bound = λ x h. let e : record { place = place_of p v; entry = entry.Zero } ≡ x = cc in ap (λ (y : Aside). t.words.bound y.place) (sym e) ∙ bound;
+    beside_other = λ x h. let e : record { place = place_of p v; entry = entry.Zero } ≡ x = cc in ap (λ (y : Aside). names_other (t.words.at y.place)) (sym e) ∙ shown_other t p v legal touch;
   }
 
   aside_life : life_of (record t.line { paging_keys = t.line.paging_keys + 1 }) t.table t.free (with_aside t.words (place_of p v) entry.Zero) (requests_in t) ≡ after_move (life_in t) (move.Add (Private p v) None)

@@ -1,6 +1,6 @@
 -- The word of one key changes, and with it the record of one frame that no place is valid for and that is no other key's.
-use Rattle.std.proofs.Common.{◌≡◌, ◌≢◌, ◌⊎◌, ℕ, ◌+◌, ◌<◌, ◌≤◌, Bool, true, false, cond, List, Option, Some, None, refl, sym, ap, ◌∙◌, subst, inl, inr, arith, length}
-use Rattle.std.specs.Prelude.{◌==◌, ◌&&◌, ◌||◌, not, is_some, option_map, if◌then◌else◌, slice_index_or}
+use Rattle.std.proofs.Common.{◌≡◌, ◌≢◌, ◌⊎◌, ℕ, Bool, true, false, cond, List, Option, Some, None, refl, sym, ap, ◌∙◌, inl, inr, arith, length}
+use Rattle.std.specs.Prelude.{◌==◌, ◌&&◌, not, is_some, option_map, if◌then◌else◌, slice_index_or}
 use Rattle.std.proofs.lemmas.Bool.{and_parts, not-true}
 use Rattle.std.proofs.lemmas.List.{get_or_past}
 use Rattle.mm_types.proofs.Cells.{same_or_not}
@@ -11,28 +11,27 @@ use Rattle.mm_types.specs.declared.numbers.Key.{Key}
 use Rattle.mm_types.specs.declared.numbers.Key.TheVariants.{Private, Shared}
 use Rattle.mm_types.specs.declared.numbers.Place.{Place}
 use Rattle.mm_types.specs.declared.frames.Record.{Record}
-use Rattle.mm_types.specs.declared.frames.Held.{Held}
 use Rattle.mm_types.specs.declared.frames.Held.TheVariants as held
 use Rattle.mm_types.specs.declared.moves.Move.{Move}
 use Rattle.mm_life.specs.Frames.{FrameTable, blank, record_at}
-use Rattle.mm_life.specs.Life.{FrameLife, changed, same_key, same_place, set_in}
+use Rattle.mm_life.specs.Life.{changed, same_key, same_place, set_in}
 use Rattle.mm_life.specs.Legal.{IsLegal, is_touch}
 use Rattle.mm_types.specs.Machine.{MachineOf}
 use Rattle.mm_life.specs.Effect.{after_move}
 use Rattle.mm_laws.proofs.Owners.{key_or_not}
-use Rattle.mm_laws.proofs.PlaceCounts.{same_place-true}
+use Rattle.mm_laws.proofs.PlaceCounts.{place_or_not, same_place-true, same_place-self}
 use Rattle.mm_frames.specs.Base.{has_block}
 use Rattle.mm_flight.specs.Requests.{FlightOf}
 use Rattle.mm_entry.specs.declared.entries.Entry.{Entry}
 use Rattle.mm_entry.specs.declared.entries.Entry.TheVariants as entry
 use Rattle.mm_words.specs.declared.aside.Aside.{Aside}
-use Rattle.mm_words.specs.Words.{WordsOf, word_of, own_word, with_word, with_own, keeps_places, is_valid, is_aside, place_of, changed_at}
-use Rattle.mm_parts.specs.Shown.{JoinedParts, PartsOf, LineOf, Owners, owners, owned_by, held_by, stands_of, valid_of, names_of, is_paging, paging_of, life_of, life_in, shown_of, requests, requests_in, is_own_line}
-use Rattle.mm_parts.specs.Words.{WordsKept, is_aside_entry}
+use Rattle.mm_words.specs.Words.{WordsOf, word_of, with_word, with_own, keeps_places, is_valid, is_aside, place_of}
+use Rattle.mm_parts.specs.Shown.{JoinedParts, LineOf, owners, owned_by, held_by, stands_of, valid_of, names_of, is_paging, paging_of, life_of, life_in, shown_of, requests, is_own_line}
+use Rattle.mm_parts.specs.Words.{WordsKept, is_aside_entry, names_other}
 use Rattle.mm_parts.specs.Kept.{Kept, LineKept, AreWaits}
 use Rattle.mm_parts.specs.Moves.{after}
 use Rattle.mm_parts.proofs.Facts.{Facts, reached_by}
-use Rattle.mm_parts.proofs.Stands.{paging_at, same_life, stands_set, stands_owner, sets_set, valid_set, word_set, not_valid, at_place}
+use Rattle.mm_parts.proofs.Stands.{paging_at, same_life, stands_set, stands_owner, sets_set, valid_set, word_set}
 use Rattle.mm_parts.proofs.FrameChanges.{Rewrites}
 use Rattle.mm_parts.proofs.Keeping.{Step, known}
 use Rattle.mm_parts.proofs.NameChanges.{names_owner}
@@ -152,6 +151,28 @@ beside_set w (Private q v) e h kept x at = by (is_aside w.aside (place_of q v)) 
     by false g at = kept x at
 beside_set w (Shared a i) e h kept x at = kept x at
 
+other_set : (w : WordsOf) (k : Key) (e : Entry) → ((x : Aside) → w.aside ≡ Some x → names_other (w.at x.place) ≡ true)
+    → (x : Aside) → (with_word w k e).aside ≡ Some x → names_other ((with_word w k e).at x.place) ≡ true
+other_set w (Private q v) e kept x at = by (is_aside w.aside (place_of q v)) refl at
+  where
+    was : (a : Option Aside) → w.aside ≡ a → is_aside a (place_of q v) ≡ true → names_other (w.at (place_of q v)) ≡ true
+    was None g b = cc
+    was (Some a) g b = ap (λ (y : Place). names_other (w.at y)) (same_place-true (place_of q v) a.place b) ∙ kept a g
+
+    elsewhere : is_aside w.aside (place_of q v) ≡ false → w.aside ≡ Some x → changed same_place w.at (place_of q v) e x.place ≡ w.at x.place
+    elsewhere g at = elim (place_or_not x.place (place_of q v)) [
+      | inl s ↦
+          (let here : is_aside w.aside (place_of q v) ≡ same_place (place_of q v) x.place = ap (λ (a : Option Aside). is_aside a (place_of q v)) at in
+          let on : same_place (place_of q v) x.place ≡ true = ap (λ (y : Place). same_place (place_of q v) y) s.0 ∙ same_place-self (place_of q v) in
+          let bad : false ≡ true = sym g ∙ here ∙ on in cc)
+      | inr n ↦ ap (λ b. cond b e (w.at x.place)) n.1
+    ]
+
+    by : (b : Bool) → is_aside w.aside (place_of q v) ≡ b → (with_own b w (place_of q v) e).aside ≡ Some x → names_other ((with_own b w (place_of q v) e).at x.place) ≡ true
+    by true g at = let place_is : place_of q v ≡ x.place = cc in ap (λ (y : Place). names_other (w.at y)) (sym place_is) ∙ was w.aside refl g
+    by false g at = ap names_other (elsewhere g at) ∙ kept x at
+other_set w (Shared a i) e kept x at = kept x at
+
 pub places_kept : (w : WordsOf) (k : Key) (e : Entry) → is_valid e ≡ false → is_valid (word_of w k) ≡ false → keeps_places w k e ≡ true
 places_kept w (Private p v) e a b = rw (a, b) refl
 places_kept w (Shared c i) e a b = refl
@@ -234,6 +255,7 @@ module _ (t : JoinedParts) (kept : Kept t) (d' : FrameTable) (f : Frame) (r : Re
         no_proto = no_proto_set w k e re.resting kept.words.no_proto;
         beside = λ x at. (both x at).0;
         beside_bound = λ x at. ap (λ (b : Place → Bool). b x.place) (bound_set w k e) ∙ (both x at).1;
+        beside_other = other_set w k e kept.words.beside_other;
       }
 
   pub key_valid : (p : Place) → valid_of (with_word t.words k e) p ≡ valid_of t.words p

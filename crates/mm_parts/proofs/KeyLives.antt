@@ -1,15 +1,8 @@
 -- Keys are no more: drop.
-use Rattle.std.proofs.Common.{◌≡◌, ◌≢◌, ◌⊎◌, ℕ, ◌+◌, ◌-◌, ◌<◌, ◌≤◌, Bool, true, false, cond, List, [], ◌∷◌, ◌++◌, Option, Some, None, refl, sym, ap, ◌∙◌, subst, inl, inr, arith, length, length-set, get_or-set_same, get_or-set_other}
-use Rattle.std.specs.Prelude.{◌==◌, ◌&&◌, ◌||◌, not, is_some, nat_lt, map, option_map, unwrap_or, if◌then◌else◌, slice_get, slice_set, slice_index_or}
-use Rattle.std.proofs.lemmas.Bool.{and_parts, or_left, or_right, not-true, ltb-true, lt-ltb, eqb-true, eq-eqb}
-use Rattle.mm_types.proofs.Cells.{same_or_not}
-use Rattle.mm_types.specs.Machine.{limit_of}
+use Rattle.std.proofs.Common.{◌≡◌, ◌≢◌, ℕ, ◌-◌, ◌≤◌, Bool, true, false, List, Option, Some, None, refl, sym, ap, ◌∙◌, arith}
+use Rattle.std.specs.Prelude.{◌&&◌, ◌||◌, is_some, if◌then◌else◌, slice_get, slice_set, slice_index_or}
+use Rattle.std.proofs.lemmas.Bool.{and_parts, or_left, eqb-true}
 use Rattle.mm_types.specs.declared.numbers.Frame.{Frame}
-use Rattle.mm_types.specs.declared.numbers.Slot.{Slot}
-use Rattle.mm_types.specs.declared.numbers.Area.{Area}
-use Rattle.mm_types.specs.declared.numbers.Block.{Block}
-use Rattle.mm_types.specs.declared.numbers.Pid.{Pid}
-use Rattle.mm_types.specs.declared.numbers.Vpn.{Vpn}
 use Rattle.mm_types.specs.declared.numbers.Key.{Key}
 use Rattle.mm_types.specs.declared.numbers.Key.TheVariants.{Private, Shared}
 use Rattle.mm_types.specs.declared.numbers.Place.{Place}
@@ -21,30 +14,24 @@ use Rattle.mm_types.specs.declared.moves.LineKind.TheVariants as kind
 use Rattle.mm_types.specs.declared.moves.Move.TheVariants as move
 use Rattle.mm_types.specs.declared.frames.Backing.{Backing}
 use Rattle.mm_life.specs.Frames.{FrameTable, slot_of, blank, record_at, has_request, is_read, disowned, off_lists, to_free, with_record, after_drop, slot_after_drop}
-use Rattle.mm_life.specs.Life.{FrameLife, changed, same_key, same_place, is_shared, is_live, is_dead}
-use Rattle.mm_life.specs.Legal.{IsLegal, is_touch, is_call, is_unbind, is_unmapped, may_copy, touches, shows_shared, owner_is}
+use Rattle.mm_life.specs.Legal.{IsLegal, is_touch, is_call, is_unbind, is_unmapped}
 use Rattle.mm_life.specs.Effect.{after_move, freed, dropped_at, unlisted, slot_at}
 use Rattle.mm_laws.specs.PagingKeys.{is_home_for}
-use Rattle.mm_laws.proofs.KeyMoves.{dead_is}
-use Rattle.mm_laws.proofs.Owners.{key_or_not}
 use Rattle.mm_laws.proofs.Requests.{read_has}
 use Rattle.mm_laws.proofs.Sights.{kept_inside}
-use Rattle.mm_laws.proofs.Sound.{OwnerPasses, owner_passes}
-use Rattle.mm_flight.specs.Requests.{FlightOf}
 use Rattle.mm_entry.specs.declared.entries.Entry.{Entry}
 use Rattle.mm_entry.specs.declared.entries.Entry.TheVariants as entry
 use Rattle.mm_words.specs.declared.aside.Aside.{Aside}
-use Rattle.mm_words.specs.Words.{WordsOf, word_of, own_word, aside_or, with_word, with_own, with_aside, is_valid, is_there, is_aside, keeps_places, place_of, valid_frame, bare}
-use Rattle.mm_parts.specs.Shown.{JoinedParts, PartsOf, LineOf, owners, owned_by, held_by, stands_of, valid_of, named_by, names_of, is_paging, paging_of, life_of, life_in, shown_of, requests, requests_in, is_own_line}
-use Rattle.mm_parts.specs.Words.{WordsKept, is_aside_entry}
-use Rattle.mm_parts.specs.Kept.{Kept, LineKept}
-use Rattle.mm_parts.specs.Moves.{after, names_after_drop, aside_added, aside_after_add, IsClear, table_released, slot_released, IsReleased}
-use Rattle.mm_parts.proofs.Facts.{Facts, reached_by}
+use Rattle.mm_words.specs.Words.{word_of, with_word, is_valid, is_there, is_aside, keeps_places, place_of, bare}
+use Rattle.mm_parts.specs.Shown.{JoinedParts, LineOf, owners, owned_by, held_by, names_of, life_in, shown_of, requests_in}
+use Rattle.mm_parts.specs.Words.{is_aside_entry}
+use Rattle.mm_parts.specs.Kept.{Kept}
+use Rattle.mm_parts.specs.Moves.{after, names_after_drop, table_released, slot_released, IsReleased}
 use Rattle.mm_parts.proofs.Stands.{same_life, sets_set}
 use Rattle.mm_parts.proofs.FrameChanges.{Rewrites, rewrites_by, waits_frame}
-use Rattle.mm_parts.proofs.NameChanges.{names_none, names_gone}
+use Rattle.mm_parts.proofs.NameChanges.{names_gone}
 use Rattle.mm_parts.proofs.Keeping.{Step, step_to, known}
-use Rattle.mm_parts.proofs.KeyChanges.{Rewords, is_resting, is_beside, beyond, beyond_blank, key_step, key_life, key_stands, key_paging, key_valid, places_kept}
+use Rattle.mm_parts.proofs.KeyChanges.{Rewords, is_resting, is_beside, beyond, beyond_blank, key_step, key_stands, key_paging, key_valid, places_kept}
 use Rattle.mm_parts.proofs.StandingWords.{shared_by}
 use Rattle.mm_parts.proofs.KeySteps.{none_in, own_in}
 

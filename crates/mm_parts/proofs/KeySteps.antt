@@ -1,57 +1,41 @@
 -- The moves that change the word of a key and the record of a frame: give, read, steal, bad, drop, add.
-use Rattle.std.proofs.Common.{◌≡◌, ◌≢◌, ◌⊎◌, ℕ, ◌+◌, ◌-◌, ◌<◌, ◌≤◌, Bool, true, false, cond, List, [], ◌∷◌, ◌++◌, Option, Some, None, refl, sym, ap, ◌∙◌, subst, inl, inr, arith, length, length-set, get_or-set_same, get_or-set_other}
-use Rattle.std.specs.Prelude.{◌==◌, ◌&&◌, ◌||◌, not, is_some, nat_lt, map, option_map, if◌then◌else◌, slice_set, slice_index_or}
-use Rattle.std.proofs.lemmas.Bool.{and_parts, or_left, or_right, not-true, ltb-true, eqb-true, eq-eqb}
-use Rattle.mm_types.proofs.Cells.{same_or_not}
-use Rattle.mm_types.specs.Machine.{limit_of}
+use Rattle.std.proofs.Common.{◌≡◌, ℕ, ◌<◌, Bool, true, false, List, Option, Some, None, refl, sym, ap, ◌∙◌, length}
+use Rattle.std.specs.Prelude.{◌&&◌, ◌||◌, not, is_some, map, if◌then◌else◌, slice_set}
+use Rattle.std.proofs.lemmas.Bool.{and_parts, or_right}
 use Rattle.mm_types.specs.declared.numbers.Frame.{Frame}
-use Rattle.mm_types.specs.declared.numbers.Slot.{Slot}
-use Rattle.mm_types.specs.declared.numbers.Block.{Block}
-use Rattle.mm_types.specs.declared.numbers.Area.{Area}
-use Rattle.mm_types.specs.declared.numbers.Pid.{Pid}
-use Rattle.mm_types.specs.declared.numbers.Vpn.{Vpn}
 use Rattle.mm_types.specs.declared.numbers.Key.{Key}
 use Rattle.mm_types.specs.declared.numbers.Key.TheVariants.{Private, Shared}
 use Rattle.mm_types.specs.declared.numbers.Place.{Place}
 use Rattle.mm_types.specs.declared.frames.Record.{Record}
 use Rattle.mm_types.specs.declared.frames.Backing.{Backing}
-use Rattle.mm_types.specs.declared.frames.Backing.TheVariants as backing
-use Rattle.mm_types.specs.declared.frames.Held.{Held}
 use Rattle.mm_types.specs.declared.frames.Held.TheVariants as held
-use Rattle.mm_types.specs.declared.moves.LineKind.{LineKind}
-use Rattle.mm_types.specs.declared.moves.LineKind.TheVariants as kind
 use Rattle.mm_types.specs.declared.moves.Move.TheVariants as move
-use Rattle.mm_life.specs.Frames.{FrameTable, blank, record_at, has_request, is_read, is_first, is_empty, rest, without, given, being_read, disowned, taken_for_read, off_lists, to_free, with_record, after_give, after_read, after_steal, after_bad, after_drop, slot_after_read, slot_after_drop}
-use Rattle.mm_life.specs.Life.{FrameLife, changed, same_key, same_place, is_shared, is_live, is_dead}
-use Rattle.mm_life.specs.Legal.{IsLegal, is_touch, is_access, is_thread, is_io, is_call, is_unbind, is_zero, is_stored, has_depth, is_unmapped}
-use Rattle.mm_life.specs.Effect.{after_move, freed, backing_of, homed, dropped_at, unlisted}
+use Rattle.mm_life.specs.Frames.{FrameTable, blank, record_at, has_request, is_read, is_first, is_empty, rest, without, given, being_read, taken_for_read, after_give, after_read, after_steal, after_bad, slot_after_read}
+use Rattle.mm_life.specs.Life.{changed, same_key}
+use Rattle.mm_life.specs.Legal.{IsLegal, is_touch, is_access, is_thread, is_io, is_zero, is_stored, has_depth}
+use Rattle.mm_life.specs.Effect.{freed, backing_of, homed}
 use Rattle.mm_laws.specs.Fits.{is_backed}
 use Rattle.mm_laws.proofs.Requests.{read_has}
 use Rattle.mm_laws.proofs.Sights.{kept_inside}
-use Rattle.mm_laws.proofs.Sound.{some_owner, no_owner}
 use Rattle.mm_laws.proofs.Changes.{changes_give, first_zeroed}
 use Rattle.mm_laws.proofs.Taking.{Standby, first_standby, Fresh, fresh_read}
 use Rattle.mm_laws.specs.Sights.{Sight}
 use Rattle.mm_frames.specs.Base.{has_block}
-use Rattle.mm_flight.specs.Requests.{FlightOf, ended}
-use Rattle.mm_entry.specs.declared.entries.Entry.{Entry}
+use Rattle.mm_flight.specs.Requests.{ended}
 use Rattle.mm_entry.specs.declared.entries.Entry.TheVariants as entry
-use Rattle.mm_words.specs.declared.aside.Aside.{Aside}
-use Rattle.mm_words.specs.Words.{WordsOf, word_of, with_word, is_there, has_word, is_valid, is_aside, place_of}
-use Rattle.mm_parts.specs.Shown.{JoinedParts, PartsOf, LineOf, owners, owned_by, held_by, stands_of, valid_of, names_of, is_paging, paging_of, life_of, life_in, shown_of, requests, requests_in, own_is, is_own_line}
-use Rattle.mm_parts.specs.Words.{WordsKept, is_aside_entry}
-use Rattle.mm_parts.specs.Kept.{Kept, LineKept, AreWaits}
-use Rattle.mm_parts.specs.Moves.{after, own_after, own_ended, flight_begun, flight_ended, names_given, names_after_give, names_after_drop, home_entry, words_sent, CanSend, read_end}
-use Rattle.mm_parts.proofs.Facts.{Facts}
-use Rattle.mm_parts.proofs.Stands.{same_life, sets_set}
+use Rattle.mm_words.specs.Words.{WordsOf, word_of, with_word, is_there, has_word, is_valid}
+use Rattle.mm_parts.specs.Shown.{JoinedParts, owners, owned_by, held_by, stands_of, names_of, is_paging, life_of, life_in, shown_of, requests, requests_in, own_is, is_own_line}
+use Rattle.mm_parts.specs.Words.{is_aside_entry}
+use Rattle.mm_parts.specs.Kept.{Kept}
+use Rattle.mm_parts.specs.Moves.{after, own_after, own_ended, flight_begun, flight_ended, names_after_give, home_entry, words_sent, CanSend, read_end}
 use Rattle.mm_parts.proofs.FrameChanges.{Rewrites, rewrites_by, waits_frame}
-use Rattle.mm_parts.proofs.NameChanges.{is_used, names_moved, names_used, names_gone}
+use Rattle.mm_parts.proofs.NameChanges.{is_used, names_moved, names_used}
 use Rattle.mm_parts.proofs.Keeping.{Step, known}
 use Rattle.mm_parts.proofs.RequestLists.{begun_requests, begun_within, begun_depth, begun_waits, waits_begun, ended_requests, ended_waits, ended_depth, ended_within, waits_ended}
 use Rattle.mm_parts.proofs.FrameSteps.{Holding, held_by_request, end_step}
 use Rattle.mm_parts.proofs.Conditions.{home_can}
-use Rattle.mm_parts.proofs.KeyChanges.{Rewords, is_resting, is_beside, beyond, beyond_blank, key_step, key_life, key_stands, key_paging, key_valid}
-use Rattle.mm_parts.proofs.StandingWords.{resting_word, zero_word, slot_word, stored_word, away_calm, home_held, home_paging, home_lands, home_resting, home_used, home_aside, stored_backed, stored_paging, own_backing, stored_used}
+use Rattle.mm_parts.proofs.KeyChanges.{Rewords, is_resting, is_beside, key_step, key_life}
+use Rattle.mm_parts.proofs.StandingWords.{resting_word, zero_word, stored_word, away_calm, home_held, home_paging, home_lands, home_resting, home_used, home_aside, stored_paging, own_backing, stored_used}
 
 -- a frame that nobody owns is no key's
 pub none_in : (t : JoinedParts) → Kept t → (f : Frame) (k : Key) → (record_at t.table f.0).owner ≡ None → (q : Key) → stands_of (owners t.table) t.words q ≡ held.Frame f → q ≡ k

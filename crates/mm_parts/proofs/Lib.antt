@@ -24,3 +24,7 @@ pub mod AnyPage
 pub mod ReadEnds
 pub mod Outcomes
 pub mod Using
+pub mod Reading
+pub mod Ageing
+pub mod Holding
+pub mod Waiting

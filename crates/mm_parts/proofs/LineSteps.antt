@@ -1,27 +1,22 @@
 -- A line begins; the first line, and the line in which the paging file grows.
-use Rattle.std.proofs.Common.{◌≡◌, ◌≢◌, ◌⊎◌, ℕ, zero, suc, ◌+◌, ◌*◌, ◌<◌, ◌≤◌, Bool, true, false, List, [], ◌∷◌, ◌++◌, Option, Some, None, refl, sym, ap, ◌∙◌, subst, inl, inr, arith, length, replicate}
-use Rattle.std.specs.Prelude.{◌==◌, ◌&&◌, ◌||◌, nat_le, nat_lt, is_some, option_map, slice_get, slice_index_or, unwrap_or}
+use Rattle.std.proofs.Common.{◌≡◌, ℕ, ◌+◌, ◌<◌, ◌≤◌, true, false, [], ◌∷◌, ◌++◌, Option, Some, None, refl, sym, ap, ◌∙◌, inl, inr, arith, length, replicate}
+use Rattle.std.specs.Prelude.{◌==◌, ◌&&◌, nat_le, nat_lt, is_some, option_map}
 use Rattle.std.proofs.lemmas.Bool.{and_parts, eqb-true, leb-true}
-use Rattle.mm_types.specs.Machine.{MachineOf, IsMachine}
+use Rattle.mm_types.specs.Machine.{IsMachine}
 use Rattle.mm_types.specs.declared.numbers.Frame.{Frame}
-use Rattle.mm_types.specs.declared.numbers.Key.{Key}
-use Rattle.mm_types.specs.declared.numbers.Key.TheVariants.{Private, Shared}
 use Rattle.mm_types.specs.declared.numbers.Pid.{Pid}
-use Rattle.mm_types.specs.declared.numbers.Place.{Place}
 use Rattle.mm_types.specs.declared.moves.LineKind.{LineKind}
 use Rattle.mm_types.specs.declared.moves.LineKind.TheVariants as kind
 use Rattle.mm_types.specs.declared.moves.Move.TheVariants as move
 use Rattle.mm_life.specs.declared.sets.ResidentSet.{ResidentSet}
-use Rattle.mm_life.specs.Frames.{FrameTable}
 use Rattle.mm_life.specs.Life.{FrameLife, set_in}
 use Rattle.mm_life.specs.Legal.{IsLegal, is_legal_kind}
-use Rattle.mm_life.specs.Effect.{after_move, after_at}
+use Rattle.mm_life.specs.Effect.{after_at}
 use Rattle.mm_laws.proofs.ResidentSets.{set_more}
 use Rattle.mm_words.specs.declared.aside.Aside.{Aside}
 use Rattle.mm_words.specs.Words.{WordsOf}
-use Rattle.mm_parts.specs.Shown.{JoinedParts, PartsOf, LineOf, life_of, life_in, shown_of, requests_in, is_own_line}
-use Rattle.mm_parts.specs.Words.{WordsKept}
-use Rattle.mm_parts.specs.Kept.{Kept, LineKept, WithinLine, RangesKept}
+use Rattle.mm_parts.specs.Shown.{JoinedParts, life_in, shown_of, requests_in}
+use Rattle.mm_parts.specs.Kept.{Kept, WithinLine}
 use Rattle.mm_parts.specs.Moves.{after, IsPlainLine, words_begun, CanBeginSet}
 use Rattle.mm_parts.specs.Start.{more_slots}
 use Rattle.mm_parts.proofs.Facts.{reached_by}
@@ -73,7 +68,7 @@ process_line t kept n pid min max legal low high own aside =
       kept = record {
         reached = reached_by (life_in t) _ (move.At n (kind.Process pid min max)) legal refl kept.reached;
         line = record { machine = kept.line.machine; begun = omega (arith, number); blocks = kept.line.blocks };
-        words = record { transition = kept.words.transition; valid_shared = kept.words.valid_shared; no_file = kept.words.no_file; no_proto = kept.words.no_proto; beside = kept.words.beside; beside_bound = kept.words.beside_bound };
+        words = record { transition = kept.words.transition; valid_shared = kept.words.valid_shared; no_file = kept.words.no_file; no_proto = kept.words.no_proto; beside = kept.words.beside; beside_bound = kept.words.beside_bound; beside_other = kept.words.beside_other };
         within = within_line (kind.Process pid min max) t.own (words_begun (kind.Process pid min max) t.words) own aside;
         ranges = record { areas = kept.ranges.areas; sets = sets };
         depth = kept.depth;

@@ -1,6 +1,6 @@
 -- Which key each place names, after a change of a word or of the frames' owners.
-use Rattle.std.proofs.Common.{◌≡◌, ◌≢◌, ◌⊎◌, ℕ, Bool, true, false, cond, Option, Some, None, refl, sym, ap, ◌∙◌, inl, inr}
-use Rattle.std.specs.Prelude.{◌==◌, ◌&&◌, if◌then◌else◌, option_map}
+use Rattle.std.proofs.Common.{◌≡◌, ℕ, Bool, true, false, cond, Option, Some, None, refl, sym, ap, ◌∙◌, inl, inr}
+use Rattle.std.specs.Prelude.{if◌then◌else◌, option_map}
 use Rattle.mm_types.specs.declared.numbers.Frame.{Frame}
 use Rattle.mm_types.specs.declared.numbers.Key.{Key}
 use Rattle.mm_types.specs.declared.numbers.Key.TheVariants.{Private, Shared}
@@ -12,7 +12,7 @@ use Rattle.mm_laws.proofs.PlaceCounts.{place_or_not}
 use Rattle.mm_entry.specs.declared.entries.Entry.{Entry}
 use Rattle.mm_entry.specs.declared.entries.Entry.TheVariants as entry
 use Rattle.mm_words.specs.declared.aside.Aside.{Aside}
-use Rattle.mm_words.specs.Words.{WordsOf, place_of, is_aside, aside_or, own_word, word_of, with_own, with_word, valid_frame}
+use Rattle.mm_words.specs.Words.{WordsOf, place_of, is_aside, aside_or, word_of, with_own, with_word, valid_frame}
 use Rattle.mm_parts.specs.Shown.{Owners, named_by, names_of, valid_of}
 use Rattle.mm_parts.specs.Moves.{names_given}
 

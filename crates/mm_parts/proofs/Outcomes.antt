@@ -1,5 +1,5 @@
 -- A call that may be refused memory: what the parts are after it.
-use Rattle.std.proofs.Common.{◌≡◌, Option, refl, sym, ap, ◌∙◌, subst}
+use Rattle.std.proofs.Common.{◌≡◌, sym, ap, ◌∙◌, subst}
 use Rattle.std.specs.Prelude.{Result, Ok, Err, OnOk, OnErr}
 use Rattle.mm_parts.specs.Shown.{JoinedParts, PartsOf, shown_of}
 use Rattle.mm_parts.specs.Kept.{Kept}

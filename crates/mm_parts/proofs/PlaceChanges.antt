@@ -1,42 +1,38 @@
 -- A place becomes valid, or is valid no more.
-use Rattle.std.proofs.Common.{◌≡◌, ◌≢◌, ◌⊎◌, ℕ, zero, suc, ◌+◌, ◌-◌, ◌<◌, ◌≤◌, Bool, true, false, cond, List, Option, Some, None, refl, sym, ap, ◌∙◌, subst, inl, inr, arith, length}
-use Rattle.std.specs.Prelude.{◌==◌, ◌&&◌, ◌||◌, not, is_some, option_map, unwrap_or, if◌then◌else◌, slice_set, slice_index_or}
+use Rattle.std.proofs.Common.{◌≡◌, ◌≢◌, ◌⊎◌, ℕ, zero, suc, ◌+◌, ◌-◌, ◌≤◌, Bool, true, false, cond, List, Option, Some, None, refl, sym, ap, ◌∙◌, inl, inr, arith}
+use Rattle.std.specs.Prelude.{is_some, option_map, unwrap_or, if◌then◌else◌, slice_index_or}
 use Rattle.std.proofs.lemmas.Bool.{or_left, lt-ltb}
 use Rattle.mm_types.proofs.Cells.{same_or_not}
 use Rattle.mm_types.specs.declared.numbers.Frame.{Frame}
 use Rattle.mm_types.specs.declared.numbers.Area.{Area}
 use Rattle.mm_types.specs.declared.numbers.Block.{Block}
-use Rattle.mm_types.specs.declared.numbers.Pid.{Pid}
-use Rattle.mm_types.specs.declared.numbers.Vpn.{Vpn}
 use Rattle.mm_types.specs.declared.numbers.Key.{Key}
 use Rattle.mm_types.specs.declared.numbers.Key.TheVariants.{Private, Shared}
 use Rattle.mm_types.specs.declared.numbers.Place.{Place}
 use Rattle.mm_types.specs.declared.frames.Record.{Record}
-use Rattle.mm_types.specs.declared.frames.Held.TheVariants as held
 use Rattle.mm_types.specs.declared.moves.Move.TheVariants as move
-use Rattle.mm_life.specs.Frames.{FrameTable, record_at, shared, unshared, after_map, after_unmap}
+use Rattle.mm_life.specs.Frames.{record_at, shared, unshared, after_map, after_unmap}
 use Rattle.mm_life.specs.declared.sets.ResidentSet.{ResidentSet}
-use Rattle.mm_life.specs.Life.{FrameLife, changed, same_key, same_place, key_of_place, set_in, with_resident, resident_by}
+use Rattle.mm_life.specs.Life.{changed, same_key, same_place, key_of_place, set_in, with_resident, resident_by}
 use Rattle.mm_laws.proofs.ResidentSets.{set_here, set_else}
 use Rattle.mm_life.specs.Legal.{IsLegal}
 use Rattle.mm_life.specs.Effect.{after_move, after_unmap_at}
-use Rattle.mm_laws.proofs.Owners.{key_or_not}
 use Rattle.mm_laws.proofs.PlaceCounts.{place_or_not, same_place-true}
 use Rattle.mm_laws.proofs.Sights.{kept_inside}
-use Rattle.mm_frames.specs.Base.{has_block}
 use Rattle.mm_entry.specs.declared.entries.Entry.{Entry}
 use Rattle.mm_entry.specs.declared.entries.Entry.TheVariants as entry
 use Rattle.mm_words.specs.declared.aside.Aside.{Aside}
 use Rattle.mm_words.specs.Words.{WordsOf, word_of, own_word, aside_or, is_aside, without_aside, made_valid, made_invalid, place_of, valid_frame, is_valid}
-use Rattle.mm_parts.specs.Shown.{JoinedParts, PartsOf, Owners, owners, owned_by, held_by, stands_of, valid_of, named_by, names_of, is_paging, paging_of, life_of, life_in, shown_of, requests, requests_in}
-use Rattle.mm_parts.specs.Words.{WordsKept, is_aside_entry}
+use Rattle.mm_parts.specs.Shown.{JoinedParts, Owners, owners, owned_by, held_by, stands_of, valid_of, named_by, names_of, is_paging, life_of, life_in, shown_of, requests_in}
+use Rattle.mm_parts.specs.Words.{WordsKept, names_other}
 use Rattle.mm_parts.specs.Kept.{Kept}
 use Rattle.mm_parts.specs.Moves.{after, left_by, names_after_map}
-use Rattle.mm_parts.proofs.Facts.{Facts, reached_by}
+use Rattle.mm_parts.proofs.Facts.{reached_by}
 use Rattle.mm_parts.proofs.Stands.{same_life, own_by, not_valid}
-use Rattle.mm_parts.proofs.FrameChanges.{Rewrites, rewrites_by, settled_records, stays, same_owners, stands_frame, paging_frame, waits_frame}
+use Rattle.mm_parts.proofs.FrameChanges.{Rewrites, rewrites_by, settled_records, same_owners, stands_frame, paging_frame, waits_frame}
 use Rattle.mm_parts.proofs.NameChanges.{names_at, same_there}
 use Rattle.mm_parts.proofs.Keeping.{Step, known}
+use Rattle.mm_parts.proofs.StandingWords.{beside_shared}
 
 valid_cond : (b : Bool) (x y : Entry) → valid_frame (cond b x y) ≡ cond b (valid_frame x) (valid_frame y)
 valid_cond true x y = refl
@@ -112,6 +108,10 @@ left_made (Some a) place = by (same_place place a.place)
     by true = refl
     by false = refl
 
+other_made : (b : Bool) (f : Frame) (e : Entry) → names_other e ≡ true → names_other (cond b (entry.Valid f 0) e) ≡ true
+other_made true f e h = refl
+other_made false f e h = h
+
 some_made : (a : Option Aside) (place : Place) → is_some (without_aside a place) ≡ true → is_some a ≡ true
 some_made None place h = h
 some_made (Some a) place h = refl
@@ -176,6 +176,7 @@ module _ (t : JoinedParts) (kept : Kept t) (f : Frame) (place : Place) (legal : 
     no_proto = λ a i b j h. elim (maps.protos a i (entry.Proto b j) h) [ inl was ↦ kept.words.no_proto a i b j was | inr e ↦ cc ];
     beside = λ x at. kept.words.beside x (beside_made t.words.aside place x at);
     beside_bound = λ x at. kept.words.beside_bound x (beside_made t.words.aside place x at);
+    beside_other = λ x at. other_made (same_place x.place place) f (t.words.at x.place) (kept.words.beside_other x (beside_made t.words.aside place x at));
   }
 
   map_names : (q : Place) → names_of (owners (after_map t.table f.0)) (record (made_valid t.words place f) { proto = proto' }) q ≡ names_after_map (shown_of t) f place q
@@ -230,6 +231,16 @@ word_beside w place e a g h (Private p v) = elim (place_or_not (place_of p v) pl
         ap (λ c. cond c b.entry t) on ∙ sym (ap (λ c. cond c b.entry u) on)
 word_beside w place e a g h (Shared b i) = refl
 
+-- an entry that is not valid, and names a shared page, is a prototype's
+named_shared : (o : Owners) (p : Place) (e : Entry) (a : Area) (i : ℕ) → is_valid e ≡ false → named_by o p e ≡ Some (Shared a i) → names_other e ≡ true
+named_shared o p entry.Empty a i v h = cc
+named_shared o p entry.Zero a i v h = cc
+named_shared o p (entry.Paged s) a i v h = cc
+named_shared o p (entry.InFile b) a i v h = cc
+named_shared o p (entry.Transition f) a i v h = cc
+named_shared o p (entry.Valid f n) a i v h = refl
+named_shared o p (entry.Proto b j) a i v h = refl
+
 -- The place has this entry now, and prototype words may change. What is needed of the words then.
 pub record Unmaps (t : JoinedParts) (f : Frame) (place : Place) (e : Entry) (proto' : ℕ → ℕ → Entry) : Type 0 where
   pub there : valid_of t.words place ≡ Some f
@@ -267,6 +278,24 @@ module _ (t : JoinedParts) (kept : Kept t) (f : Frame) (place : Place) (legal : 
   fewer : (record_at (after_unmap t.table f.0) f.0).shares ≡ (record_at t.table f.0).shares - 1
   fewer = ap (λ (x : Record). x.shares) unmap_change.here
 
+  -- the place of the key beside the tables was valid for a shared page, and names it
+  gone_other : (x : Aside) → t.words.aside ≡ Some x → x.place ≡ place → names_other e ≡ true
+  gone_other x at same = by (record_at t.table f.0).owner refl
+    where
+      there : valid_of t.words x.place ≡ Some f
+      there = ap (valid_of t.words) same ∙ unmaps.there
+
+      by : (o : Option Key) → (record_at t.table f.0).owner ≡ o → names_other e ≡ true
+      by None g = let owned = ((known t kept).standing f.0).fit.shown (lt-ltb 0 (record_at t.table f.0).shares (omega (arith, some))) in let bad : false ≡ true = sym (ap is_some g) ∙ owned in cc
+      by (Some (Private q u)) g = let bad : false ≡ true = beside_shared t kept x at f there (Private q u) g in cc
+      by (Some (Shared a i)) g = named_shared (owners t.table) place e a i unmaps.calm (unmaps.named ∙ g)
+
+  left_other : (x : Aside) → t.words.aside ≡ Some x → names_other (changed same_place t.words.at place e x.place) ≡ true
+  left_other x at = elim (place_or_not x.place place) [
+    | inl s ↦ ap (λ b. names_other (cond b e (t.words.at x.place))) s.1 ∙ gone_other x at s.0
+    | inr n ↦ ap (λ b. names_other (cond b e (t.words.at x.place))) n.1 ∙ kept.words.beside_other x at
+  ]
+
   unmap_words : WordsKept (after_unmap t.table f.0) (record (made_invalid t.words place e) { proto = proto' })
   unmap_words = record {
     transition = λ q g h. (elim (unmaps.transition q g h) as (λ _. (record_at (after_unmap t.table f.0) g.0).shares ≡ 0) [
@@ -294,6 +323,7 @@ module _ (t : JoinedParts) (kept : Kept t) (f : Frame) (place : Place) (legal : 
     no_proto = unmaps.no_proto;
     beside = kept.words.beside;
     beside_bound = kept.words.beside_bound;
+    beside_other = left_other;
   }
 
   unmap_names : (q : Place) → names_of (owners (after_unmap t.table f.0)) (record (made_invalid t.words place e) { proto = proto' }) q ≡ names_of (owners t.table) t.words q

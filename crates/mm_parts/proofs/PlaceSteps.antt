@@ -1,38 +1,33 @@
 -- The moves map and unmap: of a private page at its own place, and of a shared page, whose prototype word changes with the first and the last.
-use Rattle.std.proofs.Common.{◌≡◌, ◌≢◌, ◌⊎◌, ℕ, ◌+◌, ◌-◌, ◌<◌, ◌≤◌, Bool, true, false, cond, Option, Some, None, refl, sym, ap, ◌∙◌, subst, inl, inr, arith, length}
-use Rattle.std.specs.Prelude.{◌==◌, ◌&&◌, ◌||◌, not, is_some, is_none, option_map, if◌then◌else◌}
-use Rattle.std.proofs.lemmas.Bool.{and_parts, not-true, eqb-true, eq-eqb}
-use Rattle.mm_types.proofs.Cells.{same_or_not}
+use Rattle.std.proofs.Common.{◌≡◌, ◌⊎◌, ℕ, ◌≤◌, Bool, true, false, cond, Option, Some, None, refl, sym, ap, ◌∙◌, inl, inr, arith}
+use Rattle.std.specs.Prelude.{◌==◌, ◌&&◌, is_some, if◌then◌else◌}
+use Rattle.std.proofs.lemmas.Bool.{and_parts, eqb-true, eq-eqb}
 use Rattle.mm_types.specs.declared.numbers.Frame.{Frame}
 use Rattle.mm_types.specs.declared.numbers.Area.{Area}
-use Rattle.mm_types.specs.declared.numbers.Block.{Block}
 use Rattle.mm_types.specs.declared.numbers.Pid.{Pid}
 use Rattle.mm_types.specs.declared.numbers.Vpn.{Vpn}
 use Rattle.mm_types.specs.declared.numbers.Key.{Key}
 use Rattle.mm_types.specs.declared.numbers.Key.TheVariants.{Private, Shared}
 use Rattle.mm_types.specs.declared.numbers.Place.{Place}
-use Rattle.mm_types.specs.declared.frames.Record.{Record}
 use Rattle.mm_types.specs.declared.frames.Held.{Held}
 use Rattle.mm_types.specs.declared.frames.Held.TheVariants as held
 use Rattle.mm_types.specs.declared.moves.Move.TheVariants as move
-use Rattle.mm_life.specs.Frames.{FrameTable, record_at, after_map, after_unmap}
-use Rattle.mm_life.specs.Life.{FrameLife, changed, same_key, same_place, key_of_place, is_dead}
+use Rattle.mm_life.specs.Frames.{record_at, after_map, after_unmap}
+use Rattle.mm_life.specs.Life.{changed, same_key, same_place, key_of_place, is_dead}
 use Rattle.mm_life.specs.Legal.{IsLegal}
-use Rattle.mm_life.specs.Effect.{after_move}
 use Rattle.mm_laws.proofs.Owners.{key_or_not, same_key-self}
-use Rattle.mm_laws.proofs.PlaceCounts.{place_or_not, same_place-self, same_place-true}
+use Rattle.mm_laws.proofs.PlaceCounts.{place_or_not, same_place-self}
 use Rattle.mm_entry.specs.declared.entries.Entry.{Entry}
 use Rattle.mm_entry.specs.declared.entries.Entry.TheVariants as entry
 use Rattle.mm_words.specs.declared.aside.Aside.{Aside}
-use Rattle.mm_words.specs.Words.{WordsOf, word_of, own_word, aside_or, is_aside, without_aside, made_valid, made_invalid, changed_at, place_of, valid_frame}
-use Rattle.mm_parts.specs.Shown.{JoinedParts, PartsOf, Owners, owners, owned_by, has_owner, held_by, stands_of, valid_of, named_by, names_of, life_in, shown_of}
-use Rattle.mm_parts.specs.Words.{WordsKept, is_aside_entry}
+use Rattle.mm_words.specs.Words.{WordsOf, word_of, own_word, aside_or, is_aside, made_valid, made_invalid, changed_at, place_of, valid_frame}
+use Rattle.mm_parts.specs.Shown.{JoinedParts, owners, owned_by, has_owner, held_by, stands_of, valid_of, life_in, shown_of}
+use Rattle.mm_parts.specs.Words.{is_aside_entry}
 use Rattle.mm_parts.specs.Kept.{Kept}
 use Rattle.mm_parts.specs.Moves.{after, left_by, names_after_map}
-use Rattle.mm_parts.proofs.Facts.{Facts}
 use Rattle.mm_parts.proofs.Keeping.{Step, known}
 use Rattle.mm_parts.proofs.StandingWords.{in_frame}
-use Rattle.mm_parts.proofs.PlaceChanges.{own_made, Maps, map_step, Unmaps, unmap_step, word_unmade, word_beside}
+use Rattle.mm_parts.proofs.PlaceChanges.{own_made, map_step, unmap_step, word_unmade, word_beside}
 
 -- ---- numbers of a prototype word
 

@@ -1,8 +1,7 @@
 -- A read ends, with the bytes of the page or without: the frame database's part.
-use Rattle.std.proofs.Common.{◌≡◌, ℕ, Bool, true, false, Bor, List, Option, Some, None, refl, sym, ap, ◌∙◌, subst, length}
+use Rattle.std.proofs.Common.{◌≡◌, ℕ, Bool, true, false, Bor, List, Option, Some, None, refl, sym, ap}
 use Rattle.std.specs.Prelude.{is_some, map, option_map}
 use Rattle.mm_types.specs.declared.numbers.Frame.{Frame}
-use Rattle.mm_types.specs.declared.moves.Move.TheVariants as move
 use Rattle.mm_life.specs.Frames.{FrameTable, record_at, after_got, after_bad, slot_after_read}
 use Rattle.mm_life.specs.Legal.{IsLegal}
 use Rattle.mm_life.specs.Effect.{freed}

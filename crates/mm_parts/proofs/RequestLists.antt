@@ -1,18 +1,16 @@
 -- The requests as one list, those in flight and behind them the line's own, and the waits for them.
-use Rattle.std.proofs.Common.{◌≡◌, ◌≢◌, ℕ, zero, suc, ◌+◌, ◌<◌, ◌≤◌, Bool, true, false, not, cond, List, [], ◌∷◌, ◌++◌, Option, Some, None, refl, sym, ap, ◌∙◌, subst, arith, length, append_assoc}
-use Rattle.std.specs.Prelude.{◌==◌, ◌||◌, filter, map, is_some, if◌then◌else◌, slice_get}
-use Rattle.std.specs.List.{list_any}
+use Rattle.std.proofs.Common.{◌≡◌, ◌≢◌, ℕ, zero, suc, ◌+◌, ◌≤◌, Bool, true, false, not, List, [], ◌∷◌, ◌++◌, Option, Some, None, refl, sym, ap, ◌∙◌, arith}
+use Rattle.std.specs.Prelude.{◌==◌, map, is_some, if◌then◌else◌, slice_get}
 use Rattle.std.proofs.lemmas.List.Elements.{filter-append}
 use Rattle.std.proofs.lemmas.Bool.{eqb-true, eq-eqb}
 use Rattle.mm_types.specs.declared.numbers.Frame.{Frame}
 use Rattle.mm_types.specs.declared.moves.LineKind.{LineKind}
 use Rattle.mm_life.specs.Frames.{FrameTable, record_at, is_read, without}
-use Rattle.mm_laws.specs.Tally.{one_if, tally, times}
-use Rattle.mm_laws.proofs.Tallies.{times_on, times-without_other, times-push_same, times-push_other}
+use Rattle.mm_laws.specs.Tally.{one_if, times}
+use Rattle.mm_laws.proofs.Tallies.{times_on, times-without_other}
 use Rattle.mm_flight.specs.Requests.{FlightOf, is_in, ended}
 use Rattle.mm_flight.specs.declared.flights.Waiting.{Waiting}
 use Rattle.mm_flight.specs.declared.flights.Waiting.TheVariants as waiting
-use Rattle.mm_types.proofs.Cells.{same_or_not}
 use Rattle.mm_types.specs.declared.frames.Record.{Record}
 use Rattle.mm_parts.specs.Shown.{requests, own_request, own_is, is_own_line}
 use Rattle.mm_parts.specs.Kept.{AreWaits}
@@ -30,7 +28,7 @@ without_absent : (f : ℕ) (xs : List ℕ) → times f xs ≡ 0 → without f xs
 without_absent f [] e = refl
 without_absent f (x ∷ xs) e = absent_head f x xs (x == f) refl e (without_absent f xs (omega (arith, e)))
 
-times-append : (f : ℕ) (xs ys : List ℕ) → times f (xs ++ ys) ≡ times f xs + times f ys
+pub times-append : (f : ℕ) (xs ys : List ℕ) → times f (xs ++ ys) ≡ times f xs + times f ys
 times-append f [] ys = omega arith
 times-append f (x ∷ xs) ys = let e = times-append f xs ys in omega (arith, e)
 
@@ -100,7 +98,7 @@ pub not_in_flight : (f : ℕ) (own : Option Frame) (xs : List ℕ) → times f (
 not_in_flight f own xs none = let sum = times-append f xs (own_request own) in none_in f xs (omega (arith, none, sum))
 
 -- the line's own request is not in flight
-own_apart : (f : ℕ) (own : Option Frame) (xs : List ℕ) → times f (requests xs own) ≡ 1 → own_is own f ≡ true → is_in f xs ≡ false
+pub own_apart : (f : ℕ) (own : Option Frame) (xs : List ℕ) → times f (requests xs own) ≡ 1 → own_is own f ≡ true → is_in f xs ≡ false
 own_apart f None xs once is = cc
 own_apart f (Some g) xs once is =
     let one = ap one_if is in

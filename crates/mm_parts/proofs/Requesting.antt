@@ -1,7 +1,7 @@
 -- What the moves' conditions say of requests and of the slots that are written to.
-use Rattle.std.proofs.Common.{◌≡◌, ◌≢◌, ◌⊎◌, ℕ, zero, suc, ◌+◌, ◌<◌, ◌≤◌, ◌^◌, Bool, true, false, List, [], ◌∷◌, ◌++◌, Option, Some, None, refl, sym, ap, ◌∙◌, subst, inl, inr, arith, length, length-append, count_by}
-use Rattle.std.specs.Prelude.{◌==◌, ◌&&◌, ◌||◌, not, is_some, if◌then◌else◌, nat_lt, slice_get, slice_set}
-use Rattle.std.proofs.lemmas.Bool.{and_parts, or_left, not-true, ltb-true, eq-eqb}
+use Rattle.std.proofs.Common.{◌≡◌, ◌≢◌, ℕ, zero, suc, ◌<◌, Bool, true, false, List, [], ◌∷◌, Some, None, refl, sym, ap, ◌∙◌, subst, arith, length, length-append}
+use Rattle.std.specs.Prelude.{◌==◌, ◌&&◌, ◌||◌, not, is_some}
+use Rattle.std.proofs.lemmas.Bool.{and_parts, or_left, not-true, ltb-true}
 use Rattle.mm_types.specs.declared.numbers.Frame.{Frame}
 use Rattle.mm_types.specs.declared.numbers.Slot.{Slot}
 use Rattle.mm_types.specs.declared.numbers.Block.{Block}
@@ -14,19 +14,19 @@ use Rattle.mm_types.specs.declared.moves.LineKind.TheVariants as kind
 use Rattle.mm_types.specs.declared.moves.Move.TheVariants as move
 use Rattle.mm_types.specs.declared.moves.Stored.{Stored}
 use Rattle.mm_types.specs.declared.moves.Stored.TheVariants as stored
-use Rattle.mm_life.specs.Frames.{record_at, blank, has_request, is_first, is_empty, is_on, is_idle}
+use Rattle.mm_life.specs.Frames.{record_at, has_request, is_first, is_empty, is_on}
 use Rattle.mm_life.specs.Legal.{IsLegal, is_access, is_thread, is_writer, is_call, is_stored, is_lowest, is_block, owner_is, has_depth, may_write_block}
-use Rattle.mm_laws.specs.Tally.{one_if, times}
+use Rattle.mm_laws.specs.Tally.{one_if}
 use Rattle.mm_laws.specs.PagingKeys.{is_backing_for}
 use Rattle.mm_laws.proofs.Sights.{on_modified, kept_inside}
 use Rattle.mm_laws.proofs.Sound.{owner_passes}
-use Rattle.mm_laws.proofs.Taking.{Idle, idle_is, Fresh, fresh_read}
+use Rattle.mm_laws.proofs.Taking.{idle_is, Fresh, fresh_read}
 use Rattle.mm_laws.proofs.Tallies.{times_on}
 use Rattle.mm_laws.proofs.Lowest.{lowest_taken}
 use Rattle.mm_slots.specs.Slots.{free_count, IsLowest}
 use Rattle.mm_frames.specs.Base.{has_block, can_go_to}
 use Rattle.mm_flight.specs.Requests.{is_in}
-use Rattle.mm_parts.specs.Shown.{JoinedParts, life_in, requests, requests_in, own_request, is_own_line}
+use Rattle.mm_parts.specs.Shown.{JoinedParts, life_in, requests_in, own_request, is_own_line}
 use Rattle.mm_parts.specs.Kept.{Kept}
 use Rattle.mm_parts.specs.Moves.{lowest_free, goes_to, write_target, backing_to}
 use Rattle.mm_parts.proofs.Keeping.{known}

@@ -1,32 +1,31 @@
 -- The entry of a key, by where the key stands.
-use Rattle.std.proofs.Common.{◌≡◌, ◌≢◌, ◌⊎◌, ℕ, ◌<◌, ◌≤◌, Bool, true, false, Option, Some, None, refl, sym, ap, ◌∙◌, inl, inr, arith}
-use Rattle.std.specs.Prelude.{not, is_some, if◌then◌else◌}
-use Rattle.std.proofs.lemmas.Bool.{lt-ltb}
+use Rattle.std.proofs.Common.{◌≡◌, ◌⊎◌, ℕ, ◌≤◌, Bool, true, false, cond, Option, Some, refl, sym, ap, ◌∙◌, inl, inr, arith}
+use Rattle.std.specs.Prelude.{not, if◌then◌else◌}
 use Rattle.mm_types.specs.declared.numbers.Frame.{Frame}
 use Rattle.mm_types.specs.declared.numbers.Slot.{Slot}
 use Rattle.mm_types.specs.declared.numbers.Key.{Key}
 use Rattle.mm_types.specs.declared.numbers.Key.TheVariants.{Private, Shared}
 use Rattle.mm_types.specs.declared.numbers.Place.{Place}
-use Rattle.mm_types.specs.declared.frames.Record.{Record}
 use Rattle.mm_types.specs.declared.frames.Backing.{Backing}
 use Rattle.mm_types.specs.declared.frames.Backing.TheVariants as backing
 use Rattle.mm_types.specs.declared.frames.Held.{Held}
 use Rattle.mm_types.specs.declared.frames.Held.TheVariants as held
 use Rattle.mm_life.specs.Frames.{FrameTable, record_at}
-use Rattle.mm_life.specs.Life.{FrameLife, is_shared, is_live, is_dead}
+use Rattle.mm_life.specs.Life.{is_shared, is_live, is_dead, key_of_place}
 use Rattle.mm_life.specs.Legal.{is_zero, is_stored}
 use Rattle.mm_life.specs.Effect.{home_at, backing_of}
 use Rattle.mm_laws.specs.Fits.{is_backed}
+use Rattle.mm_laws.proofs.PlaceCounts.{same_place-true, same_place-self}
 use Rattle.mm_laws.specs.PagingKeys.{is_home_for, is_backing_for}
 use Rattle.mm_frames.specs.Base.{has_block}
 use Rattle.mm_entry.specs.declared.entries.Entry.{Entry}
 use Rattle.mm_entry.specs.declared.entries.Entry.TheVariants as entry
-use Rattle.mm_words.specs.Words.{WordsOf, word_of, is_valid, is_there, place_of, bare}
-use Rattle.mm_parts.specs.Shown.{JoinedParts, owners, owned_by, held_by, stands_of, is_paging, life_in}
+use Rattle.mm_words.specs.declared.aside.Aside.{Aside}
+use Rattle.mm_words.specs.Words.{word_of, is_valid, place_of, bare, aside_or}
+use Rattle.mm_parts.specs.Shown.{JoinedParts, owners, owned_by, held_by, stands_of, valid_of, is_paging, life_in}
 use Rattle.mm_parts.specs.Words.{is_aside_entry}
 use Rattle.mm_parts.specs.Kept.{Kept}
 use Rattle.mm_parts.specs.Moves.{home_entry, entry_backing}
-use Rattle.mm_parts.proofs.Facts.{Facts}
 use Rattle.mm_parts.proofs.Keeping.{known}
 use Rattle.mm_parts.proofs.Stands.{at_place}
 use Rattle.mm_parts.proofs.NameChanges.{is_used}
@@ -58,6 +57,23 @@ resting_word t kept k f stands none = elim (in_frame (owned_by (owners t.table) 
   | inl e ↦ e
   | inr x ↦ let some = shared_by t kept k f x.0 x.1 in absurd (omega (arith, some, none))
 ]
+
+-- ---- the key beside the tables
+
+pub beside_word : (t : JoinedParts) (x : Aside) → t.words.aside ≡ Some x → word_of t.words (key_of_place x.place) ≡ x.entry
+beside_word t x e = ap (λ (a : Option Aside). aside_or a x.place (t.words.at x.place)) e ∙ ap (λ b. cond b x.entry (t.words.at x.place)) (same_place-self x.place)
+
+-- its place is valid for a shared page alone
+pub beside_shared : (t : JoinedParts) → Kept t → (x : Aside) → t.words.aside ≡ Some x → (f : Frame) → valid_of t.words x.place ≡ Some f → (k : Key) → (record_at t.table f.0).owner ≡ Some k → is_shared k ≡ true
+beside_shared t kept x at f v (Shared a i) e = refl
+beside_shared t kept x at f v (Private q u) e =
+    let same : place_of q u ≡ x.place = same_place-true (place_of q u) x.place ((known t kept).fits x.place f (Private q u) v e) in
+    let stands = ap (λ (y : Place). stands_of (owners t.table) t.words (key_of_place y)) (sym same) ∙ (known t kept).owned f.0 (Private q u) e in
+    let some = (known t kept).shares x.place f v in
+    elim (in_frame (owned_by (owners t.table) (key_of_place x.place)) (word_of t.words (key_of_place x.place)) f stands) [
+      | inl rests ↦ (let none = kept.words.transition (key_of_place x.place) f rests in absurd (omega (arith, some, none)))
+      | inr y ↦ (let bad : true ≡ false = sym (kept.words.beside x at) ∙ ap is_aside_entry (sym (beside_word t x at) ∙ y.1) in cc)
+    ]
 
 -- ---- a key in no frame
 

@@ -1,26 +1,24 @@
 -- What a change of one key's word, or of one frame's record, makes of where keys stand.
-use Rattle.std.proofs.Common.{◌≡◌, ◌≢◌, ◌⊎◌, ℕ, ◌<◌, ◌≤◌, Bool, true, false, cond, List, Option, Some, None, refl, sym, ap, ◌∙◌, subst, inl, inr, arith, length}
-use Rattle.std.specs.Prelude.{◌==◌, ◌&&◌, not, is_some, if◌then◌else◌}
+use Rattle.std.proofs.Common.{◌≡◌, ℕ, Bool, true, false, cond, List, Option, Some, None, refl, sym, ap, ◌∙◌, inl, inr}
+use Rattle.std.specs.Prelude.{not, if◌then◌else◌}
 use Rattle.std.proofs.lemmas.Bool.{and_parts, not-true}
-use Rattle.mm_types.proofs.Cells.{same_or_not}
 use Rattle.mm_types.specs.declared.numbers.Frame.{Frame}
 use Rattle.mm_types.specs.declared.numbers.Key.{Key}
 use Rattle.mm_types.specs.declared.numbers.Key.TheVariants.{Private, Shared}
 use Rattle.mm_types.specs.declared.numbers.Place.{Place}
-use Rattle.mm_types.specs.declared.frames.Record.{Record}
 use Rattle.mm_types.specs.declared.frames.Held.{Held}
 use Rattle.mm_types.specs.declared.frames.Held.TheVariants as held
 use Rattle.mm_life.specs.declared.sets.ResidentSet.{ResidentSet}
 use Rattle.mm_life.specs.Frames.{FrameTable, record_at}
 use Rattle.mm_life.specs.Life.{FrameLife, changed, same_key, same_place}
-use Rattle.mm_laws.proofs.Owners.{key_or_not, same_key-self}
-use Rattle.mm_laws.proofs.PlaceCounts.{place_or_not, same_place-self, same_place-true}
+use Rattle.mm_laws.proofs.Owners.{key_or_not}
+use Rattle.mm_laws.proofs.PlaceCounts.{place_or_not, same_place-true}
 use Rattle.mm_frames.specs.Base.{has_block}
 use Rattle.mm_entry.specs.declared.entries.Entry.{Entry}
 use Rattle.mm_entry.specs.declared.entries.Entry.TheVariants as entry
 use Rattle.mm_words.specs.declared.aside.Aside.{Aside}
 use Rattle.mm_words.specs.Words.{WordsOf, place_of, is_aside, aside_or, own_word, word_of, is_valid, valid_frame, changed_at, with_own, with_word, keeps_places}
-use Rattle.mm_parts.specs.Shown.{Owners, owners, has_owner, held_by, owned_by, stands_of, valid_of, is_paging, paging_of, LineOf, life_of}
+use Rattle.mm_parts.specs.Shown.{Owners, has_owner, held_by, owned_by, stands_of, valid_of, is_paging, LineOf}
 use Rattle.mm_parts.specs.Words.{is_aside_entry}
 
 -- ---- one key's word
@@ -117,7 +115,7 @@ at_place w pl f n beside e = from w.aside refl (is_aside w.aside pl) refl e
         let is : a.entry ≡ entry.Valid f n = sym (ap (λ c. cond c a.entry (w.at pl)) h) ∙ e in
         let bad : true ≡ false = sym (beside a g) ∙ ap is_aside_entry is in cc
 
-held_same : (x y : Frame → Bool) (e : Entry) → ((g : Frame) (n : ℕ) → e ≡ entry.Valid g n → x g ≡ y g) → held_by x e ≡ held_by y e
+pub held_same : (x y : Frame → Bool) (e : Entry) → ((g : Frame) (n : ℕ) → e ≡ entry.Valid g n → x g ≡ y g) → held_by x e ≡ held_by y e
 held_same x y entry.Empty h = refl
 held_same x y entry.Zero h = refl
 held_same x y (entry.Paged s) h = refl

@@ -1,6 +1,6 @@
 -- The parts of a machine at rest.
-use Rattle.std.proofs.Common.{◌≡◌, ℕ, zero, suc, ◌+◌, ◌*◌, ◌<◌, ◌≤◌, Bool, true, false, List, [], ◌∷◌, Option, Some, None, refl, sym, ap, ◌∙◌, subst, arith, length, replicate}
-use Rattle.std.specs.Prelude.{◌==◌, ◌&&◌, nat_le, is_some, slice_get, slice_index_or, unwrap_or}
+use Rattle.std.proofs.Common.{◌≡◌, ℕ, zero, suc, ◌+◌, ◌*◌, ◌≤◌, Bool, true, false, [], Some, refl, sym, ap, ◌∙◌, subst, arith, length, replicate}
+use Rattle.std.specs.Prelude.{◌&&◌, nat_le, slice_get, slice_index_or}
 use Rattle.std.proofs.lemmas.Bool.{le-leb}
 use Rattle.mm_types.specs.Machine.{MachineOf, IsMachine}
 use Rattle.mm_types.specs.declared.numbers.Frame.{Frame}
@@ -8,18 +8,16 @@ use Rattle.mm_types.specs.declared.numbers.Key.{Key}
 use Rattle.mm_types.specs.declared.numbers.Key.TheVariants.{Private, Shared}
 use Rattle.mm_types.specs.declared.frames.Held.TheVariants as held
 use Rattle.mm_life.specs.declared.sets.ResidentSet.{ResidentSet}
-use Rattle.mm_life.specs.Life.{FrameLife, free_table, unstarted, set_in}
+use Rattle.mm_life.specs.Life.{free_table, unstarted, set_in}
 use Rattle.mm_life.specs.Legal.{IsLegal, is_machine}
 use Rattle.mm_life.specs.Effect.{after_move}
 use Rattle.mm_laws.specs.Reached.{Reached}
 use Rattle.mm_laws.proofs.Deduced.{reached_start, reached_next}
-use Rattle.mm_flight.specs.declared.flights.Waiting.{Waiting}
 use Rattle.mm_flight.specs.declared.flights.Waiting.TheVariants as waiting
 use Rattle.mm_entry.specs.declared.entries.Entry.TheVariants as entry
 use Rattle.mm_words.specs.Words.{word_of}
 use Rattle.mm_words.specs.Shown.{no_words}
-use Rattle.mm_parts.specs.Shown.{JoinedParts, PartsOf, owners, stands_of, is_paging, life_in, shown_of}
-use Rattle.mm_parts.specs.Kept.{Kept}
+use Rattle.mm_parts.specs.Shown.{owners, stands_of, is_paging, life_in}
 use Rattle.mm_parts.specs.Start.{started, started_parts, first_kind, first_move}
 use Rattle.mm_parts.proofs.Stands.{same_life}
 use Rattle.mm_parts.proofs.Keeping.{Step}
@@ -86,6 +84,7 @@ start_step m h = record {
       no_proto = λ a i b j e. cc;
       beside = λ x e. cc;
       beside_bound = λ x e. cc;
+      beside_other = λ x e. cc;
     };
     within = record { requesting = λ e. cc; copying = λ e. cc };
     ranges = record { areas = λ a e. cc; sets = no_set };

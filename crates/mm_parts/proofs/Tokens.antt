@@ -1,8 +1,8 @@
 -- The first frames of lists.
-use Rattle.std.proofs.Common.{◌≡◌, ℕ, ◌<◌, Bool, true, false, Option, Some, None, List, [], ◌∷◌, ◌++◌, length, refl, sym, ap, ◌∙◌, arith}
+use Rattle.std.proofs.Common.{◌≡◌, ℕ, Bool, true, false, Some, None, List, [], ◌∷◌, ◌++◌, refl, sym, ap, ◌∙◌}
 use Rattle.std.specs.Prelude.{slice_get, if◌then◌else◌}
 use Rattle.mm_types.specs.declared.numbers.Frame.{Frame}
-use Rattle.mm_life.specs.Frames.{FrameTable, is_empty, rest, after_clear, after_give, after_steal, taken_for_read}
+use Rattle.mm_life.specs.Frames.{FrameTable, is_empty, rest, after_steal, taken_for_read}
 use Rattle.mm_frames.specs.Base.{FramesOf, standby_taken, free_put, emptied}
 use Rattle.mm_parts.specs.Moves.{front, front_or}
 

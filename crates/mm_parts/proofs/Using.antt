@@ -1,5 +1,5 @@
 -- A valid place and its frame.
-use Rattle.std.proofs.Common.{◌≡◌, ◌≢◌, ℕ, ◌<◌, ◌≤◌, Bool, true, false, Option, Some, None, refl, sym, ap, ◌∙◌, arith}
+use Rattle.std.proofs.Common.{◌≡◌, ◌≢◌, ℕ, Bool, true, false, Some, refl, sym, ap, ◌∙◌, arith}
 use Rattle.std.specs.Prelude.{is_some}
 use Rattle.std.proofs.lemmas.Bool.{lt-ltb}
 use Rattle.mm_types.specs.declared.numbers.Frame.{Frame}
@@ -8,7 +8,7 @@ use Rattle.mm_life.specs.Frames.{record_at, is_read}
 use Rattle.mm_entry.specs.declared.entries.Entry.{Entry}
 use Rattle.mm_entry.specs.declared.entries.Entry.TheVariants as entry
 use Rattle.mm_words.specs.Words.{is_valid, is_there, valid_frame, bare}
-use Rattle.mm_parts.specs.Shown.{JoinedParts, valid_of, life_in}
+use Rattle.mm_parts.specs.Shown.{JoinedParts, valid_of}
 use Rattle.mm_parts.specs.Kept.{Kept}
 use Rattle.mm_parts.proofs.Keeping.{known}
 

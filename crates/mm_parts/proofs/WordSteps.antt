@@ -1,31 +1,27 @@
 -- Calls that are no moves: processes, places and areas come and go, and pages are used.
-use Rattle.std.proofs.Common.{◌≡◌, ◌≢◌, ◌⊎◌, ℕ, ◌+◌, ◌<◌, ◌≤◌, ◌^◌, Bool, true, false, cond, List, Option, Some, None, refl, sym, ap, ◌∙◌, subst, inl, inr, arith, length}
+use Rattle.std.proofs.Common.{◌≡◌, ◌⊎◌, ℕ, ◌+◌, ◌<◌, ◌≤◌, ◌^◌, Bool, true, false, cond, List, Option, Some, None, refl, sym, ap, ◌∙◌, subst, inl, inr, arith}
 use Rattle.std.specs.Prelude.{◌==◌, ◌&&◌, nat_le, nat_lt, is_some, option_map, unwrap_or, if◌then◌else◌, slice_index_or}
 use Rattle.std.proofs.lemmas.Bool.{and_parts, eqb-true, leb-true, ltb-true}
 use Rattle.mm_types.specs.Address.{Range, holds_page}
-use Rattle.mm_types.specs.declared.numbers.Frame.{Frame}
 use Rattle.mm_types.specs.declared.numbers.Area.{Area}
-use Rattle.mm_types.specs.declared.numbers.Block.{Block}
 use Rattle.mm_types.specs.declared.numbers.Pid.{Pid}
-use Rattle.mm_types.specs.declared.numbers.Vpn.{Vpn}
 use Rattle.mm_types.specs.declared.numbers.Key.{Key}
 use Rattle.mm_types.specs.declared.numbers.Key.TheVariants.{Private, Shared}
 use Rattle.mm_types.specs.declared.numbers.Place.{Place}
-use Rattle.mm_types.specs.declared.frames.Held.{Held}
 use Rattle.mm_types.specs.declared.frames.Held.TheVariants as held
-use Rattle.mm_life.specs.Life.{FrameLife, changed, same_place, is_dead}
+use Rattle.mm_life.specs.Life.{FrameLife, changed, same_place}
 use Rattle.mm_laws.specs.Reached.{Reached}
 use Rattle.mm_entry.specs.declared.entries.Entry.{Entry}
 use Rattle.mm_entry.specs.declared.entries.Entry.TheVariants as entry
 use Rattle.mm_words.specs.declared.aside.Aside.{Aside}
-use Rattle.mm_words.specs.Words.{WordsOf, word_of, own_word, aside_or, place_of, valid_frame, changed_in, changed_at, is_valid}
-use Rattle.mm_parts.specs.Shown.{JoinedParts, PartsOf, owners, owned_by, held_by, stands_of, valid_of, named_by, names_of, is_paging, paging_of, life_of, life_in, shown_of, requests_in}
+use Rattle.mm_words.specs.Words.{WordsOf, word_of, own_word, aside_or, place_of, valid_frame, changed_in, is_valid}
+use Rattle.mm_parts.specs.Shown.{JoinedParts, owners, owned_by, held_by, stands_of, valid_of, named_by, names_of, is_paging, life_of, life_in, shown_of, requests_in}
 use Rattle.mm_parts.specs.Words.{WordsKept}
 use Rattle.mm_parts.specs.Kept.{Kept}
 use Rattle.mm_life.specs.Victims.{aged}
 use Rattle.mm_wset.specs.Ages.{older}
 use Rattle.mm_parts.specs.Moves.{ages_older}
-use Rattle.mm_parts.proofs.Keeping.{Step, known}
+use Rattle.mm_parts.proofs.Keeping.{Step}
 use Rattle.mm_radix.specs.Pages.{pages}
 use Rattle.mm_parts.proofs.Conditions.{invalid_entry}
 use Rattle.mm_parts.proofs.LineSteps.{no_place}
@@ -43,7 +39,7 @@ homes_step t kept open_now bound sizes beside areas = record {
   kept = record {
     reached = kept.reached;
     line = kept.line;
-    words = record { transition = kept.words.transition; valid_shared = kept.words.valid_shared; no_file = kept.words.no_file; no_proto = kept.words.no_proto; beside = kept.words.beside; beside_bound = beside };
+    words = record { transition = kept.words.transition; valid_shared = kept.words.valid_shared; no_file = kept.words.no_file; no_proto = kept.words.no_proto; beside = kept.words.beside; beside_bound = beside; beside_other = kept.words.beside_other };
     within = record { requesting = kept.within.requesting; copying = kept.within.copying };
     ranges = record { areas = areas; sets = kept.ranges.sets };
     depth = kept.depth;
@@ -147,6 +143,7 @@ module _ (t : JoinedParts) (kept : Kept t) (pid : ℕ) (r : Range) (g : Givable 
     no_proto = kept.words.no_proto;
     beside = kept.words.beside;
     beside_bound = λ x e. let bad : None ≡ Some x = sym g.none ∙ e in cc;
+    beside_other = λ x e. let bad : None ≡ Some x = sym g.none ∙ e in cc;
   }
 
   given_names : (x : Place) → names_of (owners t.table) (record t.words { bound = changed_in t.words.bound pid r false; at = changed_in t.words.at pid r entry.Empty }) x ≡ changed_in (names_of (owners t.table) t.words) pid r None x
@@ -216,7 +213,7 @@ older_cond true None = refl
 older_cond true (Some n) = refl
 older_cond false o = refl
 
-valid_is : (e : Entry) → is_valid e ≡ is_some (valid_frame e)
+pub valid_is : (e : Entry) → is_valid e ≡ is_some (valid_frame e)
 valid_is entry.Empty = refl
 valid_is entry.Zero = refl
 valid_is (entry.Paged s) = refl

@@ -1,15 +1,15 @@
--- How the parts agree: entries, prototype words and frames; slots and what holds them; requests and working sets.
-use Rattle.std.specs.Prelude.{◌≡◌, ◌≢◌, ◌≤◌, ◌<◌, ◌+◌, ◌⊎◌, ℕ, true, false, List, length, Option, Some, None, is_some, slice_get}
+-- How the parts agree, over plain lists and maps: entries, prototype words and frames; slots and what holds them; requests; and
+-- working sets.
+use Rattle.std.specs.Prelude.{◌≡◌, ◌≢◌, ◌≤◌, ◌<◌, ◌+◌, ◌⊎◌, ℕ, true, false, List, length, Option, Some, is_some, slice_get}
 use Rattle.mm_types.specs.declared.numbers.Area.{Area}
-use Rattle.mm_types.specs.declared.numbers.Block.{Block}
 use Rattle.mm_types.specs.declared.numbers.Frame.{Frame}
-use Rattle.mm_types.specs.declared.numbers.Slot.{Slot}
 use Rattle.mm_types.specs.declared.numbers.Key.{Key}
-use Rattle.mm_types.specs.declared.numbers.Key.TheVariants.{Shared}
+use Rattle.mm_types.specs.declared.numbers.Key.TheVariants.{Private, Shared}
 use Rattle.mm_types.specs.declared.numbers.Place.{Place}
 use Rattle.mm_types.specs.declared.frames.Held.TheVariants as held
+use Rattle.mm_life.specs.declared.sets.ResidentSet.{ResidentSet}
 use Rattle.mm_life.specs.Frames.{record_at, has_request}
-use Rattle.mm_life.specs.Life.{FrameLife, key_of_place, is_shared}
+use Rattle.mm_life.specs.Life.{FrameLife, key_of_place, is_shared, set_of}
 use Rattle.mm_life.specs.Legal.{owner_is}
 use Rattle.mm_laws.specs.Holders.{Holder, holding}
 use Rattle.mm_laws.specs.Places.{CountsPlaces}
@@ -17,38 +17,61 @@ use Rattle.mm_laws.specs.Tally.{one_if, times}
 use Rattle.mm_entry.specs.declared.entries.Entry.{Entry}
 use Rattle.mm_entry.specs.declared.entries.Entry.TheVariants as entry
 use Rattle.mm_words.specs.declared.aside.Aside.{Aside}
-use Rattle.mm_words.specs.Words.{WordsOf, word_of}
+use Rattle.mm_words.specs.Words.{WordsOf, word_of, place_of, valid_frame}
 use Rattle.mm_parts.specs.Shown.{requests, is_own_line}
-use Rattle.mm_parts.specs.Words.{is_aside_entry}
+use Rattle.mm_parts.specs.Words.{is_aside_entry, names_other}
 
 -- ---- entries, prototype words and frame records
 
+-- the page of a key is in this frame
+pub record InFrame (l : FrameLife) (k : Key) (f : Frame) : Type 0 where
+  pub stands : l.stands k ≡ held.Frame f
+  pub owner : (record_at l.frames f.0).owner ≡ Some k
+
+-- a place is valid for this frame, that of a shared page or of the place's own
+pub record IsValidFor (l : FrameLife) (p : Place) (f : Frame) : Type 0 where
+  pub valid : l.valid p ≡ Some f
+  pub shared : 1 ≤ (record_at l.frames f.0).shares
+  pub page : (owner_is is_shared (record_at l.frames f.0) ≡ true) ⊎ InFrame l (key_of_place p) f
+
+-- What the one entry of a key says of where the key stands. The word of a private key is that of its place, which may be valid
+-- for a shared page, or name one: then the private key is not live.
+abbrev pub Says : FrameLife → Key → Entry → Type 0
+Says l k entry.Empty = l.stands k ≡ held.Dead
+Says l k entry.Zero = l.stands k ≡ held.Zero
+Says l k (entry.Paged s) = l.stands k ≡ held.Slot s
+Says l (Private p v) (entry.InFile b) = ⊥
+Says l (Shared a i) (entry.InFile b) = l.stands (Shared a i) ≡ held.Block b
+Says l k (entry.Transition f) = InFrame l k f × ((record_at l.frames f.0).shares ≡ 0)
+Says l (Private p v) (entry.Valid f n) = IsValidFor l (place_of p v) f
+Says l (Shared a i) (entry.Valid f n) = InFrame l (Shared a i) f × (1 ≤ (record_at l.frames f.0).shares)
+Says l (Private p v) (entry.Proto a i) = l.stands (Private p v) ≡ held.Dead
+Says l (Shared a i) (entry.Proto b j) = ⊥
+
+-- the one key beside the tables: a live private key of a bound place, whose word is that of a shared page meanwhile
+pub record IsBeside (l : FrameLife) (w : WordsOf) (x : Aside) : Type 0 where
+  pub bound : w.bound x.place ≡ true
+  pub entry : is_aside_entry x.entry ≡ true
+  pub says : Says l (key_of_place x.place) x.entry
+  pub named : names_other (w.at x.place) ≡ true
+  pub other : (f : Frame) → l.valid x.place ≡ Some f → owner_is is_shared (record_at l.frames f.0) ≡ true
+
 pub record EntriesAgree (l : FrameLife) (w : WordsOf) : Type 0 where
-  -- the one entry of a key says where the key stands
-  pub zero : (k : Key) → word_of w k ≡ entry.Zero → l.stands k ≡ held.Zero
-  pub paged : (k : Key) (s : Slot) → word_of w k ≡ entry.Paged s → l.stands k ≡ held.Slot s
-  pub in_file : (k : Key) (b : Block) → word_of w k ≡ entry.InFile b → l.stands k ≡ held.Block b
-  pub transition : (k : Key) (f : Frame) → word_of w k ≡ entry.Transition f
-      → (l.stands k ≡ held.Frame f) × ((record_at l.frames f.0).owner ≡ Some k) × ((record_at l.frames f.0).shares ≡ 0)
-  -- a valid place has a frame with a share, of a shared page or of the place's own
-  pub valid_private : (p : Place) (f : Frame) (n : ℕ) → w.at p ≡ entry.Valid f n
-      → (l.valid p ≡ Some f) × (1 ≤ (record_at l.frames f.0).shares)
-      × ((owner_is is_shared (record_at l.frames f.0) ≡ true) ⊎ (l.stands (key_of_place p) ≡ held.Frame f))
-  pub valid_shared : (a : Area) (i : ℕ) (f : Frame) (n : ℕ) → w.proto a.0 i ≡ entry.Valid f n
-      → (l.stands (Shared a i) ≡ held.Frame f) × (1 ≤ (record_at l.frames f.0).shares) × (n ≡ 0)
-  -- a live key has an entry
-  pub live : (k : Key) → l.stands k ≢ held.Dead → word_of w k ≢ entry.Empty
-  -- a page table names no block, and a prototype word no prototype
-  pub no_file : (p : Place) (b : Block) → w.at p ≢ entry.InFile b
-  pub no_proto : (a i : ℕ) (b : Area) (j : ℕ) → w.proto a i ≢ entry.Proto b j
-  -- a frame's shares are the places that are valid for it, and a working set's pages those of its process
+  -- Each key has one entry: in its page table, in its prototype word, or, of the one key that is being made by a copy, beside the
+  -- tables. It says where the key stands.
+  pub says : (k : Key) → Says l k (word_of w k)
+  -- a place is valid where its word names a frame
+  pub valid : (p : Place) → l.valid p ≡ valid_frame (w.at p)
+  pub page : (p : Place) (f : Frame) → l.valid p ≡ Some f → IsValidFor l p f
+  -- where that is the frame of a shared page, its prototype word names it too
+  pub prototype : (p : Place) (f : Frame) (a : Area) (i : ℕ) → l.valid p ≡ Some f → (record_at l.frames f.0).owner ≡ Some (Shared a i) → w.proto a.0 i ≡ entry.Valid f 0
+  -- a frame's shares are the places that are valid for it
   pub shares : ∥ CountsPlaces l ∥₁
-  -- the one key beside the tables, while its place names a shared page or nothing, is that of a bound place, and in no place valid
-  pub beside : (x : Aside) → w.aside ≡ Some x → (w.bound x.place ≡ true) × (is_aside_entry x.entry ≡ true)
+  pub beside : (x : Aside) → w.aside ≡ Some x → IsBeside l w x
 
 -- ---- slots
 
--- a free slot has no holder, each other slot one, and nothing holds a slot that is not there
+-- a free slot has no holder, each other slot one, a key or a frame; and nothing holds a slot that is not there
 pub record SlotsAgree (l : FrameLife) : Type 0 where
   pub free : (s : ℕ) (h : Holder) → slice_get l.free_slots s ≡ Some true → holding l.frames l.stands h ≢ Some s
   pub held : (s : ℕ) → slice_get l.free_slots s ≡ Some false → ∥ ((h : Holder) × (holding l.frames l.stands h ≡ Some s)) ∥₁
@@ -64,3 +87,12 @@ pub record RequestsAgree (l : FrameLife) (flight : List ℕ) (own : Option Frame
   pub few : length flight ≤ l.machine.depth
   pub most : length l.flight ≤ l.machine.depth + 1
   pub own_line : is_some own ≡ true → is_own_line l.kind ≡ true
+
+-- ---- working sets
+
+-- A working set holds exactly the valid places of its process, each with an age of at most 7. It has at most its greatest size.
+pub record SetsAgree (l : FrameLife) (ages : Place → Option ℕ) : Type 0 where
+  pub aged : (p : Place) → is_some (ages p) ≡ is_some (l.valid p)
+  pub young : (p : Place) (age : ℕ) → ages p ≡ Some age → age ≤ 7
+  pub counted : ∥ CountsPlaces l ∥₁
+  pub within : (pid : ℕ) (s : ResidentSet) → set_of l pid ≡ Some s → s.resident ≤ s.max

@@ -1,5 +1,5 @@
 -- What the parts keep, over plain lists and maps.
-use Rattle.std.specs.Prelude.{◌≡◌, ◌≤◌, ◌<◌, ◌^◌, ℕ, Bool, true, List, length, Option, Some, is_some, slice_get}
+use Rattle.std.specs.Prelude.{◌≡◌, ◌≤◌, ◌<◌, ◌^◌, ℕ, true, length, Option, Some, is_some, slice_get}
 use Rattle.mm_types.specs.Machine.{IsMachine}
 use Rattle.mm_types.specs.declared.numbers.Frame.{Frame}
 use Rattle.mm_types.specs.declared.moves.LineKind.{LineKind}
@@ -9,7 +9,6 @@ use Rattle.mm_life.specs.Life.{set_in}
 use Rattle.mm_life.specs.Legal.{is_touch}
 use Rattle.mm_laws.specs.Reached.{Reached}
 use Rattle.mm_flight.specs.Requests.{FlightOf, is_in}
-use Rattle.mm_flight.specs.declared.flights.Waiting.{Waiting}
 use Rattle.mm_flight.specs.declared.flights.Waiting.TheVariants as waiting
 use Rattle.mm_words.specs.Words.{WordsOf}
 use Rattle.mm_parts.specs.Shown.{JoinedParts, LineOf, life_in, is_own_line}

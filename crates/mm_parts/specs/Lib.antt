@@ -5,3 +5,5 @@ pub mod Kept
 pub mod Moves
 pub mod PartsShown
 pub mod Start
+pub mod Reading
+pub mod Holds

@@ -1,6 +1,5 @@
 -- What the moves are made of, and what they change beside the state of the replay.
-use Rattle.std.specs.Prelude.{◌≡◌, ◌⊎◌, ◌≤◌, ◌<◌, ◌+◌, ℕ, Bool, true, false, ◌==◌, ◌&&◌, ◌||◌, if◌then◌else◌, List, [], ◌∷◌, ◌++◌, length, map, Option, Some, None, is_some, option_map, slice_set}
-use Rattle.mm_types.specs.declared.numbers.Block.{Block}
+use Rattle.std.specs.Prelude.{◌≡◌, ◌⊎◌, ◌≤◌, ◌<◌, ◌+◌, ℕ, Bool, true, false, ◌==◌, ◌&&◌, if◌then◌else◌, List, [], ◌∷◌, ◌++◌, length, map, Option, Some, None, is_some, slice_set}
 use Rattle.mm_types.specs.declared.numbers.Frame.{Frame}
 use Rattle.mm_types.specs.declared.numbers.Key.{Key}
 use Rattle.mm_types.specs.declared.numbers.Key.TheVariants.{Private, Shared}
@@ -19,7 +18,7 @@ use Rattle.mm_life.specs.Frames.{FrameTable, record_at, after_drop, slot_after_d
 use Rattle.mm_life.specs.Legal.{is_touch, owner_is}
 use Rattle.mm_entry.specs.declared.entries.Entry.{Entry}
 use Rattle.mm_entry.specs.declared.entries.Entry.TheVariants as entry
-use Rattle.mm_life.specs.Life.{FrameLife, changed, same_key, same_place, key_of_place, is_shared, is_dead}
+use Rattle.mm_life.specs.Life.{FrameLife, changed, same_place, key_of_place, is_shared, is_dead}
 use Rattle.mm_life.specs.Effect.{after_move}
 use Rattle.mm_life.specs.Victims.{aged}
 use Rattle.mm_ram.specs.Ram.{with_page}

@@ -1,5 +1,5 @@
 -- What `Parts` shows.
-use Rattle.std.specs.Prelude.{ℕ, Option}
+use Rattle.std.specs.Prelude.{ℕ, List, Option}
 use Rattle.mm_types.specs.declared.numbers.Place.{Place}
 use Rattle.mm_words.specs.Shown as tables
 use Rattle.mm_words.specs.Words.{WordsOf}
@@ -32,3 +32,7 @@ spare_slots s = s.slots.spare
 -- the age of each valid place, none of any other
 abbrev pub ages_of : Parts → Place → Option ℕ
 ages_of s = tables.ages s.words
+
+-- the requests in flight, without the line's own
+abbrev pub flight_of : Parts → List ℕ
+flight_of s = s.flight.frames

@@ -1,12 +1,10 @@
 -- The state of the replay that the parts show.
-use Rattle.std.specs.Prelude.{ℕ, Bool, true, false, not, ◌==◌, ◌||◌, ◌++◌, if◌then◌else◌, List, [], ◌∷◌, Option, Some, None, is_some, slice_index_or, unwrap_or, option_map}
+use Rattle.std.specs.Prelude.{ℕ, Bool, true, false, not, ◌==◌, ◌||◌, ◌++◌, if◌then◌else◌, List, [], ◌∷◌, Option, Some, None, slice_index_or, unwrap_or, option_map}
 use Rattle.mm_types.specs.Machine.{MachineOf}
 use Rattle.mm_types.specs.declared.numbers.Frame.{Frame}
 use Rattle.mm_types.specs.declared.numbers.Key.{Key}
 use Rattle.mm_types.specs.declared.numbers.Key.TheVariants.{Private, Shared}
 use Rattle.mm_types.specs.declared.numbers.Place.{Place}
-use Rattle.mm_types.specs.declared.frames.Backing.{Backing}
-use Rattle.mm_types.specs.declared.frames.Backing.TheVariants as backing
 use Rattle.mm_types.specs.declared.frames.Held.{Held}
 use Rattle.mm_types.specs.declared.frames.Held.TheVariants as held
 use Rattle.mm_types.specs.declared.moves.LineKind.{LineKind}
@@ -18,7 +16,7 @@ use Rattle.mm_flight.specs.declared.flights.Waiting.{Waiting}
 use Rattle.mm_frames.specs.Base.{has_block}
 use Rattle.mm_entry.specs.declared.entries.Entry.{Entry}
 use Rattle.mm_entry.specs.declared.entries.Entry.TheVariants as entry
-use Rattle.mm_words.specs.Words.{WordsOf, word_of, own_word, place_of, valid_frame}
+use Rattle.mm_words.specs.Words.{WordsOf, word_of, valid_frame}
 
 -- the owner of each frame
 abbrev pub Owners : Type 0

@@ -21,7 +21,7 @@ pub(crate) fn begin_request(flight: &mut Flight, own: &mut Option<Frame>, kind: 
 }
 
 /// Whether the line's own request is that of the frame.
-fn is_own(own: &Option<Frame>, f: Frame) -> bool
+pub(crate) fn is_own(own: &Option<Frame>, f: Frame) -> bool
     ensures { result ≡ own_is own.now f.0 }
 {
     match own {

@@ -126,7 +126,7 @@ module _ (l : FrameLife) (s : Sound l) (f : Frame) (on : is_on f.0 l.frames.modi
 
 module _ (l : FrameLife) (s : Sound l) (f : Frame) (on : is_on f.0 l.frames.modified ≡ true) where
   module _ (t : Slot) (legal : IsLegal (move.Write f (stored.Slot t)) l) where
-    slot_parts : (owner_is l.paging (record_at l.frames f.0) ≡ true) × (is_lowest t.0 l.free_slots ≡ true)
+    pub slot_parts : (owner_is l.paging (record_at l.frames f.0) ≡ true) × (is_lowest t.0 l.free_slots ≡ true)
     slot_parts =
         let on_it = is_on f.0 l.frames.modified in
         let paging = owner_is l.paging (record_at l.frames f.0) in
@@ -135,7 +135,7 @@ module _ (l : FrameLife) (s : Sound l) (f : Frame) (on : is_on f.0 l.frames.modi
         let p2 = and_parts (on_it && paging) lowest p3.0 in
         ((and_parts on_it paging p2.0).1, p2.1)
 
-    slot_backing : (record_at l.frames f.0).backing ≡ backing.None
+    pub slot_backing : (record_at l.frames f.0).backing ≡ backing.None
     slot_backing =
         let m = modified_frame l s f.0 on in
         let o = owner_passes l.paging (record_at l.frames f.0) slot_parts.0 in
@@ -154,7 +154,7 @@ module _ (l : FrameLife) (s : Sound l) (f : Frame) (on : is_on f.0 l.frames.modi
         λ i. record l { frames = tables i; free_slots = slots i; flight = flight i }
 
   module _ (b : Block) (legal : IsLegal (move.Write f (stored.Block b)) l) where
-    block_is : (record_at l.frames f.0).backing ≡ backing.Block b
+    pub block_is : (record_at l.frames f.0).backing ≡ backing.Block b
     block_is =
         let changed = (record_at l.frames f.0).changed in
         let owned = is_some (record_at l.frames f.0).owner in

@@ -1,4 +1,3 @@
-use Rattle.std.proofs.Common.{◌≡◌, ℕ, ◌+◌, ◌-◌, ◌<◌, List, Bool, Option, Some, refl, sym, ap, ◌∙◌, subst, arith, length}
 use Rattle.std.specs.Prelude.{true, slice_set}
 use Rattle.mm_parts.specs.PartsShown.{joined}
 use Rattle.mm_parts.proofs.Keeping.{step_to}

@@ -1,8 +1,5 @@
-use Rattle.std.proofs.Common.{◌≡◌, ℕ, ◌+◌, ◌-◌, ◌<◌, List, Bool, Option, Some, refl, sym, ap, ◌∙◌, subst, arith, length}
-use Rattle.mm_types.specs.declared.numbers.Place.{Place}
+use Rattle.std.proofs.Common.{◌+◌, sym, ◌∙◌, arith}
 use Rattle.mm_parts.specs.PartsShown.{joined}
-use Rattle.mm_parts.specs.Moves.{copy_place}
-use Rattle.mm_words.specs.Shown.{bare_aside}
 use Rattle.mm_parts.proofs.Keeping.{step_to}
 use Rattle.mm_parts.proofs.KeyBirths.{keys_room, copy_none_aside, copy_bound, copy_step, set_step, set_places}
 use Rattle.mm_parts.proofs.parts.Parts.add_zero.Goals as goal

@@ -1,6 +1,6 @@
-use Rattle.std.proofs.Common.{◌≡◌, ℕ, ◌+◌, ◌-◌, ◌<◌, List, Bool, Option, Some, refl, sym, ap, ◌∙◌, subst, arith, length}
+use Rattle.std.proofs.Common.{◌≡◌, ℕ, refl, sym, ap, ◌∙◌}
 use Rattle.mm_types.specs.declared.numbers.Frame.{Frame}
-use Rattle.mm_life.specs.Frames.{FrameTable, after_clear}
+use Rattle.mm_life.specs.Frames.{after_clear}
 use Rattle.mm_ram.specs.Ram.{with_page, zero_page}
 use Rattle.mm_frames.specs.Base.{FramesOf, free_taken, zeroed_put, now_cleared}
 use Rattle.mm_parts.specs.PartsShown.{joined}

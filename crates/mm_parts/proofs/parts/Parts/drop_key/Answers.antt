@@ -1,4 +1,4 @@
-use Rattle.std.proofs.Common.{◌≡◌, ℕ, ◌+◌, ◌-◌, ◌<◌, List, Bool, Option, Some, refl, sym, ap, ◌∙◌, subst, arith, length}
+use Rattle.std.proofs.Common.{◌-◌, sym, ap, ◌∙◌}
 use Rattle.mm_life.specs.Effect.{freed}
 use Rattle.mm_parts.specs.PartsShown.{joined}
 use Rattle.mm_parts.proofs.Keeping.{step_to}

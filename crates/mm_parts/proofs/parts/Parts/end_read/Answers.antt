@@ -1,4 +1,4 @@
-use Rattle.std.proofs.Common.{◌≡◌, ℕ, ◌+◌, ◌-◌, ◌<◌, List, Bool, Option, Some, refl, sym, ap, ◌∙◌, subst, arith, length}
+use Rattle.std.proofs.Common.{◌≡◌, Bool, Option, sym, ap, ◌∙◌, subst}
 use Rattle.std.proofs.Common.{true, false}
 use Rattle.std.specs.Prelude.{option_map, is_some}
 use Rattle.mm_types.specs.declared.moves.Move.TheVariants as move

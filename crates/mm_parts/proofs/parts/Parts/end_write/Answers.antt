@@ -1,10 +1,8 @@
-use Rattle.std.proofs.Common.{◌≡◌, ℕ, ◌+◌, ◌-◌, ◌<◌, List, Bool, Option, Some, refl, sym, ap, ◌∙◌, subst, arith, length}
-use Rattle.std.specs.Prelude.{slice_get}
-use Rattle.mm_types.specs.declared.numbers.Slot.{Slot}
+use Rattle.std.proofs.Common.{◌≡◌, sym, ap, ◌∙◌}
 use Rattle.mm_life.specs.Effect.{freed}
-use Rattle.mm_frames.specs.Base.{FramesOf, write_ended}
+use Rattle.mm_frames.specs.Base.{FramesOf}
 use Rattle.mm_parts.specs.PartsShown.{joined}
-use Rattle.mm_parts.proofs.Keeping.{step_to, known}
+use Rattle.mm_parts.proofs.Keeping.{step_to}
 use Rattle.mm_parts.proofs.FrameSteps.{table_end, write_end_step, ended_table, ended_bytes, write_frees, write_busy}
 use Rattle.mm_parts.proofs.FrameSteps.{held_by_request}
 use Rattle.mm_parts.proofs.parts.Parts.end_write.Goals as goal

@@ -1,4 +1,3 @@
-use Rattle.std.proofs.Common.{◌≡◌, ℕ, ◌+◌, ◌-◌, ◌<◌, List, Bool, Option, Some, refl, sym, ap, ◌∙◌, subst, arith, length}
 use Rattle.mm_parts.specs.PartsShown.{joined}
 use Rattle.mm_parts.proofs.Using.{valid_there, valid_owned, valid_calm, valid_told, not_valid_told}
 use Rattle.mm_parts.proofs.parts.Parts.frame_at.Goals as goal

@@ -1,4 +1,4 @@
-use Rattle.std.proofs.Common.{◌≡◌, ℕ, ◌+◌, ◌-◌, ◌<◌, List, Bool, Option, Some, refl, sym, ap, ◌∙◌, subst, arith, length}
+use Rattle.std.proofs.Common.{◌≡◌, ℕ, sym, ap, ◌∙◌, subst, arith}
 use Rattle.mm_types.specs.declared.numbers.Frame.{Frame}
 use Rattle.mm_types.specs.declared.moves.Move.TheVariants as move
 use Rattle.mm_life.specs.Frames.{after_give}

@@ -1,4 +1,4 @@
-use Rattle.std.proofs.Common.{◌≡◌, ℕ, ◌+◌, ◌-◌, ◌<◌, List, Bool, Option, Some, refl, sym, ap, ◌∙◌, subst, arith, length}
+use Rattle.std.proofs.Common.{ap}
 use Rattle.mm_types.specs.declared.moves.LineKind.TheVariants as kind
 use Rattle.mm_slots.specs.Slots.{SlotsOf}
 use Rattle.mm_parts.specs.PartsShown.{joined}

@@ -1,9 +1,8 @@
-use Rattle.std.proofs.Common.{◌≡◌, ℕ, ◌+◌, ◌-◌, ◌<◌, List, Bool, Option, Some, refl, sym, ap, ◌∙◌, subst, arith, length}
+use Rattle.std.proofs.Common.{◌≡◌, sym, ap, ◌∙◌, subst}
 use Rattle.mm_types.specs.declared.frames.Record.{Record}
-use Rattle.mm_types.specs.declared.numbers.Key.{Key}
-use Rattle.mm_life.specs.Frames.{record_at, after_map}
+use Rattle.mm_life.specs.Frames.{after_map}
 use Rattle.mm_frames.specs.Base.{FramesOf}
-use Rattle.mm_words.specs.Words.{WordsOf, made_valid}
+use Rattle.mm_words.specs.Words.{WordsOf}
 use Rattle.mm_parts.specs.PartsShown.{joined}
 use Rattle.mm_parts.specs.Moves.{CanName, words_named}
 use Rattle.mm_parts.proofs.Keeping.{step_to}

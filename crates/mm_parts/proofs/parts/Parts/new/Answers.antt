@@ -1,4 +1,4 @@
-use Rattle.std.proofs.Common.{◌≡◌, ℕ, ◌+◌, ◌-◌, ◌<◌, List, Bool, Option, Some, refl, sym, ap, ◌∙◌, subst, arith, length}
+use Rattle.std.proofs.Common.{◌≡◌, ℕ, ap, ◌∙◌}
 use Rattle.std.proofs.Common.{true, false, [], None, replicate, rules}
 use Rattle.mm_types.specs.Machine.{IsMachine}
 use Rattle.mm_life.specs.Life.{free_table}

@@ -1,11 +1,5 @@
-use Rattle.std.proofs.Common.{◌≡◌, ℕ, ◌+◌, ◌-◌, ◌<◌, List, Bool, Option, Some, refl, sym, ap, ◌∙◌, subst, arith, length}
-use Rattle.std.specs.Prelude.{◌==◌, true, false, None}
-use Rattle.mm_words.specs.Words.{WordsOf, changed_in, place_of}
-use Rattle.mm_life.specs.Life.{changed}
-use Rattle.mm_radix.specs.Pages.{pages}
-use Rattle.mm_parts.specs.PartsShown.{joined, shown}
-use Rattle.mm_parts.specs.Shown.{shown_of}
-use Rattle.mm_parts.proofs.Keeping.{step_to}
+use Rattle.std.proofs.Common.{Some}
+use Rattle.mm_parts.specs.PartsShown.{joined}
 use Rattle.mm_parts.proofs.Outcomes.{on_ok, on_err, kept_by, ok_by, err_by}
 use Rattle.mm_parts.proofs.WordSteps.{area_step}
 use Rattle.mm_parts.proofs.parts.Parts.open_area.Goals as goal

@@ -1,4 +1,4 @@
-use Rattle.std.proofs.Common.{◌≡◌, ℕ, ◌+◌, ◌-◌, ◌<◌, List, Bool, Option, Some, refl, sym, ap, ◌∙◌, subst, arith, length}
+use Rattle.std.proofs.Common.{◌≡◌, ap, ◌∙◌}
 use Rattle.mm_life.specs.Frames.{after_soil}
 use Rattle.mm_life.specs.Effect.{freed}
 use Rattle.mm_frames.specs.Base.{FramesOf}

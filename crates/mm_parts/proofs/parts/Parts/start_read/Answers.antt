@@ -1,11 +1,10 @@
-use Rattle.std.proofs.Common.{◌≡◌, ℕ, ◌+◌, ◌-◌, ◌<◌, List, Bool, Option, Some, refl, sym, ap, ◌∙◌, subst, arith, length}
+use Rattle.std.proofs.Common.{◌≡◌, sym, ap, ◌∙◌, subst}
 use Rattle.mm_types.specs.declared.numbers.Frame.{Frame}
-use Rattle.mm_types.specs.declared.frames.Backing.{Backing}
 use Rattle.mm_types.specs.declared.moves.Move.TheVariants as move
-use Rattle.mm_life.specs.Frames.{FrameTable, after_read, with_record, being_read}
+use Rattle.mm_life.specs.Frames.{after_read, with_record, being_read}
 use Rattle.mm_life.specs.Legal.{IsLegal}
 use Rattle.mm_life.specs.Effect.{backing_of}
-use Rattle.mm_frames.specs.Base.{FramesOf, reading_into}
+use Rattle.mm_frames.specs.Base.{FramesOf}
 use Rattle.mm_parts.specs.Shown.{life_in}
 use Rattle.mm_parts.specs.PartsShown.{joined}
 use Rattle.mm_parts.specs.Moves.{front_for_read}

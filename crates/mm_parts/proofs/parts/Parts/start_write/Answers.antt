@@ -1,6 +1,4 @@
-use Rattle.std.proofs.Common.{◌≡◌, ℕ, ◌+◌, ◌-◌, ◌<◌, List, Bool, Option, Some, refl, sym, ap, ◌∙◌, subst, arith, length}
-use Rattle.std.specs.Prelude.{false}
-use Rattle.mm_types.specs.declared.numbers.Frame.{Frame}
+use Rattle.std.proofs.Common.{◌≡◌, sym, ap, ◌∙◌, subst}
 use Rattle.mm_types.specs.declared.frames.Record.{Record}
 use Rattle.mm_types.specs.declared.frames.Backing.{Backing}
 use Rattle.mm_types.specs.declared.moves.Stored.{Stored}
@@ -12,7 +10,7 @@ use Rattle.mm_parts.specs.Shown.{life_in}
 use Rattle.mm_parts.specs.PartsShown.{joined}
 use Rattle.mm_parts.specs.Moves.{write_target, goes_to, lowest_free, backing_to}
 use Rattle.mm_parts.proofs.Keeping.{step_to}
-use Rattle.mm_parts.proofs.Requesting.{CanWrite, write_can, write_low, write_new, write_free}
+use Rattle.mm_parts.proofs.Requesting.{write_can, write_low, write_new, write_free}
 use Rattle.mm_parts.proofs.FrameSteps.{write_step}
 use Rattle.mm_parts.proofs.parts.Parts.start_write.Goals as goal
 

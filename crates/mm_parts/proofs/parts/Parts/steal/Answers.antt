@@ -1,17 +1,14 @@
-use Rattle.std.proofs.Common.{◌≡◌, ℕ, ◌+◌, ◌-◌, ◌<◌, List, Bool, Option, Some, refl, sym, ap, ◌∙◌, subst, arith, length}
+use Rattle.std.proofs.Common.{◌≡◌, ℕ, Some, refl, sym, ap, ◌∙◌, subst}
 use Rattle.mm_types.specs.declared.numbers.Frame.{Frame}
-use Rattle.mm_types.specs.declared.numbers.Key.{Key}
-use Rattle.mm_types.specs.declared.frames.Backing.{Backing}
-use Rattle.mm_entry.specs.declared.entries.Entry.{Entry}
 use Rattle.mm_entry.specs.Words.{IsEntry}
 use Rattle.mm_life.specs.Frames.{record_at, after_steal}
 use Rattle.mm_frames.specs.Base.{FramesOf, standby_taken, free_put}
-use Rattle.mm_words.specs.Words.{WordsOf, with_word, keeps_places}
+use Rattle.mm_words.specs.Words.{with_word, keeps_places}
 use Rattle.mm_parts.specs.PartsShown.{joined}
 use Rattle.mm_parts.specs.Moves.{front, home_entry}
 use Rattle.mm_parts.proofs.Tokens.{front_is, stolen_table}
 use Rattle.mm_parts.proofs.Keeping.{step_to}
-use Rattle.mm_parts.proofs.Conditions.{CanSet, home_can, steal_can}
+use Rattle.mm_parts.proofs.Conditions.{steal_can}
 use Rattle.mm_parts.proofs.KeySteps.{steal_step}
 use Rattle.mm_parts.proofs.parts.Parts.steal.Goals as goal
 

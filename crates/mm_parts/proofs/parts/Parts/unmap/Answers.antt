@@ -1,9 +1,7 @@
-use Rattle.std.proofs.Common.{◌≡◌, ℕ, ◌+◌, ◌-◌, ◌<◌, List, Bool, Option, Some, refl, sym, ap, ◌∙◌, subst, arith, length}
-use Rattle.std.proofs.Common.{true}
+use Rattle.std.proofs.Common.{◌≡◌, Some, sym, ap, ◌∙◌}
 use Rattle.std.specs.Prelude.{◌==◌, is_some}
 use Rattle.mm_types.specs.declared.frames.Record.{Record}
-use Rattle.mm_types.specs.declared.numbers.Key.{Key}
-use Rattle.mm_life.specs.Frames.{record_at, after_unmap}
+use Rattle.mm_life.specs.Frames.{record_at}
 use Rattle.mm_frames.specs.Base.{FramesOf}
 use Rattle.mm_parts.specs.PartsShown.{joined}
 use Rattle.mm_parts.proofs.Keeping.{step_to}

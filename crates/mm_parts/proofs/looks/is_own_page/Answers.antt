@@ -1,0 +1,6 @@
+use Rattle.std.proofs.Common.{ap}
+use Rattle.mm_words.specs.Words.{valid_frame}
+use Rattle.mm_parts.proofs.looks.is_own_page.Goals as goal
+
+pub look-requires : goal.look-requires
+look-requires c = c.requires c.in-Valid.f (ap valid_frame c.in-Valid.is)

@@ -1,0 +1,22 @@
+use Rattle.std.proofs.Common.{ap, ◌∙◌}
+use Rattle.mm_flight.specs.Requests.{FlightOf}
+use Rattle.mm_flight.specs.declared.flights.Waiting.TheVariants as waiting
+use Rattle.mm_parts.specs.PartsShown.{joined}
+use Rattle.mm_parts.specs.Reading.{waits_of}
+use Rattle.mm_parts.proofs.Keeping.{step_to}
+use Rattle.mm_parts.proofs.Waiting.{wait_step, waits_set, no_wait}
+use Rattle.mm_parts.proofs.parts.Parts.forget.Goals as goal
+
+pub invariant_of-self : goal.invariant_of-self
+invariant_of-self c =
+    let s = c.args.self.now in
+    record { kept = (step_to _ _ _ (λ i. record (joined s) { flight = c.forget.ensures.waits i }) (wait_step (joined s) s.kept c.args.t.0 waiting.Nothing c.forget.ensures.there (no_wait (joined s)))).kept }
+
+pub returns-clause-made : goal.returns-clause-made
+returns-clause-made c =
+    let s = c.args.self.now in
+    (step_to _ _ _ (λ i. record (joined s) { flight = c.forget.ensures.waits i }) (wait_step (joined s) s.kept c.args.t.0 waiting.Nothing c.forget.ensures.there (no_wait (joined s)))).shown
+
+pub returns-clause-walked : goal.returns-clause-walked
+returns-clause-walked c = λ u.
+    ap (λ (v : FlightOf). waits_of v.waits u) c.forget.ensures.waits ∙ waits_set c.args.self.now.flight.waits c.args.t.0 waiting.Nothing c.forget.ensures.there u

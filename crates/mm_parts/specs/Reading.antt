@@ -1,0 +1,40 @@
+-- What the readers tell: fronts of lists, and what each thread waits for in the words of walks.
+use Rattle.std.specs.Prelude.{ℕ, Bool, true, false, List, [], ◌∷◌, Option, Some, None, slice_get}
+use Rattle.mm_types.specs.declared.numbers.Frame.{Frame}
+use Rattle.mm_types.specs.declared.numbers.Key.{Key}
+use Rattle.mm_types.specs.declared.numbers.Key.TheVariants.{Private, Shared}
+use Rattle.mm_flight.specs.declared.flights.Waiting.{Waiting}
+use Rattle.mm_flight.specs.declared.flights.Waiting.TheVariants as waiting
+use Rattle.mm_walks.specs.Waits.{Waiting as Walked, Idle, ForFrame, Ended}
+
+-- the first of a list of frames, if it has one
+abbrev pub first_of : List ℕ → Option Frame
+first_of [] = None
+first_of (x ∷ xs) = Some (record { 0 = x })
+
+abbrev pub is_private : Option Key → Bool
+is_private None = false
+is_private (Some (Private p v)) = true
+is_private (Some (Shared a i)) = false
+
+-- A frame that the entry of a key is valid for is that of the key itself, by the frame's owner: the place of a private key may
+-- be valid for a shared page.
+abbrev pub is_own_page : Key → Option Key → Bool
+is_own_page (Private p v) owner = is_private owner
+is_own_page (Shared a i) owner = true
+
+-- ---- waits
+
+-- what a thread waits for, as walks through moves have it
+abbrev pub walked : Waiting → Walked
+walked waiting.Nothing = Idle
+walked (waiting.For f) = ForFrame f.0
+walked waiting.Done = Ended true
+walked waiting.Failed = Ended false
+
+abbrev pub walked_or : Option Waiting → Walked
+walked_or None = Idle
+walked_or (Some x) = walked x
+
+abbrev pub waits_of : List Waiting → ℕ → Walked
+waits_of waits t = walked_or (slice_get waits t)

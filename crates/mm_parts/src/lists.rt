@@ -1,0 +1,128 @@
+ghost use Rattle.std.specs.Prelude.{◌≡◌, ◌<◌, ◌+◌, ℕ, true, Some, IfSome, count_by, length, option_map, slice_get};
+ghost use Rattle.mm_life.specs.Frames.{record_at, is_empty};
+ghost use Rattle.mm_life.specs.Life.{counts_of};
+ghost use Rattle.mm_frames.specs.Base.{has_block, modified_with_block};
+ghost use Rattle.mm_frames.specs.Placing.{IsAtRest};
+ghost use Rattle.mm_parts.specs.Moves.{front};
+ghost use Rattle.mm_parts.specs.Reading.{first_of};
+
+use crate::parts::Parts;
+use mm_types::{Counts, Frame};
+
+#[tactic(auto, using(crate::proofs::Reading::first_is, crate::proofs::Reading::none_first, crate::proofs::Facts::facts_of))]
+impl Parts {
+    ghost use Rattle.mm_parts.specs.PartsShown.{shown};
+
+    /// The first zeroed frame, that of `give`; `None` exactly where none is zeroed.
+    pub fn front_zeroed(&self) -> Option<Frame>
+        ensures { result ≡ first_of (shown self.now).life.frames.zeroed }
+    {
+        self.frames.front_zeroed()
+    }
+
+    /// The first free frame, that of `clear`; `None` exactly where none is free.
+    pub fn front_free(&self) -> Option<Frame>
+        ensures { result ≡ first_of (shown self.now).life.frames.free }
+    {
+        self.frames.front_free()
+    }
+
+    /// The first frame on standby, that of `steal`; `None` exactly where none is there.
+    pub fn front_standby(&self) -> Option<Frame>
+        ensures { result ≡ first_of (shown self.now).life.frames.standby }
+    {
+        self.frames.front_standby()
+    }
+
+    /// Whether no frame is zeroed.
+    pub fn no_zeroed(&self) -> bool
+        ensures { result ≡ is_empty (shown self.now).life.frames.zeroed }
+    {
+        self.front_zeroed().is_none()
+    }
+
+    /// Whether no frame is free.
+    pub fn no_free(&self) -> bool
+        ensures { result ≡ is_empty (shown self.now).life.frames.free }
+    {
+        self.front_free().is_none()
+    }
+
+    /// Whether no frame is on standby.
+    pub fn no_standby(&self) -> bool
+        ensures { result ≡ is_empty (shown self.now).life.frames.standby }
+    {
+        self.front_standby().is_none()
+    }
+
+    /// The first modified frame; `None` exactly where none is modified.
+    pub fn front_modified(&self) -> Option<Frame>
+        ensures first { result ≡ first_of (shown self.now).life.frames.modified }
+        ensures there { IfSome result (λ f. f.0 < (shown self.now).life.machine.frames) }
+        ensures rests { IfSome result (λ f. IsAtRest true (record_at (shown self.now).life.frames f.0)) }
+    {
+        self.frames.front_modified()
+    }
+
+    /// The modified frame behind one; `None` exactly where that is the last.
+    pub fn next_modified(&self, f: Frame) -> Option<Frame>
+        requires { (k : ℕ) × (slice_get (shown self.now).life.frames.modified k ≡ Some f.0) }
+        ensures behind { (k : ℕ) → slice_get (shown self.now).life.frames.modified k ≡ Some f.0 → option_map (λ g. g.0) result ≡ slice_get (shown self.now).life.frames.modified (k + 1) }
+        ensures there { IfSome result (λ g. g.0 < (shown self.now).life.machine.frames) }
+        ensures rests { IfSome result (λ g. IsAtRest true (record_at (shown self.now).life.frames g.0)) }
+    {
+        self.frames.next_modified(f)
+    }
+
+    /// How many modified frames have a block as backing. The others are written to slots.
+    pub fn modified_with_block(&self) -> u32
+        ensures { result ≡ length (modified_with_block (shown self.now).life.frames) }
+    {
+        self.frames.modified_with_block()
+    }
+
+    /// The first modified frame that has a block as backing; `None` exactly where none has.
+    pub fn front_modified_with_block(&self) -> Option<Frame>
+        ensures first { result ≡ first_of (modified_with_block (shown self.now).life.frames) }
+        ensures there { IfSome result (λ f. f.0 < (shown self.now).life.machine.frames) }
+        ensures rests { IfSome result (λ f. IsAtRest true (record_at (shown self.now).life.frames f.0)) }
+        ensures block { IfSome result (λ f. has_block (record_at (shown self.now).life.frames f.0).backing ≡ true) }
+    {
+        self.frames.front_modified_with_block()
+    }
+
+    /// The next modified frame with a block behind one that has one; `None` exactly where that is the last of them.
+    pub fn next_modified_with_block(&self, f: Frame) -> Option<Frame>
+        requires { (k : ℕ) × (slice_get (modified_with_block (shown self.now).life.frames) k ≡ Some f.0) }
+        ensures behind { (k : ℕ) → slice_get (modified_with_block (shown self.now).life.frames) k ≡ Some f.0 → option_map (λ g. g.0) result ≡ slice_get (modified_with_block (shown self.now).life.frames) (k + 1) }
+        ensures there { IfSome result (λ g. g.0 < (shown self.now).life.machine.frames) }
+        ensures rests { IfSome result (λ g. IsAtRest true (record_at (shown self.now).life.frames g.0)) }
+        ensures block { IfSome result (λ g. has_block (record_at (shown self.now).life.frames g.0).backing ≡ true) }
+    {
+        self.frames.next_modified_with_block(f)
+    }
+
+    /// How many slots are free.
+    pub fn free_slots(&self) -> u32
+        ensures { result ≡ count_by (λ b. b) (shown self.now).life.free_slots }
+    {
+        self.slots.free_count()
+    }
+
+    /// How many frames stand where, how many slots are free, and how many requests there are, the line's own among them.
+    pub fn counts(&self) -> Counts
+        ensures { result ≡ counts_of (shown self.now).life }
+    {
+        let frames = self.frames.counts();
+        Counts {
+            zeroed: frames.zeroed,
+            free: frames.free,
+            standby: frames.standby,
+            modified: frames.modified,
+            active: frames.active,
+            transition: frames.transition,
+            free_slots: self.free_slots(),
+            requests: self.requests(),
+        }
+    }
+}
