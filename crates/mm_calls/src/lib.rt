@@ -13,6 +13,3 @@ mod queries;
 pub use machine_calls::{grow_paging, new_process};
 pub use memory_calls::{protect, valloc, vfree};
 pub use queries::query;
-
-#[cfg(test)]
-mod call_tests;

@@ -6,8 +6,6 @@
 
 mod gaps;
 mod ledgers;
-#[cfg(test)]
-mod tests;
 mod trees;
 
 pub use gaps::Gaps;

@@ -9,6 +9,3 @@ mod texts;
 mod top;
 
 pub use top::run_log;
-
-#[cfg(test)]
-mod tests;

@@ -20,6 +20,3 @@ pub use lives::{ApplyFault, Life};
 pub use readings::{lines_determine_moves, read_key, read_move};
 pub use recorders::{Moves, Recorder};
 pub use spellings::spell;
-
-#[cfg(test)]
-mod tests;

@@ -15,6 +15,3 @@ mod stock;
 mod writes;
 
 pub use plain::Plain;
-
-#[cfg(test)]
-mod tests;

@@ -8,6 +8,3 @@ mod leaves;
 mod tables;
 
 pub use tables::Table;
-
-#[cfg(test)]
-mod tests;

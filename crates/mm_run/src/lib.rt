@@ -9,8 +9,3 @@ mod top;
 
 pub use endings::Ending;
 pub use top::run;
-
-#[cfg(test)]
-mod row_tests;
-#[cfg(test)]
-mod tests;

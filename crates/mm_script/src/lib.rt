@@ -13,6 +13,3 @@ mod values;
 pub use faults::LineFault;
 pub use printing::print_event;
 pub use reading::{one_event, parse_line};
-
-#[cfg(test)]
-mod tests;

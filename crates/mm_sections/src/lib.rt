@@ -7,8 +7,6 @@ mod entries;
 mod handles;
 mod name_keys;
 mod section_pages;
-#[cfg(test)]
-mod tests;
 
 pub use directories::{Directory, Section};
 pub use handles::Handles;

@@ -9,6 +9,3 @@ mod slots;
 mod tree;
 
 pub use slots::Slots;
-
-#[cfg(test)]
-mod tests;

@@ -9,8 +9,6 @@ mod ranges;
 mod row_tests;
 mod rows;
 mod spaces;
-#[cfg(test)]
-mod tests;
 mod view_states;
 
 pub use new_regions::NewRegion;

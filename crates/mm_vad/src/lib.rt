@@ -5,8 +5,6 @@
 mod pages;
 mod regions;
 mod spaces;
-#[cfg(test)]
-mod tests;
 
 pub use mm_types::{Kind, View, ViewAccess};
 pub use pages::{Row, Rows};

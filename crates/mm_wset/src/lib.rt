@@ -5,6 +5,3 @@ mod sets;
 mod trees;
 
 pub use sets::WorkingSet;
-
-#[cfg(test)]
-mod tests;
