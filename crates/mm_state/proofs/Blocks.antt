@@ -1,0 +1,32 @@
+-- A block that no key ever had is written.
+use Rattle.std.proofs.Common.{◌≡◌, ℕ, Bool, true, false, List, refl, sym, subst}
+use Rattle.std.specs.Prelude.{slice_set}
+use Rattle.std.specs.Bool.{OnTrue, OnFalse}
+use Rattle.std.proofs.lemmas.Bool.{OnTrue_at, OnFalse_at}
+use Rattle.mm_life.specs.Life.{FrameLife}
+use Rattle.mm_life.specs.Located.{FrameBytes, BlockBytes, contents_of, BytesLocated}
+use Rattle.mm_laws.specs.Reached.{Reached}
+use Rattle.mm_parts.specs.Shown.{PartsOf}
+use Rattle.mm_life.specs.Logs.{Log}
+use Rattle.mm_blocks.specs.Devices.{DeviceOf}
+use Rattle.mm_pages.specs.Told.{Told}
+use Rattle.mm_located.specs.Carried.{Carries}
+use Rattle.mm_located.proofs.Carrying.{carries_block}
+use Rattle.mm_state.specs.Shown.{state_of}
+use Rattle.mm_state.specs.Tallied.{written_if}
+
+pub block_written : (ok : Bool) (after before : BlockBytes) (write : BlockBytes → BlockBytes) → OnTrue ok (after ≡ write before) → OnFalse ok (after ≡ before) → after ≡ written_if ok write before
+block_written true after before write there kept = OnTrue_at refl there
+block_written false after before write there kept = OnFalse_at refl kept
+
+pub block_carries : (ok : Bool) (l : FrameLife) → ∥ Reached l ∥₁ → (ram : FrameBytes) (slots blocks : BlockBytes) → BytesLocated l ram slots blocks → (b : ℕ) (page : List ℕ) → l.added b ≡ false
+    → (after : BlockBytes) → after ≡ written_if ok (λ xs. slice_set xs b page) blocks → Carries l ram slots after (contents_of l ram slots blocks)
+block_carries true l reached ram slots blocks kept b page new after e =
+    subst (λ (x : BlockBytes). Carries l ram slots x (contents_of l ram slots blocks)) (sym e) (carries_block l reached ram slots blocks kept b page new)
+block_carries false l reached ram slots blocks kept b page new after e =
+    subst (λ (x : BlockBytes). Carries l ram slots x (contents_of l ram slots blocks)) (sym e) (record { located = kept; bytes = refl })
+
+-- the blocks of the file device changed, and what keys have stays
+pub rest_block : (u : PartsOf) (log : Log) (told : Told) (paging files : DeviceOf) (slots blocks after : BlockBytes) → contents_of u.life u.bytes slots after ≡ contents_of u.life u.bytes slots blocks
+    → state_of u log told paging files slots after ≡ record (state_of u log told paging files slots blocks) { blocks = after }
+rest_block u log told paging files slots blocks after e = λ i. record (state_of u log told paging files slots blocks) { contents = e i; blocks = after }

@@ -1,0 +1,135 @@
+-- The end of a read or of a write, well or not: bytes, what is told, and which device is called.
+use Rattle.std.proofs.Common.{◌≡◌, ℕ, ◌<◌, Bool, true, false, List, [], Some, None, refl, sym, ap, ◌∙◌, subst, arith, map}
+use Rattle.std.specs.Prelude.{◌||◌, is_some}
+use Rattle.std.specs.Bool.{OnTrue}
+use Rattle.std.proofs.lemmas.Bool.{and_parts}
+use Rattle.mm_types.specs.declared.devices.Direction.{Direction}
+use Rattle.mm_types.specs.declared.devices.Direction.TheVariants as way
+use Rattle.mm_blocks.specs.Devices.{DeviceOf}
+use Rattle.mm_types.specs.declared.numbers.Frame.{Frame}
+use Rattle.mm_types.specs.declared.numbers.Place.{Place}
+use Rattle.mm_types.specs.declared.frames.Backing.{Backing}
+use Rattle.mm_types.specs.declared.frames.Backing.TheVariants as backing
+use Rattle.mm_laws.specs.FileBlocks.{block_of}
+use Rattle.mm_types.specs.declared.moves.Move.TheVariants as move
+use Rattle.mm_life.specs.Frames.{record_at, is_read, is_write}
+use Rattle.mm_life.specs.Life.{FrameLife}
+use Rattle.mm_life.specs.Legal.{IsLegal, is_io, is_access, is_call}
+use Rattle.mm_life.specs.Effect.{after_move, home_at}
+use Rattle.mm_life.specs.Located.{FrameBytes, BlockBytes, page_at, bytes_at, contents_of, BytesLocated}
+use Rattle.mm_laws.specs.Reached.{Reached}
+use Rattle.mm_laws.proofs.Requests.{read_has, write_has}
+use Rattle.mm_flight.specs.Requests.{ended}
+use Rattle.mm_flight.specs.declared.flights.Waiting.{Waiting as Wait}
+use Rattle.mm_walks.specs.Waits.{Waiting, waits_after, ages_after}
+use Rattle.mm_pages.specs.Told.{Told, told_after, with_write}
+use Rattle.mm_parts.specs.Moves.{read_end, write_end, page_filled}
+use Rattle.mm_located.specs.Carried.{Carries, slots_written, blocks_written}
+use Rattle.mm_located.proofs.Carrying.{carries_got, carries_bad, carries_wrote, carries_lost}
+use Rattle.mm_located.proofs.Facts.{facts_of}
+use Rattle.mm_located.proofs.FrameMoves.{asked_low, not_reading}
+use Rattle.mm_located.proofs.Moving.{home_bytes}
+use Rattle.mm_parts.specs.Reading.{waits_of}
+use Rattle.mm_parts.proofs.Waiting.{waits_ended}
+use Rattle.mm_state.specs.Shown.{StateOf, Calls, Called, CalledFor, backing_of_frame}
+use Rattle.mm_state.specs.Tallied.{page_if, read_told, written_if}
+
+-- ---- reads
+
+reading : (l : FrameLife) (f : Frame) → IsLegal (move.Got f) l → is_read (record_at l.frames f.0).request ≡ true
+reading l f legal = (and_parts (is_read (record_at l.frames f.0).request) (is_io l.kind || is_access l.kind) legal).0
+
+pub read_low : (l : FrameLife) → ∥ Reached l ∥₁ → (f : Frame) → IsLegal (move.Got f) l → f.0 < l.machine.frames
+read_low l reached f legal =
+    let low = asked_low l.frames f.0 (read_has (record_at l.frames f.0).request (reading l f legal)) in
+    let size = (facts_of l reached).framed in
+    omega (arith, low, size)
+
+pub is_reading : (l : FrameLife) (f : Frame) → IsLegal (move.Got f) l → is_read (record_at l.frames f.0).request ≡ true
+is_reading l f legal = reading l f legal
+
+pub read_legal : (ok : Bool) (l : FrameLife) (f : Frame) → IsLegal (move.Got f) l → IsLegal (read_end ok f) l
+read_legal true l f legal = legal
+read_legal false l f legal = legal
+
+pub read_carries : (ok : Bool) (l : FrameLife) → ∥ Reached l ∥₁ → (ram : FrameBytes) (slots blocks : BlockBytes) → BytesLocated l ram slots blocks → (f : Frame) (page : List ℕ) → IsLegal (move.Got f) l
+    → OnTrue ok (bytes_at [] slots blocks (home_at (record_at l.frames f.0).backing) ≡ Some page)
+    → Carries (after_move l (read_end ok f)) (page_filled (page_if ok page) ram f.0) slots blocks (contents_of l ram slots blocks)
+read_carries true l reached ram slots blocks kept f page legal there =
+    carries_got l reached ram slots blocks kept f page legal (home_bytes [] ram slots blocks (record_at l.frames f.0).backing ∙ there)
+read_carries false l reached ram slots blocks kept f page legal there = carries_bad l reached ram slots blocks kept f legal
+
+pub read_ages : (ok : Bool) (f : Frame) (ages : Place → ℕ) → ages ≡ ages_after (read_end ok f) ages
+read_ages true f ages = refl
+read_ages false f ages = refl
+
+pub read_waits : (ok : Bool) (f : Frame) (ws : List Wait) → waits_of (map (ended f.0 ok) ws) ≡ waits_after (read_end ok f) (waits_of ws)
+read_waits true f ws = λ i. λ t. waits_ended ws f.0 t true i
+read_waits false f ws = λ i. λ t. waits_ended ws f.0 t false i
+
+pub read_tells : (ok : Bool) (l : FrameLife) (f : Frame) (t : Told) → read_told ok (record_at l.frames f.0).backing (record_at l.frames f.0).owner t ≡ told_after l (read_end ok f) t
+read_tells true l f t = refl
+read_tells false l f t = refl
+
+pub read_calls : (ok : Bool) (f : Frame) (s z : StateOf) → Called way.Read (backing_of_frame s f) ok s z → Calls (read_end ok f) s z
+read_calls true f s z h = h
+read_calls false f s z h = h
+
+-- ---- writes
+
+pub is_writing : (l : FrameLife) (f : Frame) → IsLegal (move.Wrote f) l → is_write (record_at l.frames f.0).request ≡ true
+is_writing l f legal = (and_parts (is_write (record_at l.frames f.0).request) (is_io l.kind || is_access l.kind || is_call l.kind) legal).0
+
+pub write_low : (l : FrameLife) → ∥ Reached l ∥₁ → (f : Frame) → IsLegal (move.Wrote f) l → f.0 < l.machine.frames
+write_low l reached f legal =
+    let low = asked_low l.frames f.0 (write_has (record_at l.frames f.0).request (is_writing l f legal)) in
+    let size = (facts_of l reached).framed in
+    omega (arith, low, size)
+
+pub write_legal : (ok : Bool) (l : FrameLife) (f : Frame) → IsLegal (move.Wrote f) l → IsLegal (write_end ok f) l
+write_legal true l f legal = legal
+write_legal false l f legal = legal
+
+pub write_carries : (ok : Bool) (l : FrameLife) → ∥ Reached l ∥₁ → (ram : FrameBytes) (slots blocks : BlockBytes) → BytesLocated l ram slots blocks → (f : Frame) (page : List ℕ) → IsLegal (move.Wrote f) l
+    → page_at ram f.0 ≡ Some page
+    → Carries (after_move l (write_end ok f)) ram (written_if ok (slots_written (record_at l.frames f.0).backing page) slots) (written_if ok (blocks_written (record_at l.frames f.0).backing page) blocks) (contents_of l ram slots blocks)
+write_carries true l reached ram slots blocks kept f page legal there = carries_wrote l reached ram slots blocks kept f page legal there
+write_carries false l reached ram slots blocks kept f page legal there = carries_lost l reached ram slots blocks kept f legal
+
+pub write_ages : (ok : Bool) (f : Frame) (ages : Place → ℕ) → ages ≡ ages_after (write_end ok f) ages
+write_ages true f ages = refl
+write_ages false f ages = refl
+
+pub write_waits : (ok : Bool) (f : Frame) (waits : ℕ → Waiting) → waits ≡ waits_after (write_end ok f) waits
+write_waits true f waits = refl
+write_waits false f waits = refl
+
+pub write_tells : (ok : Bool) (l : FrameLife) (f : Frame) (t : Told) → with_write ok (record_at l.frames f.0).backing t ≡ told_after l (write_end ok f) t
+write_tells true l f t = refl
+write_tells false l f t = refl
+
+pub write_calls : (ok : Bool) (f : Frame) (s z : StateOf) → Called way.Write (backing_of_frame s f) ok s z → Calls (write_end ok f) s z
+write_calls true f s z h = h
+write_calls false f s z h = h
+
+pub write_calm : (l : FrameLife) (f : Frame) → IsLegal (move.Wrote f) l → is_read (record_at l.frames f.0).request ≡ false
+write_calm l f legal = not_reading (record_at l.frames f.0).request (is_writing l f legal)
+
+pub same_page : (a b : List ℕ) → Some a ≡ Some b → a ≡ b
+same_page a b e = cc
+
+-- a frame without an owner is on no block
+pub no_block : (l : FrameLife) → ∥ Reached l ∥₁ → (f : Frame) → (record_at l.frames f.0).owner ≡ None → (ok : Bool) (page : List ℕ) (blocks : BlockBytes)
+    → written_if ok (blocks_written (record_at l.frames f.0).backing page) blocks ≡ blocks
+no_block l reached f none ok page blocks = by (record_at l.frames f.0).backing refl ok
+  where
+    by : (b : Backing) → (record_at l.frames f.0).backing ≡ b → (c : Bool) → written_if c (blocks_written b page) blocks ≡ blocks
+    by backing.None e true = refl
+    by backing.None e false = refl
+    by (backing.Slot s) e true = refl
+    by (backing.Slot s) e false = refl
+    by (backing.Block c) e true = let bad : Some c.0 ≡ None = sym (ap block_of e) ∙ ((facts_of l reached).standing f.0).fit.ownerless (ap is_some none) in cc
+    by (backing.Block c) e false = refl
+
+pub called_at : (w : Direction) (a b : Backing) (ok : Bool) (paging files paging2 files2 : DeviceOf) → a ≡ b → CalledFor w a ok paging files paging2 files2 → CalledFor w b ok paging files paging2 files2
+called_at w a b ok paging files paging2 files2 e h = subst (λ (x : Backing). CalledFor w x ok paging files paging2 files2) e h

@@ -1,0 +1,9 @@
+pub mod Making
+pub mod Tallying
+pub mod Ends
+pub mod Legals
+pub mod PageBytes
+pub mod Blocks
+pub mod Storing
+pub mod Waiting
+pub mod After

@@ -1,0 +1,155 @@
+-- One move: made, noted, counted, and what it leaves.
+use Rattle.std.proofs.Common.{◌≡◌, ℕ, List, [], ◌∷◌, Option, sym, ap, subst}
+use Rattle.mm_types.proofs.Bytes.{append_nil}
+use Rattle.mm_types.specs.declared.numbers.Key.{Key}
+use Rattle.mm_types.specs.declared.moves.Move.{Move}
+use Rattle.mm_life.specs.Legal.{IsLegal}
+use Rattle.mm_life.specs.Effect.{after_move}
+use Rattle.std.specs.Prelude.{Result, Ok, Err, OnOk, OnErr}
+use Rattle.mm_life.specs.Located.{BlockBytes, contents_of, BytesLocated}
+use Rattle.mm_parts.specs.Reading.{waits_of}
+use Rattle.mm_life.specs.Logs.{Log, Grew}
+use Rattle.mm_life.specs.MoveText.{IsMove, spelling_of_move, spelled_moves}
+use Rattle.mm_blocks.specs.Devices.{DeviceOf}
+use Rattle.mm_walks.specs.Waits.{Waiting, waits_after, ages_after}
+use Rattle.mm_pages.specs.Told.{Told, told_after}
+use Rattle.mm_parts.specs.Shown.{PartsOf}
+use Rattle.mm_located.specs.Carried.{Carries}
+use Rattle.mm_state.specs.Shown.{StateOf, state_of, Made, Calls, asked_to_grow}
+
+pub made_by : (x : Move) (s z : StateOf) → IsLegal x s.life → IsMove x → Grew s.log z.log (spelling_of_move x) → z.life ≡ after_move s.life x → z.ages ≡ ages_after x s.ages → z.waits ≡ waits_after x s.waits
+    → z.told ≡ told_after s.life x s.told → Calls x s z → Made x s z
+made_by x s z legal range grew life ages waits told calls = record {
+  legal = legal;
+  life = life;
+  in_range = (range, tt);
+  grew = subst (λ xs. Grew s.log z.log xs) (sym (append_nil (spelling_of_move x))) grew;
+  ages = ages;
+  waits = waits;
+  told = told;
+  calls = calls;
+}
+
+-- the parts show this, and the keys have these contents
+pub rest_of : (v w : PartsOf) (log : Log) (told : Told) (paging files : DeviceOf) (slots blocks : BlockBytes) (contents : Key → Option (List ℕ)) → v ≡ w → contents_of v.life v.bytes slots blocks ≡ contents
+    → state_of v log told paging files slots blocks ≡ record (state_of v log told paging files slots blocks) {
+      contents = contents;
+      is_open = w.is_open;
+      bound = w.bound;
+      areas = w.areas;
+      names = w.names;
+      aside = w.aside;
+      own = w.own;
+    }
+rest_of v w log told paging files slots blocks contents e ce = λ i. record (state_of v log told paging files slots blocks) {
+  contents = ce i;
+  is_open = (e i).is_open;
+  bound = (e i).bound;
+  areas = (e i).areas;
+  names = (e i).names;
+  aside = (e i).aside;
+  own = (e i).own;
+}
+
+-- the bytes of keys in parts that show this
+pub carried : (v w : PartsOf) (slots blocks : BlockBytes) (contents : Key → Option (List ℕ)) → v ≡ w → Carries w.life w.bytes slots blocks contents → Carries v.life v.bytes slots blocks contents
+carried v w slots blocks contents e c = subst (λ (x : PartsOf). Carries x.life x.bytes slots blocks contents) (sym e) c
+
+-- the same where devices were called
+pub rest_called : (v w : PartsOf) (log : Log) (told : Told) (paging files : DeviceOf) (slots blocks slots2 blocks2 : BlockBytes) (contents : Key → Option (List ℕ)) → v ≡ w → slots ≡ slots2 → blocks ≡ blocks2
+    → contents_of v.life v.bytes slots blocks ≡ contents
+    → state_of v log told paging files slots blocks ≡ record (state_of v log told paging files slots blocks) {
+      contents = contents;
+      is_open = w.is_open;
+      bound = w.bound;
+      areas = w.areas;
+      names = w.names;
+      aside = w.aside;
+      own = w.own;
+      slots = slots2;
+      blocks = blocks2;
+    }
+rest_called v w log told paging files slots blocks slots2 blocks2 contents e se be ce = λ i. record (state_of v log told paging files slots blocks) {
+  contents = ce i;
+  is_open = (e i).is_open;
+  bound = (e i).bound;
+  areas = (e i).areas;
+  names = (e i).names;
+  aside = (e i).aside;
+  own = (e i).own;
+  slots = se i;
+  blocks = be i;
+}
+
+pub carried_on : (v w : PartsOf) (slots blocks slots2 blocks2 : BlockBytes) (contents : Key → Option (List ℕ)) → v ≡ w → slots ≡ slots2 → blocks ≡ blocks2 → Carries w.life w.bytes slots2 blocks2 contents
+    → Carries v.life v.bytes slots blocks contents
+carried_on v w slots blocks slots2 blocks2 contents e se be c =
+    subst (λ (x : BlockBytes). Carries v.life v.bytes x blocks contents) (sym se)
+    (subst (λ (x : BlockBytes). Carries v.life v.bytes slots2 x contents) (sym be) (carried v w slots2 blocks2 contents e c))
+
+-- ---- calls that are no move
+
+pub shown_on : (v w : PartsOf) (log : Log) (told : Told) (paging files : DeviceOf) (slots blocks : BlockBytes) → v ≡ w → state_of v log told paging files slots blocks ≡ state_of w log told paging files slots blocks
+shown_on v w log told paging files slots blocks e = ap (λ (x : PartsOf). state_of x log told paging files slots blocks) e
+
+pub located_on : (v w : PartsOf) (slots blocks : BlockBytes) → v ≡ w → BytesLocated w.life w.bytes slots blocks → BytesLocated v.life v.bytes slots blocks
+located_on v w slots blocks e kept = subst (λ (x : PartsOf). BytesLocated x.life x.bytes slots blocks) (sym e) kept
+
+-- a call that may be refused memory
+pub located_or : {A E : Type 0} (r : Result A E) (v w u : PartsOf) (slots blocks : BlockBytes) → OnOk r (v ≡ w) → OnErr r (v ≡ u) → BytesLocated w.life w.bytes slots blocks → BytesLocated u.life u.bytes slots blocks
+    → BytesLocated v.life v.bytes slots blocks
+located_or (Ok x) v w u slots blocks ok err new old = located_on v w slots blocks ok new
+located_or (Err x) v w u slots blocks ok err new old = located_on v u slots blocks err old
+
+-- the bytes of one frame changed, and what keys have is told apart
+pub rest_page : (v w : PartsOf) (log : Log) (told : Told) (paging files : DeviceOf) (slots blocks : BlockBytes) → v ≡ w
+    → state_of v log told paging files slots blocks ≡ record (state_of w log told paging files slots blocks) { contents = contents_of v.life v.bytes slots blocks }
+rest_page v w log told paging files slots blocks e = λ i. record (state_of v log told paging files slots blocks) {
+  life = (e i).life;
+  ages = (e i).ages;
+  waits = waits_of (e i).waits;
+  is_open = (e i).is_open;
+  bound = (e i).bound;
+  areas = (e i).areas;
+  names = (e i).names;
+  aside = (e i).aside;
+  own = (e i).own;
+}
+
+pub rest_waits : (v w : PartsOf) (log : Log) (told : Told) (paging files : DeviceOf) (slots blocks : BlockBytes) (waits : ℕ → Waiting) → v ≡ w → ((t : ℕ) → waits_of v.waits t ≡ waits t)
+    → state_of v log told paging files slots blocks ≡ record (state_of w log told paging files slots blocks) { waits = waits }
+rest_waits v w log told paging files slots blocks waits e we = λ i. record (state_of (e i) log told paging files slots blocks) { waits = λ t. we t i }
+
+-- the paging device was asked to grow
+pub rest_grown : (v w : PartsOf) (log : Log) (told : Told) (was now files : DeviceOf) (slots blocks slots2 : BlockBytes) (contents : Key → Option (List ℕ)) → v ≡ w → now.log ≡ was.log → now.named ≡ was.named → slots ≡ slots2
+    → contents_of v.life v.bytes slots blocks ≡ contents
+    → state_of v log told now files slots blocks ≡ record (state_of v log told now files slots blocks) {
+      contents = contents;
+      is_open = w.is_open;
+      bound = w.bound;
+      areas = w.areas;
+      names = w.names;
+      aside = w.aside;
+      own = w.own;
+      paging = asked_to_grow was now;
+      slots = slots2;
+    }
+rest_grown v w log told was now files slots blocks slots2 contents e le ne se ce = λ i. record (state_of v log told now files slots blocks) {
+  contents = ce i;
+  is_open = (e i).is_open;
+  bound = (e i).bound;
+  areas = (e i).areas;
+  names = (e i).names;
+  aside = (e i).aside;
+  own = (e i).own;
+  paging = record { log = le i; named = ne i; faults = now.faults };
+  slots = se i;
+}
+
+-- a machine at rest
+pub shows_start : (v w : PartsOf) (log : Log) (told none : Told) (paging files : DeviceOf) (slots blocks : BlockBytes) (contents : Key → Option (List ℕ)) → v ≡ w → told ≡ none → contents_of v.life v.bytes slots blocks ≡ contents
+    → state_of v log told paging files slots blocks ≡ record (state_of w log none paging files slots blocks) { contents = contents }
+shows_start v w log told none paging files slots blocks contents e te ce = λ i. record (state_of (e i) log (te i) paging files slots blocks) { contents = ce i }
+
+pub grew_one : (a b : Log) (x : Move) → Grew a b (spelling_of_move x) → Grew a b (spelled_moves (x ∷ []))
+grew_one a b x g = subst (λ xs. Grew a b xs) (sym (append_nil (spelling_of_move x))) g

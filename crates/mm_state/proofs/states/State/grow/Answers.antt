@@ -1,0 +1,47 @@
+use Rattle.std.proofs.Common.{refl, sym, ap, ◌∙◌, subst}
+use Rattle.mm_types.specs.declared.moves.LineKind.TheVariants as kind
+use Rattle.mm_types.specs.declared.moves.Move.TheVariants as move
+use Rattle.mm_parts.specs.Moves.{after}
+use Rattle.mm_parts.specs.Shown.{PartsOf}
+use Rattle.mm_parts.specs.PartsShown as parts_of
+use Rattle.mm_located.proofs.Carrying.{carries_at, carries_at_plain}
+use Rattle.mm_state.specs.Shown.{device_with}
+use Rattle.mm_state.specs.Tallied.{IsTallied}
+use Rattle.mm_state.proofs.Legals.{call_legal}
+use Rattle.mm_state.proofs.Making.{carried_on, rest_grown}
+use Rattle.mm_state.proofs.Tallying.{tallied_none}
+use Rattle.mm_state.proofs.states.State.grow.Goals as goal
+
+pub invariant_of-self-in-Ok : goal.invariant_of-self-in-Ok
+invariant_of-self-in-Ok g c =
+    let s = c.args.self.now in
+    let u = parts_of.shown s.parts in
+    let e = c.grow.ensures.made ∙ ap (λ (x : PartsOf). after x (move.At c.args.line (kind.Grow c.args.n))) c.reserve.ensures.shown in
+    let now = carried_on _ _ _ _ _ _ _ e c.in-Ok.ensures.ok refl (carries_at u.life s.parts.kept.reached u.bytes (g.P.Blocks.blocks s.paging) (g.F.Blocks.blocks s.files) s.located c.args.line (kind.Grow c.args.n) s.parts.kept.line.begun c.requires.legal) in
+    record { located = now.located; tallied = subst IsTallied (sym c.none-self.ensures) tallied_none }
+
+pub invariant_of-self-in-Err-Failed : goal.invariant_of-self-in-Err-Failed
+invariant_of-self-in-Err-Failed g c =
+    let s = c.args.self.now in
+    let u = parts_of.shown s.parts in
+    let e = c.at.ensures.made ∙ ap (λ (x : PartsOf). after x (move.At c.args.line kind.Call)) c.reserve.ensures.shown in
+    let now = carried_on _ _ _ _ _ _ _ e c.in-Err-Failed.ensures.err refl
+    (carries_at_plain u.life s.parts.kept.reached u.bytes (g.P.Blocks.blocks s.paging) (g.F.Blocks.blocks s.files) s.located c.args.line kind.Call s.parts.kept.line.begun refl (call_legal u.life c.args.line c.args.n c.requires.legal)) in
+    record { located = now.located; tallied = subst IsTallied (sym c.none-self-in-Err-Failed.ensures) tallied_none }
+
+pub returns-in-Ok-clause-grown : goal.returns-in-Ok-clause-grown
+returns-in-Ok-clause-grown g c =
+    let s = c.args.self.now in
+    let u = parts_of.shown s.parts in
+    let e = c.grow.ensures.made ∙ ap (λ (x : PartsOf). after x (move.At c.args.line (kind.Grow c.args.n))) c.reserve.ensures.shown in
+    let now = carried_on _ _ _ _ _ _ _ e c.in-Ok.ensures.ok refl (carries_at u.life s.parts.kept.reached u.bytes (g.P.Blocks.blocks s.paging) (g.F.Blocks.blocks s.files) s.located c.args.line (kind.Grow c.args.n) s.parts.kept.line.begun c.requires.legal) in
+    rest_grown _ _ _ _ (device_with (g.P.Blocks.log s.paging) (g.P.Blocks.named s.paging) (g.P.Blocks.faults s.paging)) _ _ _ _ _ _ e c.in-Ok.ensures.log c.in-Ok.ensures.named c.in-Ok.ensures.ok now.bytes
+
+pub returns-in-Err-Failed-clause-kept : goal.returns-in-Err-Failed-clause-kept
+returns-in-Err-Failed-clause-kept g c =
+    let s = c.args.self.now in
+    let u = parts_of.shown s.parts in
+    let e = c.at.ensures.made ∙ ap (λ (x : PartsOf). after x (move.At c.args.line kind.Call)) c.reserve.ensures.shown in
+    let now = carried_on _ _ _ _ _ _ _ e c.in-Err-Failed.ensures.err refl
+    (carries_at_plain u.life s.parts.kept.reached u.bytes (g.P.Blocks.blocks s.paging) (g.F.Blocks.blocks s.files) s.located c.args.line kind.Call s.parts.kept.line.begun refl (call_legal u.life c.args.line c.args.n c.requires.legal)) in
+    λ failed. rest_grown _ _ _ _ (device_with (g.P.Blocks.log s.paging) (g.P.Blocks.named s.paging) (g.P.Blocks.faults s.paging)) _ _ _ _ _ _ e c.in-Err-Failed.ensures.log c.in-Err-Failed.ensures.named c.in-Err-Failed.ensures.err now.bytes

@@ -1,0 +1,22 @@
+use Rattle.std.proofs.Common.{sym, subst}
+use Rattle.mm_located.proofs.Carrying.{carries_start}
+use Rattle.mm_parts.specs.Start.{first_move}
+use Rattle.mm_state.specs.Tallied.{IsTallied}
+use Rattle.mm_state.proofs.Legals.{noted_at, ranged_at}
+use Rattle.mm_state.proofs.Making.{carried, shows_start, grew_one}
+use Rattle.mm_state.proofs.Tallying.{tallied_none}
+use Rattle.mm_state.proofs.states.State.new.Goals as goal
+
+pub invariant_of-result : goal.invariant_of-result
+invariant_of-result g c =
+    let now = carried _ _ _ _ _ c.in-Ok.ensures (carries_start c.args.machine (g.P.Blocks.blocks c.args.paging) (g.F.Blocks.blocks c.args.files) c.requires.slots c.requires.blocks) in
+    record { located = now.located; tallied = subst IsTallied (sym c.none.ensures) tallied_none }
+
+pub returns-in-Ok-clause-starts : goal.returns-in-Ok-clause-starts
+returns-in-Ok-clause-starts g c =
+    let now = carried _ _ _ _ _ c.in-Ok.ensures (carries_start c.args.machine (g.P.Blocks.blocks c.args.paging) (g.F.Blocks.blocks c.args.files) c.requires.slots c.requires.blocks) in
+    record {
+      in_range = (ranged_at _ _ c.first_move.ensures c.note.ensures.in_range, tt);
+      grew = grew_one _ _ (first_move c.args.machine) (noted_at _ _ _ _ c.first_move.ensures c.note.ensures.grew);
+      shows = shows_start _ _ _ _ _ _ _ _ _ _ c.in-Ok.ensures c.none.ensures now.bytes;
+    }

@@ -1,0 +1,4 @@
+pub mod Shown
+pub mod Tallied
+pub mod Holds
+pub mod StateShown

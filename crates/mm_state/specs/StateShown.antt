@@ -1,0 +1,15 @@
+-- What a state shows.
+use Rattle.mm_types.specs.Outside.{Loans, Both}
+use Rattle.mm_blocks.specs.declared.Blocks.{Ghosts as DeviceGhosts}
+use Rattle.mm_moves.specs.declared.recorders.Moves.{Ghosts as MovesGhosts}
+use Rattle.mm_parts.specs.PartsShown as parts
+use Rattle.mm_state.specs.declared.states.State.{State}
+use Rattle.mm_state.specs.Shown.{StateOf, state_of, device_with}
+
+module _ {P F M : Type 0} {p : DeviceGhosts P} {f : DeviceGhosts F} {m : MovesGhosts M} where
+  abbrev pub shown : State P F M p f m → StateOf
+  shown s = state_of (parts.shown s.parts) (m.log s.moves) s.told (device_with (p.log s.paging) (p.named s.paging) (p.faults s.paging)) (device_with (f.log s.files) (f.named s.files) (f.faults s.files)) (p.blocks s.paging) (f.blocks s.files)
+
+  -- the references that it holds
+  abbrev pub loans : State P F M p f m → Loans
+  loans s = Both (Both (p.loans s.paging) (f.loans s.files)) (m.loans s.moves)

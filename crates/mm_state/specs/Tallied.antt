@@ -1,0 +1,35 @@
+-- What a call of a device leaves: the counts of a line, and the blocks.
+use Rattle.std.specs.Prelude.{◌≡◌, ◌<◌, ◌+◌, ℕ, is_some, Bool, true, false, List, Option, Some, None}
+use Rattle.mm_types.specs.declared.frames.Backing.{Backing}
+use Rattle.mm_types.specs.declared.numbers.Key.{Key}
+use Rattle.mm_life.specs.Located.{BlockBytes}
+use Rattle.mm_pages.specs.Reports.{no_calls}
+use Rattle.mm_pages.specs.Told.{Told, with_read}
+
+-- a search begins anew
+abbrev pub searched_anew : Told → Told
+searched_anew t = record t { search_writes = no_calls }
+
+-- a read of the page of this key failed
+abbrev pub with_bad : Backing → Option Key → Told → Told
+with_bad home owner t = record (with_read false home t) { last_failed_read = owner }
+
+-- the read of a page ended, well or not
+abbrev pub read_told : Bool → Backing → Option Key → Told → Told
+read_told true home owner t = with_read true home t
+read_told false home owner t = with_bad home owner t
+
+-- the page that a read brought, if it did
+abbrev pub page_if : Bool → List ℕ → Option (List ℕ)
+page_if true page = Some page
+page_if false page = None
+
+-- the blocks of a device, where the write succeeded
+abbrev pub written_if : Bool → (BlockBytes → BlockBytes) → BlockBytes → BlockBytes
+written_if true write blocks = write blocks
+written_if false write blocks = blocks
+
+-- a failed call of the line's search, or a read that failed, is one of the line's device calls
+pub record IsTallied (t : Told) : Type 0 where
+  pub search : 0 < t.search_writes.failed → 0 < t.paging_writes.failed + t.file_writes.failed
+  pub read : is_some t.last_failed_read ≡ true → 0 < t.paging_reads.failed + t.file_reads.failed

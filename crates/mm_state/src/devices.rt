@@ -1,0 +1,98 @@
+ghost use Rattle.std.specs.Prelude.{◌≡◌, ◌<◌, ℕ, true, Some, length, slice_get, slice_set};
+ghost use Rattle.std.specs.Bool.{OnTrue, OnFalse};
+ghost use Rattle.mm_types.specs.declared.devices.Direction.TheVariants as way;
+ghost use Rattle.mm_life.specs.Frames.{slot_of};
+ghost use Rattle.mm_life.specs.Effect.{home_at};
+ghost use Rattle.mm_life.specs.Located.{bytes_at};
+ghost use Rattle.mm_laws.specs.Fits.{is_backed};
+ghost use Rattle.mm_laws.specs.FileBlocks.{block_of};
+ghost use Rattle.mm_blocks.specs.Traffic.{is_named};
+ghost use Rattle.mm_blocks.specs.Devices.{Serves};
+ghost use Rattle.mm_located.specs.Carried.{slots_written, blocks_written};
+ghost use Rattle.mm_state.specs.Shown.{CalledFor, device_with};
+ghost use Rattle.mm_state.specs.Tallied.{written_if};
+ghost use Rattle.std.specs.Prelude.{[]};
+
+use mm_blocks::Blocks;
+use mm_types::{Backing, Failed};
+
+/// One read of a device: true where it succeeded.
+pub(crate) fn read_device<B: Blocks>(device: &mut B, block: u32, page: &mut [u8; 4096]) -> bool
+    requires { block < length (B.blocks device.old) }
+    ensures ok { OnTrue result (slice_get (B.blocks device.old) block ≡ Some page.new) }
+    ensures blocks { B.blocks device.new ≡ B.blocks device.old }
+    ensures served { Serves (record { way = way.Read; block = block; succeeded = result; named = is_named way.Read (B.named device.old) })
+        (device_with (B.log device.old) (B.named device.old) (B.faults device.old)) (device_with (B.log device.new) (B.named device.new) (B.faults device.new)) }
+    ensures loans { B.loans device.new ≡ B.loans device.old }
+{
+    match device.read(block, page) {
+        Ok(()) => true,
+        Err(Failed) => false,
+    }
+}
+
+/// One write of a device: true where it succeeded.
+pub(crate) fn write_device<B: Blocks>(device: &mut B, block: u32, page: &[u8; 4096]) -> bool
+    requires { block < length (B.blocks device.old) }
+    ensures ok { OnTrue result (B.blocks device.new ≡ slice_set (B.blocks device.old) block page.now) }
+    ensures err { OnFalse result (B.blocks device.new ≡ B.blocks device.old) }
+    ensures served { Serves (record { way = way.Write; block = block; succeeded = result; named = is_named way.Write (B.named device.old) })
+        (device_with (B.log device.old) (B.named device.old) (B.faults device.old)) (device_with (B.log device.new) (B.named device.new) (B.faults device.new)) }
+    ensures loans { B.loans device.new ≡ B.loans device.old }
+{
+    match device.write(block, page) {
+        Ok(()) => true,
+        Err(Failed) => false,
+    }
+}
+
+/// Reads a page from where a frame is backed: true where the device call succeeded.
+pub(crate) fn get_page<P: Blocks, F: Blocks>(
+    paging: &mut P,
+    files: &mut F,
+    home: Backing,
+    page: &mut [u8; 4096],
+) -> bool
+    requires backed { is_backed home ≡ true }
+    requires slot { (s : ℕ) → slot_of home ≡ Some s → s < length (P.blocks paging.old) }
+    requires block { (b : ℕ) → block_of home ≡ Some b → b < length (F.blocks files.old) }
+    ensures ok { OnTrue result (bytes_at [] (P.blocks paging.old) (F.blocks files.old) (home_at home) ≡ Some page.new) }
+    ensures slots { P.blocks paging.new ≡ P.blocks paging.old }
+    ensures blocks { F.blocks files.new ≡ F.blocks files.old }
+    ensures called { CalledFor way.Read home result
+        (device_with (P.log paging.old) (P.named paging.old) (P.faults paging.old)) (device_with (F.log files.old) (F.named files.old) (F.faults files.old))
+        (device_with (P.log paging.new) (P.named paging.new) (P.faults paging.new)) (device_with (F.log files.new) (F.named files.new) (F.faults files.new)) }
+    ensures paging_loans { P.loans paging.new ≡ P.loans paging.old }
+    ensures files_loans { F.loans files.new ≡ F.loans files.old }
+{
+    match home {
+        Backing::Slot(s) => read_device(paging, s.0, page),
+        Backing::Block(b) => read_device(files, b.0, page),
+        Backing::None => unreachable!(),
+    }
+}
+
+/// Writes a page to where a frame is backed: true where the device call succeeded.
+pub(crate) fn put_page<P: Blocks, F: Blocks>(
+    paging: &mut P,
+    files: &mut F,
+    home: Backing,
+    page: &[u8; 4096],
+) -> bool
+    requires backed { is_backed home ≡ true }
+    requires slot { (s : ℕ) → slot_of home ≡ Some s → s < length (P.blocks paging.old) }
+    requires block { (b : ℕ) → block_of home ≡ Some b → b < length (F.blocks files.old) }
+    ensures slots { P.blocks paging.new ≡ written_if result (slots_written home page.now) (P.blocks paging.old) }
+    ensures blocks { F.blocks files.new ≡ written_if result (blocks_written home page.now) (F.blocks files.old) }
+    ensures called { CalledFor way.Write home result
+        (device_with (P.log paging.old) (P.named paging.old) (P.faults paging.old)) (device_with (F.log files.old) (F.named files.old) (F.faults files.old))
+        (device_with (P.log paging.new) (P.named paging.new) (P.faults paging.new)) (device_with (F.log files.new) (F.named files.new) (F.faults files.new)) }
+    ensures paging_loans { P.loans paging.new ≡ P.loans paging.old }
+    ensures files_loans { F.loans files.new ≡ F.loans files.old }
+{
+    match home {
+        Backing::Slot(s) => write_device(paging, s.0, page),
+        Backing::Block(b) => write_device(files, b.0, page),
+        Backing::None => unreachable!(),
+    }
+}

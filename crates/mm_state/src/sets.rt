@@ -1,0 +1,68 @@
+ghost use Rattle.std.specs.Prelude.{◌≡◌, true, Some, None, IfSome, MatchOption, is_some, option_map};
+ghost use Rattle.std.specs.Option.{ForSome};
+ghost use Rattle.mm_life.specs.Life.{set_of};
+ghost use Rattle.mm_life.specs.Legal.{is_at_max, is_above_min};
+ghost use Rattle.mm_walks.specs.Order.{IsOldest};
+ghost use Rattle.mm_words.specs.Words.{place_of};
+ghost use Rattle.mm_room.specs.Order.{IsNext, NoneFollows};
+ghost use Rattle.mm_parts.specs.Moves.{after_page};
+
+use crate::states::State;
+use mm_blocks::Inject;
+use mm_moves::Moves;
+use mm_types::{Pid, Vpn};
+
+impl<P: Inject, F: Inject, M: Moves> State<P, F, M> {
+    ghost use Rattle.mm_state.specs.StateShown.{shown};
+
+    /// How many places of a process are valid.
+    pub fn valid_places(&self, pid: Pid) -> u32
+        requires { is_some (set_of (shown self.now).life pid.0) ≡ true }
+        ensures { option_map (λ s. s.resident) (set_of (shown self.now).life pid.0) ≡ Some result }
+    {
+        self.parts.valid_places(pid)
+    }
+
+    /// The fewest pages, down to which a working set is trimmed.
+    pub fn min(&self, pid: Pid) -> u32
+        requires { is_some (set_of (shown self.now).life pid.0) ≡ true }
+        ensures { option_map (λ s. s.min) (set_of (shown self.now).life pid.0) ≡ Some result }
+    {
+        self.parts.min(pid)
+    }
+
+    /// The most pages that a working set has.
+    pub fn max(&self, pid: Pid) -> u32
+        requires { is_some (set_of (shown self.now).life pid.0) ≡ true }
+        ensures { option_map (λ s. s.max) (set_of (shown self.now).life pid.0) ≡ Some result }
+    {
+        self.parts.max(pid)
+    }
+
+    /// Whether a working set is full: a page goes before the next comes.
+    pub fn is_full(&self, pid: Pid) -> bool
+        requires { is_some (set_of (shown self.now).life pid.0) ≡ true }
+        ensures { result ≡ is_at_max (set_of (shown self.now).life pid.0) }
+    {
+        self.parts.is_full(pid)
+    }
+
+    /// Whether a working set has more pages than its least size.
+    pub fn is_above_min(&self, pid: Pid) -> bool
+        requires { is_some (set_of (shown self.now).life pid.0) ≡ true }
+        ensures { result ≡ is_above_min (set_of (shown self.now).life pid.0) }
+    {
+        self.parts.is_above_min(pid)
+    }
+
+    /// The oldest page of an open process, or with a valid page the one that goes next after it; none where there is none. Among equal ages
+    /// the lowest page goes first.
+    pub fn oldest(&self, pid: Pid, after: Option<Vpn>) -> Option<Vpn>
+        requires open { (shown self.now).is_open pid.0 ≡ true }
+        requires held { ForSome after (λ v. is_some ((shown self.now).life.valid (place_of pid v)) ≡ true) }
+        ensures next { MatchOption result (NoneFollows (shown self.now).life (shown self.now).ages pid.0 (after_page pid after)) (λ v. IsNext (shown self.now).life (shown self.now).ages (after_page pid after) (place_of pid v)) }
+        ensures first { after ≡ None → IfSome result (λ v. IsOldest (shown self.now).life (shown self.now).ages None (place_of pid v)) }
+    {
+        self.parts.oldest(pid, after)
+    }
+}

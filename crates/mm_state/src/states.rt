@@ -1,0 +1,94 @@
+ghost use Rattle.std.specs.Prelude.{◌≡◌, IfOk, IfErr, length};
+ghost use Rattle.mm_types.specs.Outside.{Both};
+ghost use Rattle.mm_life.specs.Located.{BytesLocated};
+ghost use Rattle.mm_parts.specs.PartsShown as parts_of;
+ghost use Rattle.mm_parts.specs.Start.{first_move};
+ghost use Rattle.mm_state.specs.Shown.{Starts, device_with};
+ghost use Rattle.mm_state.specs.Tallied.{IsTallied};
+
+use crate::tallies::Tallies;
+use mm_blocks::{Blocks, Inject};
+use mm_moves::Moves;
+use mm_parts::Parts;
+use mm_types::{LineKind, Machine, Move, NoMemory, Unmade};
+use std::alloc::Global;
+
+/// The parts of a machine, over a paging device, a device of files and a sink of moves.
+///
+/// Contracts see what it shows (`StateOf`): the state of the replay with its log, the bytes of each live key, and what the line told of devices.
+#[derive(Drop)]
+pub struct State<P: Inject, F: Inject, M: Moves> {
+    pub(crate) parts: Parts,
+    pub(crate) paging: P,
+    pub(crate) files: F,
+    pub(crate) moves: M,
+    pub(crate) told: Tallies,
+    ghost located: { BytesLocated (parts_of.shown parts).life (parts_of.shown parts).bytes (P.Blocks.blocks paging) (F.Blocks.blocks files) },
+    ghost tallied: { IsTallied told },
+}
+
+/// The first line of a machine.
+fn first_move(machine: Machine) -> Move
+    ensures { result ≡ first_move machine }
+{
+    Move::At(
+        1,
+        LineKind::Machine(
+            machine.frames(),
+            machine.slots(),
+            machine.depth(),
+            machine.blocks(),
+        ),
+    )
+}
+
+impl<P: Inject, F: Inject, M: Moves> State<P, F, M> {
+    ghost use Rattle.mm_state.specs.StateShown.{shown, loans};
+
+    /// A machine at rest, whose first line has begun and is noted, over two devices that were opened with its slots and its blocks. It
+    /// takes the memory of all frames, slots, blocks and requests. After an error the devices and the sink are given back as they were.
+    pub fn new(
+        alloc: Global,
+        machine: Machine,
+        paging: P,
+        files: F,
+        mut moves: M,
+    ) -> Result<State<P, F, M>, Unmade<(P, F, M)>>
+        requires slots { length (P.Blocks.blocks paging) ≡ machine.slots }
+        requires blocks { length (F.Blocks.blocks files) ≡ machine.blocks }
+        ensures starts { IfOk result (λ s. Starts machine (M.log moves) (device_with (P.Blocks.log paging) (P.Blocks.named paging) (P.Blocks.faults paging)) (device_with (F.Blocks.log files) (F.Blocks.named files) (F.Blocks.faults files)) (P.Blocks.blocks paging) (F.Blocks.blocks files) (shown s)) }
+        ensures devices { IfOk result (λ s. (s.paging ≡ paging) × (s.files ≡ files)) }
+        ensures loans { IfOk result (λ s. loans s ≡ Both (Both (P.Blocks.loans paging) (F.Blocks.loans files)) (M.loans moves)) }
+        ensures err { IfErr result (λ e. e.back ≡ (paging, files, moves)) }
+    {
+        match Parts::new(alloc, machine) {
+            Ok(parts) => {
+                moves.note(first_move(machine));
+                Ok(State {
+                    parts,
+                    paging,
+                    files,
+                    moves,
+                    told: Tallies::none(),
+                })
+            }
+            Err(NoMemory) => Err(Unmade {
+                back: (paging, files, moves),
+            }),
+        }
+    }
+
+    /// Gives the devices and the sink back as they stand.
+    pub fn finish(self) -> (P, F, M)
+        ensures { result ≡ (self.paging, self.files, self.moves) }
+    {
+        let State {
+            parts: _,
+            paging,
+            files,
+            moves,
+            told: _,
+        } = self;
+        (paging, files, moves)
+    }
+}
