@@ -1,0 +1,336 @@
+-- A request that has ended, by the result of the call.
+use Rattle.std.proofs.Common.{◌≡◌, ℕ, zero, suc, ◌+◌, ◌-◌, ◌≤◌, ◌<◌, Bool, true, false, List, [], ◌∷◌, Option, Some, None, refl, sym, ap, ◌∙◌, subst, arith, inl, inr, ◌⊎◌}
+use Rattle.std.proofs.lemmas.Bool.{eqb-true, lt-ltb}
+use Rattle.std.proofs.Math.Logic.{∥∥₁_elim}
+use Rattle.std.proofs.Props.{props}
+use Rattle.std.specs.Bool.{IsTrue}
+use Rattle.std.specs.Cmp.{unsigned_Decides}
+use Rattle.std.specs.Prelude.{not, ◌&&◌, ◌||◌, ◌==◌, nat_lt, if◌then◌else◌, is_some, length, option_map, min, slice_get, slice_index_or, ◌^◌}
+use Rattle.mm_types.specs.Machine.{MachineOf}
+use Rattle.mm_types.specs.declared.devices.Direction.{Direction}
+use Rattle.mm_types.specs.declared.devices.Direction.TheVariants as way
+use Rattle.mm_types.specs.declared.frames.Backing.{Backing}
+use Rattle.mm_types.specs.declared.frames.Backing.TheVariants as backing
+use Rattle.mm_types.specs.declared.frames.Record.{Record}
+use Rattle.mm_types.specs.declared.frames.Request.{Request}
+use Rattle.mm_types.specs.declared.frames.Request.TheVariants as request
+use Rattle.mm_types.specs.declared.moves.LineKind.{LineKind}
+use Rattle.mm_types.specs.declared.moves.LineKind.TheVariants as kind
+use Rattle.mm_types.specs.declared.moves.Move.{Move}
+use Rattle.mm_types.specs.declared.moves.Move.TheVariants as move
+use Rattle.mm_types.specs.declared.numbers.Frame.{Frame}
+use Rattle.mm_types.specs.declared.numbers.Key.{Key}
+use Rattle.mm_types.specs.declared.numbers.Place.{Place}
+use Rattle.mm_life.specs.Frames.{record_at, blank, is_read, is_write, has_request}
+use Rattle.mm_life.specs.Life.{FrameLife}
+use Rattle.mm_life.specs.Legal.{IsLegal, is_touch, is_io, is_access, is_call}
+use Rattle.mm_life.specs.Effect.{after_move}
+use Rattle.mm_laws.specs.Fits.{is_backed}
+use Rattle.mm_laws.specs.Reached.{Reached}
+use Rattle.mm_laws.specs.Sound.{Sound}
+use Rattle.mm_laws.specs.Tally.{one_if, times}
+use Rattle.mm_laws.proofs.Deduced.{reached_sound}
+use Rattle.mm_flight.specs.Requests.{nth_oldest}
+use Rattle.mm_walks.specs.Chores.{ending}
+use Rattle.mm_world.specs.Report.{Report, failed_calls}
+use Rattle.mm_pages.specs.declared.outcomes.Done.{Done}
+use Rattle.mm_pages.specs.declared.outcomes.Done.TheVariants as done
+use Rattle.mm_pages.specs.Housekeeping.{CompletesAs, Completes, NoMove}
+use Rattle.mm_pages.specs.Passing.{Passes}
+use Rattle.mm_pages.specs.Reports.{completed, fetched, Served, SomeRose}
+use Rattle.mm_pages.specs.Store.{StoreOf, Ready}
+use Rattle.mm_pages.specs.Told.{Told, with_read, with_write}
+use Rattle.mm_pages.proofs.Served.{served_nothing}
+use Rattle.mm_parts.specs.Moves.{read_end, write_end, own_ended}
+use Rattle.mm_moving.specs.Shown.{StateOf, Made, Called, SomeFault, called}
+use Rattle.mm_moving.specs.Holds.{Holds}
+use Rattle.mm_moving.proofs.Doing.{does_one, does_nothing}
+use Rattle.mm_paged.specs.Pieces.{LifeKept, EndsOne, EndsAs}
+use Rattle.mm_paged.specs.Shown.{OwnOf, Kept, store_of, report_of, behind_of}
+use Rattle.mm_paged.proofs.Keeping.{blocks_kept, fetched_by}
+use Rattle.mm_paged.proofs.Serving.{InLine, served_by}
+use Rattle.mm_paged.proofs.Shows.{passes_of}
+use Rattle.mm_paged.proofs.Unmoved.{none_passes}
+
+-- ---- the move with which a request ends
+
+ending_read : (r : Record) (f : Frame) (ok : Bool) → is_read r.request ≡ true → ending r f ok ≡ read_end ok f
+ending_read r f true e = ap (λ (b : Bool). if b then move.Got f else move.Wrote f) e
+ending_read r f false e = ap (λ (b : Bool). if b then move.Bad f else move.Lost f) e
+
+ending_write : (r : Record) (f : Frame) (ok : Bool) → is_read r.request ≡ false → ending r f ok ≡ write_end ok f
+ending_write r f true e = ap (λ (b : Bool). if b then move.Got f else move.Wrote f) e
+ending_write r f false e = ap (λ (b : Bool). if b then move.Bad f else move.Lost f) e
+
+pub made_read : (r : Record) (f : Frame) (ok : Bool) (s z : StateOf) → is_read r.request ≡ true → Made (read_end ok f) s z → Made (ending r f ok) s z
+made_read r f ok s z e m = subst (λ (x : Move). Made x s z) (sym (ending_read r f ok e)) m
+
+pub made_write : (r : Record) (f : Frame) (ok : Bool) (s z : StateOf) → is_read r.request ≡ false → Made (write_end ok f) s z → Made (ending r f ok) s z
+made_write r f ok s z e m = subst (λ (x : Move). Made x s z) (sym (ending_write r f ok e)) m
+
+io_ends : (a b c : Bool) → a ≡ true → b ≡ true → (a && (b || c)) ≡ true
+io_ends true true c p q = refl
+io_ends true false c p q = cc
+io_ends false b c p q = cc
+
+io_ends_write : (a b c d : Bool) → a ≡ true → b ≡ true → (a && (b || c || d)) ≡ true
+io_ends_write true true c d p q = refl
+io_ends_write true false c d p q = cc
+io_ends_write false b c d p q = cc
+
+pub got_legal : (l : FrameLife) (f : Frame) → l.kind ≡ kind.Io → is_read (record_at l.frames f.0).request ≡ true → IsLegal (move.Got f) l
+got_legal l f e r = io_ends (is_read (record_at l.frames f.0).request) (is_io l.kind) (is_access l.kind) r (ap is_io e)
+
+writes_else : (q : Request) → has_request q ≡ true → is_read q ≡ false → is_write q ≡ true
+writes_else request.None h r = cc
+writes_else request.Read h r = cc
+writes_else request.Write h r = refl
+writes_else request.WriteAgain h r = refl
+
+pub wrote_legal : (l : FrameLife) (f : Frame) → l.kind ≡ kind.Io → has_request (record_at l.frames f.0).request ≡ true → is_read (record_at l.frames f.0).request ≡ false → IsLegal (move.Wrote f) l
+wrote_legal l f e h r = io_ends_write (is_write (record_at l.frames f.0).request) (is_io l.kind) (is_access l.kind) (is_call l.kind) (writes_else (record_at l.frames f.0).request h r) (ap is_io e)
+
+pub called_by_write : (s z : StateOf) (n : ℕ) → s.own ≡ None → z ≡ record (called s z) { own = own_ended s.own n } → z ≡ called s z
+called_by_write s z n o e = e ∙ ap (λ (x : Option Frame). record (called s z) { own = x }) (ap (λ (x : Option Frame). own_ended x n) o ∙ sym o)
+
+-- ---- the request that is found
+
+get_times : (xs : List ℕ) (n f : ℕ) → slice_get xs n ≡ Some f → 1 ≤ times f xs
+get_times [] n f e = cc
+get_times (x ∷ xs) zero f e = let a : (x == f) ≡ true = (unsigned_Decides x f).1 (some_same x f e) in let b : one_if (x == f) ≡ 1 = ap one_if a in omega (arith, b)
+  where
+    some_same : (a b : ℕ) → Some a ≡ Some b → a ≡ b
+    some_same a b q = ap (λ (o : Option ℕ). get o) q
+      where
+        get : Option ℕ → ℕ
+        get None = 0
+        get (Some v) = v
+get_times (x ∷ xs) (suc n) f e = let a = get_times xs n f e in omega (arith, a)
+
+get_below : (xs : List ℕ) (n f : ℕ) → slice_get xs n ≡ Some f → n < length xs
+get_below [] n f e = cc
+get_below (x ∷ xs) zero f e = omega arith
+get_below (x ∷ xs) (suc n) f e = let a = get_below xs n f e in omega (arith, a)
+
+get_past : (xs : List ℕ) (n : ℕ) → slice_get xs n ≡ None → length xs ≤ n
+get_past [] n e = omega arith
+get_past (x ∷ xs) zero e = cc
+get_past (x ∷ xs) (suc n) e = let a = get_past xs n e in omega (arith, a)
+
+one_is : (b : Bool) → 1 ≤ one_if b → b ≡ true
+one_is true h = refl
+one_is false h = absurd (omega (arith, h))
+
+-- a frame in flight has a request
+pub flight_request : (s : StateOf) (n f : ℕ) → Holds s → slice_get s.life.flight n ≡ Some f → has_request (record_at s.life.frames f).request ≡ true
+flight_request s n f h e = ∥∥₁_elim h.reached (hlevel props) (λ r.
+    one_is (has_request (record_at s.life.frames f).request) (subst (λ (m : ℕ). 1 ≤ m) ((reached_sound s.life r).standing f).flight (get_times s.life.flight n f e)))
+
+requested_low : (xs : List Record) (f : ℕ) → has_request (slice_index_or xs f blank).request ≡ true → nat_lt f (length xs) ≡ true
+requested_low [] f h = cc
+requested_low (x ∷ xs) zero h = lt-ltb 0 (length (x ∷ xs)) (omega arith)
+requested_low (x ∷ xs) (suc f) h = let a = requested_low xs f h in grind (arith, a)
+
+low_of : (a b : ℕ) → nat_lt a b ≡ true → a < b
+low_of a b h = grind (arith, h)
+
+-- and is one of the machine's
+pub flight_low : (s : StateOf) (f : ℕ) → Holds s → has_request (record_at s.life.frames f).request ≡ true → f < s.life.machine.frames
+flight_low s f h e = low_of f s.life.machine.frames (∥∥₁_elim h.reached (hlevel props) (λ r.
+    subst (λ (n : ℕ). nat_lt f n ≡ true) (reached_sound s.life r).framed (requested_low s.life.frames.records f e)))
+
+nth_back : (i n : ℕ) (xs : List ℕ) (o : Option ℕ) → 1 ≤ i → o ≡ nth_oldest i xs → slice_get xs (i - 1) ≡ o
+nth_back zero n xs o h e = absurd (omega (arith, h))
+nth_back (suc i) n xs o h e = ap (λ (k : ℕ). slice_get xs k) (back i) ∙ sym e
+  where
+    back : (i : ℕ) → suc i - 1 ≡ i
+    back i = omega arith
+
+pub nth_found : (i : ℕ) (xs : List ℕ) (r : Option Frame) (f : Frame) → 1 ≤ i → option_map (λ g. g.0) r ≡ nth_oldest i xs → r ≡ Some f → slice_get xs (i - 1) ≡ Some f.0
+nth_found i xs r f h e q = nth_back i 0 xs (Some f.0) h (sym (ap (λ (o : Option Frame). option_map (λ (g : Frame). g.0) o) q) ∙ e)
+
+pub nth_none : (i : ℕ) (xs : List ℕ) (r : Option Frame) → 1 ≤ i → option_map (λ g. g.0) r ≡ nth_oldest i xs → r ≡ None → length xs < i
+nth_none i xs r h e q = let a = get_past xs (i - 1) (nth_back i 0 xs None h (sym (ap (λ (o : Option Frame). option_map (λ (g : Frame). g.0) o) q) ∙ e)) in omega (arith, h, a)
+
+-- ---- what an ended request leaves
+
+kept_ending : (r : Record) (f : Frame) (ok : Bool) (l : FrameLife) → LifeKept l (after_move l (ending r f ok))
+kept_ending r f true l = at (is_read r.request)
+  where
+    at : (b : Bool) → LifeKept l (after_move l (if b then move.Got f else move.Wrote f))
+    at true = record { machine = refl; line = refl; kind = refl; paging = refl; keys = refl; pids = refl; added = refl }
+    at false = record { machine = refl; line = refl; kind = refl; paging = refl; keys = refl; pids = refl; added = refl }
+kept_ending r f false l = at (is_read r.request)
+  where
+    at : (b : Bool) → LifeKept l (after_move l (if b then move.Bad f else move.Lost f))
+    at true = record { machine = refl; line = refl; kind = refl; paging = refl; keys = refl; pids = refl; added = refl }
+    at false = record { machine = refl; line = refl; kind = refl; paging = refl; keys = refl; pids = refl; added = refl }
+
+in_ending : (r : Record) (f : Frame) (ok : Bool) → InLine (ending r f ok ∷ [])
+in_ending r f true = at (is_read r.request)
+  where
+    at : (b : Bool) → InLine ((if b then move.Got f else move.Wrote f) ∷ [])
+    at true = tt
+    at false = tt
+in_ending r f false = at (is_read r.request)
+  where
+    at : (b : Bool) → InLine ((if b then move.Bad f else move.Lost f) ∷ [])
+    at true = tt
+    at false = tt
+
+life_one : (i : ℕ) (ok : Bool) (s z : StateOf) → EndsOne i ok s z → LifeKept s.life z.life
+life_one i ok s z e = subst (λ (l : FrameLife). LifeKept s.life l) (sym e.made.life) (kept_ending (record_at s.life.frames e.frame.0) e.frame ok s.life)
+
+store_one : (i : ℕ) (ok : Bool) (s z : StateOf) (o : OwnOf) → Holds s → Holds z → EndsOne i ok s z → store_of z o ≡ completed (store_of s o) (store_of z o)
+store_one i ok s z o h g e =
+    let l = life_one i ok s z e in
+    let m = ending (record_at s.life.frames e.frame.0) e.frame ok in
+    fetched_by s z o o l (blocks_kept s z (m ∷ []) h g (e.made.legal, e.made.life) l.paging (ap (λ (x : StateOf). x.contents) e.same))
+    (ap (λ (x : StateOf). x.is_open) e.same) (ap (λ (x : StateOf). x.areas) e.same) (ap (λ (x : StateOf). x.bound) e.same) refl refl
+    ∙ ap (λ (n : Place → Option Key). record (fetched (store_of s o) (store_of z o)) { names = n }) (ap (λ (x : StateOf). x.names) e.same)
+
+pub ended_store : (i : ℕ) (r : Done) (s z : StateOf) (o : OwnOf) → Holds s → Holds z → EndsAs i r s z → store_of z o ≡ completed (store_of s o) (store_of z o)
+ended_store i done.None s z o h g e = subst (λ (x : StateOf). store_of x o ≡ completed (store_of s o) (store_of x o)) (sym e.1) refl
+ended_store i done.Ok s z o h g e = store_one i true s z o h g e
+ended_store i done.Failed s z o h g e = store_one i false s z o h g e
+
+pub ended_contents : (i : ℕ) (r : Done) (s z : StateOf) → EndsAs i r s z → z.contents ≡ s.contents
+ended_contents i done.None s z e = ap (λ (x : StateOf). x.contents) e.1
+ended_contents i done.Ok s z e = ap (λ (x : StateOf). x.contents) e.same
+ended_contents i done.Failed s z e = ap (λ (x : StateOf). x.contents) e.same
+
+-- which result it is
+abbrev is_done : Done → ℕ
+is_done done.None = 0
+is_done done.Ok = 1
+is_done done.Failed = 2
+
+pub ended_none : (i : ℕ) (r : Done) (s z : StateOf) (o : OwnOf) → EndsAs i r s z → r ≡ done.None → (length s.life.flight < i) × (store_of z o ≡ store_of s o)
+ended_none i done.None s z o e q = (e.0, ap (λ (x : StateOf). store_of x o) e.1)
+ended_none i done.Ok s z o e q = let bad : 1 ≡ 0 = ap is_done q in absurd (omega (arith, bad))
+ended_none i done.Failed s z o e q = let bad : 2 ≡ 0 = ap is_done q in absurd (omega (arith, bad))
+
+pub ended_some : (i : ℕ) (r : Done) (s z : StateOf) → 1 ≤ i → EndsAs i r s z → length s.life.flight < i → r ≡ done.None
+ended_some i done.None s z h e l = refl
+ended_some i done.Ok s z h e l = let a = get_below s.life.flight (i - 1) e.frame.0 e.found in absurd (omega (arith, h, a, l))
+ended_some i done.Failed s z h e l = let a = get_below s.life.flight (i - 1) e.frame.0 e.found in absurd (omega (arith, h, a, l))
+
+-- ---- devices
+
+abbrev pub failed_told : Told → ℕ
+failed_told t = t.paging_reads.failed + t.paging_writes.failed + t.file_reads.failed + t.file_writes.failed
+
+good_read : (b : Backing) (t : Told) → failed_told (with_read true b t) ≡ failed_told t
+good_read backing.None t = refl
+good_read (backing.Slot s) t = refl
+good_read (backing.Block s) t = refl
+
+good_write : (b : Backing) (t : Told) → failed_told (with_write true b t) ≡ failed_told t
+good_write backing.None t = refl
+good_write (backing.Slot s) t = refl
+good_write (backing.Block s) t = refl
+
+one_more_some : (n : ℕ) → 0 < min (n + 1) (2 ^ 64 - 1)
+one_more_some n = grind arith
+
+some_in : (a b c d n : ℕ) → (a ≡ n) ⊎ ((b ≡ n) ⊎ ((c ≡ n) ⊎ (d ≡ n))) → 0 < n → 0 < a + b + c + d
+some_in a b c d n (inl e) h = omega (arith, e, h)
+some_in a b c d n (inr (inl e)) h = omega (arith, e, h)
+some_in a b c d n (inr (inr (inl e))) h = omega (arith, e, h)
+some_in a b c d n (inr (inr (inr e))) h = omega (arith, e, h)
+
+bad_read : (b : Backing) (t : Told) (k : Option Key) → is_backed b ≡ true → 0 < failed_told (record (with_read false b t) { last_failed_read = k })
+bad_read backing.None t k h = cc
+bad_read (backing.Slot s) t k h = some_in (min (t.paging_reads.failed + 1) (2 ^ 64 - 1)) t.paging_writes.failed t.file_reads.failed t.file_writes.failed _ (inl refl) (one_more_some t.paging_reads.failed)
+bad_read (backing.Block s) t k h = some_in t.paging_reads.failed t.paging_writes.failed (min (t.file_reads.failed + 1) (2 ^ 64 - 1)) t.file_writes.failed _ (inr (inr (inl refl))) (one_more_some t.file_reads.failed)
+
+bad_write : (b : Backing) (t : Told) → is_backed b ≡ true → 0 < failed_told (with_write false b t)
+bad_write backing.None t h = cc
+bad_write (backing.Slot s) t h = some_in t.paging_reads.failed (min (t.paging_writes.failed + 1) (2 ^ 64 - 1)) t.file_reads.failed t.file_writes.failed _ (inr (inl refl)) (one_more_some t.paging_writes.failed)
+bad_write (backing.Block s) t h = some_in t.paging_reads.failed t.paging_writes.failed t.file_reads.failed (min (t.file_writes.failed + 1) (2 ^ 64 - 1)) _ (inr (inr (inr refl))) (one_more_some t.file_writes.failed)
+
+-- a page that is being written has a home to go to
+backed_write : (s : StateOf) (f : ℕ) → Holds s → is_write (record_at s.life.frames f).request ≡ true → is_backed (record_at s.life.frames f).backing ≡ true
+backed_write s f h w = ∥∥₁_elim h.reached (hlevel props) (λ r. (((reached_sound s.life r).standing f).fit.writing w).1)
+
+fault_by : (w : Direction) (b : Backing) (s z : StateOf) → is_backed b ≡ true → Called w b false s z → SomeFault s z
+fault_by w backing.None s z h c = cc
+fault_by w (backing.Slot t) s z h c = inl (c.0.cause refl)
+fault_by w (backing.Block t) s z h c = inr (c.0.cause refl)
+
+-- what one end tells, where the call succeeded and where it failed
+pub ok_told : (s z : StateOf) (f : Frame) → Made (ending (record_at s.life.frames f.0) f true) s z → failed_told z.told ≡ failed_told s.told
+ok_told s z f m = at (is_read (record_at s.life.frames f.0).request) refl
+  where
+    at : (b : Bool) → is_read (record_at s.life.frames f.0).request ≡ b → failed_told z.told ≡ failed_told s.told
+    at true e = let n : Made (move.Got f) s z = subst (λ (x : Move). Made x s z) (ending_read (record_at s.life.frames f.0) f true e) m in ap failed_told n.told ∙ good_read (record_at s.life.frames f.0).backing s.told
+    at false e = let n : Made (move.Wrote f) s z = subst (λ (x : Move). Made x s z) (ending_write (record_at s.life.frames f.0) f true e) m in ap failed_told n.told ∙ good_write (record_at s.life.frames f.0).backing s.told
+
+pub record Blames (s z : StateOf) : Type 0 where
+  pub failed : 0 < failed_told z.told
+  pub fault : SomeFault s z
+
+pub bad_told : (s z : StateOf) (f : Frame) → Holds s → has_request (record_at s.life.frames f.0).request ≡ true → Made (ending (record_at s.life.frames f.0) f false) s z → Blames s z
+bad_told s z f h q m = at (is_read (record_at s.life.frames f.0).request) refl
+  where
+    at : (b : Bool) → is_read (record_at s.life.frames f.0).request ≡ b → Blames s z
+    at true e =
+        let n : Made (move.Bad f) s z = subst (λ (x : Move). Made x s z) (ending_read (record_at s.life.frames f.0) f false e) m in
+        let b = h.reading f e in
+        record { failed = subst (λ (t : Told). 0 < failed_told t) (sym n.told) (bad_read (record_at s.life.frames f.0).backing s.told (record_at s.life.frames f.0).owner b); fault = fault_by way.Read (record_at s.life.frames f.0).backing s z b n.calls }
+    at false e =
+        let n : Made (move.Lost f) s z = subst (λ (x : Move). Made x s z) (ending_write (record_at s.life.frames f.0) f false e) m in
+        let b = backed_write s f.0 h (writes_else (record_at s.life.frames f.0).request q e) in
+        record { failed = subst (λ (t : Told). 0 < failed_told t) (sym n.told) (bad_write (record_at s.life.frames f.0).backing s.told b); fault = fault_by way.Write (record_at s.life.frames f.0).backing s z b n.calls }
+
+pub ended_ok : (i : ℕ) (r : Done) (s z : StateOf) (o : OwnOf) → EndsAs i r s z → r ≡ done.Ok → failed_calls (report_of z o) ≡ failed_calls (report_of s o)
+ended_ok i done.None s z o e q = let bad : 0 ≡ 1 = ap is_done q in absurd (omega (arith, bad))
+ended_ok i done.Ok s z o e q = ok_told s z e.frame e.made
+ended_ok i done.Failed s z o e q = let bad : 2 ≡ 1 = ap is_done q in absurd (omega (arith, bad))
+
+pub ended_blames : (i : ℕ) (r : Done) (s z : StateOf) → Holds s → EndsAs i r s z → r ≡ done.Failed → Blames s z
+ended_blames i done.None s z h e q = let bad : 0 ≡ 2 = ap is_done q in absurd (omega (arith, bad))
+ended_blames i done.Ok s z h e q = let bad : 1 ≡ 2 = ap is_done q in absurd (omega (arith, bad))
+ended_blames i done.Failed s z h e q = bad_told s z e.frame h (flight_request s (i - 1) e.frame.0 h e.found) e.made
+
+pub ended_failed : (i : ℕ) (r : Done) (s z : StateOf) (o : OwnOf) → Holds s → EndsAs i r s z → r ≡ done.Failed → 0 < failed_calls (report_of z o)
+ended_failed i r s z o h e q = (ended_blames i r s z h e q).failed
+
+pub ended_served : (i : ℕ) (r : Done) (s z : StateOf) (o : OwnOf) → EndsAs i r s z → Served (store_of s o) (store_of z o)
+ended_served i done.None s z o e = subst (λ (x : StateOf). Served (store_of s o) (store_of x o)) (sym e.1) (served_nothing (store_of s o) (store_of s o) refl refl refl refl refl refl)
+ended_served i done.Ok s z o e = served_by (ending (record_at s.life.frames e.frame.0) e.frame true ∷ []) s z o o (in_ending (record_at s.life.frames e.frame.0) e.frame true) (does_one _ s z e.made)
+ended_served i done.Failed s z o e = served_by (ending (record_at s.life.frames e.frame.0) e.frame false ∷ []) s z o o (in_ending (record_at s.life.frames e.frame.0) e.frame false) (does_one _ s z e.made)
+
+pub ended_stored : (i : ℕ) (r : Done) (s z : StateOf) → Holds s → Holds z → EndsAs i r s z → length z.blocks ≡ length s.blocks
+ended_stored i done.None s z h g e = ap (λ (x : StateOf). length x.blocks) e.1
+ended_stored i done.Ok s z h g e = g.blocks ∙ ap (λ (n : MachineOf). n.blocks) (life_one i true s z e).machine ∙ sym h.blocks
+ended_stored i done.Failed s z h g e = g.blocks ∙ ap (λ (n : MachineOf). n.blocks) (life_one i false s z e).machine ∙ sym h.blocks
+
+passes_one : (i : ℕ) (ok : Bool) (s z : StateOf) (o : OwnOf) → EndsOne i ok s z → Passes (Completes i ok) (store_of s o) (store_of z o) (behind_of s) (behind_of z)
+passes_one i ok s z o e = passes_of (Completes i ok) (ending (record_at s.life.frames e.frame.0) e.frame ok ∷ []) s z o o (does_one _ s z e.made)
+    (record { frame = e.frame.0; found = e.found; one = refl; moved = record { waits = e.made.waits; ages = e.made.ages } })
+
+pub ended_passes : (i : ℕ) (r : Done) (s z : StateOf) (o : OwnOf) → EndsAs i r s z → Passes (CompletesAs i r) (store_of s o) (store_of z o) (behind_of s) (behind_of z)
+ended_passes i done.None s z o e = none_passes (CompletesAs i done.None) s z o o (e.0, record { none = refl; same = ap behind_of e.1 }) (ap (λ (x : StateOf). x.log) e.1) (ap (λ (x : StateOf). x.life) e.1) (ap (λ (x : StateOf). x.told) e.1) (ap (λ (x : StateOf). x.paging) e.1) (ap (λ (x : StateOf). x.files) e.1)
+ended_passes i done.Ok s z o e = passes_one i true s z o e
+ended_passes i done.Failed s z o e = passes_one i false s z o e
+
+-- ---- what the store keeps
+
+kept_one : (i : ℕ) (ok : Bool) (s z : StateOf) (o : OwnOf) → Kept s o → s.life.kind ≡ kind.Io → EndsOne i ok s z → Kept z o
+kept_one i ok s z o k io e = record {
+  own = ap (λ (x : StateOf). x.own) e.same ∙ k.own;
+  aside = ap (λ (x : StateOf). x.aside) e.same ∙ k.aside;
+  ready = λ r t. absurd (none_ready r t);
+  touching = λ r t. absurd (none_ready r t);
+  room = λ r t c. absurd (none_ready r t);
+  fresh = λ b l. ap (λ (f : ℕ → Bool). f b) (life_one i ok s z e).added ∙ k.fresh b l;
+}
+  where
+    none_ready : (r : Ready) → o.ready ≡ Some r → ⊥
+    none_ready r t = let bad : false ≡ true = sym (ap is_touch io) ∙ k.touching r t in cc
+
+pub ended_kept : (i : ℕ) (r : Done) (s z : StateOf) (o : OwnOf) → Kept s o → s.life.kind ≡ kind.Io → EndsAs i r s z → Kept z o
+ended_kept i done.None s z o k io e = subst (λ (x : StateOf). Kept x o) (sym e.1) k
+ended_kept i done.Ok s z o k io e = kept_one i true s z o k io e
+ended_kept i done.Failed s z o k io e = kept_one i false s z o k io e

@@ -1,0 +1,145 @@
+-- What the moves of an access that makes no copy leave of the life of the frames.
+use Rattle.std.proofs.Common.{◌≡◌, ℕ, zero, suc, ◌+◌, ◌-◌, Bool, true, false, List, [], ◌∷◌, Option, Some, None, refl, sym, ap, ◌∙◌, subst, arith, length-set, length}
+use Rattle.std.specs.Prelude.{not, is_some, slice_get}
+use Rattle.std.proofs.Math.Logic.{∥∥₁_elim}
+use Rattle.std.proofs.Props.{props}
+use Rattle.mm_types.specs.Machine.{limit_of}
+use Rattle.mm_types.specs.declared.frames.Backing.{Backing}
+use Rattle.mm_types.specs.declared.frames.Backing.TheVariants as backing
+use Rattle.mm_types.specs.declared.frames.Held.{Held}
+use Rattle.mm_types.specs.declared.frames.Held.TheVariants as held
+use Rattle.mm_types.specs.declared.moves.Move.{Move}
+use Rattle.mm_types.specs.declared.moves.Move.TheVariants as move
+use Rattle.mm_types.specs.declared.moves.Stored.TheVariants as stored
+use Rattle.mm_types.specs.declared.numbers.Frame.{Frame}
+use Rattle.mm_types.specs.declared.numbers.Key.{Key}
+use Rattle.mm_types.specs.declared.numbers.Place.{Place}
+use Rattle.mm_life.specs.declared.sets.ResidentSet.{ResidentSet}
+use Rattle.mm_life.specs.Frames.{record_at}
+use Rattle.mm_life.specs.Life.{FrameLife, with_resident, resident_by, is_live, is_dead}
+use Rattle.mm_life.specs.Effect.{after_move, after_unmap_at}
+use Rattle.mm_life.specs.Replay.{Replays}
+use Rattle.mm_laws.specs.Reached.{Reached}
+use Rattle.mm_laws.specs.FileBlocks.{block_held, block_in, block_of}
+use Rattle.mm_laws.proofs.Blocks.{paging_block}
+use Rattle.mm_laws.proofs.Deduced.{reached_sound, block_kept}
+use Rattle.mm_pages.specs.Accesses.{Aim, AccessMove}
+use Rattle.mm_pages.specs.Standing.{block_at, backed_by, in_backing}
+use Rattle.mm_pages.specs.Reports.{fetched}
+use Rattle.mm_walks.specs.Walks.{Walk, Through, walked}
+use Rattle.mm_moving.specs.Shown.{StateOf}
+use Rattle.mm_moving.specs.Holds.{Holds}
+use Rattle.mm_paged.specs.Pieces.{LifeKept}
+use Rattle.mm_paged.specs.Shown.{OwnOf, store_of, report_of}
+
+pub kept_same : (l : FrameLife) → LifeKept l l
+kept_same l = record { machine = refl; line = refl; kind = refl; paging = refl; keys = refl; pids = refl; added = refl }
+
+pub kept_then : (l m n : FrameLife) → LifeKept l m → LifeKept m n → LifeKept l n
+kept_then l m n p q = record { machine = q.machine ∙ p.machine; line = q.line ∙ p.line; kind = q.kind ∙ p.kind; paging = q.paging ∙ p.paging; keys = q.keys ∙ p.keys; pids = q.pids ∙ p.pids; added = q.added ∙ p.added }
+
+resident_length : (o : Option ResidentSet) (sets : List ResidentSet) (k : ℕ) (f : ℕ → ℕ) → length (resident_by o sets k f) ≡ length sets
+resident_length None sets k f = refl
+resident_length (Some s) sets k f = length-set sets k _
+
+with_length : (sets : List ResidentSet) (pid : ℕ) (f : ℕ → ℕ) → length (with_resident sets pid f) ≡ length sets
+with_length sets zero f = refl
+with_length sets (suc k) f = resident_length (slice_get sets k) sets k f
+
+pub kept_unmap : (l : FrameLife) (p : Place) (o : Option Frame) → LifeKept l (after_unmap_at o l p)
+kept_unmap l p None = kept_same l
+kept_unmap l p (Some f) = record { machine = refl; line = refl; kind = refl; paging = refl; keys = refl; pids = with_length l.sets p.pid.0 (λ n. n - 1); added = refl }
+
+kept_one : (a : Aim) (w : Walk) (m : Move) (ms : List Move) → a.need.copy ≡ None → AccessMove a w m ms → LifeKept w.life (after_move w.life m)
+kept_one a w (move.At n k) ms c h = absurd h
+kept_one a w (move.Add k None) ms c h = let bad : None ≡ Some k = sym c ∙ h in cc
+kept_one a w (move.Add k (Some b)) ms c h = absurd h
+kept_one a w (move.Drop k) ms c h = absurd h
+kept_one a w (move.Clear f) ms c h = record { machine = refl; line = refl; kind = refl; paging = refl; keys = refl; pids = refl; added = refl }
+kept_one a w (move.Steal f) ms c h = record { machine = refl; line = refl; kind = refl; paging = refl; keys = refl; pids = refl; added = refl }
+kept_one a w (move.Give f k) ms c h = record { machine = refl; line = refl; kind = refl; paging = refl; keys = refl; pids = refl; added = refl }
+kept_one a w (move.Read f k) ms c h = record { machine = refl; line = refl; kind = refl; paging = refl; keys = refl; pids = refl; added = refl }
+kept_one a w (move.Got f) ms c h = record { machine = refl; line = refl; kind = refl; paging = refl; keys = refl; pids = refl; added = refl }
+kept_one a w (move.Bad f) ms c h = record { machine = refl; line = refl; kind = refl; paging = refl; keys = refl; pids = refl; added = refl }
+kept_one a w (move.Map f p) ms c h = record { machine = refl; line = refl; kind = refl; paging = refl; keys = refl; pids = with_length w.life.sets p.pid.0 (λ n. n + 1); added = refl }
+kept_one a w (move.Unmap p) ms c h = kept_unmap w.life p (w.life.valid p)
+kept_one a w (move.Soil f) ms c h = record { machine = refl; line = refl; kind = refl; paging = refl; keys = refl; pids = refl; added = refl }
+kept_one a w (move.Write f (stored.Slot s)) ms c h = record { machine = refl; line = refl; kind = refl; paging = refl; keys = refl; pids = refl; added = refl }
+kept_one a w (move.Write f (stored.Block b)) ms c h = record { machine = refl; line = refl; kind = refl; paging = refl; keys = refl; pids = refl; added = refl }
+kept_one a w (move.Wrote f) ms c h = record { machine = refl; line = refl; kind = refl; paging = refl; keys = refl; pids = refl; added = refl }
+kept_one a w (move.Lost f) ms c h = record { machine = refl; line = refl; kind = refl; paging = refl; keys = refl; pids = refl; added = refl }
+
+pub kept_all : (a : Aim) (ms : List Move) (w : Walk) (m : FrameLife) → a.need.copy ≡ None → Through (AccessMove a) w ms → Replays ms w.life m → LifeKept w.life m
+kept_all a [] w m c h r = subst (λ (l : FrameLife). LifeKept w.life l) (sym r) (kept_same w.life)
+kept_all a (x ∷ xs) w m c h r = kept_then w.life (after_move w.life x) m (kept_one a w x xs c h.0) (kept_all a xs (walked w x) m c h.1 r.1)
+
+-- ---- blocks of keys
+
+same_block : (b : Backing) → block_at (in_backing b) ≡ block_of b
+same_block backing.None = refl
+same_block (backing.Slot s) = refl
+same_block (backing.Block b) = refl
+
+shown_block : (l : FrameLife) (h : Held) → block_at (backed_by l h) ≡ block_in l.frames h
+shown_block l (held.Frame f) = same_block (record_at l.frames f.0).backing
+shown_block l (held.Slot s) = refl
+shown_block l (held.Block b) = refl
+shown_block l held.Zero = refl
+shown_block l held.Dead = refl
+
+dead_block : (l : FrameLife) (h : Held) → not (is_dead h) ≡ false → block_in l.frames h ≡ None
+dead_block l (held.Frame f) e = cc
+dead_block l (held.Slot s) e = cc
+dead_block l (held.Block b) e = cc
+dead_block l held.Zero e = cc
+dead_block l held.Dead e = refl
+
+blocks_by : (l m : FrameLife) (ms : List Move) (k : Key) → Reached l → Reached m → Replays ms l m → m.paging k ≡ l.paging k → is_live m k ≡ is_live l k → (x y : Bool) → is_live l k ≡ x → l.paging k ≡ y → block_held m k ≡ block_held l k
+blocks_by l m ms k p q r pg lv true true e f = paging_block m (reached_sound m q) k (pg ∙ f) ∙ sym (paging_block l (reached_sound l p) k f)
+blocks_by l m ms k p q r pg lv true false e f = block_kept l m p ms r k (grind (arith, e, f))
+blocks_by l m ms k p q r pg lv false y e f = dead_block m (m.stands k) (lv ∙ e) ∙ sym (dead_block l (l.stands k) e)
+
+-- a key has the block that it had, where it lives as it did
+pub block_same : (s z : StateOf) (ms : List Move) → Holds s → Holds z → Replays ms s.life z.life → (k : Key) → z.life.paging k ≡ s.life.paging k → is_some (z.contents k) ≡ is_some (s.contents k)
+    → block_at (backed_by z.life (z.life.stands k)) ≡ block_at (backed_by s.life (s.life.stands k))
+block_same s z ms h g r k pg c =
+    shown_block z.life (z.life.stands k)
+    ∙ ∥∥₁_elim h.reached (hlevel props) (λ p. ∥∥₁_elim g.reached (hlevel props) (λ q.
+    blocks_by s.life z.life ms k p q r pg (g.live k ∙ c ∙ sym (h.live k)) (is_live s.life k) (s.life.paging k) refl refl))
+    ∙ sym (shown_block s.life (s.life.stands k))
+
+-- a page-file key has none, nor has one that is dead
+pub paging_has_none : (s : StateOf) (k : Key) → Holds s → s.life.paging k ≡ true → block_at (backed_by s.life (s.life.stands k)) ≡ None
+paging_has_none s k h e = shown_block s.life (s.life.stands k) ∙ ∥∥₁_elim h.reached (hlevel props) (λ r. paging_block s.life (reached_sound s.life r) k e)
+
+pub dead_has_none : (s : StateOf) (k : Key) → Holds s → s.contents k ≡ None → block_at (backed_by s.life (s.life.stands k)) ≡ None
+dead_has_none s k h e = shown_block s.life (s.life.stands k) ∙ dead_block s.life (s.life.stands k) (h.live k ∙ ap is_some e)
+
+pub blocks_kept : (s z : StateOf) (ms : List Move) → Holds s → Holds z → Replays ms s.life z.life → z.life.paging ≡ s.life.paging → z.contents ≡ s.contents → (k : Key) → block_at (backed_by z.life (z.life.stands k)) ≡ block_at (backed_by s.life (s.life.stands k))
+blocks_kept s z ms h g r pg c k = block_same s z ms h g r k (ap (λ (f : Key → Bool). f k) pg) (ap (λ (f : Key → Option (List ℕ)). is_some (f k)) c)
+
+-- ---- the store after it
+
+pub fetched_by : (s z : StateOf) (o u : OwnOf) → LifeKept s.life z.life → ((k : Key) → block_at (backed_by z.life (z.life.stands k)) ≡ block_at (backed_by s.life (s.life.stands k)))
+    → z.is_open ≡ s.is_open → z.areas ≡ s.areas → z.bound ≡ s.bound → u.extended ≡ o.extended → u.blocks_used ≡ o.blocks_used
+    → store_of z u ≡ record (fetched (store_of s o) (store_of z u)) { names = z.names }
+fetched_by s z o u k b opened areas bound ext used = λ i. record {
+  machine = k.machine i;
+  is_open = opened i;
+  areas = areas i;
+  bound = bound i;
+  names = z.names;
+  paging = k.paging i;
+  paging_keys = k.keys i;
+  room = limit_of (k.machine i);
+  block_of = λ key. b key i;
+  blocks_used = used i;
+  file_blocks = z.blocks;
+  line = k.line i;
+  kind = k.kind i;
+  last_pid = k.pids i;
+  ready = u.ready;
+  report = record (report_of z u) { extended = ext i };
+  paging_device = z.paging;
+  file_device = z.files;
+}

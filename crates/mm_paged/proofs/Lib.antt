@@ -1,0 +1,16 @@
+pub mod Doing
+pub mod Shows
+pub mod Taking
+pub mod Sought
+pub mod Bringing
+pub mod Placing
+pub mod Reading
+pub mod Keeping
+pub mod Serving
+pub mod Ending
+pub mod Records
+pub mod Writing
+pub mod Opening
+pub mod Unmoved
+pub mod LettingGo
+pub mod Completed

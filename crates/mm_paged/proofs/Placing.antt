@@ -1,0 +1,178 @@
+-- A page becomes valid at a place.
+use Rattle.std.proofs.Common.{◌≡◌, ℕ, ◌≤◌, Bool, true, false, [], ◌∷◌, Option, Some, None, refl, sym, ap, ◌∙◌, subst, arith}
+use Rattle.std.specs.Prelude.{not, is_none, is_some, ◌-◌, option_map, unwrap_or, if◌then◌else◌}
+use Rattle.std.proofs.Math.Logic.{∥∥₁_elim}
+use Rattle.std.proofs.Props.{props}
+use Rattle.mm_types.specs.declared.frames.Record.{Record}
+use Rattle.mm_types.specs.declared.frames.Held.{Held}
+use Rattle.mm_types.specs.declared.moves.Move.TheVariants as move
+use Rattle.mm_types.specs.declared.numbers.Frame.{Frame}
+use Rattle.mm_types.specs.declared.numbers.Key.{Key}
+use Rattle.mm_types.specs.declared.numbers.Pid.{Pid}
+use Rattle.mm_types.specs.declared.numbers.Place.{Place}
+use Rattle.mm_life.specs.declared.sets.ResidentSet.{ResidentSet}
+use Rattle.mm_life.specs.Frames.{record_at, is_read}
+use Rattle.mm_life.specs.Life.{FrameLife, changed, same_place, is_shared, is_dead, set_of, key_of_place}
+use Rattle.mm_life.specs.Legal.{IsLegal, touches, fits_place, is_below_max, is_at_max, owner_is}
+use Rattle.mm_life.specs.Effect.{after_move, after_unmap_at}
+use Rattle.mm_laws.specs.Places.{residents}
+use Rattle.mm_laws.proofs.Deduced.{reached_sound}
+use Rattle.mm_room.specs.Order.{IsNext, NoneFollows}
+use Rattle.mm_room.proofs.Going.{all_go, next_oldest, set_oldest}
+use Rattle.mm_room.proofs.Unmapping.{sized}
+use Rattle.mm_room.proofs.Writing.{full_legal}
+use Rattle.mm_pages.specs.Accesses.{Aim, FromFull}
+use Rattle.mm_walks.specs.Order.{IsOldest}
+use Rattle.mm_moving.specs.Shown.{StateOf, Made, MayMap, called, moved, names_after_map}
+use Rattle.mm_moving.specs.Holds.{Holds}
+use Rattle.mm_parts.specs.Holds.{HasSet}
+use Rattle.mm_parts.specs.Moves.{left_by}
+use Rattle.mm_paged.specs.Pieces.{Went, InFrame, Placed}
+use Rattle.mm_paged.proofs.Records.{mapped_quiet, unmap_requests}
+use Rattle.mm_moving.proofs.Doing.{does_one, does_two}
+
+own_test : (test : Key → Bool) (r : Record) (k : Key) → r.owner ≡ Some k → owner_is test r ≡ test k
+own_test test r k e = ap (λ (o : Option Key). unwrap_or (option_map test o) false) e
+
+pub map_legal : (k : Key) (f : Frame) (place : Place) (s : StateOf) → Holds s → InFrame k f s → fits_place place k ≡ true → s.life.valid place ≡ None → touches place.pid.0 s.life.kind ≡ true → is_below_max (set_of s.life place.pid.0) ≡ true → IsLegal (move.Map f place) s.life
+map_legal k f place s h i fits free touch below =
+    let own : owner_is (fits_place place) (record_at s.life.frames f.0) ≡ true = own_test (fits_place place) (record_at s.life.frames f.0) k (h.owner k f i.stands) ∙ fits in
+    let quiet = i.quiet in
+    let none : is_none (s.life.valid place) ≡ true = ap is_none free in
+    grind (arith, own, quiet, none, touch, below)
+
+dead_by : (b : Bool) → not b ≡ false → b ≡ true
+dead_by true e = refl
+dead_by false e = cc
+
+-- a key without bytes is dead
+pub dead_of : (k : Key) (s : StateOf) → Holds s → s.contents k ≡ None → is_dead (s.life.stands k) ≡ true
+dead_of k s h e = dead_by (is_dead (s.life.stands k)) (h.live k ∙ ap is_some e)
+
+pub may_map : (k : Key) (f : Frame) (place : Place) (s : StateOf) → Holds s → InFrame k f s → (is_shared k ≡ true → s.contents (key_of_place place) ≡ None) → MayMap s f place
+may_map k f place s h i alone = λ e. dead_of (key_of_place place) s h (alone (sym (own_test is_shared (record_at s.life.frames f.0) k (h.owner k f i.stands)) ∙ e))
+
+same_place-self : (p : Place) → same_place p p ≡ true
+same_place-self p = grind arith
+
+placed_same : (s z : StateOf) (place : Place) (n : Place → Option Key) → s.aside ≡ None → z ≡ record (moved s z) { names = n; aside = left_by s.aside place } → z ≡ record (called s z) { names = z.names }
+placed_same s z place n a e =
+    e ∙ ap (λ (x : Option Place). record (moved s z) { names = n; aside = x }) (ap (λ (x : Option Place). left_by x place) a ∙ sym a)
+    ∙ ap (λ (x : Place → Option Key). record (moved s z) { names = x }) (sym (ap (λ (x : StateOf). x.names) e))
+    ∙ ap (λ (x : StateOf). record (moved s z) { names = z.names; paging = x.paging; files = x.files; slots = x.slots; blocks = x.blocks }) (sym flat)
+  where
+    flat : record z { life = s.life; log = s.log; told = s.told; ages = s.ages; waits = s.waits; names = s.names; aside = s.aside } ≡ s
+    flat = ap (λ (x : StateOf). record x { life = s.life; log = s.log; told = s.told; ages = s.ages; waits = s.waits; names = s.names; aside = s.aside }) e
+
+pub placed_by : (k : Key) (f : Frame) (place : Place) (s z : StateOf) → Holds s → InFrame k f s → s.aside ≡ None → Made (move.Map f place) s z → z ≡ record (moved s z) { names = names_after_map s f place; aside = left_by s.aside place } → Placed k f place s z
+placed_by k f place s z h i a m e = record {
+  valid = ap (λ (l : FrameLife). l.valid place) m.life ∙ ap (λ (b : Bool). if b then Some f else s.life.valid place) (same_place-self place);
+  names = ap (λ (x : StateOf). x.names) e ∙ ap (λ (o : Option Key). changed same_place s.names place o) (h.owner k f i.stands);
+  kind = ap (λ (l : FrameLife). l.kind) m.life;
+  frame = record { stands = ap (λ (l : FrameLife). l.stands k) m.life ∙ i.stands; quiet = mapped_quiet s.life z.life f place m.life i.quiet };
+  told = m.told;
+  same = placed_same s z place (names_after_map s f place) a e;
+}
+
+-- ---- the piece
+
+pub went_map : (a : Aim) (f : Frame) (place : Place) (s z : StateOf) → a.place ≡ place → Made (move.Map f place) s z → Went a 0 s z
+went_map a f place s z e m = record {
+  moves = move.Map f place ∷ [];
+  does = does_one (move.Map f place) s z m;
+  each = (sym e, tt);
+  fresh = refl;
+  few_reads = omega arith;
+  few_writes = omega arith;
+}
+
+pub went_unmap_map : (a : Aim) (f : Frame) (place p : Place) (s y z : StateOf) → a.place ≡ place → p.pid ≡ place.pid → is_at_max (set_of s.life place.pid.0) ≡ true → IsOldest s.life s.ages None p → Made (move.Unmap p) s y → Made (move.Map f place) y z → Went a 0 s z
+went_unmap_map a f place p s y z e q full old u m = record {
+  moves = move.Unmap p ∷ move.Map f place ∷ [];
+  does = does_two (move.Unmap p) (move.Map f place) s y z u m;
+  each = (FromFull (q ∙ ap (λ (x : Place). x.pid) (sym e)) (ap (λ (x : Pid). is_at_max (set_of s.life x.0)) q ∙ full) old (f, ap (λ (x : Place). move.Map f x) (sym e)), (sym e, tt));
+  fresh = refl;
+  few_reads = omega arith;
+  few_writes = omega arith;
+}
+
+-- ---- sets
+
+below_of : (o : Option ResidentSet) (s : ResidentSet) → o ≡ Some s → s.resident ≤ s.max → is_at_max o ≡ false → is_below_max o ≡ true
+below_of None s e w h = cc
+below_of (Some t) s e w h = let r = ap (λ (x : Option ResidentSet). resident_of x) e in let m = ap (λ (x : Option ResidentSet). max_of x) e in grind (arith, r, m, w, h)
+  where
+    resident_of : Option ResidentSet → ℕ
+    resident_of None = 0
+    resident_of (Some t) = t.resident
+
+    max_of : Option ResidentSet → ℕ
+    max_of None = 0
+    max_of (Some t) = t.max
+
+pub not_full : (l : FrameLife) (pid : ℕ) → HasSet l pid → is_at_max (set_of l pid) ≡ false → is_below_max (set_of l pid) ≡ true
+not_full l pid h e = below_of (set_of l pid) h.set h.found h.within e
+
+-- ---- the oldest page of a full set
+
+resident_full : (t : ResidentSet) → 1 ≤ t.max → is_at_max (Some t) ≡ true → 1 ≤ t.resident
+resident_full t m e = grind (arith, m, e)
+
+full_some : (l : FrameLife) (pid : ℕ) → HasSet l pid → is_at_max (set_of l pid) ≡ true → 1 ≤ residents (set_of l pid)
+full_some l pid h e =
+    let some = resident_full h.set h.some (ap is_at_max (sym h.found) ∙ e) in
+    subst (λ (o : Option ResidentSet). 1 ≤ residents o) (sym h.found) some
+
+-- a full set has a page
+pub some_page : (s : StateOf) (pid : ℕ) → Holds s → HasSet s.life pid → is_at_max (set_of s.life pid) ≡ true → NoneFollows s.life s.ages pid None → ⊥
+some_page s pid h t full none = ∥∥₁_elim h.reached (hlevel props) (λ r.
+    let old = set_oldest s.life (reached_sound s.life r) s.ages pid (full_some s.life pid t full) in
+    none old.0 old.1.0 (sym (all_go s.life old.0) ∙ old.1.1.goes) tt)
+
+pub full_oldest : (s : StateOf) (p : Place) → IsNext s.life s.ages None p → IsOldest s.life s.ages None p
+full_oldest s p h = next_oldest s.life s.ages None None p (λ q e g. tt) h (all_go s.life p ∙ h.valid)
+
+some_frame : {A : Type 0} (o : Option A) → is_some o ≡ true → (f : A) × (o ≡ Some f)
+some_frame None e = cc
+some_frame (Some f) e = (f, refl)
+
+pub full_unmap : (l : FrameLife) (p : Place) → is_some (l.valid p) ≡ true → touches p.pid.0 l.kind ≡ true → is_at_max (set_of l p.pid.0) ≡ true → IsLegal (move.Unmap p) l
+full_unmap l p v t full = let f = some_frame (l.valid p) v in full_legal l p f.0 f.1 t full
+
+below_fewer : (t : ResidentSet) → 1 ≤ t.max → is_at_max (Some t) ≡ true → is_below_max (Some (record t { resident = t.resident - 1 })) ≡ true
+below_fewer t m e = grind (arith, m, e)
+
+-- it has room once a page has gone
+pub below_then : (l m : FrameLife) (p : Place) → HasSet l p.pid.0 → is_some (l.valid p) ≡ true → is_at_max (set_of l p.pid.0) ≡ true → m ≡ after_move l (move.Unmap p) → is_below_max (set_of m p.pid.0) ≡ true
+below_then l m p h v full e =
+    let f = some_frame (l.valid p) v in
+    ap (λ (x : FrameLife). is_below_max (set_of x p.pid.0)) e ∙ ap is_below_max (sized l p f.0 h.set f.1 h.found) ∙ below_fewer h.set h.some (ap is_at_max (sym h.found) ∙ full)
+
+pub unmapped_stands : (l : FrameLife) (p : Place) (o : Option Frame) → (after_unmap_at o l p).stands ≡ l.stands
+unmapped_stands l p None = refl
+unmapped_stands l p (Some f) = refl
+
+-- a page stays in its frame where a place is valid no more
+pub in_frame_then : (k : Key) (f : Frame) (s y : StateOf) (p : Place) → InFrame k f s → y.life ≡ after_move s.life (move.Unmap p) → InFrame k f y
+in_frame_then k f s y p i e = record {
+  stands = ap (λ (x : FrameLife). x.stands k) e ∙ ap (λ (g : Key → Held). g k) (unmapped_stands s.life p (s.life.valid p)) ∙ i.stands;
+  quiet = ap is_read (unmap_requests s.life y.life p f.0 e) ∙ i.quiet;
+}
+
+pub unmapped_still : (l : FrameLife) (p q : Place) (o : Option Frame) → l.valid q ≡ None → (after_unmap_at o l p).valid q ≡ None
+unmapped_still l p q None e = e
+unmapped_still l p q (Some f) e = at (same_place q p)
+  where
+    at : (b : Bool) → (if b then None else l.valid q) ≡ None
+    at true = refl
+    at false = e
+
+pub free_then : (s y : StateOf) (p q : Place) → s.life.valid q ≡ None → y.life ≡ after_move s.life (move.Unmap p) → y.life.valid q ≡ None
+free_then s y p q v e = ap (λ (x : FrameLife). x.valid q) e ∙ unmapped_still s.life p q (s.life.valid p) v
+
+unmapped_kind : (l : FrameLife) (p : Place) (o : Option Frame) → (after_unmap_at o l p).kind ≡ l.kind
+unmapped_kind l p None = refl
+unmapped_kind l p (Some f) = refl
+
+pub kind_then : (s y : StateOf) (p : Place) → y.life ≡ after_move s.life (move.Unmap p) → y.life.kind ≡ s.life.kind
+kind_then s y p e = ap (λ (x : FrameLife). x.kind) e ∙ unmapped_kind s.life p (s.life.valid p)

@@ -1,0 +1,193 @@
+-- How an access ends, by the report, and what it did.
+use Rattle.std.proofs.Common.{◌≡◌, ℕ, ◌≤◌, Bool, true, false, List, [], ◌∷◌, Option, Some, None, refl, sym, ap, ◌∙◌, subst, arith, inl, inr, ◌⊎◌}
+use Rattle.std.specs.Prelude.{not, is_some, length, ◌&&◌, ◌||◌, nat_lt, ◌==◌, option_map, unwrap_or, if◌then◌else◌, Ok, Err}
+use Rattle.mm_types.specs.declared.faults.PageFault.{PageFault}
+use Rattle.mm_types.specs.declared.faults.PageFault.TheVariants as fault
+use Rattle.mm_types.specs.declared.frames.Held.{Held}
+use Rattle.mm_types.specs.declared.frames.Held.TheVariants as held
+use Rattle.mm_types.specs.declared.numbers.Frame.{Frame}
+use Rattle.mm_types.specs.declared.numbers.Key.{Key}
+use Rattle.mm_types.specs.declared.numbers.Key.TheVariants as key
+use Rattle.mm_types.specs.declared.numbers.Place.{Place}
+use Rattle.mm_life.specs.Frames.{record_at, is_read, is_empty}
+use Rattle.mm_life.specs.Life.{FrameLife, changed, same_place}
+use Rattle.mm_world.specs.Failure.{same_key, has_frame, still_needs_frame, read_failed, search_failed}
+use Rattle.mm_world.specs.Report.{is_short as report_is_short, Report, Tally, BeingRead, InFrame}
+use Rattle.mm_pages.specs.Accesses.{Aim, Touches}
+use Rattle.mm_pages.specs.Conditions.{touch, IsReady}
+use Rattle.mm_pages.specs.Reports.{Ends, IsBegun}
+use Rattle.mm_pages.specs.Shortage.{is_framed}
+use Rattle.mm_pages.specs.Standing.{where_of, framed_where}
+use Rattle.mm_pages.specs.Passing.{Passes}
+use Rattle.mm_moving.specs.Shown.{StateOf}
+use Rattle.mm_moving.specs.Holds.{Holds}
+use Rattle.mm_paged.specs.Pieces.{Fails, Went, Stuck, Begins}
+use Rattle.mm_paged.specs.Shown.{OwnOf, report_of, store_of, behind_of}
+use Rattle.mm_moving.proofs.Doing.{does_nothing}
+use Rattle.mm_paged.proofs.Shows.{passes_of}
+
+framed_has : (l : FrameLife) (h : Held) → is_framed h ≡ true → has_frame (where_of l h) ≡ true
+framed_has l (held.Frame f) e = at (is_read (record_at l.frames f.0).request) refl
+  where
+    at : (b : Bool) → is_read (record_at l.frames f.0).request ≡ b → has_frame (Some (framed_where (record_at l.frames f.0))) ≡ true
+    at true q = ap (λ (c : Bool). has_frame (Some (if c then BeingRead else InFrame))) q
+    at false q = ap (λ (c : Bool). has_frame (Some (if c then BeingRead else InFrame))) q
+framed_has l (held.Slot t) e = cc
+framed_has l (held.Block b) e = cc
+framed_has l held.Zero e = cc
+framed_has l held.Dead e = cc
+
+unframed_has : (l : FrameLife) (h : Held) → is_framed h ≡ false → has_frame (where_of l h) ≡ false
+unframed_has l (held.Frame f) e = cc
+unframed_has l (held.Slot t) e = refl
+unframed_has l (held.Block b) e = refl
+unframed_has l held.Zero e = refl
+unframed_has l held.Dead e = refl
+
+same_again : (k : Key) → same_key k k ≡ true
+same_again (key.Private p v) = grind arith
+same_again (key.Shared a i) = grind arith
+
+nothing_read : (k : Key) (r : Report) → r.last_failed_read ≡ None → read_failed (touch k) r ≡ false
+nothing_read k r e = ap (λ (o : Option Key). unwrap_or (option_map (same_key k) o) false) e
+
+fails_not : (a b still short : Bool) → still ≡ false → (a && b && still && short) ≡ false
+fails_not a b still short e = grind (arith, e)
+
+-- of an access that was had
+pub had_ends : (k : Key) (z : StateOf) (o : OwnOf) → z.told.last_failed_read ≡ None → is_framed (z.life.stands k) ≡ true → Ends {T = Unit {0}} (touch k) (report_of z o) (Ok tt)
+had_ends k z o e f =
+    let still : still_needs_frame (touch k) (report_of z o) ≡ false = ap (λ (b : Bool). not b || false) (framed_has z.life (z.life.stands k) f) in
+    record {
+      ok = ap (λ (b : Bool). b || search_failed (touch k) (report_of z o)) (nothing_read k (report_of z o) e) ∙ fails_not (nat_lt 0 z.told.search_writes.failed) (z.told.search_writes.succeeded == 0) (still_needs_frame (touch k) (report_of z o)) (report_is_short (report_of z o)) still;
+      had = still;
+      read = λ h. cc;
+      no_frame = λ h. cc;
+    }
+
+empty_counts : (xs : List ℕ) → is_empty xs ≡ true → (length xs == 0) ≡ true
+empty_counts [] e = refl
+empty_counts (x ∷ xs) e = cc
+
+short_counts : (a b c : Bool) (x y z : List ℕ) → (is_empty x && is_empty y && is_empty z) ≡ true → ((length x == 0) && (length y == 0) && (length z == 0)) ≡ true
+short_counts a b c [] [] [] h = refl
+short_counts a b c [] [] (z ∷ zs) h = cc
+short_counts a b c [] (y ∷ ys) z h = cc
+short_counts a b c (x ∷ xs) y z h = cc
+
+search_failed_by : (f s : ℕ) (still short : Bool) → 1 ≤ f → s ≡ 0 → still ≡ true → short ≡ true → (nat_lt 0 f && (s == 0) && still && short) ≡ true
+search_failed_by f s still short a b c d = grind (arith, a, b, c, d)
+
+-- of an access that failed
+pub failed_ends : (why : PageFault) (k : Key) (s z : StateOf) (o u : OwnOf) → Fails why k s z → IsBegun (report_of s o) → Ends {T = Unit {0}} (touch k) (report_of z u) (Err why)
+failed_ends fault.Read k s z o u h b = record {
+  ok = tt;
+  had = tt;
+  read = λ e. ap (λ (x : Option Key). unwrap_or (option_map (same_key k) x) false) (h.read refl) ∙ same_again k;
+  no_frame = λ e. cc;
+}
+failed_ends fault.NoFrame k s z o u h b =
+    let still : still_needs_frame (touch k) (report_of z u) ≡ true = ap (λ (x : Bool). not x || false) (unframed_has z.life (z.life.stands k) (h.unframed refl)) in
+    record {
+      ok = tt;
+      had = tt;
+      read = λ e. cc;
+      no_frame = λ e. (
+        nothing_read k (report_of z u) (h.kept refl ∙ b.no_failed_read),
+        search_failed_by z.told.search_writes.failed z.told.search_writes.succeeded _ _ (h.failed refl) (h.none refl (ap (λ (t : Tally). t.succeeded) b.no_failed_write)) still
+            (short_counts true true true z.life.frames.zeroed z.life.frames.free z.life.frames.standby (h.short refl)),
+      );
+    }
+
+-- ---- an access of a page that is valid
+
+pub valid_passes : (w : Bool) (k : Key) (place : Place) (s z : StateOf) (o : OwnOf) (c : Key → Option (List ℕ)) → is_some (s.life.valid place) ≡ true → z ≡ record s { ages = changed same_place s.ages place 0; contents = c }
+    → Passes (Touches {T = Unit {0}} (record { place = place; need = touch k; writes = w; start = s.life }) (IsReady (store_of s o) place (touch k)) (Ok tt)) (store_of s o) (store_of z o) (behind_of s) (behind_of z)
+valid_passes w k place s z o c v e = subst (λ (x : StateOf). Passes (Touches {T = Unit {0}} (record { place = place; need = touch k; writes = w; start = s.life }) (IsReady (store_of s o) place (touch k)) (Ok tt)) (store_of s o) (store_of x o) (behind_of s) (behind_of x)) (sym e)
+    (record {
+      moves = [];
+      in_range = tt;
+      grew = (does_nothing s).grew;
+      replays = refl;
+      that = record {
+        ends = record { made = record { each = tt; one_read = omega arith; few_writes = omega arith }; waits = refl; valid = v; ages = refl };
+        calm = λ r. tt;
+      };
+      report = refl;
+      paging_calls = [];
+      paging = refl;
+      paging_are = refl;
+      file_calls = [];
+      files = refl;
+      files_are = refl;
+    })
+
+pub read_valid_passes : (k : Key) (place : Place) (s z : StateOf) (o : OwnOf) → is_some (s.life.valid place) ≡ true → z ≡ record s { ages = changed same_place s.ages place 0 }
+    → Passes (Touches {T = Unit {0}} (record { place = place; need = touch k; writes = false; start = s.life }) (IsReady (store_of s o) place (touch k)) (Ok tt)) (store_of s o) (store_of z o) (behind_of s) (behind_of z)
+read_valid_passes k place s z o v e = valid_passes false k place s z o s.contents v e
+
+-- ---- a page that is valid has a frame
+
+pub named_by : (n : Option Key) (k : Key) → is_some n ≡ true → (n ≡ None) ⊎ (n ≡ Some k) → n ≡ Some k
+named_by n k h (inl e) = let bad : false ≡ true = sym (ap is_some e) ∙ h in cc
+named_by n k h (inr e) = e
+
+pub framed_at : (k : Key) (place : Place) (s : StateOf) → Holds s → (o : Option Frame) → s.life.valid place ≡ o → is_some o ≡ true → (s.names place ≡ None) ⊎ (s.names place ≡ Some k) → is_framed (s.life.stands k) ≡ true
+framed_at k place s h None e v n = cc
+framed_at k place s h (Some f) e v n = ap is_framed (h.of_frame k f (h.named place f e ∙ named_by (s.names place) k (h.owned place f e) n))
+
+pub valid_ends : (k : Key) (place : Place) (s z : StateOf) (o : OwnOf) → Holds s → is_some (s.life.valid place) ≡ true → (s.names place ≡ None) ⊎ (s.names place ≡ Some k)
+    → z ≡ record s { ages = changed same_place s.ages place 0 } → IsBegun (report_of s o) → Ends {T = Unit {0}} (touch k) (report_of z o) (Ok tt)
+valid_ends k place s z o h v n e b = had_ends k z o (ap (λ (x : StateOf). x.told.last_failed_read) e ∙ b.no_failed_read)
+    (ap (λ (x : StateOf). is_framed (x.life.stands k)) e ∙ framed_at k place s h (s.life.valid place) refl v n)
+
+-- ---- an access that faulted
+
+pub went_passes : (w : Bool) (k : Key) (place : Place) (s y z : StateOf) (o u : OwnOf) (c : Key → Option (List ℕ)) (IsNow : Type 0) → s.life.valid place ≡ None → (IsNow → is_some (s.life.valid place) ≡ true)
+    → ((a : Aim) → a.place ≡ place → a.writes ≡ w → Begins a k s → Went a 1 s y) → is_some (y.life.valid place) ≡ true → z ≡ record y { ages = changed same_place y.ages place 0; contents = c }
+    → Passes (Touches {T = Unit {0}} (record { place = place; need = touch k; writes = w; start = s.life }) IsNow (Ok tt)) (store_of s o) (store_of z u) (behind_of s) (behind_of z)
+went_passes w k place s y z o u c IsNow none now went v e =
+    let p : Went (record { place = place; need = touch k; writes = w; start = s.life }) 1 s y = went (record { place = place; need = touch k; writes = w; start = s.life }) refl refl (record { needs = refl; from = refl; at = none }) in
+    subst (λ (x : StateOf). Passes (Touches {T = Unit {0}} (record { place = place; need = touch k; writes = w; start = s.life }) IsNow (Ok tt)) (store_of s o) (store_of x u) (behind_of s) (behind_of x)) (sym e)
+    (record {
+      moves = p.moves;
+      in_range = p.does.in_range;
+      grew = p.does.grew;
+      replays = p.does.replays;
+      that = record {
+        ends = record {
+          made = record { each = p.each; one_read = p.few_reads; few_writes = p.few_writes };
+          waits = p.does.waits;
+          valid = v;
+          ages = ap (λ (g : Place → ℕ). changed same_place g place 0) p.does.ages;
+        };
+        calm = λ r. let bad : false ≡ true = sym (ap is_some none) ∙ now r in cc;
+      };
+      report = p.does.told;
+      paging_calls = p.does.paging_calls;
+      paging = p.does.paging;
+      paging_are = p.does.paging_are;
+      file_calls = p.does.file_calls;
+      files = p.does.files;
+      files_are = p.does.files_are;
+    })
+
+pub read_went_passes : (k : Key) (place : Place) (s y z : StateOf) (o u : OwnOf) (IsNow : Type 0) → s.life.valid place ≡ None → (IsNow → is_some (s.life.valid place) ≡ true)
+    → ((a : Aim) → a.place ≡ place → Begins a k s → Went a 1 s y) → is_some (y.life.valid place) ≡ true → z ≡ record y { ages = changed same_place y.ages place 0 }
+    → Passes (Touches {T = Unit {0}} (record { place = place; need = touch k; writes = false; start = s.life }) IsNow (Ok tt)) (store_of s o) (store_of z u) (behind_of s) (behind_of z)
+read_went_passes k place s y z o u IsNow none now went v e = went_passes false k place s y z o u y.contents IsNow none now (λ a p w b. went a p b) v e
+
+pub stuck_passes : (w : Bool) (why : PageFault) (k : Key) (place : Place) (s z : StateOf) (o u : OwnOf) (IsNow : Type 0) → s.life.valid place ≡ None → (IsNow → is_some (s.life.valid place) ≡ true)
+    → ((a : Aim) → Begins a k s → Stuck a why 1 s z)
+    → Passes (Touches {T = Unit {0}} (record { place = place; need = touch k; writes = w; start = s.life }) IsNow (Err why)) (store_of s o) (store_of z u) (behind_of s) (behind_of z)
+stuck_passes w why k place s z o u IsNow none now stuck =
+    let p = stuck (record { place = place; need = touch k; writes = w; start = s.life }) (record { needs = refl; from = refl; at = none }) in
+    passes_of _ p.moves s z o u p.does (record {
+      ends = record {
+        made = record { each = p.each; one_read = p.few_reads; few_writes = p.few_writes };
+        waits = p.does.waits;
+        ages = p.does.ages;
+        starved = p.starved;
+      };
+      calm = λ r. let bad : false ≡ true = sym (ap is_some none) ∙ now r in cc;
+    })

@@ -1,0 +1,101 @@
+-- What is told of moves, of the store's report and of what stands behind it.
+use Rattle.std.proofs.Common.{◌≡◌, ℕ, ◌+◌, Bool, List, [], ◌∷◌, ◌++◌, None, refl, sym, ap, ◌∙◌, subst, arith}
+use Rattle.std.specs.Prelude.{length}
+use Rattle.mm_types.specs.declared.moves.Move.{Move}
+use Rattle.mm_types.specs.declared.moves.Move.TheVariants as move
+use Rattle.mm_types.specs.declared.moves.LineKind.{LineKind}
+use Rattle.mm_types.specs.declared.moves.LineKind.TheVariants as kind
+use Rattle.mm_types.specs.declared.numbers.Key.{Key}
+use Rattle.mm_types.specs.declared.numbers.Key.TheVariants.{Private, Shared}
+use Rattle.mm_life.specs.Life.{FrameLife, same_key}
+use Rattle.mm_life.specs.Logs.{Log}
+use Rattle.mm_life.specs.Effect.{after_move}
+use Rattle.mm_world.specs.Failure.{same_key as same_in_world}
+use Rattle.mm_walks.specs.Waits.{Waiting, waits_after, ages_after}
+use Rattle.mm_types.specs.declared.numbers.Place.{Place}
+use Rattle.mm_pages.specs.Behind.{Behind}
+use Rattle.mm_pages.specs.Conditions.{IsLineKind, pid_after}
+use Rattle.mm_pages.specs.Housekeeping.{OneMove, Turns, Makes}
+use Rattle.mm_pages.specs.Passing.{Passes}
+use Rattle.mm_pages.specs.Reports.{begun}
+use Rattle.mm_pages.specs.Store.{changed}
+use Rattle.mm_pages.specs.Told.{Told, none_told}
+use Rattle.mm_moving.specs.Shown.{StateOf, Made, moved}
+use Rattle.mm_moving.specs.Doing.{Does}
+use Rattle.mm_paged.specs.Shown.{OwnOf, store_of, behind_of}
+use Rattle.mm_moving.proofs.Doing.{does_one}
+
+pub passes_of : (That : Behind → List Move → Behind → Type 0) (moves : List Move) (s z : StateOf) (o u : OwnOf) → Does moves s z → That (behind_of s) moves (behind_of z) → Passes That (store_of s o) (store_of z u) (behind_of s) (behind_of z)
+passes_of That moves s z o u d t = record {
+  moves = moves;
+  in_range = d.in_range;
+  grew = d.grew;
+  replays = d.replays;
+  that = t;
+  report = d.told;
+  paging_calls = d.paging_calls;
+  paging = d.paging;
+  paging_are = d.paging_are;
+  file_calls = d.file_calls;
+  files = d.files;
+  files_are = d.files_are;
+}
+
+-- one move that the store's call is
+pub one_passes : (x : Move) (s z : StateOf) (o u : OwnOf) → Made x s z → z.slots ≡ s.slots → Passes (OneMove x) (store_of s o) (store_of z u) (behind_of s) (behind_of z)
+one_passes x s z o u m e = passes_of (OneMove x) (x ∷ []) s z o u (does_one x s z m) (record { one = refl; moved = record { waits = m.waits; ages = m.ages }; slots = e })
+
+pub adds_passes : (k : Key) (s z : StateOf) (o u : OwnOf) → Made (move.Add k None) s z → z.slots ≡ s.slots → Passes (Turns Makes) (store_of s o) (store_of z u) (behind_of s) (behind_of z)
+adds_passes k s z o u m e = passes_of (Turns Makes) (move.Add k None ∷ []) s z o u (does_one (move.Add k None) s z m) (record { all = (refl, tt); order = tt; moved = record { waits = m.waits; ages = m.ages }; slots = e })
+
+-- ---- keys
+
+same_keys : (k q : Key) → same_key k q ≡ same_in_world k q
+same_keys (Private p v) (Private q w) = refl
+same_keys (Private p v) (Shared a i) = refl
+same_keys (Shared a i) (Private p v) = refl
+same_keys (Shared a i) (Shared b j) = refl
+
+pub changed_keys : {V : Type 0} (f : Key → V) (k : Key) (v : V) → changed same_key f k v ≡ changed same_in_world f k v
+changed_keys {V} f k v = λ i. λ q. at q i
+  where
+    at : (q : Key) → changed same_key f k v q ≡ changed same_in_world f k v q
+    at q = ap (λ (same : Key → Key → Bool). changed same f k v q) (λ i. λ a. λ b. same_keys a b i)
+
+-- ---- a line
+
+length-snoc : {A : Type 0} (xs : List A) (x : A) → length (xs ++ x ∷ []) ≡ length xs + 1
+length-snoc [] x = refl
+length-snoc (y ∷ xs) x = grind (arith, length-snoc xs x)
+
+abbrev line_at : StateOf → Log → ℕ → LineKind → StateOf
+line_at s log n k = record s { life = after_move s.life (move.At n k); log = log; told = none_told; ages = ages_after (move.At n k) s.ages; waits = waits_after (move.At n k) s.waits }
+
+abbrev begun_own : OwnOf → OwnOf
+begun_own o = record { extended = None; ready = None; blocks_used = o.blocks_used }
+
+abbrev IsBegunAs : StateOf → OwnOf → ℕ → LineKind → StateOf → Type 0
+IsBegunAs s o n k z = store_of z (begun_own o) ≡ record (store_of s o) { line = n; kind = k; last_pid = pid_after (store_of s o).last_pid k; ready = None; report = begun (store_of s o).report }
+
+line_begun : (s : StateOf) (o : OwnOf) (log : Log) (n : ℕ) (k : LineKind) → IsLineKind (store_of s o) k → IsBegunAs s o n k (line_at s log n k)
+line_begun s o log n (kind.Machine a b c d) h = absurd h
+line_begun s o log n (kind.Process pid min max) h = let e = h.next in ap (λ (p : ℕ). record (store_of s o) { line = n; kind = kind.Process pid min max; last_pid = p; ready = None; report = begun (store_of s o).report }) (length-snoc _ _ ∙ sym e)
+line_begun s o log n (kind.Unbind pid) h = refl
+line_begun s o log n (kind.Access pid) h = refl
+line_begun s o log n (kind.Thread pid) h = refl
+line_begun s o log n (kind.Trim pid) h = refl
+line_begun s o log n kind.Writer h = refl
+line_begun s o log n kind.Zeroer h = refl
+line_begun s o log n kind.Io h = refl
+line_begun s o log n kind.Call h = refl
+line_begun s o log n (kind.Grow count) h = absurd h
+
+pub line_store : (s z : StateOf) (o : OwnOf) (n : ℕ) (k : LineKind) → IsLineKind (store_of s o) k → Made (move.At n k) s z → z ≡ moved s z → IsBegunAs s o n k z
+line_store s z o n k h m e = subst (λ (x : StateOf). IsBegunAs s o n k x) (sym whole) (line_begun s o z.log n k h)
+  where
+    whole : z ≡ line_at s z.log n k
+    whole = e
+        ∙ ap (λ (l : FrameLife). record s { life = l; log = z.log; told = z.told; ages = z.ages; waits = z.waits }) m.life
+        ∙ ap (λ (t : Told). record s { life = after_move s.life (move.At n k); log = z.log; told = t; ages = z.ages; waits = z.waits }) m.told
+        ∙ ap (λ (t : Place → ℕ). record s { life = after_move s.life (move.At n k); log = z.log; told = none_told; ages = t; waits = z.waits }) m.ages
+        ∙ ap (λ (t : ℕ → Waiting). record s { life = after_move s.life (move.At n k); log = z.log; told = none_told; ages = ages_after (move.At n k) s.ages; waits = t }) m.waits

@@ -1,0 +1,15 @@
+use Rattle.std.proofs.Common.{refl}
+use Rattle.mm_paged.proofs.Placing.{went_unmap_map, full_oldest, in_frame_then, below_then, some_page}
+use Rattle.mm_paged.proofs.faults.put_full.Goals as goal
+
+pub returns-clause-went : goal.returns-clause-went
+returns-clause-went g c a e = went_unmap_map a c.args.f c.args.place (record { pid = c.args.place.pid; vpn = c.in-Some.vpn }) _ _ _ e refl c.requires.full (full_oldest (g.T.Moving.shown c.args.state.now) (record { pid = c.args.place.pid; vpn = c.in-Some.vpn }) c.in-Some.ensures.next) c.unmap.ensures.made c.put_below.ensures.made
+
+pub put_below-requires-clause-frame : goal.put_below-requires-clause-frame
+put_below-requires-clause-frame g c = in_frame_then c.args.key c.args.f _ _ (record { pid = c.args.place.pid; vpn = c.in-Some.vpn }) c.requires.frame c.unmap.ensures.made.life
+
+pub put_below-requires-clause-below : goal.put_below-requires-clause-below
+put_below-requires-clause-below g c = below_then _ _ (record { pid = c.args.place.pid; vpn = c.in-Some.vpn }) c.requires.set c.in-Some.ensures.next.valid c.requires.full c.unmap.ensures.made.life
+
+pub unreachable-requires : goal.unreachable-requires
+unreachable-requires g c = some_page _ c.args.place.pid.0 c.sound.ensures.holds c.requires.set c.requires.full c.in-None.ensures.next

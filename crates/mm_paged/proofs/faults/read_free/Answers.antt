@@ -1,0 +1,11 @@
+use Rattle.mm_paged.proofs.Taking.{read_legal, read_in_frame, read_fails}
+use Rattle.mm_paged.proofs.faults.read_free.Goals as goal
+
+pub end_read-requires : goal.end_read-requires
+end_read-requires g c = record { legal = read_legal c.args.key _ _ _ c.sound.ensures.holds c.start_read-f.ensures.made c.requires.access }
+
+pub returns-then-end_read-clause-frame : goal.returns-then-end_read-clause-frame
+returns-then-end_read-clause-frame g c = read_in_frame c.args.key _ _ _ _ c.start_read-f.ensures.made c.if-end_read.ensures.made
+
+pub returns-else-end_read-clause-fails : goal.returns-else-end_read-clause-fails
+returns-else-end_read-clause-fails g c = read_fails c.args.key _ _ _ _ c.sound.ensures.holds c.requires.own c.start_read-f.ensures.made c.start_read-f.ensures.rest c.if-end_read.ensures.made c.if-end_read.ensures.rest

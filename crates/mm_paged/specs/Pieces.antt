@@ -1,0 +1,204 @@
+-- Pieces of an access: moves that end where a search could begin, and those with which it fails.
+use Rattle.std.specs.Prelude.{length, ◌≡◌, ◌≤◌, ◌+◌, ◌⊎◌, ℕ, Bool, true, false, List, [], count_by, Option, Some, None, ◌<◌, ◌-◌, slice_get}
+use Rattle.mm_types.specs.declared.faults.PageFault.{PageFault}
+use Rattle.mm_types.specs.declared.faults.PageFault.TheVariants as fault
+use Rattle.mm_types.specs.declared.frames.Held.TheVariants as held
+use Rattle.mm_types.specs.declared.moves.LineKind.TheVariants as kind
+use Rattle.mm_types.specs.declared.moves.Move.{Move}
+use Rattle.mm_types.specs.declared.moves.Move.TheVariants as move
+use Rattle.mm_types.specs.declared.numbers.Frame.{Frame}
+use Rattle.mm_types.specs.declared.numbers.Key.{Key}
+use Rattle.mm_types.specs.declared.numbers.Key.TheVariants.{Private, Shared}
+use Rattle.mm_types.specs.declared.numbers.Place.{Place}
+use Rattle.mm_life.specs.Frames.{record_at, is_read}
+use Rattle.mm_life.specs.Legal.{is_short}
+use Rattle.mm_walks.specs.Walks.{Walk, Through, walked_all, is_read_move, takes_frame, is_wrote_move}
+use Rattle.mm_walks.specs.Searches.{Starved}
+use Rattle.mm_walks.specs.Chores.{ending}
+use Rattle.mm_pages.specs.declared.outcomes.Done.{Done}
+use Rattle.mm_pages.specs.declared.outcomes.Done.TheVariants as done
+use Rattle.mm_pages.specs.Accesses.{Aim, AccessMove, is_had}
+use Rattle.mm_life.specs.Life.{FrameLife, changed, same_place}
+use Rattle.mm_pages.specs.Housekeeping.{Turns, Ends}
+use Rattle.mm_pages.specs.Passing.{PassesIn}
+use Rattle.mm_paged.specs.Shown.{OwnOf, store_of, behind_of}
+use Rattle.mm_life.specs.Legal.{fits_place}
+use Rattle.mm_pages.specs.Reports.{no_calls}
+use Rattle.mm_pages.specs.Shortage.{is_framed}
+use Rattle.mm_moving.specs.Shown.{StateOf, Made, moved, called, SomeFault}
+use Rattle.mm_moving.specs.Doing.{Does, walk_of}
+use Rattle.mm_parts.specs.Moves.{read_end}
+
+-- moves of an access, with at most so many reads, after which a new search would begin
+pub record Went (a : Aim) (reads : ℕ) (s z : StateOf) : Type 0 where
+  pub moves : List Move
+  pub does : Does moves s z
+  pub each : Through (AccessMove a) (walk_of s) moves
+  pub fresh : (walked_all (walk_of s) moves).tried ≡ []
+  pub few_reads : count_by is_read_move moves ≤ reads
+  pub few_writes : count_by is_wrote_move moves ≤ count_by takes_frame moves
+
+-- the moves of an access that failed
+pub record Stuck (a : Aim) (why : PageFault) (reads : ℕ) (s z : StateOf) : Type 0 where
+  pub moves : List Move
+  pub does : Does moves s z
+  pub each : Through (AccessMove a) (walk_of s) moves
+  pub few_reads : count_by is_read_move moves ≤ reads
+  pub few_writes : count_by is_wrote_move moves ≤ count_by takes_frame moves
+  pub starved : why ≡ fault.NoFrame → Starved (z.life.valid a.place) (walked_all (walk_of s) moves)
+
+-- in the middle of a search: frames whose write failed
+abbrev pub walk_at : List ℕ → StateOf → Walk
+walk_at tried s = record { life = s.life; ages = s.ages; tried = tried }
+
+-- the search of an access
+pub record Sought (a : Aim) (s z : StateOf) : Type 0 where
+  pub moves : List Move
+  pub does : Does moves s z
+  pub each : Through (AccessMove a) (walk_of s) moves
+  pub none : count_by is_read_move moves ≡ 0
+  pub one : count_by is_wrote_move moves ≤ 1
+
+-- a frame is taken, whatever was tried in the search before
+pub record Took (a : Aim) (reads : ℕ) (s z : StateOf) : Type 0 where
+  pub moves : List Move
+  pub does : Does moves s z
+  pub each : (t : List ℕ) → Through (AccessMove a) (walk_at t s) moves
+  pub fresh : (t : List ℕ) → (walked_all (walk_at t s) moves).tried ≡ []
+  pub few_reads : count_by is_read_move moves ≤ reads
+  pub paid : count_by is_wrote_move moves + 1 ≤ count_by takes_frame moves
+
+-- a frame is taken, and the read fails
+pub record Missed (a : Aim) (s z : StateOf) : Type 0 where
+  pub moves : List Move
+  pub does : Does moves s z
+  pub each : (t : List ℕ) → Through (AccessMove a) (walk_at t s) moves
+  pub few_reads : count_by is_read_move moves ≤ 1
+  pub paid : count_by is_wrote_move moves + 1 ≤ count_by takes_frame moves
+
+-- a frame is for this page
+abbrev pub IsFor : Aim → Key → Type 0
+IsFor a k = (k ≡ a.need.key) ⊎ (a.need.copy ≡ Some k)
+
+-- a page is read, which had no frame when the access began
+pub record ReadsFor (a : Aim) (k : Key) : Type 0 where
+  pub needs : a.need.key ≡ k
+  pub absent : is_had a.start (a.start.stands k) ≡ false
+
+-- the access begins, for this page, at a place that is not valid
+pub record Begins (a : Aim) (k : Key) (s : StateOf) : Type 0 where
+  pub needs : a.need.key ≡ k
+  pub from : a.start ≡ s.life
+  pub at : s.life.valid a.place ≡ None
+
+-- what stays in an access, but for names
+pub record Keeps (s z : StateOf) : Type 0 where
+  pub kind : z.life.kind ≡ s.life.kind
+  pub unmapped : (p : Place) → s.life.valid p ≡ None → z.life.valid p ≡ None
+  pub same : z ≡ record (called s z) { names = z.names }
+
+-- of the line's report: no read failed, and a new search would begin
+pub record Calm (s z : StateOf) : Type 0 where
+  pub read : z.told.last_failed_read ≡ s.told.last_failed_read
+  pub begun : s.told.search_writes ≡ no_calls → z.told.search_writes ≡ no_calls
+
+-- the names differ at most at the page's own place
+abbrev pub NamesFor : Key → StateOf → StateOf → Type 0
+NamesFor k s z = (place : Place) (v : Option Key) → fits_place place k ≡ true → changed same_place z.names place v ≡ changed same_place s.names place v
+
+-- what failed, by the report: the read of the key, or a search
+pub record Fails (why : PageFault) (k : Key) (s z : StateOf) : Type 0 where
+  pub read : why ≡ fault.Read → z.told.last_failed_read ≡ Some k
+  pub kept : why ≡ fault.NoFrame → z.told.last_failed_read ≡ s.told.last_failed_read
+  pub short : why ≡ fault.NoFrame → is_short z.life ≡ true
+  pub failed : why ≡ fault.NoFrame → 1 ≤ z.told.search_writes.failed
+  pub none : why ≡ fault.NoFrame → s.told.search_writes.succeeded ≡ 0 → z.told.search_writes.succeeded ≡ 0
+  pub unframed : why ≡ fault.NoFrame → is_framed (z.life.stands k) ≡ false
+  pub fault : SomeFault s z
+  pub same : z ≡ called s z
+
+-- the key stands in this frame, which is not being read
+pub record InFrame (k : Key) (f : Frame) (s : StateOf) : Type 0 where
+  pub stands : s.life.stands k ≡ held.Frame f
+  pub quiet : is_read (record_at s.life.frames f.0).request ≡ false
+
+-- a page is read into a frame: the read begins, and ends
+pub record ReadsIn (k : Key) (f : Frame) (ok : Bool) (s z : StateOf) : Type 0 where
+  pub mid : StateOf
+  pub begins : Made (move.Read f k) s mid
+  pub ends : Made (read_end ok f) mid z
+  pub owner : (record_at mid.life.frames f.0).owner ≡ Some k
+
+-- faults never fall
+pub record Later (s z : StateOf) : Type 0 where
+  pub paging : s.paging.faults ≤ z.paging.faults
+  pub files : s.files.faults ≤ z.files.faults
+
+-- a page is valid at a place then, where it was not
+pub record Placed (k : Key) (f : Frame) (place : Place) (s z : StateOf) : Type 0 where
+  pub valid : z.life.valid place ≡ Some f
+  pub names : z.names ≡ changed same_place s.names place (Some k)
+  pub kind : z.life.kind ≡ s.life.kind
+  pub frame : InFrame k f z
+  pub told : z.told ≡ s.told
+  pub same : z ≡ record (called s z) { names = z.names }
+
+-- a page is soiled, or was so
+pub data Soils (f : Frame) (s z : StateOf) : Type 0 where
+  Was : z ≡ s → Soils f s z
+  Is : Made (move.Soil f) s z → z ≡ moved s z → Soils f s z
+
+-- what moves within a line leave of the life of the frames
+pub record LifeKept (l m : FrameLife) : Type 0 where
+  pub machine : m.machine ≡ l.machine
+  pub line : m.line ≡ l.line
+  pub kind : m.kind ≡ l.kind
+  pub paging : m.paging ≡ l.paging
+  pub keys : m.paging_keys ≡ l.paging_keys
+  pub pids : length m.sets ≡ length l.sets
+  pub added : m.added ≡ l.added
+
+-- a place can be let go: it is not valid, or the line unbinds pages of its process
+abbrev pub MayLetGo : Place → StateOf → Type 0
+MayLetGo p s = (f : Frame) → s.life.valid p ≡ Some f → s.life.kind ≡ kind.Unbind p.pid
+
+-- a place is valid no more, where it was
+pub data LetGo (p : Place) (s z : StateOf) : Type 0 where
+  Still : z ≡ s → s.life.valid p ≡ None → LetGo p s z
+  Gone : Made (move.Unmap p) s z → z ≡ moved s z → LetGo p s z
+
+-- the own place of a private key can be let go, and is
+abbrev pub MayLetOwnGo : Key → StateOf → Type 0
+MayLetOwnGo (Private pid vpn) s = (s.bound (record { pid = pid; vpn = vpn }) ≡ true) × MayLetGo (record { pid = pid; vpn = vpn }) s
+MayLetOwnGo (Shared area index) s = Unit {0}
+
+abbrev pub OwnLetGo : Key → StateOf → StateOf → Type 0
+OwnLetGo (Private pid vpn) s z = LetGo (record { pid = pid; vpn = vpn }) s z
+OwnLetGo (Shared area index) s z = z ≡ s
+
+-- some places are valid no more
+pub record Thins (s z : StateOf) : Type 0 where
+  pub life : LifeKept s.life z.life
+  pub stands : z.life.stands ≡ s.life.stands
+  pub valid : (p : Place) (f : Frame) → z.life.valid p ≡ Some f → s.life.valid p ≡ Some f
+  pub unmapped : (p : Place) → s.life.valid p ≡ None → z.life.valid p ≡ None
+  pub told : z.told ≡ s.told
+  pub waits : z.waits ≡ s.waits
+  pub same : z ≡ moved s z
+
+-- so places among these are, page by page, from one page number to before another
+abbrev pub LetsGo : (Place → Bool) → ℕ → ℕ → StateOf → StateOf → Type 0
+LetsGo held from to s z = (o u : OwnOf) → PassesIn false (Turns (Ends held from to)) (store_of s o) (store_of z u) (behind_of s) (behind_of z)
+
+-- the i-th oldest request, counted from 1, has ended, well or not
+pub record EndsOne (i : ℕ) (ok : Bool) (s z : StateOf) : Type 0 where
+  pub frame : Frame
+  pub found : slice_get s.life.flight (i - 1) ≡ Some frame.0
+  pub made : Made (ending (record_at s.life.frames frame.0) frame ok) s z
+  pub same : z ≡ called s z
+
+-- it has, if there were so many
+abbrev pub EndsAs : ℕ → Done → StateOf → StateOf → Type 0
+EndsAs i done.None s z = (length s.life.flight < i) × (z ≡ s)
+EndsAs i done.Ok s z = EndsOne i true s z
+EndsAs i done.Failed s z = EndsOne i false s z

@@ -1,0 +1,72 @@
+-- The best so far, as the code keeps it.
+use Rattle.std.proofs.Common.{◌≡◌, ℕ, ◌+◌, ◌<◌, ◌≤◌, Bool, true, false, length, Option, Some, None, refl, sym, ap, ◌∙◌, subst, arith}
+use Rattle.std.specs.Prelude.{MatchOption, is_some}
+use Rattle.std.specs.Option.{ForSome}
+use Rattle.std.proofs.Math.Logic.{∥∥₁_elim}
+use Rattle.std.proofs.Props.{props}
+use Rattle.mm_types.specs.declared.numbers.Frame.{Frame}
+use Rattle.mm_types.specs.declared.numbers.Place.{Place}
+use Rattle.mm_life.specs.Life.{FrameLife, set_of}
+use Rattle.mm_laws.specs.Reached.{Reached}
+use Rattle.mm_laws.proofs.Deduced.{reached_sound}
+use Rattle.mm_laws.proofs.Machines.{in_range}
+use Rattle.mm_walks.specs.Order.{Ages, may_go, IsOldest, IsVictim}
+use Rattle.mm_room.specs.Room.{NoneMayGo}
+use Rattle.mm_room.specs.Order.{BestBelow, takes_over}
+use Rattle.mm_room.proofs.Going.{best_kept, best_victim, best_none, best_begins, best_same, best_now, goes_valid}
+use Rattle.mm_moving.specs.Shown.{StateOf}
+use Rattle.mm_moving.specs.Holds.{Holds}
+use Rattle.mm_reclaim.specs.Choosing.{NoneIn}
+
+-- a page that may go is of an open process
+pub goes_open : (s : StateOf) → Holds s → (pinned : Option Frame) (q : Place) → may_go s.life pinned q ≡ true → s.is_open q.pid.0 ≡ true
+goes_open s h pinned q g = h.open_process q (at (s.life.valid q) refl (goes_valid s.life s.ages pinned q g))
+  where
+    at : (o : Option Frame) → s.life.valid q ≡ o → is_some o ≡ true → s.bound q ≡ true
+    at None e i = cc
+    at (Some f) e i = h.bound q f e
+
+-- so none of a process that is not open may go
+pub closed_stays : (s : StateOf) → Holds s → (pinned : Option Frame) (pid : ℕ) → s.is_open pid ≡ false → NoneIn s.life pinned pid
+closed_stays s h pinned pid closed q e = at (may_go s.life pinned q) refl
+  where
+    at : (b : Bool) → may_go s.life pinned q ≡ b → b ≡ false
+    at false g = refl
+    at true g = let bad : true ≡ false = sym (goes_open s h pinned q g) ∙ (ap s.is_open e ∙ closed) in cc
+
+pub best_stays : (l : FrameLife) (ages : Ages) (pinned : Option Frame) (n : ℕ) (o : Option Place) (w : Place) → BestBelow l ages pinned n o → w.pid.0 ≡ n → takes_over l n o ≡ false → BestBelow l ages pinned (n + 1) o
+best_stays l ages pinned n None w b e h = cc
+best_stays l ages pinned n (Some v) w b e h = best_kept l ages pinned n v w b e h
+
+-- an open process has a working set
+pub has_set : (s : StateOf) → Holds s → (pid : ℕ) → s.is_open pid ≡ true → is_some (set_of s.life pid) ≡ true
+has_set s h pid lives = ap is_some (h.sets pid lives).found
+
+pub closed_same : (s : StateOf) → Holds s → (pinned : Option Frame) (pid : ℕ) (o : Option Place) → s.is_open pid ≡ false → BestBelow s.life s.ages pinned pid o → BestBelow s.life s.ages pinned (pid + 1) o
+closed_same s h pinned pid o closed b = best_same s.life s.ages pinned pid o b (closed_stays s h pinned pid closed)
+
+pub none_same : (s : StateOf) (pinned : Option Frame) (pid : ℕ) (o : Option Place) → NoneIn s.life pinned pid → BestBelow s.life s.ages pinned pid o → BestBelow s.life s.ages pinned (pid + 1) o
+none_same s pinned pid o none b = best_same s.life s.ages pinned pid o b none
+
+pub best_taken : (l : FrameLife) (ages : Ages) (pinned : Option Frame) (n : ℕ) (o : Option Place) (w : Place) → BestBelow l ages pinned n o → w.pid.0 ≡ n → IsOldest l ages pinned w → takes_over l n o ≡ true → BestBelow l ages pinned (n + 1) (Some w)
+best_taken l ages pinned n o w b e oldest takes = best_now l ages pinned n o w b e oldest takes
+
+none_prop : (l : FrameLife) (pinned : Option Frame) → IsProp (NoneMayGo l pinned)
+none_prop l pinned = hlevel props
+
+victim_prop : (l : FrameLife) (ages : Ages) (pinned : Option Frame) (v : Place) → IsProp (IsVictim l ages pinned v)
+victim_prop l ages pinned v = hlevel props
+
+pub begins : (s : StateOf) → Holds s → (pinned : Option Frame) → BestBelow s.life s.ages pinned 1 None
+begins s h pinned q low = at (may_go s.life pinned q) refl
+  where
+    at : (b : Bool) → may_go s.life pinned q ≡ b → b ≡ false
+    at false g = refl
+    at true g = ∥∥₁_elim h.reached (bool_prop true false) (λ r. sym g ∙ best_begins s.life (reached_sound s.life r) s.ages pinned q low)
+      where
+        bool_prop : (a b : Bool) → IsProp (a ≡ b)
+        bool_prop a b = hlevel props
+
+pub best_answer : (s : StateOf) → Holds s → (pinned : Option Frame) (n : ℕ) (o : Option Place) → 64 < n → BestBelow s.life s.ages pinned n o → MatchOption o (NoneMayGo s.life pinned) (λ v. IsVictim s.life s.ages pinned v)
+best_answer s h pinned n None k b = ∥∥₁_elim h.reached (none_prop s.life pinned) (λ r. let few = (in_range s.life r).sets in best_none s.life (reached_sound s.life r) s.ages pinned n (omega (arith, few, k)) b)
+best_answer s h pinned n (Some v) k b = ∥∥₁_elim h.reached (victim_prop s.life s.ages pinned v) (λ r. let few = (in_range s.life r).sets in best_victim s.life (reached_sound s.life r) s.ages pinned n v (omega (arith, few, k)) b)

@@ -1,0 +1,270 @@
+-- A search in its two phases, over the replay alone: the walk over the modified list, and the turns.
+use Rattle.std.proofs.Common.{◌≡◌, ◌≢◌, ◌⊎◌, ℕ, zero, suc, ◌+◌, ◌<◌, ◌≤◌, Bool, true, false, cond, List, [], ◌∷◌, ◌++◌, length, Option, Some, None, refl, sym, ap, ◌∙◌, subst, inl, inr, append_assoc, arith}
+use Rattle.std.specs.Prelude.{◌==◌, ◌&&◌, ◌||◌, not, is_some, slice_get}
+use Rattle.std.specs.Cmp.{unsigned_Decides}
+use Rattle.std.proofs.lemmas.Bool.{or_left, or_right}
+use Rattle.mm_types.specs.Machine.{MachineOf, IsMachine}
+use Rattle.mm_types.specs.declared.numbers.Frame.{Frame}
+use Rattle.mm_types.specs.declared.numbers.Place.{Place}
+use Rattle.mm_types.specs.declared.moves.Stored.{Stored}
+use Rattle.mm_types.specs.declared.moves.Move.{Move}
+use Rattle.mm_types.specs.declared.moves.Move.TheVariants as move
+use Rattle.mm_life.specs.Frames.{record_at, is_on, without}
+use Rattle.mm_life.specs.Life.{FrameLife}
+use Rattle.mm_life.specs.Legal.{IsLegal, is_access, is_thread, is_short}
+use Rattle.mm_life.specs.Effect.{after_move}
+use Rattle.mm_life.specs.Replay.{Replays}
+use Rattle.mm_life.specs.Victims.{can_be_written}
+use Rattle.mm_laws.specs.Tally.{one_if, times}
+use Rattle.mm_laws.specs.Reached.{Reached}
+use Rattle.mm_laws.specs.Sound.{Sound}
+use Rattle.mm_laws.specs.Settling.{joined}
+use Rattle.mm_laws.proofs.Tallies.{tally-append, times_on}
+use Rattle.mm_laws.proofs.Deduced.{reached_sound, reached_along}
+use Rattle.mm_laws.proofs.Kept.{kept_along}
+use Rattle.mm_laws.proofs.Machines.{in_range}
+use Rattle.mm_laws.proofs.PlaceCounts.{has_shares}
+use Rattle.mm_laws.proofs.FromSound.{modified_frame}
+use Rattle.mm_room.specs.Room.{IsWithinDepth}
+use Rattle.mm_room.specs.Steps.{walked, is_last, Unmapped, after_failed, put_last}
+use Rattle.mm_room.specs.Searches.{failed_write, lost_in, is_lost_of, Walking, Emptying, first_passing, is_untried, next_try}
+use Rattle.mm_room.proofs.Unmapping.{unmapped}
+use Rattle.mm_room.proofs.Writing.{failed}
+use Rattle.mm_room.proofs.Walks.{walk_begins, walk_on, walk_passes, walk_fails, writes_same, writers_same, on_append, on_last, on_left, any_append, or_none, lost_still}
+use Rattle.mm_room.proofs.Turns.{walk_then, turn_kept, turn_failed}
+use Rattle.mm_reclaim.specs.Seeking.{WalkedTo, SoughtTo}
+
+false_if : (b : Bool) → (b ≡ true → ⊥) → b ≡ false
+false_if true h = absurd (h refl)
+false_if false h = refl
+
+passes_first : (test : ℕ → Bool) (xs rest : List ℕ) (f : ℕ) → ((x : ℕ) → is_on x xs ≡ true → test x ≡ false) → test f ≡ true → first_passing test (xs ++ (f ∷ rest)) ≡ Some f
+passes_first test [] rest f none here = ap (λ b. cond b (Some f) (first_passing test rest)) here
+passes_first test (x ∷ xs) rest f none here =
+    ap (λ b. cond b (Some x) (first_passing test (xs ++ (f ∷ rest)))) (none x (or_left (x == x) (is_on x xs) ((unsigned_Decides x x).1 refl)))
+    ∙ passes_first test xs rest f (λ y h. none y (or_right (x == y) (is_on y xs) h)) here
+
+passes_none : (test : ℕ → Bool) (xs : List ℕ) → ((x : ℕ) → is_on x xs ≡ true → test x ≡ false) → first_passing test xs ≡ None
+passes_none test [] none = refl
+passes_none test (x ∷ xs) none =
+    ap (λ b. cond b (Some x) (first_passing test xs)) (none x (or_left (x == x) (is_on x xs) ((unsigned_Decides x x).1 refl))) ∙ passes_none test xs (λ y h. none y (or_right (x == y) (is_on y xs) h))
+
+untried_not : (c t : Bool) → (c ≡ true → t ≡ true) → (c && not t) ≡ false
+untried_not true t h = ap not (h refl)
+untried_not false t h = refl
+
+lost_more : (moves : List Move) (f : Frame) (home : Stored) (g : ℕ) → lost_in (moves ++ failed_write f home) g ≡ true → (lost_in moves g ≡ true) ⊎ (g ≡ f.0)
+lost_more moves f home g h = at (lost_in moves g) refl (sym (any_append (λ m. is_lost_of g m) moves (failed_write f home)) ∙ h)
+  where
+    at : (b : Bool) → lost_in moves g ≡ b → (b || lost_in (failed_write f home) g) ≡ true → (lost_in moves g ≡ true) ⊎ (g ≡ f.0)
+    at true e k = inl e
+    at false e k = inr (sym ((unsigned_Decides f.0 g).0 (sym (or_none (f.0 == g)) ∙ k)))
+
+not_lost : (moves : List Move) (place : Place) (g : ℕ) → lost_in (moves ++ move.Unmap place ∷ []) g ≡ lost_in moves g
+not_lost moves place g = any_append (λ m. is_lost_of g m) moves (move.Unmap place ∷ []) ∙ or_none (lost_in moves g)
+
+-- ---- the walk
+
+pub walk_start : (l : FrameLife) (n : ℕ) (next : Option ℕ) → n ≡ length l.frames.modified → next ≡ slice_get l.frames.modified 0 → WalkedTo l l [] n 0 next
+walk_start l n next e a = record {
+  passed = [];
+  left = l.frames.modified;
+  lost = [];
+  walking = walk_begins l;
+  only = λ g h. cc;
+  count = omega (arith, e);
+  at = λ h. a;
+}
+
+pub walk_done : (start l : FrameLife) (moves : List Move) (n i : ℕ) (next : Option ℕ) → n ≤ i → Reached start → Replays moves start l → is_access start.kind ≡ true → is_short start ≡ true → IsWithinDepth start
+    → WalkedTo start l moves n i next → SoughtTo start l moves
+walk_done start l moves n i next end r replays access short few w =
+    let range = in_range start r in
+    let none : w.left ≡ [] = empty w.left (let a = w.count in omega (arith, a, end)) in
+    let walk : Walking start l w.passed [] w.lost moves = subst (λ (xs : List ℕ). Walking start l w.passed xs w.lost moves) none w.walking in
+    let same = walk.now in
+    record {
+      emptying = walk_then start l w.passed w.lost moves walk replays
+          (subst (λ (k : FrameLife). IsMachine k.machine) (sym same) (range.machine (range.begun (or_left (is_access start.kind) (is_thread start.kind) access))))
+          (ap (λ (k : FrameLife). is_access k.kind) same ∙ access)
+          (ap (λ (k : FrameLife). is_short k) same ∙ short)
+          (subst (λ (k : FrameLife). IsWithinDepth k) (sym same) few);
+      listed = λ g h. ap (λ (k : FrameLife). is_on g k.frames.modified) walk.now ∙ (on_append g w.passed w.lost ∙ or_right (is_on g w.passed) (is_on g w.lost) (w.only g h));
+    }
+  where
+    empty : (xs : List ℕ) → length xs ≡ 0 → xs ≡ []
+    empty [] h = refl
+    empty (x ∷ xs) h = absurd (omega (arith, h))
+
+-- a place on a list
+get_mid : (xs : List ℕ) (f : ℕ) (rest : List ℕ) → slice_get (xs ++ (f ∷ rest)) (length xs) ≡ Some f
+get_mid [] f rest = refl
+get_mid (x ∷ xs) f rest = get_mid xs f rest
+
+get_after : (xs : List ℕ) (f : ℕ) (rest : List ℕ) → slice_get (xs ++ (f ∷ rest)) (suc (length xs)) ≡ slice_get rest 0
+get_after [] f rest = refl
+get_after (x ∷ xs) f rest = get_after xs f rest
+
+get_next : (xs : List ℕ) (f : ℕ) (rest : List ℕ) → slice_get (xs ++ (f ∷ rest)) (length xs + 1) ≡ slice_get rest 0
+get_next xs f rest = ap (slice_get (xs ++ (f ∷ rest))) (plus_one (length xs)) ∙ get_after xs f rest
+  where
+    plus_one : (n : ℕ) → n + 1 ≡ suc n
+    plus_one n = omega arith
+
+module _ (start l : FrameLife) (moves : List Move) (n i : ℕ) (next : Option ℕ) (w : WalkedTo start l moves n i next) (r : Reached start) (replays : Replays moves start l) (low : i < n) where
+  sound : Sound l
+  sound = kept_along moves start l (reached_sound start r) replays
+
+  pub record Head : Type 0 where
+    pub first : ℕ
+    pub rest : List ℕ
+    pub is : w.left ≡ first ∷ rest
+    pub next_is : next ≡ Some first
+
+  pub head : Head
+  head = at w.left refl (let a = w.count in omega (arith, a, low))
+    where
+      at : (xs : List ℕ) → w.left ≡ xs → 1 ≤ length xs → Head
+      at [] e h = absurd (omega (arith, h))
+      at (x ∷ xs) e h = record { first = x; rest = xs; is = e; next_is = w.at (let k = ap (λ (ys : List ℕ). length ys) e in omega (arith, k)) ∙ ap (λ (ys : List ℕ). slice_get ys 0) e }
+
+  pub not_none : next ≡ None → ⊥
+  not_none e = let bad : None ≡ Some head.first = sym e ∙ head.next_is in cc
+
+  module _ (f : Frame) (next_is : next ≡ Some f.0) where
+    pub walking : Walking start l w.passed (f.0 ∷ head.rest) w.lost moves
+    walking =
+        let both : Some head.first ≡ Some f.0 = sym head.next_is ∙ next_is in
+        let same : head.first ≡ f.0 = cc in
+        subst (λ (xs : List ℕ). Walking start l w.passed xs w.lost moves) (head.is ∙ ap (λ (x : ℕ). x ∷ head.rest) same) w.walking
+
+    list : l.frames.modified ≡ walked w.passed (f.0 ∷ head.rest) w.lost
+    list = ap (λ (k : FrameLife). k.frames.modified) walking.now
+
+    pub on_list : is_on f.0 l.frames.modified ≡ true
+    on_list = walk_on start l w.passed head.rest w.lost moves f walking
+
+    -- where it stands
+    pub stands_at : slice_get l.frames.modified (length w.passed) ≡ Some f.0
+    stands_at = ap (λ (xs : List ℕ). slice_get xs (length w.passed)) list ∙ get_mid w.passed f.0 (head.rest ++ w.lost)
+
+    count_now : length head.rest + (i + 1) ≡ n
+    count_now = let a = w.count in let b = ap (λ (ys : List ℕ). length ys) head.is in omega (arith, a, b)
+
+    next_now : (after : Option ℕ) → after ≡ slice_get l.frames.modified (length w.passed + 1) → 1 ≤ length head.rest → after ≡ slice_get head.rest 0
+    next_now after e h = e ∙ ap (λ (xs : List ℕ). slice_get xs (length w.passed + 1)) list ∙ get_next w.passed f.0 (head.rest ++ w.lost) ∙ front_of head.rest h
+      where
+        front_of : (xs : List ℕ) → 1 ≤ length xs → slice_get (xs ++ w.lost) 0 ≡ slice_get xs 0
+        front_of [] h = absurd (omega (arith, h))
+        front_of (x ∷ xs) h = refl
+
+    -- it was not tried, and is the next
+    fresh : lost_in moves f.0 ≡ false
+    fresh = false_if (lost_in moves f.0) (λ h.
+        let on = w.only f.0 h in
+        let once = sym (ap (λ (xs : List ℕ). times f.0 xs) list) ∙ (modified_frame l sound f.0 on_list).once in
+        let a = tally-append (λ x. x == f.0) w.passed (f.0 ∷ (head.rest ++ w.lost)) in
+        let b = tally-append (λ x. x == f.0) head.rest w.lost in
+        let one : one_if (f.0 == f.0) ≡ 1 = ap one_if ((unsigned_Decides f.0 f.0).1 refl) in
+        let more = times_on f.0 w.lost on in
+        absurd (omega (arith, once, a, b, one, more)))
+
+    pub tries : can_be_written l f.0 ≡ true → next_try l moves ≡ Some f.0
+    tries can =
+        ap (λ (xs : List ℕ). first_passing (is_untried l moves) xs) list
+        ∙ passes_first (is_untried l moves) w.passed (head.rest ++ w.lost) f.0
+        (λ x h. ap (λ b. b && not (lost_in moves x)) (writes_same start l (walked w.passed (f.0 ∷ head.rest) w.lost) walking.now x ∙ walking.over x h))
+        (ap (λ b. b && not (lost_in moves f.0)) can ∙ ap not fresh)
+
+    pub walk_over : (after : Option ℕ) → after ≡ slice_get l.frames.modified (length w.passed + 1) → can_be_written l f.0 ≡ false → WalkedTo start l moves n (i + 1) after
+    walk_over after e bars = record {
+      passed = w.passed ++ f.0 ∷ [];
+      left = head.rest;
+      lost = w.lost;
+      walking = walk_passes start l w.passed head.rest w.lost moves f walking bars;
+      only = w.only;
+      count = count_now;
+      at = next_now after e;
+    }
+
+    pub walk_lost : (after : Option ℕ) (home : Stored) (m : FrameLife) → after ≡ slice_get l.frames.modified (length w.passed + 1) → IsLegal (move.Write f home) l → m ≡ after_failed l f home
+        → WalkedTo start m (moves ++ failed_write f home) n (i + 1) after
+    walk_lost after home m e legal same = record {
+      passed = w.passed;
+      left = head.rest;
+      lost = w.lost ++ f.0 ∷ [];
+      walking = subst (λ (k : FrameLife). Walking start k w.passed head.rest (w.lost ++ f.0 ∷ []) (moves ++ failed_write f home)) (sym same) (walk_fails start l w.passed head.rest w.lost moves f walking sound home legal);
+      only = λ g h. elim (lost_more moves f home g h) [
+        | inl a ↦ on_append g w.lost (f.0 ∷ []) ∙ or_left (is_on g w.lost) (is_on g (f.0 ∷ [])) (w.only g a)
+        | inr a ↦ ap (λ (k : ℕ). is_on k (w.lost ++ f.0 ∷ [])) a ∙ on_last f.0 w.lost
+      ];
+      count = count_now;
+      at = next_now after e;
+    }
+
+-- ---- the turns
+
+module _ (start l : FrameLife) (moves : List Move) (begun : Sound start) (o : SoughtTo start l moves) where
+  sound_turn : Sound l
+  sound_turn = kept_along moves start l begun o.emptying.replays
+
+  pub none_left : next_try l moves ≡ None
+  none_left = passes_none (is_untried l moves) l.frames.modified (λ x h. untried_not (can_be_written l x) (lost_in moves x) (o.emptying.missed x h))
+
+  module _ (place : Place) (f : Frame) (there : l.valid place ≡ Some f) where
+    abbrev m : FrameLife
+    m = after_move l (move.Unmap place)
+
+    u : Unmapped l m place f.0
+    u = unmapped l sound_turn place f there
+
+    off_list : is_on f.0 l.frames.modified ≡ false
+    off_list = false_if (is_on f.0 l.frames.modified) (λ h.
+        let none = (modified_frame l sound_turn f.0 h).unshared in
+        let some = has_shares l.valid l.frames l.sets sound_turn.shown place f there in
+        absurd (omega (arith, none, some)))
+
+    stays_on : (g : ℕ) → is_on g l.frames.modified ≡ true → is_on g m.frames.modified ≡ true
+    stays_on g h = ap (is_on g) u.lists.modified ∙ at (is_last (record_at l.frames f.0) && (record_at l.frames f.0).changed)
+      where
+        at : (b : Bool) → is_on g (joined b f.0 l.frames.modified) ≡ true
+        at true = on_append g l.frames.modified (f.0 ∷ []) ∙ or_left (is_on g l.frames.modified) (is_on g (f.0 ∷ [])) h
+        at false = h
+
+    -- no frame came of it, and its own is not modified or cannot be written
+    pub turn_over : is_short m ≡ true → (is_on f.0 m.frames.modified ≡ true → can_be_written m f.0 ≡ false) → SoughtTo start m (moves ++ move.Unmap place ∷ [])
+    turn_over short bars = record {
+      emptying = turn_kept start l begun moves o.emptying place f there short bars;
+      listed = λ g h. stays_on g (o.listed g (sym (not_lost moves place g) ∙ h));
+    }
+
+    module _ (on : is_on f.0 m.frames.modified ≡ true) where
+      list_now : m.frames.modified ≡ l.frames.modified ++ f.0 ∷ []
+      list_now = u.lists.modified ∙ at (is_last (record_at l.frames f.0) && (record_at l.frames f.0).changed) (sym (ap (is_on f.0) u.lists.modified) ∙ on)
+        where
+          at : (b : Bool) → is_on f.0 (joined b f.0 l.frames.modified) ≡ true → joined b f.0 l.frames.modified ≡ l.frames.modified ++ f.0 ∷ []
+          at true h = refl
+          at false h = let bad : true ≡ false = sym h ∙ off_list in cc
+
+      fresh_now : lost_in (moves ++ move.Unmap place ∷ []) f.0 ≡ false
+      fresh_now = not_lost moves place f.0 ∙ false_if (lost_in moves f.0) (λ h. let bad : true ≡ false = sym (o.listed f.0 h) ∙ off_list in cc)
+
+      pub tries_now : can_be_written m f.0 ≡ true → next_try m (moves ++ move.Unmap place ∷ []) ≡ Some f.0
+      tries_now can =
+          ap (λ (xs : List ℕ). first_passing (is_untried m (moves ++ move.Unmap place ∷ [])) xs) list_now
+          ∙ passes_first (is_untried m (moves ++ move.Unmap place ∷ [])) l.frames.modified [] f.0
+          (λ x h. untried_not (can_be_written m x) (lost_in (moves ++ move.Unmap place ∷ []) x) (λ c. lost_still moves (move.Unmap place ∷ []) x (o.emptying.missed x h (sym (writers_same l m u.writers x) ∙ c))))
+          (ap (λ b. b && not (lost_in (moves ++ move.Unmap place ∷ []) f.0)) can ∙ ap not fresh_now)
+
+      pub turn_lost : Sound m → is_short m ≡ true → (home : Stored) → IsLegal (move.Write f home) m → SoughtTo start (after_failed m f home) (moves ++ move.Unmap place ∷ failed_write f home)
+      turn_lost sound_m short home legal = record {
+        emptying = turn_failed start l begun moves o.emptying place f there short on home legal;
+        listed = λ g h. ap (λ (k : FrameLife). is_on g k.frames.modified) (failed m sound_m f on home legal) ∙ last g (lost_more (moves ++ move.Unmap place ∷ []) f home g (ap (λ (xs : List Move). lost_in xs g) (append_assoc moves (move.Unmap place ∷ []) (failed_write f home)) ∙ h));
+      }
+        where
+          last : (g : ℕ) → (lost_in (moves ++ move.Unmap place ∷ []) g ≡ true) ⊎ (g ≡ f.0) → is_on g (put_last m f.0).frames.modified ≡ true
+          last g (inl h) =
+              let was = o.listed g (sym (not_lost moves place g) ∙ h) in
+              on_append g (without f.0 m.frames.modified) (f.0 ∷ []) ∙ or_left (is_on g (without f.0 m.frames.modified)) (is_on g (f.0 ∷ []))
+              (on_left g f.0 m.frames.modified (λ z. let bad : true ≡ false = sym was ∙ (ap (λ (k : ℕ). is_on k l.frames.modified) z ∙ off_list) in cc) (stays_on g was))
+          last g (inr h) = ap (λ (k : ℕ). is_on k (put_last m f.0).frames.modified) h ∙ on_last f.0 (without f.0 m.frames.modified)

@@ -1,0 +1,400 @@
+-- The steps of a search: what each adds to its moves.
+use Rattle.std.proofs.Common.{◌≡◌, ◌≢◌, ◌⊎◌, ℕ, ◌+◌, ◌<◌, ◌≤◌, Bool, true, false, cond, List, [], ◌∷◌, ◌++◌, length, Option, Some, None, refl, sym, ap, ◌∙◌, subst, inl, inr, arith}
+use Rattle.std.specs.Prelude.{◌&&◌, ◌||◌, ◌==◌, not, is_some, nat_lt, if◌then◌else◌, count_by}
+use Rattle.std.proofs.lemmas.Bool.{eqb-true}
+use Rattle.mm_types.specs.Outside.{Rose}
+use Rattle.mm_types.specs.declared.frames.Backing.{Backing}
+use Rattle.mm_types.specs.declared.frames.Backing.TheVariants as backing
+use Rattle.mm_types.specs.declared.numbers.Frame.{Frame}
+use Rattle.mm_types.specs.declared.numbers.Place.{Place}
+use Rattle.mm_types.specs.declared.moves.Stored.{Stored}
+use Rattle.mm_types.specs.declared.moves.Move.{Move}
+use Rattle.mm_types.specs.declared.moves.Move.TheVariants as move
+use Rattle.mm_life.specs.Frames.{record_at, is_on}
+use Rattle.mm_life.specs.Life.{FrameLife}
+use Rattle.mm_life.specs.Legal.{is_short, is_access}
+use Rattle.mm_types.specs.Machine.{MachineOf}
+use Rattle.mm_life.specs.Victims.{can_be_written}
+use Rattle.mm_walks.specs.Walks.{Walk, Through, walked, walked_all, is_wrote_move, is_read_move}
+use Rattle.mm_walks.specs.Searches.{IsWriteEnded, SearchMove, writable_in, next_writable, Starved}
+use Rattle.mm_walks.specs.Order.{IsVictim, is_frame, is_unpinned}
+use Rattle.mm_pages.proofs.Walking.{through_then, walked_then}
+use Rattle.mm_pages.specs.Told.{Told, told_after}
+use Rattle.mm_room.specs.Room.{NoneMayGo}
+use Rattle.mm_room.specs.Searches.{lost_in, is_lost_of, failed_write, first_passing, is_untried, next_try}
+use Rattle.mm_room.proofs.Walks.{any_append, or_none}
+use Rattle.mm_parts.specs.Moves.{write_end}
+use Rattle.mm_moving.specs.Shown.{StateOf, Made, Called, called, moved, backing_of_frame, SomeFault}
+use Rattle.mm_moving.specs.Doing.{Does, walk_of, IsFlightOf, Searched}
+use Rattle.mm_moving.proofs.Doing.{does_nothing, does_one, does_two, does_then, count-append, walked_here}
+use Rattle.mm_reclaim.specs.Seeking.{Begun, Tries, Seeks}
+use Rattle.std.proofs.Math.Logic.{∥∥₁_elim}
+use Rattle.std.proofs.Props.{props}
+use Rattle.mm_types.proofs.Bytes.{rose_then, rose_later}
+use Rattle.mm_types.specs.declared.devices.Direction.TheVariants as way
+use Rattle.mm_types.specs.declared.frames.Record.{Record}
+use Rattle.mm_types.specs.declared.moves.Stored.TheVariants as stored
+use Rattle.mm_blocks.specs.Devices.{DeviceOf, Call, AllServed}
+use Rattle.mm_laws.specs.Reached.{Reached}
+use Rattle.mm_laws.proofs.Deduced.{reached_sound}
+use Rattle.mm_room.specs.Steps.{backing_to}
+use Rattle.mm_room.proofs.Writing.{write_record}
+
+-- ---- which frame is next
+
+-- the frame that is written next, by the walk and by the moves
+pub next_is : (l : FrameLife) (tried : List ℕ) (moves : List Move) → ((g : ℕ) → is_on g tried ≡ lost_in moves g) → (xs : List ℕ) → writable_in l tried xs ≡ first_passing (is_untried l moves) xs
+next_is l tried moves same [] = refl
+next_is l tried moves same (x ∷ xs) = (λ i. if can_be_written l x && not (same x i) then Some x else next_is l tried moves same xs i)
+
+-- ---- lists of moves
+
+search_more : (pin : Option Frame) (flight : List ℕ) (w : Walk) (m : Move) (ms ys : List Move) → SearchMove pin flight w m ms → SearchMove pin flight w m (ms ++ ys)
+search_more pin flight w (move.Write f s) [] ys (a, b, c) = absurd c
+search_more pin flight w (move.Write f s) (x ∷ ms) ys p = p
+search_more pin flight w (move.Wrote f) ms ys p = p
+search_more pin flight w (move.Lost f) ms ys p = p
+search_more pin flight w (move.Unmap q) ms ys p = p
+search_more pin flight w (move.At n k) ms ys p = p
+search_more pin flight w (move.Add k b) ms ys p = p
+search_more pin flight w (move.Drop k) ms ys p = p
+search_more pin flight w (move.Clear f) ms ys p = p
+search_more pin flight w (move.Steal f) ms ys p = p
+search_more pin flight w (move.Give f k) ms ys p = p
+search_more pin flight w (move.Read f k) ms ys p = p
+search_more pin flight w (move.Got f) ms ys p = p
+search_more pin flight w (move.Bad f) ms ys p = p
+search_more pin flight w (move.Map f q) ms ys p = p
+search_more pin flight w (move.Soil f) ms ys p = p
+
+pub searches_then : (pin : Option Frame) (flight : List ℕ) (xs ys : List Move) (w : Walk) → Through (SearchMove pin flight) w xs → Through (SearchMove pin flight) (walked_all w xs) ys → Through (SearchMove pin flight) w (xs ++ ys)
+searches_then pin flight xs ys w p q = through_then (SearchMove pin flight) (search_more pin flight) xs ys w p q
+
+lost_then : (xs ys : List Move) (g : ℕ) → lost_in (xs ++ ys) g ≡ (lost_in xs g || lost_in ys g)
+lost_then xs ys g = any_append (λ m. is_lost_of g m) xs ys
+
+-- faults never fall
+pub all_served_later : (cs : List Call) (a b : DeviceOf) → AllServed cs a b → a.faults ≤ b.faults
+all_served_later [] a b e = let n = ap (λ (d : DeviceOf). d.faults) e in omega (arith, n)
+all_served_later (c ∷ cs) a b p = let one = p.1.0.later in let rest = all_served_later cs p.0 b p.1.1 in omega (arith, one, rest)
+
+-- ---- one write
+
+-- what a write of a modified frame leaves of its record
+pub record Backed (s mid : StateOf) (f : Frame) : Type 0 where
+  pub backed : (record_at mid.life.frames f.0).backing ≢ backing.None
+
+pub backed_mid : (s mid : StateOf) (f : Frame) (home : Stored) → ∥ Reached s.life ∥₁ → is_on f.0 s.life.frames.modified ≡ true → Made (move.Write f home) s mid → Backed s mid f
+backed_mid s mid f home r on m = record { backed = λ none. ∥∥₁_elim r empty_prop (λ h. to (backing_at home h ∙ none)) }
+  where
+    empty_prop : IsProp ⊥
+    empty_prop = hlevel props
+
+    backing_at : (x : Stored) → Reached s.life → backing_to home ≡ (record_at mid.life.frames f.0).backing
+    backing_at x h = sym (ap (λ (k : FrameLife). (record_at k.frames f.0).backing) m.life ∙ ap (λ (t : Record). t.backing) (write_record s.life (reached_sound s.life h) f on home))
+
+    to : backing_to home ≡ backing.None → ⊥
+    to e = by home e
+      where
+        by : (x : Stored) → backing_to x ≡ backing.None → ⊥
+        by (stored.Slot t) e = cc
+        by (stored.Block t) e = cc
+
+-- one call of a device: counts never fall, and rise where it failed
+pub record CalledOne (ok : Bool) (s z : StateOf) : Type 0 where
+  pub paging : s.paging.faults ≤ z.paging.faults
+  pub files : s.files.faults ≤ z.files.faults
+  pub fault : ok ≡ false → SomeFault s z
+
+called_one : (ok : Bool) (b : Backing) (s z : StateOf) → b ≢ backing.None → Called way.Write b ok s z → CalledOne ok s z
+called_one ok backing.None s z n c = absurd (n refl)
+called_one ok (backing.Slot t) s z n c = record {
+  paging = c.0.later;
+  files = let e = ap (λ (d : DeviceOf). d.faults) c.1 in omega (arith, e);
+  fault = λ e. inl (c.0.cause e);
+}
+called_one ok (backing.Block t) s z n c = record {
+  paging = let e = ap (λ (d : DeviceOf). d.faults) c.1 in omega (arith, e);
+  files = c.0.later;
+  fault = λ e. inr (c.0.cause e);
+}
+
+one_called : (ok : Bool) (f : Frame) (s z : StateOf) → Made (write_end ok f) s z → Called way.Write (backing_of_frame s f) ok s z
+one_called true f s z m = m.calls
+one_called false f s z m = m.calls
+
+pub tries_called : (f : Frame) (ok : Bool) (s z : StateOf) → ∥ Reached s.life ∥₁ → is_on f.0 s.life.frames.modified ≡ true → (home : Stored) (mid : StateOf) → Made (move.Write f home) s mid → Made (write_end ok f) mid z → CalledOne ok s z
+tries_called f ok s z r on home mid b e =
+    let c = called_one ok (backing_of_frame mid f) mid z (backed_mid s mid f home r on b).backed (one_called ok f mid z e) in
+    let p = ap (λ (d : DeviceOf). d.faults) b.calls.0 in
+    let q = ap (λ (d : DeviceOf). d.faults) b.calls.1 in
+    record {
+      paging = let h = c.paging in omega (arith, h, p);
+      files = let h = c.files in omega (arith, h, q);
+      fault = λ no. elim (c.fault no) [
+        | inl x ↦ inl (subst (λ (n : ℕ). Rose n z.paging.faults) p x)
+        | inr x ↦ inr (subst (λ (n : ℕ). Rose n z.files.faults) q x)
+      ];
+    }
+
+-- ---- what stays
+
+-- the kind, the machine and the line's own request stay in a search
+begun_then : (s z : StateOf) → Begun s → z.life.kind ≡ s.life.kind → z.life.flight ≡ s.life.flight → z.life.machine ≡ s.life.machine → z ≡ called s z → Begun z
+begun_then s z b k q m same = record {
+  access = ap is_access k ∙ b.access;
+  few =
+      let x = ap (λ (xs : List ℕ). length xs) q in
+      let y = ap (λ (n : MachineOf). n.depth) m in
+      let few = b.few in omega (arith, x, y, few);
+  done = ap (λ (t : StateOf). t.own) same ∙ b.done;
+}
+
+called_then : (s y z : StateOf) → y ≡ called s y → z ≡ called y z → z ≡ called s z
+called_then s y z p q = q ∙ (λ i. called (p i) z)
+
+moved_called : (s z : StateOf) → z ≡ moved s z → z ≡ called s z
+moved_called s z e = e ∙ (λ i. record (moved s z) {
+  paging = ap (λ (t : StateOf). t.paging) (sym e) i;
+  files = ap (λ (t : StateOf). t.files) (sym e) i;
+  slots = ap (λ (t : StateOf). t.slots) (sym e) i;
+  blocks = ap (λ (t : StateOf). t.blocks) (sym e) i;
+})
+
+-- what is known of the modified frame that is written
+pub record Target (pin : Option Frame) (z : StateOf) (moves : List Move) (f : Frame) : Type 0 where
+  pub on : is_on f.0 z.life.frames.modified ≡ true
+  pub next : next_try z.life moves ≡ Some f.0
+  pub off : is_on f.0 z.life.flight ≡ false
+  pub unpinned : pin ≢ Some f
+
+-- of a write of it: what stays
+pub record Stays (z y : StateOf) : Type 0 where
+  pub kind : y.life.kind ≡ z.life.kind
+  pub machine : y.life.machine ≡ z.life.machine
+  pub flight : y.life.flight ≡ z.life.flight
+
+not_in_flight : (flight : List ℕ) (pin : Option Frame) (s z : StateOf) (f : Frame) → IsFlightOf flight pin s.life → z.life.flight ≡ s.life.flight → is_on f.0 z.life.flight ≡ false → pin ≢ Some f → is_on f.0 flight ≡ false
+not_in_flight flight pin s z f of same off un = by (is_on f.0 flight) refl
+  where
+    by : (b : Bool) → is_on f.0 flight ≡ b → b ≡ false
+    by false e = refl
+    by true e = elim (of f e) [
+      | inl h ↦ (let bad : true ≡ false = sym h ∙ (ap (is_on f.0) (sym same) ∙ off) in cc)
+      | inr h ↦ absurd (un h)
+    ]
+
+module _ (pin : Option Frame) (s z : StateOf) (moves : List Move) (k : Seeks pin s z moves) (f : Frame) (t : Target pin z moves f) where
+  abbrev w : Walk
+  w = walked_all (walk_of s) moves
+
+  here : walked_all (walk_of s) moves ≡ record { life = z.life; ages = z.ages; tried = (walked_all (walk_of s) moves).tried }
+  here = walked_here moves s z k.does
+
+  life_here : (walked_all (walk_of s) moves).life ≡ z.life
+  life_here = ap (λ (x : Walk). x.life) here
+
+  next_here : next_writable (walked_all (walk_of s) moves) ≡ Some f.0
+  next_here =
+      ap (λ (l : FrameLife). writable_in l (walked_all (walk_of s) moves).tried l.frames.modified) life_here
+      ∙ next_is z.life (walked_all (walk_of s) moves).tried moves k.tried z.life.frames.modified ∙ t.next
+
+  short_here : is_short (walked_all (walk_of s) moves).life ≡ true
+  short_here = ap is_short life_here ∙ k.short
+
+  -- its write, well or not, is of a search
+  writes_on : (ok : Bool) (home : Stored) (flight : List ℕ) → IsFlightOf flight pin s.life → Through (SearchMove pin flight) (walked_all (walk_of s) moves) (move.Write f home ∷ write_end ok f ∷ [])
+  writes_on true home flight of = ((short_here, next_here, inl refl), (not_in_flight flight pin s z f of k.flight t.off t.unpinned, tt))
+  writes_on false home flight of = ((short_here, next_here, inr refl), (not_in_flight flight pin s z f of k.flight t.off t.unpinned, tt))
+
+  -- a write that failed: the search goes on
+  module _ (y : StateOf) (tries : Tries f false z y) (stays : Stays z y) (target : (g : Frame) → pin ≡ Some g → 1 ≤ (record_at y.life.frames g.0).shares) (short : is_short y.life ≡ true) where
+    made_two : Does (failed_write f tries.home) z y
+    made_two = does_two (move.Write f tries.home) (move.Lost f) z tries.mid y tries.begins tries.ends
+
+    told_now : y.told ≡ told_after tries.mid.life (move.Lost f) z.told
+    told_now = tries.ends.told ∙ ap (told_after tries.mid.life (move.Lost f)) tries.begins.told
+
+    pub seeks_failed : 0 < y.told.search_writes.failed → y.told.search_writes.succeeded ≡ z.told.search_writes.succeeded → y.told.last_failed_read ≡ z.told.last_failed_read
+        → (z.paging.faults ≤ y.paging.faults) → (z.files.faults ≤ y.files.faults) → Seeks pin s y (moves ++ failed_write f tries.home)
+    seeks_failed failed none read p q = record {
+      does = does_then moves (failed_write f tries.home) s z y k.does made_two;
+      each = λ flight of. searches_then pin flight moves (failed_write f tries.home) (walk_of s) (k.each flight of) (writes_on false tries.home flight of);
+      tried = λ g. ap (λ (x : Walk). is_on g x.tried) (walked_then moves (failed_write f tries.home) (walk_of s)) ∙ tried_now g ∙ sym (lost_then moves (failed_write f tries.home) g);
+      wrote = count-append is_wrote_move moves (failed_write f tries.home) ∙ ap (λ n. n + 0) k.wrote;
+      reads = count-append is_read_move moves (failed_write f tries.home) ∙ ap (λ n. n + 0) k.reads;
+      fails = λ g e. failed;
+      fault = λ g e. elim (tries.fault refl) [
+        | inl h ↦ inl (rose_from s.paging.faults z.paging.faults y.paging.faults (later_paging k.does) h)
+        | inr h ↦ inr (rose_from s.files.faults z.files.faults y.files.faults (later_files k.does) h)
+      ];
+      none = none ∙ k.none;
+      read = read ∙ k.read;
+      same = called_then s z y k.same tries.same;
+      begun = begun_then z y k.begun stays.kind stays.flight stays.machine tries.same;
+      pinned = target;
+      short = short;
+      flight = stays.flight ∙ k.flight;
+    }
+      where
+        rose_from : (a b c : ℕ) → a ≤ b → Rose b c → Rose a c
+        rose_from a b c l r = rose_later a b c l r
+
+        later_paging : Does moves s z → s.paging.faults ≤ z.paging.faults
+        later_paging d = all_served_later d.paging_calls s.paging z.paging d.paging
+
+        later_files : Does moves s z → s.files.faults ≤ z.files.faults
+        later_files d = all_served_later d.file_calls s.files z.files d.files
+
+        tried_now : (g : ℕ) → is_on g (walked_all (walked_all (walk_of s) moves) (failed_write f tries.home)).tried ≡ (lost_in moves g || lost_in (failed_write f tries.home) g)
+        tried_now g = by (f.0 == g) (is_on g (walked_all (walk_of s) moves).tried) (lost_in moves g) (k.tried g)
+          where
+            by : (a b c : Bool) → b ≡ c → (a || b) ≡ (c || (a || false))
+            by true true true e = refl
+            by true false false e = refl
+            by true true false e = cc
+            by true false true e = cc
+            by false true true e = refl
+            by false false false e = refl
+            by false true false e = cc
+            by false false true e = cc
+
+  -- a write that succeeded: a frame is found
+  pub wrote_found : (y : StateOf) → (tries : Tries f true z y) → is_short y.life ≡ false → y.told.last_failed_read ≡ z.told.last_failed_read → Searched pin true s y
+  wrote_found y tries found read =
+      let more = move.Write f tries.home ∷ move.Wrote f ∷ [] in
+      let two = does_two (move.Write f tries.home) (move.Wrote f) z tries.mid y tries.begins tries.ends in
+      record {
+        moves = moves ++ more;
+        does = does_then moves more s z y k.does two;
+        each = λ flight of. searches_then pin flight moves more (walk_of s) (k.each flight of) (writes_on true tries.home flight of);
+        one = let n = count-append is_wrote_move moves more in let w = k.wrote in omega (arith, n, w);
+        no_read = count-append is_read_move moves more ∙ ap (λ n. n + 0) k.reads;
+        got = λ e. found;
+        short = λ e. cc;
+        lost = λ e. cc;
+        starved = λ e. cc;
+        fails = λ e. cc;
+        fault = λ e. cc;
+        none = λ e. cc;
+        read = read ∙ k.read;
+        same = called_then s z y k.same tries.same;
+      }
+
+-- ---- an unmap
+
+module _ (pin : Option Frame) (s z y : StateOf) (moves : List Move) (k : Seeks pin s z moves) (p : Place) (made : Made (move.Unmap p) z y) (rest : y ≡ moved z y)
+    (victim : IsVictim z.life z.ages pin p) (none_left : next_try z.life moves ≡ None) where
+  here_unmap : walked_all (walk_of s) moves ≡ record { life = z.life; ages = z.ages; tried = (walked_all (walk_of s) moves).tried }
+  here_unmap = walked_here moves s z k.does
+
+  unmaps_on : (flight : List ℕ) → Through (SearchMove pin flight) (walked_all (walk_of s) moves) (move.Unmap p ∷ [])
+  unmaps_on flight = subst (λ (w : Walk). Through (SearchMove pin flight) w (move.Unmap p ∷ [])) (sym here_unmap)
+      ((k.short, next_is z.life (walked_all (walk_of s) moves).tried moves k.tried z.life.frames.modified ∙ none_left, victim), tt)
+
+  -- no frame came of it
+  pub seeks_unmapped : Stays z y → ((g : Frame) → pin ≡ Some g → 1 ≤ (record_at y.life.frames g.0).shares) → is_short y.life ≡ true → Seeks pin s y (moves ++ move.Unmap p ∷ [])
+  seeks_unmapped stays target short = record {
+    does = does_then moves (move.Unmap p ∷ []) s z y k.does (does_one (move.Unmap p) z y made);
+    each = λ flight of. searches_then pin flight moves (move.Unmap p ∷ []) (walk_of s) (k.each flight of) (unmaps_on flight);
+    tried = λ g. ap (λ (x : Walk). is_on g x.tried) (walked_then moves (move.Unmap p ∷ []) (walk_of s)) ∙ k.tried g ∙ sym (lost_same g);
+    wrote = count-append is_wrote_move moves (move.Unmap p ∷ []) ∙ ap (λ n. n + 0) k.wrote;
+    reads = count-append is_read_move moves (move.Unmap p ∷ []) ∙ ap (λ n. n + 0) k.reads;
+    fails = λ g e. subst (λ (t : Told). 0 < t.search_writes.failed) (sym made.told) (k.fails g (sym (lost_same g) ∙ e));
+    fault = λ g e. SomeFault-as s z y (k.fault g (sym (lost_same g) ∙ e)) made.calls.0 made.calls.1;
+    none = ap (λ (t : Told). t.search_writes.succeeded) made.told ∙ k.none;
+    read = ap (λ (t : Told). t.last_failed_read) made.told ∙ k.read;
+    same = called_then s z y k.same (moved_called z y rest);
+    begun = begun_then z y k.begun stays.kind stays.flight stays.machine (moved_called z y rest);
+    pinned = target;
+    short = short;
+    flight = stays.flight ∙ k.flight;
+  }
+    where
+      lost_same : (g : ℕ) → lost_in (moves ++ move.Unmap p ∷ []) g ≡ lost_in moves g
+      lost_same g = lost_then moves (move.Unmap p ∷ []) g ∙ or_none (lost_in moves g)
+
+      SomeFault-as : (s z y : StateOf) → SomeFault s z → y.paging ≡ z.paging → y.files ≡ z.files → SomeFault s y
+      SomeFault-as s z y (inl h) e g = inl (subst (λ (d : DeviceOf). Rose s.paging.faults d.faults) (sym e) h)
+      SomeFault-as s z y (inr h) e g = inr (subst (λ (d : DeviceOf). Rose s.files.faults d.faults) (sym g) h)
+
+  -- a frame came of it
+  pub unmapped_found : is_short y.life ≡ false → Searched pin true s y
+  unmapped_found found = record {
+    moves = moves ++ move.Unmap p ∷ [];
+    does = does_then moves (move.Unmap p ∷ []) s z y k.does (does_one (move.Unmap p) z y made);
+    each = λ flight of. searches_then pin flight moves (move.Unmap p ∷ []) (walk_of s) (k.each flight of) (unmaps_on flight);
+    one = let n = count-append is_wrote_move moves (move.Unmap p ∷ []) in let w = k.wrote in omega (arith, n, w);
+    no_read = count-append is_read_move moves (move.Unmap p ∷ []) ∙ ap (λ n. n + 0) k.reads;
+    got = λ e. found;
+    short = λ e. cc;
+    lost = λ e. cc;
+    starved = λ e. cc;
+    fails = λ e. cc;
+    fault = λ e. cc;
+    none = λ e. cc;
+    read = ap (λ (t : Told). t.last_failed_read) made.told ∙ k.read;
+    same = called_then s z y k.same (moved_called z y rest);
+  }
+
+-- ---- the ends
+
+same_called : (s : StateOf) → s ≡ called s s
+same_called s = refl
+
+pub found_at_once : (pin : Option Frame) (s : StateOf) → is_short s.life ≡ false → Searched pin true s s
+found_at_once pin s found = record {
+  moves = [];
+  does = does_nothing s;
+  each = λ flight of. tt;
+  one = omega arith;
+  no_read = refl;
+  got = λ e. found;
+  short = λ e. cc;
+  lost = λ e. cc;
+  starved = λ e. cc;
+  fails = λ e. cc;
+  fault = λ e. cc;
+  none = λ e. cc;
+  read = refl;
+  same = same_called s;
+}
+
+-- the pinned frame is the only one that a place may be valid for
+only_pinned : (l : FrameLife) (pin : Option Frame) → NoneMayGo l pin → (p : Place) (f : Frame) → l.valid p ≡ Some f → pin ≡ Some f
+only_pinned l pin none p f e = at pin refl
+  where
+    stays : not (is_frame f.0 pin) ≡ false
+    stays = sym (ap (is_unpinned pin) e) ∙ none p
+
+    at : (o : Option Frame) → pin ≡ o → pin ≡ Some f
+    at None h = let bad : true ≡ false = sym (ap (λ (o : Option Frame). not (is_frame f.0 o)) h) ∙ stays in cc
+    at (Some g) h = h ∙ ap (λ (n : ℕ). Some (record { 0 = n })) (same (g.0 == f.0) refl (sym (ap (λ (o : Option Frame). not (is_frame f.0 o)) h) ∙ stays))
+      where
+        same : (b : Bool) → (g.0 == f.0) ≡ b → not b ≡ false → g.0 ≡ f.0
+        same true e n = eqb-true g.0 f.0 e
+        same false e n = cc
+
+pub starves : (pin : Option Frame) (s z : StateOf) (moves : List Move) → Seeks pin s z moves → next_try z.life moves ≡ None → NoneMayGo z.life pin
+    → 0 < z.told.search_writes.failed → SomeFault s z → Searched pin false s z
+starves pin s z moves k none_left none fails fault =
+    let here : walked_all (walk_of s) moves ≡ record { life = z.life; ages = z.ages; tried = (walked_all (walk_of s) moves).tried } = walked_here moves s z k.does in
+    record {
+      moves = moves;
+      does = k.does;
+      each = k.each;
+      one = let w = k.wrote in omega (arith, w);
+      no_read = k.reads;
+      got = λ e. cc;
+      short = λ e. k.short;
+      lost = λ e. k.wrote;
+      starved = λ e. subst (λ (w : Walk). Starved pin w) (sym here) (record {
+        tried = next_is z.life (walked_all (walk_of s) moves).tried moves k.tried z.life.frames.modified ∙ none_left;
+        only = only_pinned z.life pin none;
+      });
+      fails = λ e. fails;
+      fault = λ e. fault;
+      none = λ e. k.none;
+      read = k.read;
+      same = k.same;
+    }

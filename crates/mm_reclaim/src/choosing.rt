@@ -1,0 +1,103 @@
+ghost use Rattle.std.specs.Prelude.{◌≡◌, ◌+◌, true, Some, None, MatchOption};
+ghost use Rattle.std.specs.Option.{ForSome};
+ghost use Rattle.mm_types.specs.declared.numbers.Place.{Place};
+ghost use Rattle.mm_walks.specs.Order.{may_go as goes, IsOldest, IsVictim};
+ghost use Rattle.mm_room.specs.Room.{NoneMayGo};
+ghost use Rattle.mm_room.specs.Order.{takes_over as takes, BestBelow};
+ghost use Rattle.mm_reclaim.specs.Choosing.{NoneIn};
+
+use mm_moving::Moving;
+use mm_types::{Frame, Pid, Place, Vpn};
+
+/// Whether the page at a bound place may go: it is valid there, in a frame that is not pinned.
+fn may_go<T: Moving>(state: &T, pinned: Option<Frame>, place: Place) -> bool
+    requires { (T.shown state.now).bound place ≡ true }
+    ensures { result ≡ goes (T.shown state.now).life pinned place }
+{
+    match state.valid(place) {
+        None => false,
+        Some(f) => match pinned {
+            None => true,
+            Some(g) => f.0 != g.0,
+        },
+    }
+}
+
+/// The oldest page of an open process that may go.
+fn oldest_to_go<T: Moving>(state: &T, pinned: Option<Frame>, pid: Pid) -> Option<Place>
+    requires { (T.shown state.now).is_open pid.0 ≡ true }
+    ensures oldest { MatchOption result (NoneIn (T.shown state.now).life pinned pid.0) (λ v. IsOldest (T.shown state.now).life (T.shown state.now).ages pinned v) }
+    ensures of { ForSome result (λ v. v.pid ≡ pid) }
+{
+    state.sound();
+    let mut after = None;
+    'pages: loop {
+        match state.oldest(pid, after) {
+            None => return None,
+            Some(v) => {
+                let place = Place { pid, vpn: v };
+                if may_go(state, pinned, place) {
+                    return Some(place);
+                }
+                after = Some(v);
+            }
+        }
+    }
+}
+
+/// Whether a process whose page may go takes over from the best so far.
+#[tactic(auto, using(crate::proofs::Bests::has_set))]
+fn takes_over<T: Moving>(state: &T, pid: Pid, best: Option<Place>) -> bool
+    requires open { (T.shown state.now).is_open pid.0 ≡ true }
+    requires best { ForSome best (λ v. (T.shown state.now).is_open v.pid.0 ≡ true) }
+    ensures { result ≡ takes (T.shown state.now).life pid.0 best }
+{
+    state.sound();
+    match best {
+        None => true,
+        Some(v) => state.is_above_min(pid) && !state.is_above_min(v.pid),
+    }
+}
+
+/// The first page to go of the processes up to a pid, from that of those below it.
+#[tactic(auto, using(crate::proofs::Bests::closed_same, crate::proofs::Bests::none_same, crate::proofs::Bests::best_stays, crate::proofs::Bests::best_taken))]
+fn better<T: Moving>(
+    state: &T,
+    pinned: Option<Frame>,
+    pid: Pid,
+    best: Option<Place>,
+) -> Option<Place>
+    requires below { BestBelow (T.shown state.now).life (T.shown state.now).ages pinned pid.0 best }
+    requires open { ForSome best (λ v. (T.shown state.now).is_open v.pid.0 ≡ true) }
+    ensures below { BestBelow (T.shown state.now).life (T.shown state.now).ages pinned (pid.0 + 1) result }
+    ensures open { ForSome result (λ v. (T.shown state.now).is_open v.pid.0 ≡ true) }
+{
+    state.sound();
+    if !state.is_open(pid) {
+        return best;
+    }
+    match oldest_to_go(state, pinned, pid) {
+        None => best,
+        Some(place) => {
+            if takes_over(state, pid, best) {
+                Some(place)
+            } else {
+                best
+            }
+        }
+    }
+}
+
+/// The page that a search unmaps: the oldest that may go in the first process that holds one, those above their minimum first,
+/// then the lowest pid. None exactly where no page may go.
+#[tactic(auto, using(crate::proofs::Bests::begins, crate::proofs::Bests::best_answer))]
+pub fn victim<T: Moving>(state: &T, pinned: Option<Frame>) -> Option<Place>
+    ensures { MatchOption result (NoneMayGo (T.shown state.now).life pinned) (λ v. IsVictim (T.shown state.now).life (T.shown state.now).ages pinned v) }
+{
+    state.sound();
+    let mut best = None;
+    for n in 1..65 {
+        best = better(state, pinned, Pid(n), best);
+    }
+    best
+}

@@ -1,0 +1,59 @@
+ghost use Rattle.std.specs.Prelude.{◌≡◌, ◌||◌, ◌==◌, not, is_some, true};
+ghost use Rattle.mm_life.specs.Frames.{is_on};
+ghost use Rattle.mm_life.specs.Victims.{can_be_written as writable};
+ghost use Rattle.mm_laws.specs.FileBlocks.{block_of};
+ghost use Rattle.mm_room.specs.Room.{Writable};
+ghost use Rattle.mm_reclaim.specs.Seeking.{Begun, Tries, Tried};
+
+use mm_moving::Moving;
+use mm_types::{Backing, Frame};
+
+/// Whether a page of that backing has a block, or a slot where so many are free.
+fn has_home(backing: Backing, free_slots: u32) -> bool
+    ensures { result ≡ is_some (block_of backing) || not (free_slots == 0) }
+{
+    match backing {
+        Backing::Block(_) => true,
+        _ => free_slots != 0,
+    }
+}
+
+/// Whether a modified frame can be written: to its block, or to a slot where one is free.
+#[tactic(auto, using(crate::proofs::Targets::modified_low, crate::proofs::Targets::writable_is))]
+fn can_be_written<T: Moving>(state: &T, f: Frame) -> bool
+    requires { is_on f.0 (T.shown state.now).life.frames.modified ≡ true }
+    ensures { result ≡ writable (T.shown state.now).life f.0 }
+{
+    state.sound();
+    let backing = state.look(f).backing;
+    let room = state.free_slots();
+    has_home(backing, room)
+}
+
+/// A modified frame that can be written is, in an access. Answers whether the write succeeded.
+#[tactic(auto, using(crate::proofs::Targets::target_legal, crate::proofs::Targets::end_legal))]
+fn write_frame<T: Moving>(state: &mut T, f: Frame) -> bool
+    requires begun { Begun (T.shown state.old) }
+    requires writable { Writable (T.shown state.old).life f.0 }
+    ensures tries { Tries f result (T.shown state.old) (T.shown state.new) }
+    ensures loans { T.loans state.new ≡ T.loans state.old }
+{
+    state.sound();
+    let _to = state.start_write(f);
+    state.end_write(f)
+}
+
+/// A modified frame is written where it can be, in a plain access: to its block, or to the lowest free slot. Answers whether it was written,
+/// and so stands on standby. Takes no memory.
+#[tactic(auto, using(crate::proofs::Targets::can_write))]
+pub fn try_frame<T: Moving>(state: &mut T, f: Frame) -> bool
+    requires begun { Begun (T.shown state.old) }
+    requires modified { is_on f.0 (T.shown state.old).life.frames.modified ≡ true }
+    ensures tried { Tried f result (T.shown state.old) (T.shown state.new) }
+    ensures loans { T.loans state.new ≡ T.loans state.old }
+{
+    if !can_be_written(state, f) {
+        return false;
+    }
+    write_frame(state, f)
+}
