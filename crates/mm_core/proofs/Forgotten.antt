@@ -14,28 +14,37 @@ use Rattle.mm_world.specs.World.{Page, KeptOf, numbered}
 use Rattle.mm_world.specs.Step.{kept_by, threads}
 use Rattle.mm_world.specs.Contents.{Tables}
 use Rattle.mm_world.proofs.Finding.{numbered_inside}
+use Rattle.mm_walks.specs.Waits.{Idle}
 use Rattle.mm_pages.specs.Store.{StoreOf, changed}
+use Rattle.mm_pages.specs.Behind.{Behind}
+use Rattle.mm_pages.specs.Accesses.{Forgets}
+use Rattle.mm_pages.specs.Passing.{PassesIn}
 use Rattle.mm_tables.specs.Fits.{Fits, beside}
 use Rattle.mm_core.specs.Forgetting.{is_of, wait_left, waits_but, waited, Forgot, EndsWaits}
 use Rattle.mm_core.specs.Deciding.{Keeps, Decided}
+use Rattle.mm_core.specs.Noting.{idle_but, IdlesBut, Idles}
 
 -- ---- one thread more
 
-module _ (t : Tables) (pid : ℕ) (w y z : ℕ → Wait) (i : ℕ) where
+module _ {A : Type 0} (none : A) (t : Tables) (pid : ℕ) (w y z : ℕ → A) (i : ℕ) where
   abbrev of : ℕ → Bool
   of tid = is_of pid (kept_by t tid)
 
-  at_it : (b : Bool) → b ≡ of i → z ≡ cond b (changed ◌==◌ y i wait.None) y → y i ≡ wait_left t pid i w i → z i ≡ cond b wait.None (w i)
-  at_it true e is before = ap (λ (f : ℕ → Wait). f i) is ∙ ap (λ c. cond c wait.None (y i)) ((unsigned_Decides i i).1 refl)
-  at_it false e is before = ap (λ (f : ℕ → Wait). f i) is ∙ before ∙ ap (λ c. cond (c && of i) wait.None (w i)) (le-ltb i i (omega arith))
+  -- those below a number whose access is of the process have none
+  abbrev left : ℕ → (ℕ → A) → ℕ → A
+  left end f tid = cond (nat_lt tid end && of tid) none (f tid)
 
-  at_other : (tid : ℕ) → tid ≢ i → (b : Bool) → z ≡ cond b (changed ◌==◌ y i wait.None) y → z tid ≡ y tid
-  at_other tid other true is = ap (λ (f : ℕ → Wait). f tid) is ∙ ap (λ c. cond c wait.None (y tid)) (not_same (tid == i) refl)
+  at_it : (b : Bool) → b ≡ of i → z ≡ cond b (changed ◌==◌ y i none) y → y i ≡ left i w i → z i ≡ cond b none (w i)
+  at_it true e is before = ap (λ (f : ℕ → A). f i) is ∙ ap (λ c. cond c none (y i)) ((unsigned_Decides i i).1 refl)
+  at_it false e is before = ap (λ (f : ℕ → A). f i) is ∙ before ∙ ap (λ c. cond (c && of i) none (w i)) (le-ltb i i (omega arith))
+
+  at_other : (tid : ℕ) → tid ≢ i → (b : Bool) → z ≡ cond b (changed ◌==◌ y i none) y → z tid ≡ y tid
+  at_other tid other true is = ap (λ (f : ℕ → A). f tid) is ∙ ap (λ c. cond c none (y tid)) (not_same (tid == i) refl)
     where
       not_same : (c : Bool) → (tid == i) ≡ c → c ≡ false
       not_same true e = absurd (other ((unsigned_Decides tid i).0 e))
       not_same false e = refl
-  at_other tid other false is = ap (λ (f : ℕ → Wait). f tid) is
+  at_other tid other false is = ap (λ (f : ℕ → A). f tid) is
 
   same_test : (tid : ℕ) → tid ≢ i → nat_lt tid i ≡ nat_lt tid (i + 1)
   same_test tid other = by_test (nat_lt tid i) refl
@@ -44,13 +53,13 @@ module _ (t : Tables) (pid : ℕ) (w y z : ℕ → Wait) (i : ℕ) where
       by_test true e = let l = ltb-true tid i e in sym (lt-ltb tid (i + 1) (omega arith))
       by_test false e = let l = ltb-false tid i e in sym (le-ltb tid (i + 1) (omega arith))
 
-  pub left_one_more : ((tid : ℕ) → y tid ≡ wait_left t pid i w tid) → z ≡ waits_but t pid i y → (tid : ℕ) → z tid ≡ wait_left t pid (i + 1) w tid
+  pub left_one_more : ((tid : ℕ) → y tid ≡ left i w tid) → z ≡ cond (of i) (changed ◌==◌ y i none) y → (tid : ℕ) → z tid ≡ left (i + 1) w tid
   left_one_more before is tid = elim (same_or_not tid i) [
     | inl e ↦
-        subst (λ (k : ℕ). z k ≡ wait_left t pid (i + 1) w k) (sym e)
-        (at_it (of i) refl is (before i) ∙ ap (λ c. cond (c && of i) wait.None (w i)) (sym (lt-ltb i (i + 1) (omega arith))))
+        subst (λ (k : ℕ). z k ≡ left (i + 1) w k) (sym e)
+        (at_it (of i) refl is (before i) ∙ ap (λ c. cond (c && of i) none (w i)) (sym (lt-ltb i (i + 1) (omega arith))))
     | inr other ↦
-        at_other tid other (of i) is ∙ before tid ∙ ap (λ c. cond (c && of tid) wait.None (w tid)) (same_test tid other)
+        at_other tid other (of i) is ∙ before tid ∙ ap (λ c. cond (c && of tid) none (w tid)) (same_test tid other)
   ]
 
 -- ---- all threads
@@ -61,9 +70,35 @@ module _ (t : Tables) (pid : ℕ) (s : StoreOf) where
 
   pub forgot-more : (i : ℕ) (y z : StoreOf) → Forgot t pid i s y → z ≡ waited y z → z.report.wait ≡ waits_but t pid i y.report.wait → Forgot t pid (i + 1) s z
   forgot-more i y z h rest waits = record {
-    waits = left_one_more t pid s.report.wait y.report.wait z.report.wait i h.waits waits;
+    waits = left_one_more wait.None t pid s.report.wait y.report.wait z.report.wait i h.waits waits;
     rest = rest ∙ ap (λ (y : StoreOf). waited y z) h.rest;
   }
+
+-- ---- what stands behind the store
+
+-- one thread more
+pub idles-one : (u : Bool) (t : Tables) (pid tid : ℕ) (s z : StoreOf) (b c : Behind) (found : Bool) → found ≡ is_of pid (kept_by t tid) → found ≡ true → PassesIn u (Forgets tid) s z b c → u ≡ false → IdlesBut t pid tid b c
+idles-one true t pid tid s z b c found is on p paging = cc
+idles-one false t pid tid s z b c found is on p paging =
+    let e : true ≡ is_of pid (kept_by t tid) = sym on ∙ is in
+    p.that.same ∙ (λ i. record b { waits = cond (e i) (changed ◌==◌ b.waits tid Idle) b.waits })
+
+pub idles-not : (t : Tables) (pid tid : ℕ) (b : Behind) (found : Bool) → found ≡ is_of pid (kept_by t tid) → found ≡ false → IdlesBut t pid tid b b
+idles-not t pid tid b found is off =
+    let e : false ≡ is_of pid (kept_by t tid) = sym off ∙ is in
+    λ i. record b { waits = cond (e i) (changed ◌==◌ b.waits tid Idle) b.waits }
+
+module _ (t : Tables) (pid : ℕ) (b : Behind) where
+  pub idles-none : Idles t pid 0 b b
+  idles-none = record { waits = λ tid. ap (λ c. cond (c && is_of pid (kept_by t tid)) Idle (b.waits tid)) (sym (le-ltb tid 0 (omega arith))); same = refl }
+
+  pub idles-more : (i : ℕ) (y c : Behind) → Idles t pid i b y → IdlesBut t pid i y c → Idles t pid (i + 1) b c
+  idles-more i y c h e =
+      let waits : c.waits ≡ idle_but t pid i y.waits = ap (λ (x : Behind). x.waits) e in
+      record {
+        waits = left_one_more Idle t pid b.waits y.waits c.waits i h.waits waits;
+        same = e ∙ (λ j. record y { waits = sym waits j }) ∙ (λ j. record (h.same j) { waits = c.waits });
+      }
 
 -- ---- the store goes on fitting the tables
 

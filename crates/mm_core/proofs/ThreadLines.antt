@@ -1,10 +1,8 @@
 -- The lines `begin` and `resume`, by what the thread keeps and by how its access went.
-use Rattle.std.proofs.Common.{◌≡◌, ◌⊎◌, inl, ℕ, ◌+◌, Bool, true, false, Option, Some, None, refl, sym, ◌∙◌, ap, subst, cond, is_some}
+use Rattle.std.proofs.Common.{◌≡◌, ◌⊎◌, inl, ℕ, Bool, true, false, Option, Some, None, refl, sym, ◌∙◌, ap, subst, cond, is_some}
 use Rattle.std.specs.Prelude.{option_map, ◌&&◌}
 use Rattle.mm_types.specs.declared.answers.Answer.{Answer}
 use Rattle.mm_types.specs.declared.answers.Answer.TheVariants as answer
-use Rattle.mm_types.specs.declared.answers.Wait.{Wait}
-use Rattle.mm_types.specs.declared.answers.Wait.TheVariants as wait
 use Rattle.mm_types.specs.declared.answers.Why.{Why}
 use Rattle.mm_types.specs.declared.codes.Code.TheVariants as code
 use Rattle.mm_types.specs.declared.codes.Raise.TheVariants as raise
@@ -20,12 +18,12 @@ use Rattle.mm_world.specs.Failure.{Need, pending, wait_failed}
 use Rattle.mm_world.specs.Find.{process_of}
 use Rattle.mm_world.specs.Outcome.{OutcomeOf, done, find_or}
 use Rattle.mm_world.specs.Report.{Report}
-use Rattle.mm_world.specs.Step.{step, stepped, unpaged, told, need_at, kept_by, keep, waiting, begin_told, resume, resume_told}
+use Rattle.mm_world.specs.Step.{step, stepped, unpaged, told, need_at, kept_by, keep, waiting, resume, resume_told}
 use Rattle.mm_world.specs.Contents.{Tables, world_with, process_with}
 use Rattle.mm_core.proofs.With.{process-with}
 use Rattle.mm_pages.specs.Store.{StoreOf}
 use Rattle.mm_pages.specs.Reports.{Served, SomeRose}
-use Rattle.mm_tables.specs.Fits.{Fits, bytes_of}
+use Rattle.mm_tables.specs.Fits.{bytes_of}
 use Rattle.mm_core.specs.Serving.{IsFailure, Named, Flushed, FailedBefore}
 use Rattle.mm_core.specs.Accessing.{Refuses}
 use Rattle.mm_core.specs.Pending.{Waits, Went, Permitted}
@@ -143,11 +141,11 @@ module _ (u : Bool) (n : ℕ) (t : Tables) (old mid : Key → Option Page) (s m 
     abbrev f : Event
     f = line.Resume tid
 
-    pub resume-nothing : Keeps t mid m → Served m m → kept_by t tid.0 ≡ None → Decided u f n t old s answer.Nothing t mid m
-    resume-nothing keeps served none =
-        thread-line f answer.Nothing t mid m keeps refl
-        (stepped-plain u w f s.report m.report answer.Nothing w
-        (ap (λ k. resume_told w tid.0 k s.report m.report) none) (ap (resume w tid.0) none))
+    pub resume-nothing : (new : Key → Option Page) (z : StoreOf) → Keeps t new z → z.line ≡ m.line → Served m z → new ≡ mid → kept_by t tid.0 ≡ None → Decided u f n t old s answer.Nothing t new z
+    resume-nothing new z keeps line_is served kept_bytes none =
+        thread-line f answer.Nothing t new z keeps line_is
+        (stepped-plain u w f s.report z.report answer.Nothing (world_with t (bytes_of new)) (ap (λ k. resume_told w tid.0 k s.report z.report) none)
+        (ap (resume w tid.0) none ∙ ap (λ (c : Key → Option Page). done answer.Nothing (world_with t (bytes_of c))) (sym kept_bytes)))
         served (λ f. absurd f) tt tt
 
     module _ (k : KeptOf) (kept : kept_by t tid.0 ≡ Some k) (after : Tables) (new : Key → Option Page) (z : StoreOf) (keeps : Keeps after new z) (line_is : z.line ≡ m.line) where

@@ -6,3 +6,6 @@ pub mod Shown
 pub mod Serving
 pub mod Pending
 pub mod Forgetting
+pub mod Answering
+pub mod Lining
+pub mod Noting

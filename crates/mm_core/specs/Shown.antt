@@ -4,6 +4,7 @@ use Rattle.mm_types.specs.Outside.{Loans}
 use Rattle.mm_world.specs.World.{Page, World}
 use Rattle.mm_world.specs.Contents.{world_with}
 use Rattle.mm_world.specs.Report.{Report}
+use Rattle.mm_pages.specs.Behind.{Behind}
 use Rattle.mm_pages.specs.declared.pages.Pages.{Ghosts as PagesGhosts}
 use Rattle.mm_blocks.specs.Devices.{DeviceOf}
 use Rattle.mm_tables.specs.Fits.{bytes_of}
@@ -16,6 +17,10 @@ module _ {G : Type 0} {g : PagesGhosts G} where
 
   abbrev pub report : Kept G g → Report
   report w = (g.store w.pages).report
+
+  -- what stands behind the store, where it pages
+  abbrev pub behind : Kept G g → Behind
+  behind w = g.behind w.pages
 
   -- the number of the line that began last
   abbrev pub line_of : Kept G g → ℕ

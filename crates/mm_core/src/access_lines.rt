@@ -8,7 +8,10 @@ ghost use Rattle.mm_world.specs.WellFormed.{Spaces};
 ghost use Rattle.mm_pages.specs.Reports.{IsBegun};
 ghost use Rattle.mm_pages.specs.Conditions.{place_at, touch, copying, IsReady, MayAccess};
 ghost use Rattle.mm_tables.specs.Fits.{key_at, bytes_of};
+ghost use Rattle.mm_pages.specs.Passing.{PassesIn};
 ghost use Rattle.mm_core.specs.Accessing.{Admits, Accessed, IsHad};
+ghost use Rattle.mm_core.specs.Answering.{Answered, aim_in};
+ghost use Rattle.mm_core.specs.Lining.{Lined};
 ghost use Rattle.mm_core.specs.Deciding.{Keeps, Decided};
 
 use crate::beginning::begin_access;
@@ -41,6 +44,7 @@ pub(crate) fn read_at<G: Pages>(
     ensures keeps { Keeps t.now (G.contents g.new) (G.store g.new) }
     ensures had { IsReady (G.store g.old) (place_at pid (page_of addr)) (touch row.key) → IsHad (touch row.key) (G.store g.new).report }
     ensures line { (G.store g.new).line ≡ (G.store g.old).line }
+    ensures passes { PassesIn G.unpaged (Answered (aim_in t.now (G.contents g.old) (G.behind g.old) pid addr (ReadOf len)) (IsReady (G.store g.old) (place_at pid (page_of addr)) (touch row.key)) result (G.store g.new).report) (G.store g.old) (G.store g.new) (G.behind g.old) (G.behind g.new) }
     ensures loans { G.loans g.new ≡ G.loans g.old }
 {
     match read_bytes(t, g, pid, addr, row.key, len) {
@@ -68,6 +72,7 @@ pub(crate) fn execute_at<G: Pages>(
     ensures keeps { Keeps t.now (G.contents g.new) (G.store g.new) }
     ensures had { IsReady (G.store g.old) (place_at pid (page_of addr)) (touch row.key) → IsHad (touch row.key) (G.store g.new).report }
     ensures line { (G.store g.new).line ≡ (G.store g.old).line }
+    ensures passes { PassesIn G.unpaged (Answered (aim_in t.now (G.contents g.old) (G.behind g.old) pid addr Execute) (IsReady (G.store g.old) (place_at pid (page_of addr)) (touch row.key)) result (G.store g.new).report) (G.store g.old) (G.store g.new) (G.behind g.old) (G.behind g.new) }
     ensures loans { G.loans g.new ≡ G.loans g.old }
 {
     match fetch(t, g, pid, addr, row.key, &mut []) {
@@ -98,6 +103,7 @@ pub(crate) fn write_at<G: Pages>(
     ensures keeps { Keeps t.now (G.contents g.new) (G.store g.new) }
     ensures had { IsReady (G.store g.old) (place_at pid (page_of addr)) (touch row.key) → IsHad (touch row.key) (G.store g.new).report }
     ensures line { (G.store g.new).line ≡ (G.store g.old).line }
+    ensures passes { PassesIn G.unpaged (Answered (aim_in t.now (G.contents g.old) (G.behind g.old) pid addr (WriteOf bytes.now)) (IsReady (G.store g.old) (place_at pid (page_of addr)) (touch row.key)) result (G.store g.new).report) (G.store g.old) (G.store g.new) (G.behind g.old) (G.behind g.new) }
     ensures loans { G.loans g.new ≡ G.loans g.old }
 {
     match put(t, g, pid, addr, row.key, bytes.as_slice()) {
@@ -128,6 +134,7 @@ pub(crate) fn write_to_copy<G: Pages>(
     ensures keeps { Keeps t.new (G.contents g.new) (G.store g.new) }
     ensures had { IsReady (G.store g.old) (place_at pid (page_of addr)) (copying row.key (place_at pid (page_of addr))) → IsHad (copying row.key (place_at pid (page_of addr))) (G.store g.new).report }
     ensures line { (G.store g.new).line ≡ (G.store g.old).line }
+    ensures passes { PassesIn G.unpaged (Answered (aim_in t.old (G.contents g.old) (G.behind g.old) pid addr (WriteOf bytes.now)) (IsReady (G.store g.old) (place_at pid (page_of addr)) (copying row.key (place_at pid (page_of addr)))) result (G.store g.new).report) (G.store g.old) (G.store g.new) (G.behind g.old) (G.behind g.new) }
     ensures loans { G.loans g.new ≡ G.loans g.old }
 {
     match put_copy(t, g, pid, addr, row, bytes.as_slice()) {
@@ -151,6 +158,7 @@ pub(crate) fn read_line<G: Pages>(
     requires few { len ≤ 64 }
     requires inside { addr % 4096 + len ≤ 4096 }
     ensures decided { Decided G.unpaged (event.Read pid addr len) line t.old (G.contents g.old) (G.store g.old) result t.new (G.contents g.new) (G.store g.new) }
+    ensures passes { PassesIn G.unpaged (Lined (world_with t.old (bytes_of (G.contents g.old))) (event.Read pid addr len) line result (world_with t.new (bytes_of (G.contents g.new))) (G.store g.new).report) (G.store g.old) (G.store g.new) (G.behind g.old) (G.behind g.new) }
     ensures loans { G.loans g.new ≡ G.loans g.old }
 {
     t.sound();
@@ -177,6 +185,7 @@ pub(crate) fn write_line<G: Pages>(
     requires next { line ≡ (G.store g.old).line + 1 }
     requires inside { addr % 4096 + length bytes.now ≤ 4096 }
     ensures decided { Decided G.unpaged (event.Write pid addr bytes.now) line t.old (G.contents g.old) (G.store g.old) result t.new (G.contents g.new) (G.store g.new) }
+    ensures passes { PassesIn G.unpaged (Lined (world_with t.old (bytes_of (G.contents g.old))) (event.Write pid addr bytes.now) line result (world_with t.new (bytes_of (G.contents g.new))) (G.store g.new).report) (G.store g.old) (G.store g.new) (G.behind g.old) (G.behind g.new) }
     ensures loans { G.loans g.new ≡ G.loans g.old }
 {
     t.sound();
@@ -205,6 +214,7 @@ pub(crate) fn exec_line<G: Pages>(
     requires keeps { Keeps t.old (G.contents g.old) (G.store g.old) }
     requires next { line ≡ (G.store g.old).line + 1 }
     ensures decided { Decided G.unpaged (event.Exec pid addr) line t.old (G.contents g.old) (G.store g.old) result t.new (G.contents g.new) (G.store g.new) }
+    ensures passes { PassesIn G.unpaged (Lined (world_with t.old (bytes_of (G.contents g.old))) (event.Exec pid addr) line result (world_with t.new (bytes_of (G.contents g.new))) (G.store g.new).report) (G.store g.old) (G.store g.new) (G.behind g.old) (G.behind g.new) }
     ensures loans { G.loans g.new ≡ G.loans g.old }
 {
     t.sound();

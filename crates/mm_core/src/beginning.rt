@@ -26,6 +26,13 @@ pub(crate) fn begin<G: Pages>(g: &mut G, line: u32, form: LineKind)
     g.line(line, form);
 }
 
+/// The kind of a line that goes by a process; where that does not live, the line is a call.
+fn kind_if(lives: bool, form: LineKind) -> LineKind
+    ensures { result ≡ (if lives then form else line_kind.Call) }
+{
+    if lives { form } else { LineKind::Call }
+}
+
 /// Begins a line that may unbind pages of a process, if it lives.
 pub(crate) fn begin_release<G: Pages>(t: &Tables, g: &mut G, line: u32, pid: Pid)
     requires fits { Fits t.now (G.contents g.old) (G.store g.old) }
@@ -34,13 +41,10 @@ pub(crate) fn begin_release<G: Pages>(t: &Tables, g: &mut G, line: u32, pid: Pid
     ensures begins { Begins line (G.store g.old) (G.store g.new) }
     ensures form { is_some (process_of t.now pid.0) ≡ true → (G.store g.new).kind ≡ line_kind.Unbind pid }
     ensures contents { G.contents g.new ≡ G.contents g.old }
+    ensures passes { PassesIn G.unpaged (OneMove (move.At line (if is_some (process_of t.now pid.0) then line_kind.Unbind pid else line_kind.Call))) (G.store g.old) (G.store g.new) (G.behind g.old) (G.behind g.new) }
     ensures loans { G.loans g.new ≡ G.loans g.old }
 {
-    if t.has(pid) {
-        begin(g, line, LineKind::Unbind(pid));
-    } else {
-        begin(g, line, LineKind::Call);
-    }
+    begin(g, line, kind_if(t.has(pid), LineKind::Unbind(pid)));
 }
 
 /// Begins a line that accesses a process, and tells whether it lives.
@@ -56,11 +60,7 @@ pub(crate) fn begin_access<G: Pages>(t: &Tables, g: &mut G, line: u32, pid: Pid)
     ensures loans { G.loans g.new ≡ G.loans g.old }
 {
     let lives = t.has(pid);
-    if lives {
-        begin(g, line, LineKind::Access(pid));
-    } else {
-        begin(g, line, LineKind::Call);
-    }
+    begin(g, line, kind_if(lives, LineKind::Access(pid)));
     lives
 }
 
@@ -73,13 +73,10 @@ pub(crate) fn begin_trim<G: Pages>(t: &Tables, g: &mut G, line: u32, pid: Pid) -
     ensures begins { Begins line (G.store g.old) (G.store g.new) }
     ensures form { result ≡ true → (G.store g.new).kind ≡ line_kind.Trim pid }
     ensures contents { G.contents g.new ≡ G.contents g.old }
+    ensures passes { PassesIn G.unpaged (OneMove (move.At line (if result then line_kind.Trim pid else line_kind.Call))) (G.store g.old) (G.store g.new) (G.behind g.old) (G.behind g.new) }
     ensures loans { G.loans g.new ≡ G.loans g.old }
 {
     let lives = t.has(pid);
-    if lives {
-        begin(g, line, LineKind::Trim(pid));
-    } else {
-        begin(g, line, LineKind::Call);
-    }
+    begin(g, line, kind_if(lives, LineKind::Trim(pid)));
     lives
 }

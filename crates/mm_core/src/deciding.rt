@@ -3,6 +3,7 @@ ghost use Rattle.mm_types.specs.declared.answers.Wait.TheVariants as wait;
 ghost use Rattle.mm_script.specs.Printed.{IsWellFormed};
 ghost use Rattle.mm_core.specs.Built.{is_built, takes_memory};
 ghost use Rattle.mm_core.specs.Forgetting.{EndsWaits};
+ghost use Rattle.mm_core.specs.Noting.{MarkedIn, HaltedIn};
 ghost use Rattle.mm_core.specs.Deciding.{Keeps, Decided, Idle, is_memory_line, is_section_line, is_view_line, is_access_line, is_paging_line};
 
 use crate::access_lines::{exec_line, read_line, write_line};
@@ -40,6 +41,8 @@ fn decide_memory<G: Pages>(
     ensures err { OnErr result (Idle t.old (G.contents g.old) (G.store g.old) t.new (G.contents g.new) (G.store g.new)) }
     ensures no_memory { takes_memory event.now ≡ false → IsOk result }
     ensures waits { IfOk result (λ a. EndsWaits t.old event.now a (G.store g.new).report) }
+    ensures marked { IfOk result (λ a. MarkedIn G.unpaged event.now line t.old (G.contents g.old) (G.store g.old) (G.behind g.old) a t.new (G.contents g.new) (G.store g.new) (G.behind g.new)) }
+    ensures halted { OnErr result (HaltedIn G.unpaged line (G.behind g.old) (G.behind g.new)) }
     ensures loans { G.loans g.new ≡ G.loans g.old }
 {
     match event {
@@ -75,6 +78,8 @@ fn decide_section<G: Pages>(
     ensures ok { IfOk result (λ a. Decided G.unpaged event.now line t.old (G.contents g.old) (G.store g.old) a t.new (G.contents g.new) (G.store g.new)) }
     ensures err { OnErr result (Idle t.old (G.contents g.old) (G.store g.old) t.new (G.contents g.new) (G.store g.new)) }
     ensures no_memory { takes_memory event.now ≡ false → IsOk result }
+    ensures marked { IfOk result (λ a. MarkedIn G.unpaged event.now line t.old (G.contents g.old) (G.store g.old) (G.behind g.old) a t.new (G.contents g.new) (G.store g.new) (G.behind g.new)) }
+    ensures halted { OnErr result (HaltedIn G.unpaged line (G.behind g.old) (G.behind g.new)) }
     ensures loans { G.loans g.new ≡ G.loans g.old }
 {
     match event {
@@ -107,6 +112,8 @@ fn decide_view<G: Pages>(
     ensures ok { IfOk result (λ a. Decided G.unpaged event.now line t.old (G.contents g.old) (G.store g.old) a t.new (G.contents g.new) (G.store g.new)) }
     ensures err { OnErr result (Idle t.old (G.contents g.old) (G.store g.old) t.new (G.contents g.new) (G.store g.new)) }
     ensures no_memory { takes_memory event.now ≡ false → IsOk result }
+    ensures marked { IfOk result (λ a. MarkedIn G.unpaged event.now line t.old (G.contents g.old) (G.store g.old) (G.behind g.old) a t.new (G.contents g.new) (G.store g.new) (G.behind g.new)) }
+    ensures halted { OnErr result (HaltedIn G.unpaged line (G.behind g.old) (G.behind g.new)) }
     ensures loans { G.loans g.new ≡ G.loans g.old }
 {
     match event {
@@ -139,6 +146,7 @@ fn decide_access<G: Pages>(t: &mut Tables, g: &mut G, line: u32, event: &Event) 
     requires idle { G.unpaged ≡ true → (tid : ℕ) → (G.store g.old).report.wait tid ≡ wait.None }
     ensures decided { Decided G.unpaged event.now line t.old (G.contents g.old) (G.store g.old) result t.new (G.contents g.new) (G.store g.new) }
     ensures waits { EndsWaits t.old event.now result (G.store g.new).report }
+    ensures marked { MarkedIn G.unpaged event.now line t.old (G.contents g.old) (G.store g.old) (G.behind g.old) result t.new (G.contents g.new) (G.store g.new) (G.behind g.new) }
     ensures loans { G.loans g.new ≡ G.loans g.old }
 {
     match event {
@@ -159,6 +167,7 @@ fn decide_paging<G: Pages>(t: &mut Tables, g: &mut G, line: u32, event: &Event) 
     requires next { line ≡ (G.store g.old).line + 1 }
     requires few { line ≤ 1000000 }
     ensures decided { Decided G.unpaged event.now line t.old (G.contents g.old) (G.store g.old) result t.new (G.contents g.new) (G.store g.new) }
+    ensures marked { MarkedIn G.unpaged event.now line t.old (G.contents g.old) (G.store g.old) (G.behind g.old) result t.new (G.contents g.new) (G.store g.new) (G.behind g.new) }
     ensures loans { G.loans g.new ≡ G.loans g.old }
 {
     match event {
@@ -191,6 +200,8 @@ pub(crate) fn decide<G: Pages>(
     ensures err { OnErr result (Idle t.old (G.contents g.old) (G.store g.old) t.new (G.contents g.new) (G.store g.new)) }
     ensures no_memory { takes_memory event.now ≡ false → IsOk result }
     ensures waits { IfOk result (λ a. EndsWaits t.old event.now a (G.store g.new).report) }
+    ensures marked { IfOk result (λ a. MarkedIn G.unpaged event.now line t.old (G.contents g.old) (G.store g.old) (G.behind g.old) a t.new (G.contents g.new) (G.store g.new) (G.behind g.new)) }
+    ensures halted { OnErr result (HaltedIn G.unpaged line (G.behind g.old) (G.behind g.new)) }
     ensures loans { G.loans g.new ≡ G.loans g.old }
 {
     match event {

@@ -99,6 +99,7 @@ pub(crate) fn read_bytes<G: Pages>(
     ensures blamed { OnErr result (SomeRose (G.store g.old) (G.store g.new)) }
     ensures ready { IsReady (G.store g.old) (place_at pid (page_of addr)) (touch key) → IsOk result }
     ensures unpaged { G.unpaged ≡ true → IsOk result }
+    ensures passes { PassesIn G.unpaged (Touches (record { place = place_at pid (page_of addr); need = touch key; writes = false; start = (G.behind g.old).life }) (IsReady (G.store g.old) (place_at pid (page_of addr)) (touch key)) result) (G.store g.old) (G.store g.new) (G.behind g.old) (G.behind g.new) }
     ensures loans { G.loans g.new ≡ G.loans g.old }
 {
     let mut room = [0; 64];
@@ -203,6 +204,7 @@ pub(crate) fn put_copy<G: Pages>(
     ensures blamed { OnErr result (SomeRose (G.store g.old) (G.store g.new)) }
     ensures was_ready { IsReady (G.store g.old) (place_at pid (page_of addr)) (copying row.key (place_at pid (page_of addr))) → IsOk result }
     ensures unpaged { G.unpaged ≡ true → IsOk result }
+    ensures passes { PassesIn G.unpaged (Copies (record { place = place_at pid (page_of addr); need = copying row.key (place_at pid (page_of addr)); writes = true; start = (G.behind g.old).life }) (IsReady (G.store g.old) (place_at pid (page_of addr)) (copying row.key (place_at pid (page_of addr)))) result) (G.store g.old) (G.store g.new) (G.behind g.old) (G.behind g.new) }
     ensures loans { G.loans g.new ≡ G.loans g.old }
 {
     copy(t, g, pid, addr, row)?;

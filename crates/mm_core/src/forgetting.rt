@@ -1,6 +1,7 @@
-ghost use Rattle.std.specs.Prelude.{◌≡◌};
+ghost use Rattle.std.specs.Prelude.{◌≡◌, false};
 ghost use Rattle.mm_world.specs.Step.{kept_by};
 ghost use Rattle.mm_core.specs.Forgetting.{Forgot, is_of, waits_but, waited};
+ghost use Rattle.mm_core.specs.Noting.{IdlesIn, IdlesBut};
 
 use mm_pages::Pages;
 use mm_tables::Tables;
@@ -24,6 +25,7 @@ fn forget_wait<G: Pages>(t: &Tables, g: &mut G, tid: Tid, pid: Pid)
     ensures waits { (G.store g.new).report.wait ≡ waits_but t.now pid.0 tid.0 (G.store g.old).report.wait }
     ensures rest { G.store g.new ≡ waited (G.store g.old) (G.store g.new) }
     ensures contents { G.contents g.new ≡ G.contents g.old }
+    ensures passes { G.unpaged ≡ false → IdlesBut t.now pid.0 tid.0 (G.behind g.old) (G.behind g.new) }
     ensures loans { G.loans g.new ≡ G.loans g.old }
 {
     if keeps_of(t, tid, pid) {
@@ -35,6 +37,7 @@ fn forget_wait<G: Pages>(t: &Tables, g: &mut G, tid: Tid, pid: Pid)
 pub(crate) fn forget_waits<G: Pages>(t: &Tables, g: &mut G, pid: Pid)
     ensures forgot { Forgot t.now pid.0 256 (G.store g.old) (G.store g.new) }
     ensures contents { G.contents g.new ≡ G.contents g.old }
+    ensures passes { IdlesIn G.unpaged t.now pid.0 256 (G.behind g.old) (G.behind g.new) }
     ensures loans { G.loans g.new ≡ G.loans g.old }
 {
     for tid in 0..THREADS {

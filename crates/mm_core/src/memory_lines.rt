@@ -1,6 +1,7 @@
 ghost use Rattle.std.specs.Prelude.{◌≡◌, ◌≤◌, ◌+◌, ◌==◌, false, IfOk, OnErr, IsOk};
 ghost use Rattle.mm_types.specs.declared.events.Event.TheVariants as event;
 ghost use Rattle.mm_types.specs.Protection.{base_of};
+ghost use Rattle.mm_core.specs.Noting.{MarkedIn, HaltedIn};
 ghost use Rattle.mm_core.specs.Deciding.{Keeps, Decided, Idle};
 ghost use Rattle.mm_core.specs.Forgetting.{EndsWaits};
 
@@ -29,6 +30,8 @@ pub(crate) fn process_line<G: Pages>(
     requires most { max ≤ 65536 }
     ensures ok { IfOk result (λ a. Decided G.unpaged (event.Process min max) line t.old (G.contents g.old) (G.store g.old) a t.new (G.contents g.new) (G.store g.new)) }
     ensures err { OnErr result (Idle t.old (G.contents g.old) (G.store g.old) t.new (G.contents g.new) (G.store g.new)) }
+    ensures marked { IfOk result (λ a. MarkedIn G.unpaged (event.Process min max) line t.old (G.contents g.old) (G.store g.old) (G.behind g.old) a t.new (G.contents g.new) (G.store g.new) (G.behind g.new)) }
+    ensures halted { OnErr result (HaltedIn G.unpaged line (G.behind g.old) (G.behind g.new)) }
     ensures loans { G.loans g.new ≡ G.loans g.old }
 {
     t.sound();
@@ -49,6 +52,7 @@ pub(crate) fn exit_line<G: Pages>(t: &mut Tables, g: &mut G, line: u32, pid: Pid
     requires next { line ≡ (G.store g.old).line + 1 }
     ensures decided { Decided G.unpaged (event.Exit pid) line t.old (G.contents g.old) (G.store g.old) result t.new (G.contents g.new) (G.store g.new) }
     ensures waits { EndsWaits t.old (event.Exit pid) result (G.store g.new).report }
+    ensures marked { MarkedIn G.unpaged (event.Exit pid) line t.old (G.contents g.old) (G.store g.old) (G.behind g.old) result t.new (G.contents g.new) (G.store g.new) (G.behind g.new) }
     ensures loans { G.loans g.new ≡ G.loans g.old }
 {
     t.sound();
@@ -73,6 +77,8 @@ pub(crate) fn alloc_line<G: Pages>(
     requires next { line ≡ (G.store g.old).line + 1 }
     ensures ok { IfOk result (λ a. Decided G.unpaged (event.Alloc pid addr size form prot) line t.old (G.contents g.old) (G.store g.old) a t.new (G.contents g.new) (G.store g.new)) }
     ensures err { OnErr result (Idle t.old (G.contents g.old) (G.store g.old) t.new (G.contents g.new) (G.store g.new)) }
+    ensures marked { IfOk result (λ a. MarkedIn G.unpaged (event.Alloc pid addr size form prot) line t.old (G.contents g.old) (G.store g.old) (G.behind g.old) a t.new (G.contents g.new) (G.store g.new) (G.behind g.new)) }
+    ensures halted { OnErr result (HaltedIn G.unpaged line (G.behind g.old) (G.behind g.new)) }
     ensures loans { G.loans g.new ≡ G.loans g.old }
 {
     t.sound();
@@ -93,6 +99,7 @@ pub(crate) fn free_line<G: Pages>(
     requires keeps { Keeps t.old (G.contents g.old) (G.store g.old) }
     requires next { line ≡ (G.store g.old).line + 1 }
     ensures decided { Decided G.unpaged (event.Free pid addr size form) line t.old (G.contents g.old) (G.store g.old) result t.new (G.contents g.new) (G.store g.new) }
+    ensures marked { MarkedIn G.unpaged (event.Free pid addr size form) line t.old (G.contents g.old) (G.store g.old) (G.behind g.old) result t.new (G.contents g.new) (G.store g.new) (G.behind g.new) }
     ensures loans { G.loans g.new ≡ G.loans g.old }
 {
     t.sound();
@@ -115,6 +122,8 @@ pub(crate) fn protect_line<G: Pages>(
     ensures ok { IfOk result (λ a. Decided G.unpaged (event.Protect pid addr size prot) line t.old (G.contents g.old) (G.store g.old) a t.new (G.contents g.new) (G.store g.new)) }
     ensures err { OnErr result (Idle t.old (G.contents g.old) (G.store g.old) t.new (G.contents g.new) (G.store g.new)) }
     ensures unmarked { (base_of prot == 0x08) ≡ false → IsOk result }
+    ensures marked { IfOk result (λ a. MarkedIn G.unpaged (event.Protect pid addr size prot) line t.old (G.contents g.old) (G.store g.old) (G.behind g.old) a t.new (G.contents g.new) (G.store g.new) (G.behind g.new)) }
+    ensures halted { OnErr result (HaltedIn G.unpaged line (G.behind g.old) (G.behind g.new)) }
     ensures loans { G.loans g.new ≡ G.loans g.old }
 {
     t.sound();
@@ -133,6 +142,7 @@ pub(crate) fn query_line<G: Pages>(
     requires keeps { Keeps t.old (G.contents g.old) (G.store g.old) }
     requires next { line ≡ (G.store g.old).line + 1 }
     ensures decided { Decided G.unpaged (event.Query pid addr) line t.old (G.contents g.old) (G.store g.old) result t.new (G.contents g.new) (G.store g.new) }
+    ensures marked { MarkedIn G.unpaged (event.Query pid addr) line t.old (G.contents g.old) (G.store g.old) (G.behind g.old) result t.new (G.contents g.new) (G.store g.new) (G.behind g.new) }
     ensures loans { G.loans g.new ≡ G.loans g.old }
 {
     t.sound();
@@ -145,6 +155,7 @@ pub(crate) fn charge_line<G: Pages>(t: &mut Tables, g: &mut G, line: u32) -> Ans
     requires keeps { Keeps t.old (G.contents g.old) (G.store g.old) }
     requires next { line ≡ (G.store g.old).line + 1 }
     ensures decided { Decided G.unpaged event.Charge line t.old (G.contents g.old) (G.store g.old) result t.new (G.contents g.new) (G.store g.new) }
+    ensures marked { MarkedIn G.unpaged event.Charge line t.old (G.contents g.old) (G.store g.old) (G.behind g.old) result t.new (G.contents g.new) (G.store g.new) (G.behind g.new) }
     ensures loans { G.loans g.new ≡ G.loans g.old }
 {
     begin(g, line, LineKind::Call);
@@ -164,6 +175,8 @@ pub(crate) fn grow_line<G: Pages>(
     requires some { 1 ≤ n }
     ensures ok { IfOk result (λ a. Decided G.unpaged (event.Grow n) line t.old (G.contents g.old) (G.store g.old) a t.new (G.contents g.new) (G.store g.new)) }
     ensures err { OnErr result (Idle t.old (G.contents g.old) (G.store g.old) t.new (G.contents g.new) (G.store g.new)) }
+    ensures marked { IfOk result (λ a. MarkedIn G.unpaged (event.Grow n) line t.old (G.contents g.old) (G.store g.old) (G.behind g.old) a t.new (G.contents g.new) (G.store g.new) (G.behind g.new)) }
+    ensures halted { OnErr result (HaltedIn G.unpaged line (G.behind g.old) (G.behind g.new)) }
     ensures loans { G.loans g.new ≡ G.loans g.old }
 {
     t.sound();

@@ -1,5 +1,6 @@
 ghost use Rattle.std.specs.Prelude.{◌≡◌, ◌≤◌, ◌+◌};
 ghost use Rattle.mm_types.specs.declared.events.Event.TheVariants as event;
+ghost use Rattle.mm_core.specs.Noting.{MarkedIn};
 ghost use Rattle.mm_core.specs.Deciding.{Keeps, Decided};
 
 use crate::beginning::{begin, begin_trim};
@@ -15,6 +16,7 @@ pub(crate) fn trim_line<G: Pages>(t: &mut Tables, g: &mut G, line: u32, pid: Pid
     requires keeps { Keeps t.old (G.contents g.old) (G.store g.old) }
     requires next { line ≡ (G.store g.old).line + 1 }
     ensures decided { Decided G.unpaged (event.Trim pid n) line t.old (G.contents g.old) (G.store g.old) result t.new (G.contents g.new) (G.store g.new) }
+    ensures marked { MarkedIn G.unpaged (event.Trim pid n) line t.old (G.contents g.old) (G.store g.old) (G.behind g.old) result t.new (G.contents g.new) (G.store g.new) (G.behind g.new) }
     ensures loans { G.loans g.new ≡ G.loans g.old }
 {
     if !begin_trim(t, g, line, pid) {
@@ -29,6 +31,7 @@ pub(crate) fn age_line<G: Pages>(t: &mut Tables, g: &mut G, line: u32, pid: Pid)
     requires keeps { Keeps t.old (G.contents g.old) (G.store g.old) }
     requires next { line ≡ (G.store g.old).line + 1 }
     ensures decided { Decided G.unpaged (event.Age pid) line t.old (G.contents g.old) (G.store g.old) result t.new (G.contents g.new) (G.store g.new) }
+    ensures marked { MarkedIn G.unpaged (event.Age pid) line t.old (G.contents g.old) (G.store g.old) (G.behind g.old) result t.new (G.contents g.new) (G.store g.new) (G.behind g.new) }
     ensures loans { G.loans g.new ≡ G.loans g.old }
 {
     begin(g, line, LineKind::Call);
@@ -44,6 +47,7 @@ pub(crate) fn zeroer_line<G: Pages>(t: &mut Tables, g: &mut G, line: u32, n: u32
     requires keeps { Keeps t.old (G.contents g.old) (G.store g.old) }
     requires next { line ≡ (G.store g.old).line + 1 }
     ensures decided { Decided G.unpaged (event.Zeroer n) line t.old (G.contents g.old) (G.store g.old) result t.new (G.contents g.new) (G.store g.new) }
+    ensures marked { MarkedIn G.unpaged (event.Zeroer n) line t.old (G.contents g.old) (G.store g.old) (G.behind g.old) result t.new (G.contents g.new) (G.store g.new) (G.behind g.new) }
     ensures loans { G.loans g.new ≡ G.loans g.old }
 {
     begin(g, line, LineKind::Zeroer);
@@ -66,6 +70,7 @@ pub(crate) fn fail_line<G: Pages>(
     requires first { 1 ≤ k }
     requires some { 1 ≤ n }
     ensures decided { Decided G.unpaged (event.Fail device direction k n) line t.old (G.contents g.old) (G.store g.old) result t.new (G.contents g.new) (G.store g.new) }
+    ensures marked { MarkedIn G.unpaged (event.Fail device direction k n) line t.old (G.contents g.old) (G.store g.old) (G.behind g.old) result t.new (G.contents g.new) (G.store g.new) (G.behind g.new) }
     ensures loans { G.loans g.new ≡ G.loans g.old }
 {
     t.sound();
@@ -83,6 +88,7 @@ pub(crate) fn writer_line<G: Pages>(t: &mut Tables, g: &mut G, line: u32, n: u32
     requires keeps { Keeps t.old (G.contents g.old) (G.store g.old) }
     requires next { line ≡ (G.store g.old).line + 1 }
     ensures decided { Decided G.unpaged (event.Writer n) line t.old (G.contents g.old) (G.store g.old) result t.new (G.contents g.new) (G.store g.new) }
+    ensures marked { MarkedIn G.unpaged (event.Writer n) line t.old (G.contents g.old) (G.store g.old) (G.behind g.old) result t.new (G.contents g.new) (G.store g.new) (G.behind g.new) }
     ensures loans { G.loans g.new ≡ G.loans g.old }
 {
     begin(g, line, LineKind::Writer);
@@ -96,6 +102,7 @@ pub(crate) fn io_line<G: Pages>(t: &mut Tables, g: &mut G, line: u32, i: u32) ->
     requires next { line ≡ (G.store g.old).line + 1 }
     requires some { 1 ≤ i }
     ensures decided { Decided G.unpaged (event.Io i) line t.old (G.contents g.old) (G.store g.old) result t.new (G.contents g.new) (G.store g.new) }
+    ensures marked { MarkedIn G.unpaged (event.Io i) line t.old (G.contents g.old) (G.store g.old) (G.behind g.old) result t.new (G.contents g.new) (G.store g.new) (G.behind g.new) }
     ensures loans { G.loans g.new ≡ G.loans g.old }
 {
     begin(g, line, LineKind::Io);
@@ -111,6 +118,7 @@ pub(crate) fn counts_line<G: Pages>(t: &mut Tables, g: &mut G, line: u32) -> Ans
     requires keeps { Keeps t.old (G.contents g.old) (G.store g.old) }
     requires next { line ≡ (G.store g.old).line + 1 }
     ensures decided { Decided G.unpaged event.Counts line t.old (G.contents g.old) (G.store g.old) result t.new (G.contents g.new) (G.store g.new) }
+    ensures marked { MarkedIn G.unpaged event.Counts line t.old (G.contents g.old) (G.store g.old) (G.behind g.old) result t.new (G.contents g.new) (G.store g.new) (G.behind g.new) }
     ensures loans { G.loans g.new ≡ G.loans g.old }
 {
     begin(g, line, LineKind::Call);

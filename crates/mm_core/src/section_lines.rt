@@ -1,5 +1,6 @@
 ghost use Rattle.std.specs.Prelude.{◌≡◌, ◌≤◌, ◌+◌, IfOk, OnErr};
 ghost use Rattle.mm_types.specs.declared.events.Event.TheVariants as event;
+ghost use Rattle.mm_core.specs.Noting.{MarkedIn, HaltedIn};
 ghost use Rattle.mm_core.specs.Deciding.{Keeps, Decided, Idle};
 
 use crate::beginning::{begin, begin_release};
@@ -25,6 +26,8 @@ pub(crate) fn file_line<G: Pages>(
     requires some { 1 ≤ pages }
     ensures ok { IfOk result (λ a. Decided G.unpaged (event.File name.now pages byte) line t.old (G.contents g.old) (G.store g.old) a t.new (G.contents g.new) (G.store g.new)) }
     ensures err { OnErr result (Idle t.old (G.contents g.old) (G.store g.old) t.new (G.contents g.new) (G.store g.new)) }
+    ensures marked { IfOk result (λ a. MarkedIn G.unpaged (event.File name.now pages byte) line t.old (G.contents g.old) (G.store g.old) (G.behind g.old) a t.new (G.contents g.new) (G.store g.new) (G.behind g.new)) }
+    ensures halted { OnErr result (HaltedIn G.unpaged line (G.behind g.old) (G.behind g.new)) }
     ensures loans { G.loans g.new ≡ G.loans g.old }
 {
     t.sound();
@@ -48,6 +51,8 @@ pub(crate) fn create_line<G: Pages>(
     requires few { line ≤ 1000000 }
     ensures ok { IfOk result (λ a. Decided G.unpaged (event.Create pid size flags name) line t.old (G.contents g.old) (G.store g.old) a t.new (G.contents g.new) (G.store g.new)) }
     ensures err { OnErr result (Idle t.old (G.contents g.old) (G.store g.old) t.new (G.contents g.new) (G.store g.new)) }
+    ensures marked { IfOk result (λ a. MarkedIn G.unpaged (event.Create pid size flags name) line t.old (G.contents g.old) (G.store g.old) (G.behind g.old) a t.new (G.contents g.new) (G.store g.new) (G.behind g.new)) }
+    ensures halted { OnErr result (HaltedIn G.unpaged line (G.behind g.old) (G.behind g.new)) }
     ensures loans { G.loans g.new ≡ G.loans g.old }
 {
     t.sound();
@@ -70,6 +75,8 @@ pub(crate) fn create_file_line<G: Pages>(
     requires few { line ≤ 1000000 }
     ensures ok { IfOk result (λ a. Decided G.unpaged (event.CreateFile pid file.now flags name) line t.old (G.contents g.old) (G.store g.old) a t.new (G.contents g.new) (G.store g.new)) }
     ensures err { OnErr result (Idle t.old (G.contents g.old) (G.store g.old) t.new (G.contents g.new) (G.store g.new)) }
+    ensures marked { IfOk result (λ a. MarkedIn G.unpaged (event.CreateFile pid file.now flags name) line t.old (G.contents g.old) (G.store g.old) (G.behind g.old) a t.new (G.contents g.new) (G.store g.new) (G.behind g.new)) }
+    ensures halted { OnErr result (HaltedIn G.unpaged line (G.behind g.old) (G.behind g.new)) }
     ensures loans { G.loans g.new ≡ G.loans g.old }
 {
     t.sound();
@@ -90,6 +97,8 @@ pub(crate) fn open_line<G: Pages>(
     requires few { line ≤ 1000000 }
     ensures ok { IfOk result (λ a. Decided G.unpaged (event.Open pid name.now) line t.old (G.contents g.old) (G.store g.old) a t.new (G.contents g.new) (G.store g.new)) }
     ensures err { OnErr result (Idle t.old (G.contents g.old) (G.store g.old) t.new (G.contents g.new) (G.store g.new)) }
+    ensures marked { IfOk result (λ a. MarkedIn G.unpaged (event.Open pid name.now) line t.old (G.contents g.old) (G.store g.old) (G.behind g.old) a t.new (G.contents g.new) (G.store g.new) (G.behind g.new)) }
+    ensures halted { OnErr result (HaltedIn G.unpaged line (G.behind g.old) (G.behind g.new)) }
     ensures loans { G.loans g.new ≡ G.loans g.old }
 {
     t.sound();
@@ -108,6 +117,7 @@ pub(crate) fn close_line<G: Pages>(
     requires keeps { Keeps t.old (G.contents g.old) (G.store g.old) }
     requires next { line ≡ (G.store g.old).line + 1 }
     ensures decided { Decided G.unpaged (event.Close pid handle) line t.old (G.contents g.old) (G.store g.old) result t.new (G.contents g.new) (G.store g.new) }
+    ensures marked { MarkedIn G.unpaged (event.Close pid handle) line t.old (G.contents g.old) (G.store g.old) (G.behind g.old) result t.new (G.contents g.new) (G.store g.new) (G.behind g.new) }
     ensures loans { G.loans g.new ≡ G.loans g.old }
 {
     t.sound();
@@ -132,6 +142,8 @@ pub(crate) fn map_line<G: Pages>(
     requires next { line ≡ (G.store g.old).line + 1 }
     ensures ok { IfOk result (λ a. Decided G.unpaged (event.Map pid handle access offset view_length addr) line t.old (G.contents g.old) (G.store g.old) a t.new (G.contents g.new) (G.store g.new)) }
     ensures err { OnErr result (Idle t.old (G.contents g.old) (G.store g.old) t.new (G.contents g.new) (G.store g.new)) }
+    ensures marked { IfOk result (λ a. MarkedIn G.unpaged (event.Map pid handle access offset view_length addr) line t.old (G.contents g.old) (G.store g.old) (G.behind g.old) a t.new (G.contents g.new) (G.store g.new) (G.behind g.new)) }
+    ensures halted { OnErr result (HaltedIn G.unpaged line (G.behind g.old) (G.behind g.new)) }
     ensures loans { G.loans g.new ≡ G.loans g.old }
 {
     t.sound();
@@ -150,6 +162,7 @@ pub(crate) fn unmap_line<G: Pages>(
     requires keeps { Keeps t.old (G.contents g.old) (G.store g.old) }
     requires next { line ≡ (G.store g.old).line + 1 }
     ensures decided { Decided G.unpaged (event.Unmap pid addr) line t.old (G.contents g.old) (G.store g.old) result t.new (G.contents g.new) (G.store g.new) }
+    ensures marked { MarkedIn G.unpaged (event.Unmap pid addr) line t.old (G.contents g.old) (G.store g.old) (G.behind g.old) result t.new (G.contents g.new) (G.store g.new) (G.behind g.new) }
     ensures loans { G.loans g.new ≡ G.loans g.old }
 {
     t.sound();
@@ -169,6 +182,7 @@ pub(crate) fn flush_line<G: Pages>(
     requires keeps { Keeps t.old (G.contents g.old) (G.store g.old) }
     requires next { line ≡ (G.store g.old).line + 1 }
     ensures decided { Decided G.unpaged (event.Flush pid addr size) line t.old (G.contents g.old) (G.store g.old) result t.new (G.contents g.new) (G.store g.new) }
+    ensures marked { MarkedIn G.unpaged (event.Flush pid addr size) line t.old (G.contents g.old) (G.store g.old) (G.behind g.old) result t.new (G.contents g.new) (G.store g.new) (G.behind g.new) }
     ensures loans { G.loans g.new ≡ G.loans g.old }
 {
     t.sound();

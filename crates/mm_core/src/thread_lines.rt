@@ -1,4 +1,4 @@
-ghost use Rattle.std.specs.Prelude.{◌≡◌, ◌+◌, ℕ, not, ◌&&◌, true, false, is_some, Some, None};
+ghost use Rattle.std.specs.Prelude.{◌≡◌, ◌+◌, ℕ, not, ◌&&◌, true, false, is_some, Some, None, if◌then◌else◌};
 ghost use Rattle.mm_types.specs.declared.answers.Wait.TheVariants as wait;
 ghost use Rattle.mm_types.specs.declared.events.Event.TheVariants as event;
 ghost use Rattle.mm_types.specs.declared.moves.LineKind.TheVariants as line_kind;
@@ -13,6 +13,12 @@ ghost use Rattle.mm_core.specs.Pending.{Turned};
 ghost use Rattle.mm_core.specs.declared.threads.Threaded.TheVariants as threaded;
 ghost use Rattle.mm_core.specs.Deciding.{Keeps, Begins, Decided};
 ghost use Rattle.mm_core.specs.Forgetting.{waited, EndsWaits};
+ghost use Rattle.mm_types.specs.declared.moves.Move.TheVariants as move;
+ghost use Rattle.mm_pages.specs.Accesses.{Forgets};
+ghost use Rattle.mm_pages.specs.Housekeeping.{OneMove};
+ghost use Rattle.mm_pages.specs.Passing.{PassesIn};
+ghost use Rattle.mm_core.specs.Answering.{TurnedBy, aim_in};
+ghost use Rattle.mm_core.specs.Lining.{Lined};
 ghost use Rattle.mm_world.specs.Step.{keep};
 ghost use Rattle.mm_types.specs.declared.answers.Why.{Why};
 
@@ -40,6 +46,7 @@ fn access_on<G: Pages>(
     ensures keeps { Keeps t.new (G.contents g.new) (G.store g.new) }
     ensures line { (G.store g.new).line ≡ (G.store g.old).line }
     ensures unpaged { G.unpaged ≡ true → (why : Why) → result ≡ threaded.Waiting why → ⊥ }
+    ensures passes { PassesIn G.unpaged (TurnedBy (aim_in t.old (G.contents g.old) (G.behind g.old) pid (address_in what.now) (attempt_in what.now)) tid.0 result) (G.store g.old) (G.store g.new) (G.behind g.old) (G.behind g.new) }
     ensures loans { G.loans g.new ≡ G.loans g.old }
 {
     match what {
@@ -57,6 +64,7 @@ fn begin_thread<G: Pages>(t: &Tables, g: &mut G, line: u32, pid: Pid, busy: bool
     ensures begins { Begins line (G.store g.old) (G.store g.new) }
     ensures form { result ≡ true → busy ≡ false → (G.store g.new).kind ≡ line_kind.Thread pid }
     ensures contents { G.contents g.new ≡ G.contents g.old }
+    ensures passes { PassesIn G.unpaged (OneMove (move.At line (if busy then line_kind.Call else if result then line_kind.Thread pid else line_kind.Call))) (G.store g.old) (G.store g.new) (G.behind g.old) (G.behind g.new) }
     ensures loans { G.loans g.new ≡ G.loans g.old }
 {
     let lives = t.has(pid);
@@ -81,6 +89,7 @@ pub(crate) fn begin_line<G: Pages>(
     requires next { line ≡ (G.store g.old).line + 1 }
     requires fits { FitsPage what.now }
     ensures decided { Decided G.unpaged (event.Begin tid pid what.now) line t.old (G.contents g.old) (G.store g.old) result t.new (G.contents g.new) (G.store g.new) }
+    ensures passes { PassesIn G.unpaged (Lined (world_with t.old (bytes_of (G.contents g.old))) (event.Begin tid pid what.now) line result (world_with t.new (bytes_of (G.contents g.new))) (G.store g.new).report) (G.store g.old) (G.store g.new) (G.behind g.old) (G.behind g.new) }
     ensures loans { G.loans g.new ≡ G.loans g.old }
 {
     let busy = t.kept(tid).is_some();
@@ -119,6 +128,7 @@ fn end_access<G: Pages>(t: &mut Tables, g: &mut G, tid: Tid)
     ensures idle { (G.store g.new).report.wait tid.0 ≡ wait.None }
     ensures rest { G.store g.new ≡ waited (G.store g.old) (G.store g.new) }
     ensures contents { G.contents g.new ≡ G.contents g.old }
+    ensures passes { PassesIn G.unpaged (Forgets tid.0) (G.store g.old) (G.store g.new) (G.behind g.old) (G.behind g.new) }
     ensures loans { G.loans g.new ≡ G.loans g.old }
 {
     g.forget(tid);
@@ -133,12 +143,14 @@ pub(crate) fn resume_line<G: Pages>(t: &mut Tables, g: &mut G, line: u32, tid: T
     requires idle { G.unpaged ≡ true → (n : ℕ) → (G.store g.old).report.wait n ≡ wait.None }
     ensures decided { Decided G.unpaged (event.Resume tid) line t.old (G.contents g.old) (G.store g.old) result t.new (G.contents g.new) (G.store g.new) }
     ensures waits { EndsWaits t.old (event.Resume tid) result (G.store g.new).report }
+    ensures passes { PassesIn G.unpaged (Lined (world_with t.old (bytes_of (G.contents g.old))) (event.Resume tid) line result (world_with t.new (bytes_of (G.contents g.new))) (G.store g.new).report) (G.store g.old) (G.store g.new) (G.behind g.old) (G.behind g.new) }
     ensures loans { G.loans g.new ≡ G.loans g.old }
 {
     let kept = match t.kept(tid) {
         Some(kept) => kept,
         None => {
             begin(g, line, LineKind::Call);
+            g.forget(tid);
             return Answer::Nothing;
         }
     };

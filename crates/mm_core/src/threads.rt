@@ -15,6 +15,8 @@ ghost use Rattle.mm_tables.specs.Threads.{FitsPage};
 ghost use Rattle.mm_types.specs.declared.answers.Why.{Why};
 ghost use Rattle.mm_core.specs.declared.threads.Threaded.TheVariants as threaded;
 ghost use Rattle.mm_core.specs.Pending.{Waits, Went, Turned};
+ghost use Rattle.mm_pages.specs.Passing.{PassesIn};
+ghost use Rattle.mm_core.specs.Answering.{WentBy, TurnedBy, aim_in};
 ghost use Rattle.mm_core.specs.Deciding.{Keeps};
 
 use crate::access_lines::{read_at, write_at, write_to_copy};
@@ -61,8 +63,10 @@ pub(crate) fn read_on<G: Pages>(
     ensures keeps { Keeps t.now (G.contents g.new) (G.store g.new) }
     ensures line { (G.store g.new).line ≡ (G.store g.old).line }
     ensures unpaged { G.unpaged ≡ true → IsOk result }
+    ensures passes { PassesIn G.unpaged (WentBy (aim_in t.now (G.contents g.old) (G.behind g.old) pid addr (ReadOf len)) tid.0 result) (G.store g.old) (G.store g.new) (G.behind g.old) (G.behind g.new) }
     ensures loans { G.loans g.new ≡ G.loans g.old }
 {
+    g.sound();
     match g.start(tid, place_of(pid, addr), row.key, Need::Touch) {
         Start::Pending(why) => Err(why),
         Start::Ready => Ok(read_at(t, g, pid, addr, row, len)),
@@ -93,8 +97,10 @@ pub(crate) fn write_on<G: Pages>(
     ensures keeps { Keeps t.now (G.contents g.new) (G.store g.new) }
     ensures line { (G.store g.new).line ≡ (G.store g.old).line }
     ensures unpaged { G.unpaged ≡ true → IsOk result }
+    ensures passes { PassesIn G.unpaged (WentBy (aim_in t.now (G.contents g.old) (G.behind g.old) pid addr (WriteOf bytes.now)) tid.0 result) (G.store g.old) (G.store g.new) (G.behind g.old) (G.behind g.new) }
     ensures loans { G.loans g.new ≡ G.loans g.old }
 {
+    g.sound();
     match g.start(tid, place_of(pid, addr), row.key, Need::Touch) {
         Start::Pending(why) => Err(why),
         Start::Ready => Ok(write_at(t, g, pid, addr, row, bytes)),
@@ -126,8 +132,10 @@ pub(crate) fn write_to_copy_on<G: Pages>(
     ensures keeps { Keeps t.new (G.contents g.new) (G.store g.new) }
     ensures line { (G.store g.new).line ≡ (G.store g.old).line }
     ensures unpaged { G.unpaged ≡ true → IsOk result }
+    ensures passes { PassesIn G.unpaged (WentBy (aim_in t.old (G.contents g.old) (G.behind g.old) pid addr (WriteOf bytes.now)) tid.0 result) (G.store g.old) (G.store g.new) (G.behind g.old) (G.behind g.new) }
     ensures loans { G.loans g.new ≡ G.loans g.old }
 {
+    g.sound();
     match g.start(tid, place_of(pid, addr), row.key, Need::Copy) {
         Start::Pending(why) => Err(why),
         Start::Ready => Ok(write_to_copy(t, g, pid, addr, row, bytes)),
@@ -155,6 +163,7 @@ pub(crate) fn read_access<G: Pages>(
     ensures keeps { Keeps t.new (G.contents g.new) (G.store g.new) }
     ensures line { (G.store g.new).line ≡ (G.store g.old).line }
     ensures unpaged { G.unpaged ≡ true → (why : Why) → result ≡ threaded.Waiting why → ⊥ }
+    ensures passes { PassesIn G.unpaged (TurnedBy (aim_in t.old (G.contents g.old) (G.behind g.old) pid addr (ReadOf len)) tid.0 result) (G.store g.old) (G.store g.new) (G.behind g.old) (G.behind g.new) }
     ensures loans { G.loans g.new ≡ G.loans g.old }
 {
     t.sound();
@@ -190,6 +199,7 @@ pub(crate) fn write_access<G: Pages>(
     ensures keeps { Keeps t.new (G.contents g.new) (G.store g.new) }
     ensures line { (G.store g.new).line ≡ (G.store g.old).line }
     ensures unpaged { G.unpaged ≡ true → (why : Why) → result ≡ threaded.Waiting why → ⊥ }
+    ensures passes { PassesIn G.unpaged (TurnedBy (aim_in t.old (G.contents g.old) (G.behind g.old) pid addr (WriteOf bytes.now)) tid.0 result) (G.store g.old) (G.store g.new) (G.behind g.old) (G.behind g.new) }
     ensures loans { G.loans g.new ≡ G.loans g.old }
 {
     t.sound();

@@ -6,6 +6,7 @@ ghost use Rattle.mm_world.specs.Charge.{charge, limit};
 ghost use Rattle.mm_world.specs.Contents.{tables_of};
 ghost use Rattle.mm_world.specs.Laws.{LineLeaves};
 ghost use Rattle.mm_pages.specs.Conditions.{IsNew};
+ghost use Rattle.mm_paging.specs.Lines.{Noted, Broken};
 ghost use Rattle.mm_script.specs.Printed.{IsWellFormed};
 ghost use Rattle.mm_tables.specs.Fits.{Fits};
 ghost use Rattle.mm_tables.specs.References.{IsTidy, MadeAtMost};
@@ -34,7 +35,7 @@ pub struct World<G: Pages> {
 }
 
 impl<G: Pages> World<G> {
-    ghost use Rattle.mm_core.specs.Shown.{world, report, line_of, paging_device, file_device, file_blocks, loans};
+    ghost use Rattle.mm_core.specs.Shown.{world, report, behind, line_of, paging_device, file_device, file_blocks, loans};
 
     /// The world after the `machine` line, over a new store of that machine.
     pub fn new(alloc: Global, machine: Machine, pages: G) -> World<G>
@@ -81,6 +82,9 @@ impl<G: Pages> World<G> {
     /// `NoMemory` comes only from `process`, `file`, `alloc`, `create`, `createfile`, `open`, `map`, `grow`, and a `protect` that
     /// asks for marks. Then the world is as it was, and no further line can be decided. A failed access and a `fault` come only where a
     /// device's count of faults rose in the line, or, of a `resume`, where the read that its thread waited for failed before.
+    ///
+    /// Over a store that pages, the line's piece of the log of moves is its `at` and the moves that its form allows (`paged`); after
+    /// `NoMemory` it is an `at` alone, or empty (`broken`).
     #[tactic(auto, using(crate::proofs::Charged::charges, crate::proofs::Readiness::idle_in))]
     pub fn step(&mut self, alloc: Global, line: u32, event: &Event) -> Result<Answer, NoMemory>
         requires well_formed { IsWellFormed event.now }
@@ -104,6 +108,8 @@ impl<G: Pages> World<G> {
         ensures paging_later { (paging_device self.old).faults ≤ (paging_device self.new).faults }
         ensures files_later { (file_device self.old).faults ≤ (file_device self.new).faults }
         ensures flushed { IfOk result (λ a. Flushed (world self.new) (file_blocks self.new) event.now a) }
+        ensures paged { G.unpaged ≡ false → IfOk result (λ a. Noted (world self.old) (report self.old) (behind self.old) (paging_device self.old) (file_device self.old) event.now a (world self.new) (report self.new) (behind self.new) (paging_device self.new) (file_device self.new)) }
+        ensures broken { G.unpaged ≡ false → OnErr result (Broken (behind self.old) (behind self.new)) }
         ensures no_memory { takes_memory event.now ≡ false → IsOk result }
         ensures line { OnOk result (line_of self.new ≡ line) }
         ensures ready { OnOk result (self.new.spent ≡ false) }

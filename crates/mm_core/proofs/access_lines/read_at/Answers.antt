@@ -1,5 +1,8 @@
-use Rattle.std.proofs.Common.{sym, ◌∙◌, ap, Option}
-use Rattle.mm_types.specs.declared.answers.Answer.TheVariants as answer
+use Rattle.std.proofs.Common.{false, sym, ◌∙◌, ap, Option}
+use Rattle.mm_types.specs.Address.{page_of}
+use Rattle.mm_pages.specs.Conditions.{place_at, touch, IsReady}
+use Rattle.mm_core.specs.Answering.{aim_in}
+use Rattle.mm_core.proofs.AccessForms.{aim-needs, gives_bytes, touched_had, touched_lost}
 use Rattle.mm_types.specs.declared.numbers.Key.{Key}
 use Rattle.mm_world.specs.World.{Page}
 use Rattle.mm_world.specs.Access.{ReadOf}
@@ -8,6 +11,7 @@ use Rattle.mm_world.specs.Contents.{world_with}
 use Rattle.mm_tables.specs.Fits.{bytes_of}
 use Rattle.mm_core.proofs.AccessLines.{accessed-had, accessed-lost}
 use Rattle.mm_core.proofs.Accesses.{read-needs, reads}
+use Rattle.mm_types.specs.declared.answers.Answer.TheVariants as answer
 use Rattle.mm_core.proofs.access_lines.read_at.Goals as goal
 
 pub returns-in-Ok-clause-accessed : goal.returns-in-Ok-clause-accessed
@@ -28,3 +32,25 @@ returns-in-Err-clause-accessed g c =
     accessed-lost g.G.Pages.unpaged w c.args.pid.0 c.args.addr (ReadOf c.args.len) _ _ _ (read-needs t (bytes_of old) c.args.pid.0 c.args.addr c.args.len c.args.row c.requires.admitted)
     c.read_bytes.result c.read_bytes.ensures.ends c.read_bytes.ensures.served _ c.in-Err.field-0 c.in-Err.is
     (ap (λ (c : Key → Option Page). world_with t (bytes_of c)) c.read_bytes.ensures.contents) c.read_bytes.ensures.blamed c.read_bytes.ensures.unpaged
+
+pub returns-in-Ok-clause-passes : goal.returns-in-Ok-clause-passes
+returns-in-Ok-clause-passes g c =
+    let t = c.args.t.now in
+    let old = g.G.Pages.contents c.args.g.now in
+    let b = g.G.Pages.behind c.args.g.now in
+    let place = place_at c.args.pid (page_of c.args.addr) in
+    touched_had g.G.Pages.unpaged (aim_in t old b c.args.pid c.args.addr (ReadOf c.args.len))
+    (record { place = place; need = (touch c.args.row.key); writes = false; start = b.life })
+    (aim-needs (world_with t (bytes_of old)) b.life c.args.pid c.args.addr (ReadOf c.args.len) (touch c.args.row.key) (read-needs t (bytes_of old) c.args.pid.0 c.args.addr c.args.len c.args.row c.requires.admitted))
+    (IsReady (g.G.Pages.store c.args.g.now) place (touch c.args.row.key)) c.read_bytes.result (g.G.Pages.store c.args.g.now) (g.G.Pages.store c.read_bytes.new.g) b (g.G.Pages.behind c.read_bytes.new.g) c.in-Ok.bytes _ c.in-Ok.is (gives_bytes c.in-Ok.bytes) c.read_bytes.ensures.passes
+
+pub returns-in-Err-clause-passes : goal.returns-in-Err-clause-passes
+returns-in-Err-clause-passes g c =
+    let t = c.args.t.now in
+    let old = g.G.Pages.contents c.args.g.now in
+    let b = g.G.Pages.behind c.args.g.now in
+    let place = place_at c.args.pid (page_of c.args.addr) in
+    touched_lost g.G.Pages.unpaged (aim_in t old b c.args.pid c.args.addr (ReadOf c.args.len))
+    (record { place = place; need = (touch c.args.row.key); writes = false; start = b.life })
+    (aim-needs (world_with t (bytes_of old)) b.life c.args.pid c.args.addr (ReadOf c.args.len) (touch c.args.row.key) (read-needs t (bytes_of old) c.args.pid.0 c.args.addr c.args.len c.args.row c.requires.admitted))
+    (IsReady (g.G.Pages.store c.args.g.now) place (touch c.args.row.key)) c.read_bytes.result (g.G.Pages.store c.args.g.now) (g.G.Pages.store c.read_bytes.new.g) b (g.G.Pages.behind c.read_bytes.new.g) c.in-Err.field-0 c.in-Err.is c.read_bytes.ensures.ends c.read_bytes.ensures.passes

@@ -1,7 +1,5 @@
+use Rattle.mm_core.proofs.AccessPassed.{plain-read, access-passes, refused-passes}
 use Rattle.std.proofs.Common.{refl, sym, ◌∙◌, subst}
-use Rattle.mm_types.specs.declared.answers.Answer.TheVariants as answer
-use Rattle.mm_types.specs.declared.codes.Code.TheVariants as code
-use Rattle.mm_types.specs.declared.events.Event.TheVariants as event
 use Rattle.mm_world.specs.Access.{ReadOf}
 use Rattle.mm_world.specs.Contents.{Tables, world_with}
 use Rattle.mm_world.specs.WellFormed.{Spaces}
@@ -10,6 +8,9 @@ use Rattle.mm_core.specs.Accessing.{Accessed}
 use Rattle.mm_core.proofs.Rows.{gone-by}
 use Rattle.mm_core.proofs.Accesses.{no_process}
 use Rattle.mm_core.proofs.AccessLines.{keeps-begun, decided-refused, decided-access}
+use Rattle.mm_types.specs.declared.answers.Answer.TheVariants as answer
+use Rattle.mm_types.specs.declared.codes.Code.TheVariants as code
+use Rattle.mm_types.specs.declared.events.Event.TheVariants as event
 use Rattle.mm_core.proofs.access_lines.read_line.Goals as goal
 
 pub returns-then-not-begin_access-clause-decided : goal.returns-then-not-begin_access-clause-decided
@@ -52,3 +53,46 @@ returns-clause-decided g c =
     decided-access g.G.Pages.unpaged (event.Read c.args.pid c.args.addr c.args.len) c.args.line t old mid s m call.result c.admit.new.t (g.G.Pages.contents call.new.g) z c.args.pid.0 c.args.addr (ReadOf c.args.len)
     c.begin_access.ensures.contents c.begin_access.ensures.begins call.ensures.keeps call.ensures.line refl refl tt tt refl
     (subst (λ (x : Tables). Accessed g.G.Pages.unpaged (world_with x (bytes_of mid)) c.args.pid.0 c.args.addr (ReadOf c.args.len) m z call.result v) c.in-Ok.ensures.unchanged call.ensures.accessed)
+
+pub returns-then-not-begin_access-clause-passes : goal.returns-then-not-begin_access-clause-passes
+returns-then-not-begin_access-clause-passes g c =
+    let t = c.args.t.now in
+    let old = g.G.Pages.contents c.args.g.now in
+    let mid = g.G.Pages.contents c.begin_access.new.g in
+    let w = world_with t (bytes_of old) in
+    let s = g.G.Pages.store c.args.g.now in
+    let m = g.G.Pages.store c.begin_access.new.g in
+    let b = g.G.Pages.behind c.args.g.now in
+    let y = g.G.Pages.behind c.begin_access.new.g in
+    let began = c.begin_access.ensures in
+    refused-passes g.G.Pages.unpaged (event.Read c.args.pid c.args.addr c.args.len) c.args.line t old mid began.contents s m b y c.args.pid c.args.addr (ReadOf c.args.len) (plain-read w c.args.pid c.args.addr c.args.len) c.begin_access.result began.lives began.passes (answer.Error code.InvalidHandle) (world_with t (bytes_of mid))
+    (no_process t (bytes_of mid) c.args.pid.0 c.args.addr (ReadOf c.args.len) (gone-by t c.args.pid.0 (sym began.lives ∙ c.if-not-begin_access.true))).needless
+
+pub returns-in-Err-clause-passes : goal.returns-in-Err-clause-passes
+returns-in-Err-clause-passes g c =
+    let t = c.args.t.now in
+    let old = g.G.Pages.contents c.args.g.now in
+    let mid = g.G.Pages.contents c.begin_access.new.g in
+    let w = world_with t (bytes_of old) in
+    let s = g.G.Pages.store c.args.g.now in
+    let m = g.G.Pages.store c.begin_access.new.g in
+    let b = g.G.Pages.behind c.args.g.now in
+    let y = g.G.Pages.behind c.begin_access.new.g in
+    let began = c.begin_access.ensures in
+    refused-passes g.G.Pages.unpaged (event.Read c.args.pid c.args.addr c.args.len) c.args.line t old mid began.contents s m b y c.args.pid c.args.addr (ReadOf c.args.len) (plain-read w c.args.pid c.args.addr c.args.len) c.begin_access.result began.lives began.passes c.in-Err.answer (world_with c.admit.new.t (bytes_of mid))
+    (c.in-Err.ensures.refused (bytes_of mid) (ReadOf c.args.len) refl).needless
+
+pub returns-clause-passes : goal.returns-clause-passes
+returns-clause-passes g c =
+    let t = c.args.t.now in
+    let old = g.G.Pages.contents c.args.g.now in
+    let mid = g.G.Pages.contents c.begin_access.new.g in
+    let w = world_with t (bytes_of old) in
+    let s = g.G.Pages.store c.args.g.now in
+    let m = g.G.Pages.store c.begin_access.new.g in
+    let b = g.G.Pages.behind c.args.g.now in
+    let y = g.G.Pages.behind c.begin_access.new.g in
+    let began = c.begin_access.ensures in
+    let call = c.read_at in
+    access-passes g.G.Pages.unpaged (event.Read c.args.pid c.args.addr c.args.len) c.args.line t old mid began.contents s m b y c.args.pid c.args.addr (ReadOf c.args.len) (plain-read w c.args.pid c.args.addr c.args.len) c.begin_access.result began.lives began.passes _ call.result (world_with c.admit.new.t (bytes_of (g.G.Pages.contents call.new.g))) c.admit.new.t (g.G.Pages.store call.new.g) (g.G.Pages.behind call.new.g)
+    c.in-Ok.ensures.unchanged call.ensures.passes

@@ -1,13 +1,15 @@
-use Rattle.std.proofs.Common.{◌≡◌, ◌∙◌, ap, ◌%◌, Option, Some}
+use Rattle.std.proofs.Common.{true, ◌≡◌, ◌∙◌, ap, ◌%◌, Option, Some}
+use Rattle.mm_types.specs.Address.{page_of, page_size}
+use Rattle.mm_pages.specs.Conditions.{place_at, touch, IsReady}
+use Rattle.mm_core.specs.Answering.{aim_in}
+use Rattle.mm_core.proofs.AccessForms.{aim-needs, gives_ok, touched_had, touched_lost}
 use Rattle.mm_types.specs.declared.numbers.Key.{Key}
-use Rattle.mm_types.specs.Address.{page_size}
 use Rattle.mm_world.specs.World.{Page}
 use Rattle.mm_world.specs.Access.{WriteOf, written}
 use Rattle.mm_world.specs.Contents.{world_with}
 use Rattle.mm_tables.specs.Fits.{bytes_of}
-use Rattle.mm_core.proofs.AccessLines.{accessed-had, accessed-lost}
+use Rattle.mm_core.proofs.AccessLines.{accessed-had, accessed-lost, changed-others, changed-at}
 use Rattle.mm_core.proofs.Accesses.{write-needs, writes}
-use Rattle.mm_core.proofs.AccessLines.{changed-others, changed-at}
 use Rattle.mm_core.proofs.Writing.{keys-same}
 use Rattle.mm_world.specs.Failure.{same_key}
 use Rattle.mm_pages.specs.Store.{changed}
@@ -35,3 +37,25 @@ returns-in-Err-clause-accessed g c =
     accessed-lost g.G.Pages.unpaged w c.args.pid.0 c.args.addr (WriteOf c.args.bytes.now) _ _ _ (write-needs t (bytes_of old) c.args.pid.0 c.args.addr c.args.bytes.now c.args.row c.requires.admitted c.requires.stays)
     c.put.result (c.put.ensures.ends c.requires.begun) c.put.ensures.served _ c.in-Err.field-0 c.in-Err.is
     (ap (λ (c : Key → Option Page). world_with t (bytes_of c)) c.in-Err.ensures.kept) c.put.ensures.blamed c.put.ensures.unpaged
+
+pub returns-in-Ok-clause-passes : goal.returns-in-Ok-clause-passes
+returns-in-Ok-clause-passes g c =
+    let t = c.args.t.now in
+    let old = g.G.Pages.contents c.args.g.now in
+    let b = g.G.Pages.behind c.args.g.now in
+    let place = place_at c.args.pid (page_of c.args.addr) in
+    touched_had g.G.Pages.unpaged (aim_in t old b c.args.pid c.args.addr (WriteOf c.args.bytes.now))
+    (record { place = place; need = (touch c.args.row.key); writes = true; start = b.life })
+    (aim-needs (world_with t (bytes_of old)) b.life c.args.pid c.args.addr (WriteOf c.args.bytes.now) (touch c.args.row.key) (write-needs t (bytes_of old) c.args.pid.0 c.args.addr c.args.bytes.now c.args.row c.requires.admitted c.requires.stays))
+    (IsReady (g.G.Pages.store c.args.g.now) place (touch c.args.row.key)) c.put.result (g.G.Pages.store c.args.g.now) (g.G.Pages.store c.put.new.g) b (g.G.Pages.behind c.put.new.g) c.in-Ok.field-0 _ c.in-Ok.is gives_ok c.put.ensures.passes
+
+pub returns-in-Err-clause-passes : goal.returns-in-Err-clause-passes
+returns-in-Err-clause-passes g c =
+    let t = c.args.t.now in
+    let old = g.G.Pages.contents c.args.g.now in
+    let b = g.G.Pages.behind c.args.g.now in
+    let place = place_at c.args.pid (page_of c.args.addr) in
+    touched_lost g.G.Pages.unpaged (aim_in t old b c.args.pid c.args.addr (WriteOf c.args.bytes.now))
+    (record { place = place; need = (touch c.args.row.key); writes = true; start = b.life })
+    (aim-needs (world_with t (bytes_of old)) b.life c.args.pid c.args.addr (WriteOf c.args.bytes.now) (touch c.args.row.key) (write-needs t (bytes_of old) c.args.pid.0 c.args.addr c.args.bytes.now c.args.row c.requires.admitted c.requires.stays))
+    (IsReady (g.G.Pages.store c.args.g.now) place (touch c.args.row.key)) c.put.result (g.G.Pages.store c.args.g.now) (g.G.Pages.store c.put.new.g) b (g.G.Pages.behind c.put.new.g) c.in-Err.field-0 c.in-Err.is (c.put.ensures.ends c.requires.begun) c.put.ensures.passes

@@ -1,21 +1,23 @@
-use Rattle.std.proofs.Common.{◌≡◌, sym, ◌∙◌, ap, subst, true, ◌%◌, ℕ, Option, Some}
-use Rattle.mm_types.specs.declared.answers.Answer.TheVariants as answer
-use Rattle.mm_types.specs.declared.numbers.Key.{Key}
+use Rattle.std.proofs.Common.{true, ◌≡◌, sym, ◌∙◌, ap, subst, ◌%◌, ℕ, Option, Some}
 use Rattle.mm_types.specs.Address.{page_of, page_size}
+use Rattle.mm_pages.specs.Conditions.{place_at, copying, IsReady}
+use Rattle.mm_core.specs.Answering.{aim_in}
+use Rattle.mm_core.proofs.AccessForms.{aim-needs, gives_ok, copied_had, copied_lost}
+use Rattle.mm_types.specs.declared.numbers.Key.{Key}
 use Rattle.mm_world.specs.World.{Page}
 use Rattle.mm_world.specs.Access.{WriteOf, written}
 use Rattle.mm_world.specs.Outcome.{done}
 use Rattle.mm_world.specs.Contents.{Tables, world_with}
 use Rattle.mm_tables.specs.Fits.{bytes_of}
-use Rattle.mm_core.proofs.AccessLines.{accessed-had, accessed-lost}
+use Rattle.mm_core.proofs.AccessLines.{accessed-had, accessed-lost, twice-others, twice-at}
 use Rattle.mm_core.proofs.Accesses.{copy-needs, copies-write}
-use Rattle.mm_core.proofs.AccessLines.{twice-others, twice-at}
 use Rattle.mm_core.proofs.Writing.{key_itself}
 use Rattle.mm_core.proofs.Making.{made-set_row}
 use Rattle.mm_world.specs.Failure.{same_key}
 use Rattle.mm_world.specs.Keys.{private_key, set_row}
 use Rattle.mm_pages.specs.Store.{changed}
 use Rattle.mm_tables.specs.References.{MadeAtMost}
+use Rattle.mm_types.specs.declared.answers.Answer.TheVariants as answer
 use Rattle.mm_core.proofs.access_lines.write_to_copy.Goals as goal
 
 pub returns-in-Ok-clause-accessed : goal.returns-in-Ok-clause-accessed
@@ -63,3 +65,25 @@ returns-in-Err-clause-accessed g c =
     (copy-needs t (bytes_of old) c.args.pid.0 c.args.addr c.args.bytes.now c.args.row c.requires.admitted c.requires.copies)
     c.put_copy.result c.put_copy.ensures.ends c.put_copy.ensures.served _ c.in-Err.field-0 c.in-Err.is
     (λ i. world_with (kept.0 i) (bytes_of (kept.1 i))) c.put_copy.ensures.blamed c.put_copy.ensures.unpaged
+
+pub returns-in-Ok-clause-passes : goal.returns-in-Ok-clause-passes
+returns-in-Ok-clause-passes g c =
+    let t = c.args.t.now in
+    let old = g.G.Pages.contents c.args.g.now in
+    let b = g.G.Pages.behind c.args.g.now in
+    let place = place_at c.args.pid (page_of c.args.addr) in
+    copied_had g.G.Pages.unpaged (aim_in t old b c.args.pid c.args.addr (WriteOf c.args.bytes.now))
+    (record { place = place; need = (copying c.args.row.key place); writes = true; start = b.life })
+    (aim-needs (world_with t (bytes_of old)) b.life c.args.pid c.args.addr (WriteOf c.args.bytes.now) (copying c.args.row.key place) (copy-needs t (bytes_of old) c.args.pid.0 c.args.addr c.args.bytes.now c.args.row c.requires.admitted c.requires.copies))
+    (IsReady (g.G.Pages.store c.args.g.now) place (copying c.args.row.key place)) c.put_copy.result (g.G.Pages.store c.args.g.now) (g.G.Pages.store c.put_copy.new.g) b (g.G.Pages.behind c.put_copy.new.g) c.in-Ok.field-0 _ c.in-Ok.is gives_ok c.put_copy.ensures.passes
+
+pub returns-in-Err-clause-passes : goal.returns-in-Err-clause-passes
+returns-in-Err-clause-passes g c =
+    let t = c.args.t.now in
+    let old = g.G.Pages.contents c.args.g.now in
+    let b = g.G.Pages.behind c.args.g.now in
+    let place = place_at c.args.pid (page_of c.args.addr) in
+    copied_lost g.G.Pages.unpaged (aim_in t old b c.args.pid c.args.addr (WriteOf c.args.bytes.now))
+    (record { place = place; need = (copying c.args.row.key place); writes = true; start = b.life })
+    (aim-needs (world_with t (bytes_of old)) b.life c.args.pid c.args.addr (WriteOf c.args.bytes.now) (copying c.args.row.key place) (copy-needs t (bytes_of old) c.args.pid.0 c.args.addr c.args.bytes.now c.args.row c.requires.admitted c.requires.copies))
+    (IsReady (g.G.Pages.store c.args.g.now) place (copying c.args.row.key place)) c.put_copy.result (g.G.Pages.store c.args.g.now) (g.G.Pages.store c.put_copy.new.g) b (g.G.Pages.behind c.put_copy.new.g) c.in-Err.field-0 c.in-Err.is c.put_copy.ensures.ends c.put_copy.ensures.passes

@@ -1,5 +1,29 @@
+use Rattle.std.proofs.Common.{◌≡◌, true, Err, refl, sym, subst}
+use Rattle.std.proofs.lemmas.Result.{err_from_is_err_and}
+use Rattle.mm_types.specs.declared.numbers.Key.{Key}
+use Rattle.mm_types.specs.Address.{page_of}
+use Rattle.mm_pages.specs.Conditions.{place_at, touch, copying, IsReady}
+use Rattle.mm_core.proofs.AccessForms.{copied_then, copied_err}
 use Rattle.mm_core.proofs.Serving.{served-then}
 use Rattle.mm_core.proofs.fetching.put_copy.Goals as goal
 
 pub returns-clause-served : goal.returns-clause-served
 returns-clause-served g c = served-then _ _ _ c.copy.ensures.served c.put.ensures.served
+
+pub returns-in_err-copy-clause-passes : goal.returns-in_err-copy-clause-passes
+returns-in_err-copy-clause-passes g c =
+    let p = err_from_is_err_and c.from_residual.result c.from_residual.ensures.1 in
+    let is : c.from_residual.result ≡ Err c.in_err-copy.field-0.0 = let err = p.1 in let from = p.2 in cc in
+    copied_err g.G.Pages.unpaged _ _ c.copy.result _ _ _ _ _ _ c.in_err-copy.was is c.copy.ensures.passes
+
+pub returns-clause-passes : goal.returns-clause-passes
+returns-clause-passes g c =
+    let place = place_at c.args.pid (page_of c.args.addr) in
+    let s = g.G.Pages.store c.args.g.now in
+    let m = g.G.Pages.store c.copy.new.g in
+    let ready : IsReady m place (touch c.own_key_of.result) = subst (λ (k : Key). IsReady m place (touch k)) (sym c.own_key_of.ensures) c.in_ok-copy.ensures.ready in
+    copied_then
+    (record { place = place; need = copying c.args.row.key place; writes = true; start = (g.G.Pages.behind c.args.g.now).life })
+    (record { place = place; need = touch c.own_key_of.result; writes = true; start = (g.G.Pages.behind c.copy.new.g).life })
+    refl refl (IsReady s place (copying c.args.row.key place)) (IsReady m place (touch c.own_key_of.result)) ready g.G.Pages.unpaged c.copy.result c.put.result _ _ _ _
+    c.in_ok-copy.was c.in-Ok.is refl s m (g.G.Pages.store c.put.new.g) (g.G.Pages.behind c.args.g.now) (g.G.Pages.behind c.copy.new.g) (g.G.Pages.behind c.put.new.g) c.copy.ensures.passes c.put.ensures.passes

@@ -5,10 +5,12 @@ use Rattle.mm_world.specs.World.{Page}
 use Rattle.mm_tables.specs.Fits.{Called, bytes_of}
 use Rattle.mm_core.proofs.Serving.{quiet-beside}
 use Rattle.mm_world.specs.Alloc.{alloc}
-use Rattle.mm_world.specs.Contents.{blank}
+use Rattle.mm_world.specs.Contents.{blank, world_with}
 use Rattle.mm_world.proofs.Across.{alloc_across}
 use Rattle.mm_core.proofs.Making.{in_alloc}
 use Rattle.mm_core.proofs.Lines.{decided-call, if-ok}
+use Rattle.mm_types.specs.declared.moves.LineKind.TheVariants as kind
+use Rattle.mm_core.proofs.Marking.{marked_makes, each-ok, each-err, halted_makes}
 use Rattle.mm_core.proofs.memory_lines.alloc_line.Goals as goal
 
 pub returns-clause-ok : goal.returns-clause-ok
@@ -22,3 +24,17 @@ returns-clause-ok g c =
     (alloc blank t c.args.pid.0 c.args.addr c.args.size c.args.form c.args.prot) c.requires.keeps c.requires.next c.begin.ensures.begins (quiet-beside _ _ call.ensures.beside)
     (alloc_across t (bytes_of old) c.sound.ensures.sound.spaces c.args.pid.0 c.args.addr c.args.size c.args.form c.args.prot) (in_alloc blank t c.args.pid.0 c.args.addr c.args.size c.args.form c.args.prot) refl tt tt
     (subst (λ (old : Key → Option Page). Called (alloc blank t c.args.pid.0 c.args.addr c.args.size c.args.form c.args.prot) t old a call.new.t new) c.begin.ensures.contents h) call.ensures.fits)
+
+pub returns-clause-marked : goal.returns-clause-marked
+returns-clause-marked g c =
+    let call = c.valloc in
+    each-ok call.result (λ a.
+    marked_makes c.args.line kind.Call (event.Alloc c.args.pid c.args.addr c.args.size c.args.form c.args.prot) (world_with c.args.t.now (bytes_of (g.G.Pages.contents c.args.g.now))) a (world_with call.new.t (bytes_of (g.G.Pages.contents call.new.g))) g.G.Pages.unpaged
+    (g.G.Pages.store c.args.g.now) (g.G.Pages.store c.begin.new.g) (g.G.Pages.store call.new.g) (g.G.Pages.behind c.args.g.now) (g.G.Pages.behind c.begin.new.g) (g.G.Pages.behind call.new.g)
+    (record { ages = λ ms. refl; waits = λ ws l. refl }) (λ ms h. h) c.begin.ensures.passes call.ensures.passes)
+
+pub returns-clause-halted : goal.returns-clause-halted
+returns-clause-halted g c =
+    let call = c.valloc in
+    each-err call.result (
+    halted_makes c.args.line kind.Call refl g.G.Pages.unpaged (g.G.Pages.store c.args.g.now) (g.G.Pages.store c.begin.new.g) (g.G.Pages.store call.new.g) (g.G.Pages.behind c.args.g.now) (g.G.Pages.behind c.begin.new.g) (g.G.Pages.behind call.new.g) c.begin.ensures.passes call.ensures.passes)

@@ -7,6 +7,8 @@ use Rattle.mm_tables.specs.Fits.{bytes_of}
 use Rattle.mm_core.proofs.Charged.{charge-with}
 use Rattle.mm_core.proofs.Serving.{quiet-same}
 use Rattle.mm_core.proofs.Lines.{decided-same}
+use Rattle.mm_types.specs.declared.moves.LineKind.TheVariants as kind
+use Rattle.mm_core.proofs.Marking.{marked_alone}
 use Rattle.mm_core.proofs.memory_lines.charge_line.Goals as goal
 
 pub returns-clause-decided : goal.returns-clause-decided
@@ -19,3 +21,9 @@ returns-clause-decided g c =
     c.requires.keeps c.requires.next c.begin.ensures.begins (quiet-same _ _ refl) refl c.begin.ensures.contents refl
     (λ i. done (answer.Charge ((charge-with t (bytes_of old) ∙ sym told.ensures.charge) i) (sym told.ensures.limit i)) (world_with t (bytes_of old)))
     (λ f. f) tt tt (c.begin.ensures.fits t c.requires.keeps.fits)
+
+pub returns-clause-marked : goal.returns-clause-marked
+returns-clause-marked g c =
+    marked_alone c.args.line kind.Call event.Charge (world_with c.args.t.now (bytes_of (g.G.Pages.contents c.args.g.now))) (answer.Charge c.charge-charge.result.0 c.charge-charge.result.1) (world_with c.args.t.now (bytes_of (g.G.Pages.contents c.begin.new.g))) g.G.Pages.unpaged
+    (g.G.Pages.store c.args.g.now) (g.G.Pages.store c.begin.new.g) (g.G.Pages.behind c.args.g.now) (g.G.Pages.behind c.begin.new.g)
+    (record { ages = λ ms. refl; waits = λ ws l. refl }) refl c.begin.ensures.passes

@@ -10,6 +10,9 @@ use Rattle.mm_pages.specs.Store.{StoreOf}
 use Rattle.mm_core.proofs.Making.{in_exit}
 use Rattle.mm_core.proofs.Lines.{decided-call}
 use Rattle.mm_core.proofs.Forgotten.{keeps-forgot, decided-forgot, ends-waits}
+use Rattle.mm_types.specs.declared.moves.LineKind.TheVariants as kind
+use Rattle.mm_world.specs.Contents.{world_with}
+use Rattle.mm_core.proofs.CallForms.{marked_exit}
 use Rattle.mm_core.proofs.memory_lines.exit_line.Goals as goal
 
 pub begin_release-requires-clause-fits : goal.begin_release-requires-clause-fits
@@ -43,3 +46,9 @@ returns-clause-waits g c =
     c.sound.ensures.sound.numbers.kept c.forget_waits.ensures.forgot
     (ap (λ r. r.wait) c.begin_release.ensures.begins.report_is)
     (ap (λ (s : StoreOf). s.report.wait) c.end_process.ensures.beside)
+
+pub returns-clause-marked : goal.returns-clause-marked
+returns-clause-marked g c =
+    marked_exit c.args.t.now (g.G.Pages.contents c.args.g.now) (g.G.Pages.contents c.forget_waits.new.g) c.end_process.new.t (g.G.Pages.contents c.end_process.new.g) c.args.line c.args.pid c.end_process.result c.sound.ensures.sound.numbers.kept g.G.Pages.unpaged
+    (g.G.Pages.store c.args.g.now) (g.G.Pages.store c.forget_waits.new.g) (g.G.Pages.store c.begin_release.new.g) (g.G.Pages.store c.end_process.new.g) (g.G.Pages.behind c.args.g.now) (g.G.Pages.behind c.forget_waits.new.g) (g.G.Pages.behind c.begin_release.new.g) (g.G.Pages.behind c.end_process.new.g)
+    c.forget_waits.ensures.passes c.forget_waits.ensures.forgot.rest c.begin_release.ensures.passes c.end_process.ensures.passes

@@ -1,4 +1,4 @@
-use Rattle.std.proofs.Common.{refl, subst, Option}
+use Rattle.std.proofs.Common.{refl, subst, Option, ◌≡◌, false}
 use Rattle.mm_types.specs.declared.answers.Answer.TheVariants as answer
 use Rattle.mm_types.specs.declared.events.Event.TheVariants as event
 use Rattle.mm_types.specs.declared.numbers.Key.{Key}
@@ -8,7 +8,14 @@ use Rattle.mm_tables.specs.Fits.{Called, bytes_of}
 use Rattle.mm_world.proofs.Across.{new_process_across}
 use Rattle.mm_core.proofs.Serving.{quiet-beside, quiet-same}
 use Rattle.mm_core.proofs.Making.{in_new_process}
-use Rattle.mm_core.proofs.Lines.{decided-call, begins-line, bytes-kept, if-both, on-ok, none-if, full-process}
+use Rattle.mm_core.proofs.Lines.{decided-call, begins-line, bytes-kept, if-both, on-ok, none-if, full-process, if-ok}
+use Rattle.mm_types.specs.declared.moves.LineKind.TheVariants as kind
+use Rattle.mm_world.specs.Contents.{world_with}
+use Rattle.mm_core.proofs.Marking.{marked_alone, marked_still, each-err, halted_makes}
+use Rattle.mm_core.proofs.CallForms.{process_kind}
+use Rattle.mm_types.specs.declared.moves.LineKind.{LineKind}
+use Rattle.mm_core.specs.Noting.{MarkedAs}
+use Rattle.mm_pages.specs.Housekeeping.{Makes}
 use Rattle.mm_core.proofs.memory_lines.process_line.Goals as goal
 
 pub returns-in-None-clause-ok : goal.returns-in-None-clause-ok
@@ -35,3 +42,24 @@ returns-clause-ok g c =
     (new_process t) c.requires.keeps c.requires.next (begins-line _ _ _ _ c.line.ensures.store) (quiet-beside _ _ call.ensures.beside)
     (new_process_across t (bytes_of old) c.sound.ensures.sound.spaces) (in_new_process t) refl tt tt
     (subst (λ (old : Key → Option Page). Called (new_process t) t old a call.new.t new) c.line.ensures.contents h) fits)
+
+pub returns-in-None-clause-marked : goal.returns-in-None-clause-marked
+returns-in-None-clause-marked g c =
+    marked_alone c.args.line kind.Call (event.Process c.args.min c.args.max) (world_with c.args.t.now (bytes_of (g.G.Pages.contents c.args.g.now))) answer.Full (world_with c.args.t.now (bytes_of (g.G.Pages.contents c.begin.new.g))) g.G.Pages.unpaged
+    (g.G.Pages.store c.args.g.now) (g.G.Pages.store c.begin.new.g) (g.G.Pages.behind c.args.g.now) (g.G.Pages.behind c.begin.new.g)
+    (record { ages = λ ms. refl; waits = λ ws l. refl }) refl c.begin.ensures.passes
+
+pub returns-clause-marked : goal.returns-clause-marked
+returns-clause-marked g c =
+    let call = c.new_process in
+    if-ok call.result call.ensures.ok (λ a called.
+    subst (λ (k : LineKind). g.G.Pages.unpaged ≡ false → MarkedAs k (event.Process c.args.min c.args.max) c.args.line (world_with c.args.t.now (bytes_of (g.G.Pages.contents c.args.g.now))) (g.G.Pages.store c.args.g.now) (g.G.Pages.behind c.args.g.now) a (world_with call.new.t (bytes_of (g.G.Pages.contents call.new.g))) (g.G.Pages.store call.new.g) (g.G.Pages.behind call.new.g))
+    (process_kind c.args.t.now (g.G.Pages.contents c.line.new.self) (g.G.Pages.contents call.new.g) c.in-Some.pid c.next_pid.result a call.new.t c.args.min c.args.max c.in-Some.is c.next_pid.ensures called)
+    (marked_still c.args.line (kind.Process c.in-Some.pid c.args.min c.args.max) (event.Process c.args.min c.args.max) (world_with c.args.t.now (bytes_of (g.G.Pages.contents c.args.g.now))) a (world_with call.new.t (bytes_of (g.G.Pages.contents call.new.g))) g.G.Pages.unpaged
+    (g.G.Pages.store c.args.g.now) (g.G.Pages.store c.line.new.self) (g.G.Pages.store call.new.g) (g.G.Pages.behind c.args.g.now) (g.G.Pages.behind c.line.new.self) (g.G.Pages.behind call.new.g)
+    (record { ages = λ ms. refl; waits = λ ws l. refl }) (λ ms h. h) c.line.ensures.passes call.ensures.passes))
+
+pub returns-clause-halted : goal.returns-clause-halted
+returns-clause-halted g c =
+    each-err c.new_process.result (
+    halted_makes c.args.line (kind.Process c.in-Some.pid c.args.min c.args.max) refl g.G.Pages.unpaged (g.G.Pages.store c.args.g.now) (g.G.Pages.store c.line.new.self) (g.G.Pages.store c.new_process.new.g) (g.G.Pages.behind c.args.g.now) (g.G.Pages.behind c.line.new.self) (g.G.Pages.behind c.new_process.new.g) c.line.ensures.passes (c.new_process.ensures.passes Makes))

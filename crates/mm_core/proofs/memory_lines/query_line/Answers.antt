@@ -8,6 +8,9 @@ use Rattle.mm_world.proofs.Across.{query_across}
 use Rattle.mm_core.proofs.Serving.{quiet-same}
 use Rattle.mm_core.proofs.Making.{in_query}
 use Rattle.mm_core.proofs.Lines.{decided-call, bytes-kept}
+use Rattle.mm_types.specs.declared.moves.LineKind.TheVariants as kind
+use Rattle.mm_world.specs.Contents.{world_with}
+use Rattle.mm_core.proofs.Marking.{marked_alone}
 use Rattle.mm_core.proofs.memory_lines.query_line.Goals as goal
 
 pub returns-clause-decided : goal.returns-clause-decided
@@ -22,3 +25,9 @@ returns-clause-decided g c =
     (query_across t (bytes_of old) c.sound.ensures.sound.spaces c.args.pid.0 c.args.addr) (in_query t c.args.pid.0 c.args.addr) refl tt tt
     (subst (λ (old : Key → Option Page). Called (query t c.args.pid.0 c.args.addr) t old c.query.result t new) c.begin.ensures.contents
     (record { outcome = c.query.ensures; bytes = bytes-kept t t new fits.live fits.live })) fits
+
+pub returns-clause-marked : goal.returns-clause-marked
+returns-clause-marked g c =
+    marked_alone c.args.line kind.Call (event.Query c.args.pid c.args.addr) (world_with c.args.t.now (bytes_of (g.G.Pages.contents c.args.g.now))) c.query.result (world_with c.args.t.now (bytes_of (g.G.Pages.contents c.begin.new.g))) g.G.Pages.unpaged
+    (g.G.Pages.store c.args.g.now) (g.G.Pages.store c.begin.new.g) (g.G.Pages.behind c.args.g.now) (g.G.Pages.behind c.begin.new.g)
+    (record { ages = λ ms. refl; waits = λ ws l. refl }) refl c.begin.ensures.passes

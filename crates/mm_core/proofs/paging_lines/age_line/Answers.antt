@@ -8,6 +8,9 @@ use Rattle.mm_core.proofs.Lines.{decided-same}
 use Rattle.mm_core.proofs.Fitting.{fits-same}
 use Rattle.mm_core.proofs.Rows.{gone-by, lives-by}
 use Rattle.mm_core.proofs.Accesses.{store-gone, store-lives}
+use Rattle.mm_types.specs.declared.moves.LineKind.TheVariants as kind
+use Rattle.mm_world.specs.Contents.{world_with}
+use Rattle.mm_core.proofs.CallForms.{marked_no_age, marked_age}
 use Rattle.mm_core.proofs.paging_lines.age_line.Goals as goal
 
 pub returns-then-not-has-clause-decided : goal.returns-then-not-has-clause-decided
@@ -30,3 +33,11 @@ returns-clause-decided g c =
     c.requires.keeps c.requires.next c.begin.ensures.begins (quiet-same m z c.age.ensures.store) refl (c.age.ensures.contents ∙ c.begin.ensures.contents) refl
     (store-lives t (bytes_of old) c.args.pid.0 (lives-by t c.args.pid.0 (sym c.has.ensures ∙ c.if-not-has.false)))
     (λ f. f) tt tt (fits-same t _ m _ z (c.begin.ensures.fits t c.requires.keeps.fits) c.age.ensures.contents c.age.ensures.store)
+
+pub returns-then-not-has-clause-marked : goal.returns-then-not-has-clause-marked
+returns-then-not-has-clause-marked g c =
+    marked_no_age c.args.t.now (g.G.Pages.contents c.args.g.now) (g.G.Pages.contents c.begin.new.g) c.args.line c.args.pid g.G.Pages.unpaged (g.G.Pages.store c.args.g.now) (g.G.Pages.store c.begin.new.g) (g.G.Pages.store c.begin.new.g) (g.G.Pages.behind c.args.g.now) (g.G.Pages.behind c.begin.new.g) (g.G.Pages.behind c.begin.new.g) c.has.result c.has.ensures (answer.Error code.InvalidHandle) c.if-not-has.true c.begin.ensures.passes
+
+pub returns-clause-marked : goal.returns-clause-marked
+returns-clause-marked g c =
+    marked_age c.args.t.now (g.G.Pages.contents c.args.g.now) (g.G.Pages.contents c.age.new.self) c.args.line c.args.pid g.G.Pages.unpaged (g.G.Pages.store c.args.g.now) (g.G.Pages.store c.begin.new.g) (g.G.Pages.store c.age.new.self) (g.G.Pages.behind c.args.g.now) (g.G.Pages.behind c.begin.new.g) (g.G.Pages.behind c.age.new.self) c.has.result c.has.ensures answer.Ok c.if-not-has.false c.begin.ensures.passes c.age.ensures.passes

@@ -12,6 +12,8 @@ use Rattle.mm_world.proofs.Across.{take_fail_across}
 use Rattle.mm_core.proofs.Lines.{stepped-plain, called-across, bytes-kept, keeps-made}
 use Rattle.mm_core.proofs.Making.{in_take_fail}
 use Rattle.mm_core.proofs.Files.{fail-taken, devices-named, is-named, named-line}
+use Rattle.mm_types.specs.declared.moves.LineKind.TheVariants as kind
+use Rattle.mm_core.proofs.CallForms.{marked_fail}
 use Rattle.mm_core.proofs.paging_lines.fail_line.Goals as goal
 
 pub returns-clause-decided : goal.returns-clause-decided
@@ -44,3 +46,11 @@ returns-clause-decided g c =
       keeps = keeps-made u e c.args.line t old s m answer.Ok after new z c.requires.next (line_is ∙ b.line_is) made fits-new;
       line_is = line_is ∙ b.line_is;
     }
+
+pub returns-then-fails_taken-ge-MOST_FAILS-clause-marked : goal.returns-then-fails_taken-ge-MOST_FAILS-clause-marked
+returns-then-fails_taken-ge-MOST_FAILS-clause-marked g c =
+    marked_fail c.args.line (event.Fail c.args.device c.args.direction c.args.k c.args.n) (world_with c.args.t.now (bytes_of (g.G.Pages.contents c.args.g.now))) answer.Full (world_with c.args.t.now (bytes_of (g.G.Pages.contents c.begin.new.g))) g.G.Pages.unpaged (g.G.Pages.store c.args.g.now) (g.G.Pages.store c.begin.new.g) (g.G.Pages.store c.begin.new.g) (g.G.Pages.behind c.args.g.now) (g.G.Pages.behind c.begin.new.g) (g.G.Pages.behind c.begin.new.g) (record { ages = λ ms. refl; waits = λ ws l. refl }) refl refl c.begin.ensures.passes
+
+pub returns-clause-marked : goal.returns-clause-marked
+returns-clause-marked g c =
+    marked_fail c.args.line (event.Fail c.args.device c.args.direction c.args.k c.args.n) (world_with c.args.t.now (bytes_of (g.G.Pages.contents c.args.g.now))) answer.Ok (world_with c.take_fail.new.self (bytes_of (g.G.Pages.contents c.fail.new.self))) g.G.Pages.unpaged (g.G.Pages.store c.args.g.now) (g.G.Pages.store c.begin.new.g) (g.G.Pages.store c.fail.new.self) (g.G.Pages.behind c.args.g.now) (g.G.Pages.behind c.begin.new.g) (g.G.Pages.behind c.fail.new.self) (record { ages = λ ms. refl; waits = λ ws l. refl }) refl c.fail.ensures.behind c.begin.ensures.passes

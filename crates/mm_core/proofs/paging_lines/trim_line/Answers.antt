@@ -8,6 +8,9 @@ use Rattle.mm_core.proofs.Lines.{decided-same}
 use Rattle.mm_core.proofs.Fitting.{fits-rearranged}
 use Rattle.mm_core.proofs.Rows.{gone-by, lives-by}
 use Rattle.mm_core.proofs.Accesses.{store-gone, store-lives}
+use Rattle.mm_types.specs.declared.moves.LineKind.TheVariants as kind
+use Rattle.mm_world.specs.Contents.{world_with}
+use Rattle.mm_core.proofs.CallForms.{marked_no_trim, marked_trim}
 use Rattle.mm_core.proofs.paging_lines.trim_line.Goals as goal
 
 pub returns-then-not-begin_trim-clause-decided : goal.returns-then-not-begin_trim-clause-decided
@@ -30,3 +33,11 @@ returns-clause-decided g c =
     c.requires.keeps c.requires.next c.begin_trim.ensures.begins (quiet-rearranged m z c.trim.ensures.store) refl (c.trim.ensures.contents ∙ c.begin_trim.ensures.contents) refl
     (store-lives t (bytes_of old) c.args.pid.0 (lives-by t c.args.pid.0 (sym c.begin_trim.ensures.lives ∙ c.if-not-begin_trim.false)))
     (λ f. f) tt tt (fits-rearranged t _ m _ z c.begin_trim.ensures.fits c.trim.ensures.contents c.trim.ensures.store)
+
+pub returns-then-not-begin_trim-clause-marked : goal.returns-then-not-begin_trim-clause-marked
+returns-then-not-begin_trim-clause-marked g c =
+    marked_no_trim c.args.t.now (g.G.Pages.contents c.args.g.now) (g.G.Pages.contents c.begin_trim.new.g) c.args.line c.args.pid g.G.Pages.unpaged (g.G.Pages.store c.args.g.now) (g.G.Pages.store c.begin_trim.new.g) (g.G.Pages.store c.begin_trim.new.g) (g.G.Pages.behind c.args.g.now) (g.G.Pages.behind c.begin_trim.new.g) (g.G.Pages.behind c.begin_trim.new.g) c.begin_trim.result c.begin_trim.ensures.lives c.args.n (answer.Error code.InvalidHandle) c.if-not-begin_trim.true c.begin_trim.ensures.passes
+
+pub returns-clause-marked : goal.returns-clause-marked
+returns-clause-marked g c =
+    marked_trim c.args.t.now (g.G.Pages.contents c.args.g.now) (g.G.Pages.contents c.trim.new.self) c.args.line c.args.pid g.G.Pages.unpaged (g.G.Pages.store c.args.g.now) (g.G.Pages.store c.begin_trim.new.g) (g.G.Pages.store c.trim.new.self) (g.G.Pages.behind c.args.g.now) (g.G.Pages.behind c.begin_trim.new.g) (g.G.Pages.behind c.trim.new.self) c.begin_trim.result c.begin_trim.ensures.lives c.args.n answer.Ok c.if-not-begin_trim.false c.begin_trim.ensures.passes c.trim.ensures.passes

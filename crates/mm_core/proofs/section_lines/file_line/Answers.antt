@@ -1,8 +1,8 @@
-use Rattle.std.proofs.Common.{◌+◌, ap, subst, inr, Option, ◌&&◌, nat_lt}
+use Rattle.std.proofs.Common.{◌+◌, ap, subst, inr, Option, ◌&&◌, nat_lt, refl}
 use Rattle.mm_types.specs.declared.events.Event.TheVariants as event
 use Rattle.mm_types.specs.declared.numbers.Key.{Key}
 use Rattle.mm_world.specs.World.{Page}
-use Rattle.mm_world.specs.Contents.{blank, BytesAfterFile}
+use Rattle.mm_world.specs.Contents.{blank, BytesAfterFile, world_with}
 use Rattle.mm_world.specs.Processes.{new_file}
 use Rattle.mm_world.specs.Step.{is_ok}
 use Rattle.mm_pages.specs.Store.{StoreOf}
@@ -10,6 +10,9 @@ use Rattle.mm_tables.specs.Fits.{bytes_of}
 use Rattle.mm_core.proofs.Lines.{decided-served, faulted-answer, faulted-made, one-later, if-and, if-both, on-ok}
 use Rattle.mm_core.proofs.Making.{in_new_file}
 use Rattle.mm_core.proofs.Files.{file-stepped}
+use Rattle.mm_types.specs.declared.moves.LineKind.TheVariants as kind
+use Rattle.mm_core.proofs.CallForms.{marked_file}
+use Rattle.mm_core.proofs.Marking.{each-ok, each-err, halted_notes}
 use Rattle.mm_core.proofs.section_lines.file_line.Goals as goal
 
 pub returns-clause-ok : goal.returns-clause-ok
@@ -34,3 +37,16 @@ returns-clause-ok g c =
     (subst (λ (x : Key → Option Page). BytesAfterFile c.args.byte t (bytes_of x) after (bytes_of new)) c.begin.ensures.contents both.second))
     (λ f. inr (blamed (faulted-answer u e c.args.line t old s m a after new z b q makes.fine both.first f))) tt tt
     (faulted-made u e c.args.line t old s m a after new z b q (s.line + 1) (one-later t s.line c.requires.keeps.few) (makes.made s.line c.requires.keeps.few) both.first) call.ensures.fits)
+
+pub returns-clause-marked : goal.returns-clause-marked
+returns-clause-marked g c =
+    let call = c.new_file in
+    each-ok call.result (λ a.
+    marked_file c.args.line (event.File c.args.name.now c.args.pages c.args.byte) (world_with c.args.t.now (bytes_of (g.G.Pages.contents c.args.g.now))) a (world_with call.new.t (bytes_of (g.G.Pages.contents call.new.g))) g.G.Pages.unpaged (g.G.Pages.store c.args.g.now) (g.G.Pages.store c.begin.new.g) (g.G.Pages.store call.new.g) (g.G.Pages.behind c.args.g.now) (g.G.Pages.behind c.begin.new.g) (g.G.Pages.behind call.new.g)
+    (record { ages = λ ms. refl; waits = λ ws l. refl }) (λ ms h. h) c.begin.ensures.passes call.ensures.notes)
+
+pub returns-clause-halted : goal.returns-clause-halted
+returns-clause-halted g c =
+    let call = c.new_file in
+    each-err call.result (
+    halted_notes c.args.line kind.Call refl g.G.Pages.unpaged (g.G.Pages.store c.args.g.now) (g.G.Pages.store c.begin.new.g) (g.G.Pages.store call.new.g) (g.G.Pages.behind c.args.g.now) (g.G.Pages.behind c.begin.new.g) (g.G.Pages.behind call.new.g) c.begin.ensures.passes call.ensures.notes)

@@ -6,6 +6,10 @@ use Rattle.mm_pages.specs.Store.{StoreOf}
 use Rattle.mm_core.proofs.Lines.{decided-served, faulted-answer, one-later}
 use Rattle.mm_core.proofs.Making.{in_flush}
 use Rattle.mm_core.proofs.Files.{flush-stepped, flushed-line}
+use Rattle.mm_types.specs.declared.moves.LineKind.TheVariants as kind
+use Rattle.mm_world.specs.Contents.{world_with}
+use Rattle.mm_tables.specs.Fits.{bytes_of}
+use Rattle.mm_core.proofs.CallForms.{marked_flush}
 use Rattle.mm_core.proofs.section_lines.flush_line.Goals as goal
 
 pub returns-clause-decided : goal.returns-clause-decided
@@ -27,3 +31,9 @@ returns-clause-decided g c =
     (λ f. inr (call.ensures.blamed (faulted-answer u e c.args.line t old s m a t new z b q (in_flush t c.args.pid.0 c.args.addr c.args.size).it.fine call.ensures.outcome f))) tt
     (flushed-line t new c.sound.ensures.sound c.sound.ensures.tidy call.ensures.fits.live z.file_blocks c.args.pid c.args.addr c.args.size a call.ensures.holds)
     (one-later t s.line c.requires.keeps.few) call.ensures.fits
+
+pub returns-clause-marked : goal.returns-clause-marked
+returns-clause-marked g c =
+    let call = c.flush_view in
+    marked_flush c.args.t.now (g.G.Pages.contents c.args.g.now) (g.G.Pages.contents call.new.g) c.args.line c.args.pid c.args.addr c.args.size call.result g.G.Pages.unpaged
+    (g.G.Pages.store c.args.g.now) (g.G.Pages.store c.begin.new.g) (g.G.Pages.store call.new.g) (g.G.Pages.behind c.args.g.now) (g.G.Pages.behind c.begin.new.g) (g.G.Pages.behind call.new.g) c.begin.ensures.passes call.ensures.passes

@@ -8,6 +8,9 @@ use Rattle.mm_core.proofs.Lines.{decided-call, bytes-kept, if-ok}
 use Rattle.mm_world.specs.Sections.{open_section}
 use Rattle.mm_world.proofs.Across.{open_across}
 use Rattle.mm_core.proofs.Making.{in_open}
+use Rattle.mm_types.specs.declared.moves.LineKind.TheVariants as kind
+use Rattle.mm_world.specs.Contents.{world_with}
+use Rattle.mm_core.proofs.Marking.{marked_alone, each-ok, each-err, halted_alone}
 use Rattle.mm_core.proofs.section_lines.open_line.Goals as goal
 
 pub returns-clause-ok : goal.returns-clause-ok
@@ -24,3 +27,15 @@ returns-clause-ok g c =
     (open_across t (bytes_of old) c.sound.ensures.sound.spaces c.args.pid.0 c.args.name.now) (in_open t c.args.pid.0 c.args.name.now) refl tt tt
     (subst (λ (old : Key → Option Page). Called (open_section t c.args.pid.0 c.args.name.now) t old a call.new.t new) c.begin.ensures.contents
     (record { outcome = h; bytes = bytes-kept t call.new.t new (c.begin.ensures.fits t c.requires.keeps.fits).live settled.fits.live })) settled.fits)
+
+pub returns-clause-marked : goal.returns-clause-marked
+returns-clause-marked g c =
+    each-ok c.open_section.result (λ a.
+    marked_alone c.args.line kind.Call (event.Open c.args.pid c.args.name.now) (world_with c.args.t.now (bytes_of (g.G.Pages.contents c.args.g.now))) a (world_with c.open_section.new.t (bytes_of (g.G.Pages.contents c.begin.new.g))) g.G.Pages.unpaged
+    (g.G.Pages.store c.args.g.now) (g.G.Pages.store c.begin.new.g) (g.G.Pages.behind c.args.g.now) (g.G.Pages.behind c.begin.new.g)
+    (record { ages = λ ms. refl; waits = λ ws l. refl }) refl c.begin.ensures.passes)
+
+pub returns-clause-halted : goal.returns-clause-halted
+returns-clause-halted g c =
+    each-err c.open_section.result (
+    halted_alone c.args.line kind.Call refl g.G.Pages.unpaged (g.G.Pages.store c.args.g.now) (g.G.Pages.store c.begin.new.g) (g.G.Pages.behind c.args.g.now) (g.G.Pages.behind c.begin.new.g) c.begin.ensures.passes)

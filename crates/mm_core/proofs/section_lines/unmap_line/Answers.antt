@@ -8,6 +8,9 @@ use Rattle.mm_world.specs.Views.{unmap}
 use Rattle.mm_world.proofs.Across.{unmap_across}
 use Rattle.mm_core.proofs.Making.{in_unmap}
 use Rattle.mm_core.proofs.Lines.{decided-call}
+use Rattle.mm_types.specs.declared.moves.LineKind.TheVariants as kind
+use Rattle.mm_world.specs.Contents.{world_with}
+use Rattle.mm_core.proofs.CallForms.{marked_release}
 use Rattle.mm_core.proofs.section_lines.unmap_line.Goals as goal
 
 pub returns-clause-decided : goal.returns-clause-decided
@@ -20,3 +23,10 @@ returns-clause-decided g c =
     (unmap t c.args.pid.0 c.args.addr) c.requires.keeps c.requires.next c.begin_release.ensures.begins (quiet-beside _ _ call.ensures.beside)
     (unmap_across t (bytes_of old) c.sound.ensures.sound.spaces c.args.pid.0 c.args.addr) (in_unmap t c.args.pid.0 c.args.addr) refl tt tt
     (subst (λ (old : Key → Option Page). Called (unmap t c.args.pid.0 c.args.addr) t old call.result call.new.t new) c.begin_release.ensures.contents call.ensures.called) call.ensures.fits
+
+pub returns-clause-marked : goal.returns-clause-marked
+returns-clause-marked g c =
+    let call = c.unmap in
+    marked_release c.args.t.now (g.G.Pages.contents c.args.g.now) call.new.t (g.G.Pages.contents call.new.g) c.args.line c.args.pid (event.Unmap c.args.pid c.args.addr) call.result g.G.Pages.unpaged
+    (g.G.Pages.store c.args.g.now) (g.G.Pages.store c.begin_release.new.g) (g.G.Pages.store call.new.g) (g.G.Pages.behind c.args.g.now) (g.G.Pages.behind c.begin_release.new.g) (g.G.Pages.behind call.new.g)
+    (record { ages = λ ms. refl; waits = λ ws l. refl }) (λ k ms h. h) c.begin_release.ensures.passes call.ensures.passes

@@ -1,4 +1,5 @@
-use Rattle.std.proofs.Common.{◌≡◌, true, false, Some, is_some, refl, sym, ◌∙◌, ap}
+use Rattle.mm_core.proofs.ThreadPassed.{begin-refused-passes, begin-busy-passes, begin-turned-passes, begin-made-passes, begin-waits-passes}
+use Rattle.std.proofs.Common.{◌≡◌, Some, is_some, refl, sym, ◌∙◌, ap}
 use Rattle.mm_world.specs.World.{World}
 use Rattle.mm_world.specs.Find.{process_of}
 use Rattle.mm_world.specs.Access.{address_in, attempt_in}
@@ -12,6 +13,8 @@ use Rattle.mm_core.proofs.Rows.{lives-by, gone-by}
 use Rattle.mm_core.proofs.Serving.{served-quiet, quiet-same}
 use Rattle.mm_core.proofs.ThreadLines.{begin-nobody, begin-busy, begin-refused, begin-made, begin-waits}
 use Rattle.mm_core.proofs.Waiting.{kept_told, keeps_kept, tables_same}
+use Rattle.mm_types.specs.declared.answers.Answer.TheVariants as answer
+use Rattle.mm_types.specs.declared.codes.Code.TheVariants as code
 use Rattle.mm_core.proofs.thread_lines.begin_line.Goals as goal
 
 pub returns-then-not-begin_thread-clause-decided : goal.returns-then-not-begin_thread-clause-decided
@@ -93,3 +96,79 @@ returns-in-Made-clause-decided g c =
     (lives-by t c.args.pid.0 (sym b.lives ∙ c.if-not-begin_thread.false))
     (kept_told kept_of c.kept.result (kept_by t c.args.tid.0) c.kept.ensures.kept ∙ sym c.is_some-busy.ensures ∙ c.if-busy.false)
     c.access_on.new.t (g.G.Pages.contents c.access_on.new.g) z h.keeps h.line c.in-Made.answer h.turned.1
+
+pub returns-then-not-begin_thread-clause-passes : goal.returns-then-not-begin_thread-clause-passes
+returns-then-not-begin_thread-clause-passes g c =
+    let t = c.args.t.now in
+    let old = g.G.Pages.contents c.args.g.now in
+    let mid = g.G.Pages.contents c.begin_thread.new.g in
+    let s = g.G.Pages.store c.args.g.now in
+    let m = g.G.Pages.store c.begin_thread.new.g in
+    let b = g.G.Pages.behind c.args.g.now in
+    let y = g.G.Pages.behind c.begin_thread.new.g in
+    let what = c.args.what.now in
+    let began = c.begin_thread.ensures in
+    let kept : c.is_some-busy.result ≡ is_some (kept_by t c.args.tid.0) = c.is_some-busy.ensures ∙ sym (kept_told kept_of c.kept.result (kept_by t c.args.tid.0) c.kept.ensures.kept) in
+    begin-refused-passes g.G.Pages.unpaged c.args.tid c.args.pid what c.args.line t old mid began.contents s m b y c.is_some-busy.result c.begin_thread.result kept began.lives began.passes (answer.Error code.InvalidHandle) (world_with t (bytes_of mid))
+    (no_process t (bytes_of mid) c.args.pid.0 (address_in what) (attempt_in what) (gone-by t c.args.pid.0 (sym began.lives ∙ c.if-not-begin_thread.true))).needless
+
+pub returns-then-busy-clause-passes : goal.returns-then-busy-clause-passes
+returns-then-busy-clause-passes g c =
+    let t = c.args.t.now in
+    let old = g.G.Pages.contents c.args.g.now in
+    let mid = g.G.Pages.contents c.begin_thread.new.g in
+    let s = g.G.Pages.store c.args.g.now in
+    let m = g.G.Pages.store c.begin_thread.new.g in
+    let b = g.G.Pages.behind c.args.g.now in
+    let y = g.G.Pages.behind c.begin_thread.new.g in
+    let what = c.args.what.now in
+    let began = c.begin_thread.ensures in
+    let kept : c.is_some-busy.result ≡ is_some (kept_by t c.args.tid.0) = c.is_some-busy.ensures ∙ sym (kept_told kept_of c.kept.result (kept_by t c.args.tid.0) c.kept.ensures.kept) in
+    begin-busy-passes g.G.Pages.unpaged c.args.tid c.args.pid what c.args.line t old mid began.contents s m b y c.is_some-busy.result c.begin_thread.result kept began.lives began.passes answer.Busy (world_with t (bytes_of mid)) c.if-busy.true
+
+pub returns-in-Refused-clause-passes : goal.returns-in-Refused-clause-passes
+returns-in-Refused-clause-passes g c =
+    let t = c.args.t.now in
+    let old = g.G.Pages.contents c.args.g.now in
+    let mid = g.G.Pages.contents c.begin_thread.new.g in
+    let s = g.G.Pages.store c.args.g.now in
+    let m = g.G.Pages.store c.begin_thread.new.g in
+    let b = g.G.Pages.behind c.args.g.now in
+    let y = g.G.Pages.behind c.begin_thread.new.g in
+    let what = c.args.what.now in
+    let began = c.begin_thread.ensures in
+    let kept : c.is_some-busy.result ≡ is_some (kept_by t c.args.tid.0) = c.is_some-busy.ensures ∙ sym (kept_told kept_of c.kept.result (kept_by t c.args.tid.0) c.kept.ensures.kept) in
+    let z = g.G.Pages.store c.access_on.new.g in
+    let d = g.G.Pages.behind c.access_on.new.g in
+    begin-turned-passes g.G.Pages.unpaged c.args.tid c.args.pid what c.args.line t old mid began.contents s m b y c.is_some-busy.result c.begin_thread.result kept began.lives began.passes c.in-Refused.answer (world_with c.access_on.new.t (bytes_of (g.G.Pages.contents c.access_on.new.g))) z d
+    c.in-Refused.ensures.turned.0.needless c.in-Refused.ensures.passes
+
+pub returns-in-Made-clause-passes : goal.returns-in-Made-clause-passes
+returns-in-Made-clause-passes g c =
+    let t = c.args.t.now in
+    let old = g.G.Pages.contents c.args.g.now in
+    let mid = g.G.Pages.contents c.begin_thread.new.g in
+    let s = g.G.Pages.store c.args.g.now in
+    let m = g.G.Pages.store c.begin_thread.new.g in
+    let b = g.G.Pages.behind c.args.g.now in
+    let y = g.G.Pages.behind c.begin_thread.new.g in
+    let what = c.args.what.now in
+    let began = c.begin_thread.ensures in
+    let kept : c.is_some-busy.result ≡ is_some (kept_by t c.args.tid.0) = c.is_some-busy.ensures ∙ sym (kept_told kept_of c.kept.result (kept_by t c.args.tid.0) c.kept.ensures.kept) in
+    begin-made-passes g.G.Pages.unpaged c.args.tid c.args.pid what c.args.line t old mid began.contents s m b y c.is_some-busy.result c.begin_thread.result kept began.lives began.passes c.if-busy.false c.in-Made.answer (world_with c.access_on.new.t (bytes_of (g.G.Pages.contents c.access_on.new.g)))
+    (g.G.Pages.store c.access_on.new.g) (g.G.Pages.behind c.access_on.new.g) c.in-Made.ensures.passes
+
+pub returns-in-Waiting-clause-passes : goal.returns-in-Waiting-clause-passes
+returns-in-Waiting-clause-passes g c =
+    let t = c.args.t.now in
+    let old = g.G.Pages.contents c.args.g.now in
+    let mid = g.G.Pages.contents c.begin_thread.new.g in
+    let s = g.G.Pages.store c.args.g.now in
+    let m = g.G.Pages.store c.begin_thread.new.g in
+    let b = g.G.Pages.behind c.args.g.now in
+    let y = g.G.Pages.behind c.begin_thread.new.g in
+    let what = c.args.what.now in
+    let began = c.begin_thread.ensures in
+    let kept : c.is_some-busy.result ≡ is_some (kept_by t c.args.tid.0) = c.is_some-busy.ensures ∙ sym (kept_told kept_of c.kept.result (kept_by t c.args.tid.0) c.kept.ensures.kept) in
+    begin-waits-passes g.G.Pages.unpaged c.args.tid c.args.pid what c.args.line t old mid began.contents s m b y c.is_some-busy.result c.begin_thread.result kept began.lives began.passes c.if-busy.false c.in-Waiting.why (world_with c.keep.new.self (bytes_of (g.G.Pages.contents c.access_on.new.g)))
+    (g.G.Pages.store c.access_on.new.g) (g.G.Pages.behind c.access_on.new.g) c.in-Waiting.ensures.passes

@@ -1,14 +1,18 @@
-use Rattle.std.proofs.Common.{◌≡◌, refl, subst, Some, Option}
-use Rattle.mm_types.specs.declared.numbers.Key.{Key}
+use Rattle.std.proofs.Common.{true, refl, subst}
 use Rattle.mm_types.specs.declared.numbers.Place.{Place}
 use Rattle.mm_types.specs.Address.{page_of}
-use Rattle.mm_world.specs.World.{Page}
+use Rattle.mm_pages.specs.Accesses.{Aim, Starts}
+use Rattle.mm_pages.specs.Passing.{PassesIn}
+use Rattle.mm_pages.specs.Conditions.{place_at, touch, IsReady}
+use Rattle.mm_core.specs.Answering.{aim_in}
+use Rattle.mm_core.proofs.AccessForms.{aim-needs}
+use Rattle.mm_core.proofs.ThreadForms.{in_thread, started_made, started_waits}
 use Rattle.mm_world.specs.Access.{WriteOf}
 use Rattle.mm_world.specs.Contents.{world_with}
-use Rattle.mm_pages.specs.Conditions.{place_at, touch, IsReady}
 use Rattle.mm_tables.specs.Fits.{bytes_of}
 use Rattle.mm_core.proofs.Accesses.{write-needs}
 use Rattle.mm_core.proofs.Waiting.{keeps_start, waits_start, went_start}
+use Rattle.mm_pages.specs.declared.outcomes.Start.TheVariants as start
 use Rattle.mm_core.proofs.threads.write_on.Goals as goal
 
 pub write_at-requires-clause-keeps : goal.write_at-requires-clause-keeps
@@ -43,3 +47,37 @@ returns-in-Ready-clause-went g c =
     went_start t old (g.G.Pages.contents c.start.new.self) s z c.start.ensures.contents c.start.ensures.store c.requires.keeps.fits.machine c.args.pid.0 c.args.addr (WriteOf c.args.bytes.now)
     (touch c.args.row.key) (write-needs t (bytes_of old) c.args.pid.0 c.args.addr c.args.bytes.now c.args.row c.requires.admitted c.requires.stays)
     g.G.Pages.unpaged (g.G.Pages.store c.write_at.new.g) c.write_at.result _ (c.in-Ready.ensures.at_once refl) (c.write_at.ensures.had ready) c.write_at.ensures.accessed
+
+pub returns-in-Pending-clause-passes : goal.returns-in-Pending-clause-passes
+returns-in-Pending-clause-passes g c =
+    let t = c.args.t.now in
+    let old = g.G.Pages.contents c.args.g.now in
+    let s = g.G.Pages.store c.args.g.now in
+    let b = g.G.Pages.behind c.args.g.now in
+    let m = g.G.Pages.store c.start.new.self in
+    let y = g.G.Pages.behind c.start.new.self in
+    let place = place_at c.args.pid (page_of c.args.addr) in
+    let a : Aim = record { place = place; need = (touch c.args.row.key); writes = true; start = b.life } in
+    let is = aim-needs (world_with t (bytes_of old)) b.life c.args.pid c.args.addr (WriteOf c.args.bytes.now) (touch c.args.row.key) (write-needs t (bytes_of old) c.args.pid.0 c.args.addr c.args.bytes.now c.args.row c.requires.admitted c.requires.stays) in
+    let begun : PassesIn g.G.Pages.unpaged (Starts a c.args.tid.0 (start.Pending c.in-Pending.why)) s m b y = subst (λ (p : Place). PassesIn g.G.Pages.unpaged (Starts (record { place = p; need = touch c.args.row.key; writes = true; start = b.life }) c.args.tid.0 (start.Pending c.in-Pending.why)) s m b y) c.place_of.ensures (c.in-Pending.ensures.passes true) in
+    started_waits g.G.Pages.unpaged (aim_in t old b c.args.pid c.args.addr (WriteOf c.args.bytes.now)) a is c.args.tid.0 c.in-Pending.why s m b y begun
+
+pub returns-in-Ready-clause-passes : goal.returns-in-Ready-clause-passes
+returns-in-Ready-clause-passes g c =
+    let t = c.args.t.now in
+    let old = g.G.Pages.contents c.args.g.now in
+    let s = g.G.Pages.store c.args.g.now in
+    let b = g.G.Pages.behind c.args.g.now in
+    let m = g.G.Pages.store c.start.new.self in
+    let y = g.G.Pages.behind c.start.new.self in
+    let place = place_at c.args.pid (page_of c.args.addr) in
+    let a : Aim = record { place = place; need = (touch c.args.row.key); writes = true; start = b.life } in
+    let is = aim-needs (world_with t (bytes_of old)) b.life c.args.pid c.args.addr (WriteOf c.args.bytes.now) (touch c.args.row.key) (write-needs t (bytes_of old) c.args.pid.0 c.args.addr c.args.bytes.now c.args.row c.requires.admitted c.requires.stays) in
+    let begun : PassesIn g.G.Pages.unpaged (Starts a c.args.tid.0 start.Ready) s m b y = subst (λ (p : Place). PassesIn g.G.Pages.unpaged (Starts (record { place = p; need = touch c.args.row.key; writes = true; start = b.life }) c.args.tid.0 start.Ready) s m b y) c.place_of.ensures (c.in-Ready.ensures.passes true) in
+    let mid = g.G.Pages.contents c.start.new.self in
+    let z = g.G.Pages.store c.write_at.new.g in
+    let d = g.G.Pages.behind c.write_at.new.g in
+    let ready : IsReady m place (touch c.args.row.key) = subst (λ (p : Place). IsReady m p (touch c.args.row.key)) c.place_of.ensures (c.in-Ready.ensures.ready refl) in
+    let again = aim-needs (world_with t (bytes_of mid)) y.life c.args.pid c.args.addr (WriteOf c.args.bytes.now) (touch c.args.row.key) (write-needs t (bytes_of mid) c.args.pid.0 c.args.addr c.args.bytes.now c.args.row c.requires.admitted c.requires.stays) in
+    started_made (aim_in t old b c.args.pid c.args.addr (WriteOf c.args.bytes.now)) (aim_in t mid y c.args.pid c.args.addr (WriteOf c.args.bytes.now)) a is y.life again c.args.tid.0 (IsReady m place (touch c.args.row.key)) ready c.write_at.result z.report
+    g.G.Pages.unpaged s m z b y d (in_thread g.G.Pages.unpaged old s b c.args.pid c.sound.ensures.stands c.requires.form) begun c.write_at.ensures.passes

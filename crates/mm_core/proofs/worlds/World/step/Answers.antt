@@ -3,7 +3,8 @@ use Rattle.mm_world.specs.Contents.{Tables}
 use Rattle.mm_tables.specs.Fits.{bytes_of}
 use Rattle.mm_tables.specs.References.{IsTidy}
 use Rattle.mm_world.proofs.Reconstruct.{tables_back}
-use Rattle.mm_core.proofs.Lines.{if-ok, if-err, step-leaves}
+use Rattle.mm_core.proofs.Lines.{if-ok, if-err, if-both, step-leaves}
+use Rattle.mm_core.proofs.Noted.{line-noted, line-broken, if-errs}
 use Rattle.mm_core.proofs.worlds.World.step.Goals as goal
 
 pub returns-clause-idle : goal.returns-clause-idle
@@ -15,3 +16,19 @@ returns-clause-leaves g c =
 
 pub returns-clause-lives : goal.returns-clause-lives
 returns-clause-lives g c = subst (λ (t : Tables). IsTidy t) (sym (tables_back (bytes_of (g.G.Pages.contents c.decide-result.new.g)) c.decide-result.new.t)) c.sound-2.ensures.tidy
+
+pub returns-clause-paged : goal.returns-clause-paged
+returns-clause-paged g c = λ paging.
+    let d = c.decide-result in
+    let w = c.args.self.now in
+    if-both d.result d.ensures.ok d.ensures.marked (λ a h m.
+    line-noted g.G.Pages.unpaged c.args.event.now c.args.line w.tables (g.G.Pages.contents w.pages) (g.G.Pages.store w.pages) (g.G.Pages.behind w.pages) a d.new.t (g.G.Pages.contents d.new.g) (g.G.Pages.store d.new.g) (g.G.Pages.behind d.new.g)
+    paging c.requires.next (w.fits c.requires.ready) h.keeps c.sound.ensures.stands c.sound-3.ensures.stands m)
+
+pub returns-clause-broken : goal.returns-clause-broken
+returns-clause-broken g c = λ paging.
+    let d = c.decide-result in
+    let w = c.args.self.now in
+    if-errs d.result d.ensures.err d.ensures.halted (λ i m.
+    line-broken g.G.Pages.unpaged c.args.line (g.G.Pages.contents w.pages) (g.G.Pages.contents d.new.g) (g.G.Pages.store w.pages) (g.G.Pages.store d.new.g) (g.G.Pages.behind w.pages) (g.G.Pages.behind d.new.g)
+    paging c.requires.next i.contents c.sound.ensures.stands c.sound-3.ensures.stands m)

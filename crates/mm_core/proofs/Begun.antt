@@ -1,0 +1,147 @@
+-- A line's `at`, and then the moves of a call.
+use Rattle.std.proofs.Common.{◌≡◌, ℕ, List, [], ◌∷◌, ◌++◌, Bool, true, false, Option, refl, sym, ap, ◌∙◌, subst}
+use Rattle.mm_types.specs.declared.moves.LineKind.{LineKind}
+use Rattle.mm_types.specs.declared.moves.Move.{Move}
+use Rattle.mm_types.specs.declared.moves.Move.TheVariants as move
+use Rattle.mm_life.specs.Effect.{after_move}
+use Rattle.mm_life.specs.Life.{FrameLife}
+use Rattle.mm_life.specs.Logs.{Log, Grew}
+use Rattle.mm_life.specs.MoveText.{AreMoves, spelled_moves}
+use Rattle.mm_life.specs.Replay.{Replays}
+use Rattle.mm_life.proofs.Noting.{grew_then}
+use Rattle.mm_life.proofs.Replays.{replays_then, spelled-append, moves-append}
+use Rattle.mm_walks.specs.Waits.{Waiting}
+use Rattle.mm_walks.specs.Walks.{waits_through, ages_through}
+use Rattle.mm_blocks.specs.Devices.{logged_call}
+use Rattle.mm_pages.specs.Store.{StoreOf}
+use Rattle.mm_pages.specs.Behind.{Behind}
+use Rattle.mm_pages.specs.Told.{told_of, told_through, paging_traffic, file_traffic}
+use Rattle.mm_pages.specs.Housekeeping.{OneMove}
+use Rattle.mm_pages.specs.Passing.{Passes, PassesIn, Notes, NotesIn}
+use Rattle.mm_pages.proofs.Passed.{Joins, passes_then}
+use Rattle.mm_paging.specs.Lines.{Traffic, with_line}
+use Rattle.mm_core.specs.Noting.{Went}
+
+-- of a store that pages
+pub paged : (u : Bool) (P : Behind → List Move → Behind → Type 0) (s z : StoreOf) (b c : Behind) → u ≡ false → PassesIn u P s z b c → Passes P s z b c
+paged true P s z b c e p = cc
+paged false P s z b c e p = p
+
+pub noted : (u : Bool) (P : Behind → List Move → Behind → Type 0) (b c : Behind) → u ≡ false → NotesIn u P b c → Notes P b c
+noted true P b c e p = cc
+noted false P b c e p = p
+
+-- what stands behind a store once the line has begun, with what its log is then
+abbrev pub begun_with : ℕ → LineKind → Log → Behind → Behind
+begun_with n k log b = record (with_line (move.At n k) b) { log = log }
+
+-- moves of which that holds, behind an `at`
+pub record Opens (n : ℕ) (k : LineKind) (P : Behind → List Move → Behind → Type 0) (b : Behind) (moves : List Move) (c : Behind) : Type 0 where
+  pub rest : List Move
+  pub is : moves ≡ move.At n k ∷ rest
+  pub log : Log
+  pub that : P (begun_with n k log b) rest c
+
+module _ (n : ℕ) (k : LineKind) where
+  abbrev at : Move
+  at = move.At n k
+
+  life_begun : (xs : List Move) (b y : Behind) → Replays xs b.life y.life → xs ≡ at ∷ [] → y.life ≡ after_move b.life at
+  life_begun xs b y r e = (subst (λ (t : List Move). Replays t b.life y.life) e r).1
+
+  behind_begun : (xs : List Move) (b y : Behind) → Replays xs b.life y.life → OneMove at b xs y → y ≡ begun_with n k y.log b
+  behind_begun xs b y r p =
+      let life = life_begun xs b y r p.one in
+      let ages : y.ages ≡ b.ages = p.moved.ages ∙ ap (λ t. ages_through t b.ages) p.one in
+      let waits : y.waits ≡ b.waits = p.moved.waits ∙ ap (λ t. waits_through t b.waits) p.one in
+      λ i. record { log = y.log; life = life i; ages = ages i; waits = waits i; slots = p.slots i }
+
+  module _ (P : Behind → List Move → Behind → Type 0) where
+    opens_then : Joins (OneMove at) P (Opens n k P)
+    opens_then = record {
+      join = λ b y c xs ys r p q. record {
+        rest = ys;
+        is = ap (λ t. t ++ ys) p.one;
+        log = y.log;
+        that = subst (λ (x : Behind). P x ys c) (behind_begun xs b y r p) q;
+      };
+    }
+
+    -- a piece that opens so
+    pub went_from : (s z : StoreOf) (b c : Behind) (Q : List Move → Type 0) → ((log : Log) (ms : List Move) → P (begun_with n k log b) ms c → Q ms) → Passes (Opens n k P) s z b c → Went false at Q s z b c
+    went_from s z b c Q to p =
+        let e = p.that.is in
+        record {
+          moves = p.that.rest;
+          in_range = subst AreMoves e p.in_range;
+          grew = subst (λ (t : List Move). Grew b.log c.log (spelled_moves t)) e p.grew;
+          replays = subst (λ (t : List Move). Replays t b.life c.life) e p.replays;
+          that = to p.that.log p.that.rest p.that.that;
+          told = λ plain. p.report ∙ ap (λ t. told_through b.life t (told_of s.report)) e;
+          traffic = λ plain. record {
+            paging_calls = p.paging_calls;
+            paging_served = p.paging;
+            paging_are = p.paging_are ∙ ap (paging_traffic b.life) e;
+            file_calls = p.file_calls;
+            files_served = p.files;
+            files_are = p.files_are ∙ ap (file_traffic b.life) e;
+          };
+        }
+
+    -- a line begins, and a call makes moves of which that holds
+    pub went_then : (u : Bool) (s m z : StoreOf) (b y c : Behind) (Q : List Move → Type 0) → u ≡ false → ((log : Log) (ms : List Move) → P (begun_with n k log b) ms c → Q ms) → PassesIn u (OneMove at) s m b y → PassesIn u P m z y c → Went false at Q s z b c
+    went_then u s m z b y c Q e to p q =
+        went_from s z b c Q to (paged u (Opens n k P) s z b c e (passes_then u (OneMove at) P (Opens n k P) s m z b y c opens_then p q))
+
+    -- such moves of a line of which nothing is told of devices
+    pub noted_from : (s z : StoreOf) (b c : Behind) (Q : List Move → Type 0) → ((log : Log) (ms : List Move) → P (begun_with n k log b) ms c → Q ms) → Notes (Opens n k P) b c → Went true at Q s z b c
+    noted_from s z b c Q to p =
+        let e = p.that.is in
+        record {
+          moves = p.that.rest;
+          in_range = subst AreMoves e p.in_range;
+          grew = subst (λ (t : List Move). Grew b.log c.log (spelled_moves t)) e p.grew;
+          replays = subst (λ (t : List Move). Replays t b.life c.life) e p.replays;
+          that = to p.that.log p.that.rest p.that.that;
+          told = λ bad. cc;
+          traffic = λ bad. cc;
+        }
+
+    notes_both : (s m : StoreOf) (b y c : Behind) → Passes (OneMove at) s m b y → Notes P y c → Notes (Opens n k P) b c
+    notes_both s m b y c p q = record {
+      moves = p.moves ++ q.moves;
+      in_range = moves-append p.moves q.moves p.in_range q.in_range;
+      grew = subst (λ xs. Grew b.log c.log xs) (sym (spelled-append p.moves q.moves)) (grew_then b.log y.log c.log _ _ p.grew q.grew);
+      replays = replays_then p.moves q.moves b.life y.life c.life p.replays q.replays;
+      that = opens_then.join b y c p.moves q.moves p.replays p.that q.that;
+    }
+
+    -- a line begins, and a call that asks devices for what is no move makes such moves
+    pub noted_then : (u : Bool) (s m z : StoreOf) (b y c : Behind) (Q : List Move → Type 0) → u ≡ false → ((log : Log) (ms : List Move) → P (begun_with n k log b) ms c → Q ms) → PassesIn u (OneMove at) s m b y → NotesIn u P y c → Went true at Q s z b c
+    noted_then u s m z b y c Q e to p q =
+        noted_from s z b c Q to (notes_both s m b y c (paged u (OneMove at) s m b y e p) (noted u P y c e q))
+
+  -- an `at` alone
+  alone : (s z : StoreOf) (b c : Behind) → Passes (OneMove at) s z b c → Passes (Opens n k (λ x ms y. (ms ≡ []) × (y ≡ x))) s z b c
+  alone s z b c p = record {
+    moves = p.moves;
+    in_range = p.in_range;
+    grew = p.grew;
+    replays = p.replays;
+    that = record { rest = []; is = p.that.one; log = c.log; that = (refl, behind_begun p.moves b c p.replays p.that) };
+    report = p.report;
+    paging_calls = p.paging_calls;
+    paging = p.paging;
+    paging_are = p.paging_are;
+    file_calls = p.file_calls;
+    files = p.files;
+    files_are = p.files_are;
+  }
+
+  pub went_alone : (u : Bool) (s z : StoreOf) (b c : Behind) (Q : List Move → Type 0) → u ≡ false → ((log : Log) → c ≡ begun_with n k log b → Q []) → PassesIn u (OneMove at) s z b c → Went false at Q s z b c
+  went_alone u s z b c Q e to p =
+      went_from (λ x ms y. (ms ≡ []) × (y ≡ x)) s z b c Q (λ log ms h. subst Q (sym h.0) (to log h.1)) (alone s z b c (paged u (OneMove at) s z b c e p))
+
+-- what is told of the moves behind the first is weakened
+pub went_to : (beside : Bool) (x : Move) (P Q : List Move → Type 0) (s z : StoreOf) (b c : Behind) → ((ms : List Move) → P ms → Q ms) → Went beside x P s z b c → Went beside x Q s z b c
+went_to beside x P Q s z b c to p = record { moves = p.moves; in_range = p.in_range; grew = p.grew; replays = p.replays; that = to p.moves p.that; told = p.told; traffic = p.traffic }

@@ -1,0 +1,320 @@
+-- What is noted of a line, form by form: pages taken away, an age, a trim, a flush, a file, a paging file that grows, an end of a process.
+use Rattle.std.proofs.Common.{◌≡◌, ◌<◌, ◌≤◌, ℕ, ◌+◌, List, [], ◌∷◌, ◌++◌, Bool, true, false, Option, Some, None, refl, sym, ap, ◌∙◌, subst, cond, inl, inr, arith, is_some, length, nat_lt, ◌&&◌, nat_le}
+use Rattle.std.specs.Prelude.{Result, Ok, Err, IfOk, OnErr, ◌==◌}
+use Rattle.std.proofs.lemmas.Bool.{lt-ltb, le-ltb, ltb-false}
+use Rattle.mm_types.specs.declared.answers.Answer.{Answer}
+use Rattle.mm_types.specs.declared.answers.Answer.TheVariants as answer
+use Rattle.mm_types.specs.declared.events.Event.{Event}
+use Rattle.mm_types.specs.declared.events.Event.TheVariants as event
+use Rattle.mm_types.specs.declared.moves.LineKind.{LineKind}
+use Rattle.mm_types.specs.declared.moves.LineKind.TheVariants as kind
+use Rattle.mm_types.specs.declared.moves.Move.{Move}
+use Rattle.mm_types.specs.declared.moves.Move.TheVariants as move
+use Rattle.mm_types.specs.declared.numbers.Key.{Key}
+use Rattle.mm_types.specs.declared.numbers.Pid.{Pid}
+use Rattle.mm_types.specs.declared.numbers.Place.{Place}
+use Rattle.mm_types.specs.Address.{end_of_user_pages}
+use Rattle.mm_life.specs.Life.{FrameLife}
+use Rattle.mm_life.specs.Logs.{Log}
+use Rattle.mm_world.specs.World.{Page, World, KeptOf}
+use Rattle.mm_world.specs.Find.{process_of}
+use Rattle.mm_world.specs.Outcome.{OutcomeOf, done as outcome}
+use Rattle.mm_world.specs.Processes.{new_process, no_regions, most_processes}
+use Rattle.mm_world.specs.Step.{kept_by, threads}
+use Rattle.mm_world.specs.Contents.{Tables, world_with}
+use Rattle.mm_world.proofs.Finding.{numbered_inside}
+use Rattle.mm_walks.specs.Waits.{Waiting, Idle}
+use Rattle.mm_walks.specs.Walks.{waits_through, ages_through}
+use Rattle.mm_walks.specs.Chores.{all_aged, Flushing}
+use Rattle.mm_pages.specs.Store.{StoreOf}
+use Rattle.mm_pages.specs.Behind.{Behind}
+use Rattle.mm_pages.specs.Told.{told_of}
+use Rattle.mm_pages.specs.Housekeeping.{Makes, Ends, is_turn, AllTurn, Rises, pages_gone, Turns, OneMove, NoMove, Grows, Trims, Ages, Flushes}
+use Rattle.mm_pages.specs.Passing.{Passes, PassesIn, Notes, NotesIn}
+use Rattle.mm_paging.specs.Kinds.{lives, if_lives, made_process, grown}
+use Rattle.mm_paging.specs.Lines.{Does, GivesUp, Trimming, Traffic, is_uncommitted, keeps_for, asks_beside, with_line, ages_of_line, waits_of_line, flushed_keys}
+use Rattle.mm_tables.specs.Fits.{Called, bytes_of, is_uncommitted as is_free}
+use Rattle.mm_calls.specs.Growing.{GrowsBy}
+use Rattle.mm_views.specs.Stages.{flushed_keys as keys_flushed}
+use Rattle.mm_core.specs.Forgetting.{is_of, waited}
+use Rattle.mm_core.specs.Noting.{keeps_keys, takes_away, Each, Went, Tells, Idles, IdlesIn, idle_left, Halted}
+use Rattle.mm_core.proofs.Alike.{lives-with, kind-with, uncommitted-with, flushed-with}
+use Rattle.mm_core.proofs.Begun.{paged, noted, begun_with, Opens, went_then, noted_from, noted_then, went_alone}
+use Rattle.mm_core.proofs.Turned.{makes_keep, ends_take}
+use Rattle.mm_core.proofs.Marking.{Plain, marked_ends, marked_trims, marked_flushes, marked_alone, halted_none}
+
+-- what a call passes is weakened
+pub passes_to : (u : Bool) (P Q : Behind → List Move → Behind → Type 0) (s z : StoreOf) (b c : Behind) → ((ms : List Move) → P b ms c → Q b ms c) → PassesIn u P s z b c → PassesIn u Q s z b c
+passes_to true P Q s z b c to p = p
+passes_to false P Q s z b c to p = record {
+  moves = p.moves;
+  in_range = p.in_range;
+  grew = p.grew;
+  replays = p.replays;
+  that = to p.moves p.that;
+  report = p.report;
+  paging_calls = p.paging_calls;
+  paging = p.paging;
+  paging_are = p.paging_are;
+  file_calls = p.file_calls;
+  files = p.files;
+  files_are = p.files_are;
+}
+
+-- of a line that asks devices for what is no move, nothing is told of devices
+pub unasked : (x : Move) (That : List Move → Type 0) (s z s' z' : StoreOf) (b c : Behind) → Went false x That s z b c → Went true x That s' z' b c
+unasked x That s z s' z' b c h = record { moves = h.moves; in_range = h.in_range; grew = h.grew; replays = h.replays; that = h.that; told = λ bad. cc; traffic = λ bad. cc }
+
+-- ---- pages that are taken away
+
+module _ (t : Tables) (old : Key → Option Page) (after : Tables) (new : Key → Option Page) (n : ℕ) (pid : Pid) (e : Event) (a : Answer) where
+  abbrev w : World
+  w = world_with t (bytes_of old)
+
+  abbrev v : World
+  v = world_with after (bytes_of new)
+
+  abbrev now : LineKind
+  now = cond (is_some (process_of t pid.0)) (kind.Unbind pid) kind.Call
+
+  pub marked_release : (u : Bool) (s m z : StoreOf) (b y c : Behind) → Plain e w a b → ((k : LineKind) (ms : List Move) → GivesUp (is_uncommitted v) ms → Does w e a v z.report (with_line (move.At n k) b) ms c)
+      → PassesIn u (OneMove (move.At n now)) s m b y → PassesIn u (Turns (Ends (is_free after) 0 end_of_user_pages)) m z y c → u ≡ false
+      → Went false (move.At n (if_lives w pid (kind.Unbind pid))) (λ ms. Tells n (if_lives w pid (kind.Unbind pid)) e w a v z.report b ms c) s z b c
+  marked_release u s m z b y c plain does p q paging =
+      subst (λ (k : LineKind). Went false (move.At n k) (λ ms. Tells n k e w a v z.report b ms c) s z b c) (kind-with t (bytes_of old) pid (kind.Unbind pid))
+      (marked_ends n now e w a v u s m z b y c plain (is_free after) 0 end_of_user_pages
+      (λ ms log h. does now ms (subst (λ (held : Place → Bool). GivesUp held ms) (uncommitted-with after (bytes_of new)) (record { all = h.all; order = h.order }))) p q paging)
+
+-- a handle is closed: of pages of processes none goes
+none_rises : (ps : List ℕ) → Rises 0 0 ps → ps ≡ []
+none_rises [] r = refl
+none_rises (p ∷ ps) r = absurd (omega (arith, r.1))
+
+ends_any : (held : Place → Bool) (from to low high : ℕ) (ms : List Move) → AllTurn (Ends held from to) ms → AllTurn (Ends held low high) ms
+ends_any held from to low high [] a = tt
+ends_any held from to low high (move.Unmap p ∷ ms) a = (a.0, ends_any held from to low high ms a.1)
+ends_any held from to low high (move.Drop k ∷ ms) a = (refl, ends_any held from to low high ms a.1)
+ends_any held from to low high (_ ∷ ms) a = let bad = a.0 in cc
+
+pub closed : (ms : List Move) → AllTurn (Ends (λ _. false) 0 0) ms → Rises 0 0 (pages_gone ms) → GivesUp (λ _. false) ms × (pages_gone ms ≡ [])
+closed ms all order =
+    let none = none_rises (pages_gone ms) order in
+    (record { all = ends_any (λ _. false) 0 0 0 end_of_user_pages ms all; order = subst (Rises 0 end_of_user_pages) (sym none) tt }, none)
+
+-- ---- a process
+
+record FoundIf {X : Type 0} (b : Bool) (x y : X) : Type 0 where
+  is : b ≡ true
+  same : x ≡ y
+
+some-if : {X : Type 0} (b : Bool) (x y : X) (o : Option X) → o ≡ Some y → o ≡ cond b (Some x) None → FoundIf b x y
+some-if true x y o e f = record { is = refl; same = cc }
+some-if false x y o e f = let bad : Some y ≡ None = sym e ∙ f in cc
+
+pub process_kind : (t : Tables) (old new : Key → Option Page) (pid : Pid) (o : Option Pid) (a : Answer) (after : Tables) (min max : ℕ) → o ≡ Some pid
+    → o ≡ cond (nat_le (length t.processes) most_processes) (Some (record { 0 = length t.processes })) None → Called (new_process t) t old a after new → kind.Process pid min max ≡ made_process a min max
+process_kind t old new pid o a after min max is told called =
+    let h = some-if (nat_le (length t.processes) most_processes) (record { 0 = length t.processes }) pid o is told in
+    let answers : a ≡ answer.NewProcess pid =
+    sym (ap (λ (q : OutcomeOf (Unit {0})). q.answer) called.outcome)
+    ∙ (λ i. (cond (h.is i) (outcome (answer.NewProcess (h.same i)) (record t { processes = t.processes ++ Some no_regions ∷ [] })) (outcome answer.Full t)).answer) in
+    sym (ap (λ (a : Answer). made_process a min max) answers)
+
+-- ---- a trim, an age
+
+module _ (t : Tables) (old new : Key → Option Page) (n : ℕ) (pid : Pid) (u : Bool) (s m z : StoreOf) (b y c : Behind) where
+  abbrev before : World
+  before = world_with t (bytes_of old)
+
+  abbrev later : World
+  later = world_with t (bytes_of new)
+
+  module _ (found : Bool) (is : found ≡ is_some (process_of t pid.0)) where
+    lives_is : found ≡ lives before pid
+    lives_is = is ∙ sym (lives-with t (bytes_of old) pid)
+
+    abbrev Trimmed : ℕ → Answer → StoreOf → Behind → LineKind → Type 0
+    Trimmed count a z c k = Went false (move.At n k) (λ ms. Tells n k (event.Trim pid count) before a later z.report b ms c) s z b c
+
+    trim_kind : cond found (kind.Trim pid) kind.Call ≡ if_lives before pid (kind.Trim pid)
+    trim_kind = ap (λ x. cond x (kind.Trim pid) kind.Call) lives_is
+
+    pub marked_trim : (count : ℕ) (a : Answer) → found ≡ true → PassesIn u (OneMove (move.At n (cond found (kind.Trim pid) kind.Call))) s m b y → PassesIn u (Trims pid count) m z y c → u ≡ false → Trimmed count a z c (if_lives before pid (kind.Trim pid))
+    marked_trim count a on p q paging =
+        let k = cond found (kind.Trim pid) kind.Call in
+        subst (Trimmed count a z c) trim_kind
+        (marked_trims n k (event.Trim pid count) before a later u s m z b y c (record { ages = λ ms. refl; waits = λ ws l. refl }) pid count
+        (λ ms log h. subst (λ (x : Bool). Trimming x pid count (with_line (move.At n k) b) ms c) (sym on ∙ lives_is) (record { each = h.each; count = h.count; moved = record { waits = h.moved.waits; ages = h.moved.ages }; slots = h.slots })) p q paging)
+
+    pub marked_no_trim : (count : ℕ) (a : Answer) → found ≡ false → PassesIn u (OneMove (move.At n (cond found (kind.Trim pid) kind.Call))) s m b y → u ≡ false → Trimmed count a m y (if_lives before pid (kind.Trim pid))
+    marked_no_trim count a off p paging =
+        let k = cond found (kind.Trim pid) kind.Call in
+        subst (Trimmed count a m y) trim_kind
+        (marked_alone n k (event.Trim pid count) before a later u s m b y (record { ages = λ ms. refl; waits = λ ws l. refl })
+        (subst (λ (x : Bool). Trimming x pid count (with_line (move.At n k) b) [] y) (sym off ∙ lives_is) refl) p paging)
+
+    -- the ages of the pages of a living process
+    abbrev Aged : Answer → StoreOf → Behind → Type 0
+    Aged a z c = Went false (move.At n kind.Call) (λ ms. Tells n kind.Call (event.Age pid) before a later z.report b ms c) s z b c
+
+    pub marked_age : (a : Answer) → found ≡ true → PassesIn u (OneMove (move.At n kind.Call)) s m b y → PassesIn u (Ages pid) m z y c → u ≡ false → Aged a z c
+    marked_age a on p q paging =
+        went_then n kind.Call (Ages pid) u s m z b y c (λ ms. Tells n kind.Call (event.Age pid) before a later z.report b ms c) paging
+        (λ log ms h. record {
+          one_way = inl (subst (λ (xs : List Move). Each keeps_keys xs) (sym h.none) tt);
+          does = h.none;
+          ages = ap (λ (x : Behind). x.ages) h.same ∙ (λ i. λ place. cond ((sym on ∙ lives_is) i) (all_aged pid b.life b.ages place) (b.ages place));
+          waits = ap (λ (x : Behind). x.waits) h.same ∙ ap (λ xs. waits_through xs b.waits) (sym h.none);
+        }) p q
+
+    pub marked_no_age : (a : Answer) → found ≡ false → PassesIn u (OneMove (move.At n kind.Call)) s m b y → u ≡ false → Aged a m y
+    marked_no_age a off p paging =
+        went_alone n kind.Call u s m b y (λ ms. Tells n kind.Call (event.Age pid) before a later m.report b ms y) paging
+        (λ log same. record {
+          one_way = inl tt;
+          does = refl;
+          ages = ap (λ (x : Behind). x.ages) same ∙ (λ i. λ place. cond ((sym off ∙ lives_is) i) (all_aged pid b.life b.ages place) (b.ages place));
+          waits = ap (λ (x : Behind). x.waits) same;
+        }) p
+
+-- ---- a flush
+
+pub marked_flush : (t : Tables) (old new : Key → Option Page) (n : ℕ) (pid : Pid) (addr size : ℕ) (a : Answer) (u : Bool) (s m z : StoreOf) (b y c : Behind) → PassesIn u (OneMove (move.At n kind.Call)) s m b y → PassesIn u (Flushes (keys_flushed t pid.0 addr size)) m z y c → u ≡ false
+    → Went false (move.At n kind.Call) (λ ms. Tells n kind.Call (event.Flush pid addr size) (world_with t (bytes_of old)) a (world_with t (bytes_of new)) z.report b ms c) s z b c
+marked_flush t old new n pid addr size a u s m z b y c p q paging =
+    marked_flushes n kind.Call (event.Flush pid addr size) (world_with t (bytes_of old)) a (world_with t (bytes_of new)) u s m z b y c (record { ages = λ ms. refl; waits = λ ws l. refl }) (keys_flushed t pid.0 addr size)
+    (λ ms h. subst (λ (ks : List Key). Flushing (with_line (move.At n kind.Call) b).life ks ms) (flushed-with t (bytes_of old) pid.0 addr size) h) p q paging
+
+-- ---- lines that ask devices for what is no move
+
+-- a file
+pub marked_file : (n : ℕ) (e : Event) (w : World) (a : Answer) (v : World) (u : Bool) (s m z : StoreOf) (b y c : Behind) → Plain e w a b → ((ms : List Move) → AllTurn Makes ms → Does w e a v z.report (with_line (move.At n kind.Call) b) ms c) → PassesIn u (OneMove (move.At n kind.Call)) s m b y → NotesIn u (Turns Makes) y c → u ≡ false
+    → Went true (move.At n kind.Call) (λ ms. Tells n kind.Call e w a v z.report b ms c) s z b c
+marked_file n e w a v u s m z b y c plain does p q paging =
+    noted_then n kind.Call (Turns Makes) u s m z b y c (λ ms. Tells n kind.Call e w a v z.report b ms c) paging
+    (λ log ms h. record {
+      one_way = inl (makes_keep ms h.all);
+      does = does ms h.all;
+      ages = h.moved.ages ∙ sym (plain.ages ms);
+      waits = h.moved.waits ∙ sym (plain.waits (waits_through ms b.waits) c.life);
+    }) p q
+
+-- the paging file grows, or the paging device failed
+module _ (n count : ℕ) (w v : World) (s z : StoreOf) (b c : Behind) where
+  abbrev Extends : Answer → LineKind → Type 0
+  Extends a k = Went true (move.At n k) (λ ms. Tells n k (event.Grow count) w a v z.report b ms c) s z b c
+
+  alone_as : (k : LineKind) (a : Answer) (P : Behind → List Move → Behind → Type 0) → ((ms : List Move) → P b ms c → ms ≡ move.At n k ∷ []) → ((ms : List Move) → P b ms c → c.ages ≡ ages_through ms b.ages) → ((ms : List Move) → P b ms c → c.waits ≡ waits_through ms b.waits) → Notes P b c → Extends a k
+  alone_as k a P one ages waits p =
+      let e = one p.moves p.that in
+      noted_from n k (λ x ms d. ms ≡ []) s z b c (λ ms. Tells n k (event.Grow count) w a v z.report b ms c)
+      (λ log ms h. record {
+        one_way = inl (subst (λ (xs : List Move). Each keeps_keys xs) (sym h) tt);
+        does = h;
+        ages = ages p.moves p.that ∙ ap (λ t. ages_through t b.ages) e ∙ ap (λ t. ages_through t b.ages) (sym h);
+        waits = waits p.moves p.that ∙ ap (λ t. waits_through t b.waits) e ∙ ap (λ t. waits_through t b.waits) (sym h);
+      })
+      (record { moves = p.moves; in_range = p.in_range; grew = p.grew; replays = p.replays; that = record { rest = []; is = e; log = c.log; that = refl } })
+
+  grew_by : (E : Type 0) (a : Answer) → Notes (GrowsBy {E = E} n count (Ok a)) b c → Extends a (grown a count)
+  grew_by E (answer.Limit limit) p = alone_as (kind.Grow count) (answer.Limit limit) (GrowsBy {E = E} n count (Ok (answer.Limit limit))) (λ ms h. h.one) (λ ms h. h.moved.ages) (λ ms h. h.moved.waits) p
+  grew_by E a p = alone_as kind.Call a (GrowsBy {E = E} n count (Ok a)) (λ ms h. h.one) (λ ms h. h.moved.ages) (λ ms h. h.moved.waits) p
+
+  pub marked_grow : {E : Type 0} (u : Bool) (r : Result Answer E) → NotesIn u (GrowsBy n count r) b c → IfOk r (λ a. u ≡ false → Extends a (grown a count))
+  marked_grow {E} u (Ok a) p = λ paging. grew_by E a (noted u (GrowsBy {E = E} n count (Ok a)) b c paging p)
+  marked_grow u (Err e) p = tt
+
+  pub halted_grow : {E : Type 0} (u : Bool) (r : Result Answer E) → NotesIn u (GrowsBy n count r) b c → OnErr r (u ≡ false → Halted n b c)
+  halted_grow u (Ok a) p = tt
+  halted_grow {E} u (Err e) p = λ paging. halted_none n b c (noted u (GrowsBy {E = E} n count (Err e)) b c paging p)
+
+-- calls are named to fail: nothing behind the store changes
+pub marked_fail : (n : ℕ) (e : Event) (w : World) (a : Answer) (v : World) (u : Bool) (s m z : StoreOf) (b y c : Behind) → Plain e w a b → Does w e a v z.report (with_line (move.At n kind.Call) b) [] c → c ≡ y → PassesIn u (OneMove (move.At n kind.Call)) s m b y → u ≡ false
+    → Went true (move.At n kind.Call) (λ ms. Tells n kind.Call e w a v z.report b ms c) s z b c
+marked_fail n e w a v u s m z b y c plain does same p paging =
+    unasked (move.At n kind.Call) (λ ms. Tells n kind.Call e w a v z.report b ms c) s m s z b c
+    (went_alone n kind.Call u s m b c (λ ms. Tells n kind.Call e w a v z.report b ms c) paging
+    (λ log is. record {
+      one_way = inl tt;
+      does = does;
+      ages = ap (λ (x : Behind). x.ages) is ∙ sym (plain.ages []);
+      waits = ap (λ (x : Behind). x.waits) is ∙ sym (plain.waits b.waits c.life);
+    }) (subst (λ (x : Behind). PassesIn u (OneMove (move.At n kind.Call)) s m b x) (sym same) p))
+
+-- ---- a process ends
+
+away_waits : (ms : List Move) (ws : ℕ → Waiting) → Each takes_away ms → waits_through ms ws ≡ ws
+away_waits [] ws a = refl
+away_waits (move.Unmap p ∷ ms) ws a = away_waits ms ws a.1
+away_waits (move.Drop k ∷ ms) ws a = away_waits ms ws a.1
+away_waits (_ ∷ ms) ws a = let bad = a.0 in cc
+
+same_holder : (pid : Pid) (o : Option KeptOf) → is_of pid.0 o ≡ keeps_for o pid
+same_holder pid None = refl
+same_holder pid (Some k) = refl
+
+-- each thread that keeps an access has a number below 256
+below : (pid : ℕ) (t : Tables) (tid : ℕ) → length t.kept ≡ threads → (nat_lt tid threads && is_of pid (kept_by t tid)) ≡ is_of pid (kept_by t tid)
+below pid t tid count = by_kept (kept_by t tid) refl
+  where
+    by_kept : (o : Option KeptOf) → kept_by t tid ≡ o → (nat_lt tid threads && is_of pid o) ≡ is_of pid o
+    by_kept None e = and_none (nat_lt tid threads)
+      where
+        and_none : (x : Bool) → (x && false) ≡ false
+        and_none true = refl
+        and_none false = refl
+    by_kept (Some k) e = ap (λ x. x && is_of pid (Some k)) (lt-ltb tid threads (omega (arith, numbered_inside t.kept tid k e, count)))
+
+module _ (t : Tables) (old mid : Key → Option Page) (after : Tables) (new : Key → Option Page) (n : ℕ) (pid : Pid) (a : Answer) (count : length t.kept ≡ threads) (u : Bool) (s x m z : StoreOf) (b d y c : Behind) where
+  abbrev e : Event
+  e = event.Exit pid
+
+  abbrev exits : World
+  exits = world_with t (bytes_of old)
+
+  abbrev exited : World
+  exited = world_with after (bytes_of new)
+
+  abbrev first : LineKind
+  first = cond (is_some (process_of t pid.0)) (kind.Unbind pid) kind.Call
+
+  abbrev Ended : Behind → List Move → Type 0
+  Ended d ms = (log : Log) × Turns (Ends (is_free after) 0 end_of_user_pages) (begun_with n first log d) ms c
+
+  exit_tells : (ws : ℕ → Waiting) → ((tid : ℕ) → ws tid ≡ idle_left t pid.0 threads b.waits tid) → (ms : List Move) → Ended (record b { waits = ws }) ms → Tells n first e exits a exited z.report b ms c
+  exit_tells ws idle ms (log, h) = record {
+    one_way = inr (ends_take (is_free after) 0 end_of_user_pages ms h.all);
+    does = subst (λ (held : Place → Bool). GivesUp held ms) (uncommitted-with after (bytes_of new)) (record { all = h.all; order = h.order });
+    ages = h.moved.ages;
+    waits =
+        h.moved.waits ∙ away_waits ms ws (ends_take (is_free after) 0 end_of_user_pages ms h.all)
+        ∙ (λ i. λ tid. (idle tid ∙ (λ j. cond ((below pid.0 t tid count ∙ same_holder pid (kept_by t tid)) j) Idle (b.waits tid)) ∙ (λ j. cond (keeps_for (kept_by t tid) pid) Idle (sym (away_waits ms b.waits (ends_take (is_free after) 0 end_of_user_pages ms h.all)) j tid))) i);
+  }
+
+  moved_back : (ws : ℕ → Waiting) → ((tid : ℕ) → ws tid ≡ idle_left t pid.0 threads b.waits tid) → Went false (move.At n first) (Ended (record b { waits = ws })) (waited s x) z (record b { waits = ws }) c → Went false (move.At n first) (λ ms. Tells n first e exits a exited z.report b ms c) s z b c
+  moved_back ws idle h = record {
+    moves = h.moves;
+    in_range = h.in_range;
+    grew = h.grew;
+    replays = h.replays;
+    that = exit_tells ws idle h.moves h.that;
+    told = h.told;
+    traffic = λ plain. let d = h.traffic plain in record {
+      paging_calls = d.paging_calls;
+      paging_served = d.paging_served;
+      paging_are = d.paging_are;
+      file_calls = d.file_calls;
+      files_served = d.files_served;
+      files_are = d.files_are;
+    };
+  }
+
+  pub marked_exit : IdlesIn u t pid.0 threads b d → x ≡ waited s x → PassesIn u (OneMove (move.At n first)) x m d y → PassesIn u (Turns (Ends (is_free after) 0 end_of_user_pages)) m z y c → u ≡ false
+      → Went false (move.At n (if_lives exits pid (kind.Unbind pid))) (λ ms. Tells n (if_lives exits pid (kind.Unbind pid)) e exits a exited z.report b ms c) s z b c
+  marked_exit idles rest p q paging =
+      let h = idles paging in
+      let went = went_then n first (Turns (Ends (is_free after) 0 end_of_user_pages)) u x m z d y c (Ended d) paging (λ log ms k. (log, k)) p q in
+      subst (λ (k : LineKind). Went false (move.At n k) (λ ms. Tells n k e exits a exited z.report b ms c) s z b c) (kind-with t (bytes_of old) pid (kind.Unbind pid))
+      (moved_back d.waits h.waits
+      (subst (λ (o : StoreOf). Went false (move.At n first) (Ended (record b { waits = d.waits })) o z (record b { waits = d.waits }) c) rest
+      (subst (λ (o : Behind). Went false (move.At n first) (Ended o) x z o c) h.same went)))

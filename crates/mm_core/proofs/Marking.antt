@@ -1,0 +1,234 @@
+-- What is noted of a line, by what the calls that it makes pass.
+use Rattle.std.proofs.Common.{◌≡◌, ◌<◌, ℕ, zero, suc, ◌+◌, ◌-◌, List, [], ◌∷◌, ◌++◌, Bool, true, false, Option, Some, None, refl, sym, ap, ◌∙◌, subst, cond, inl, inr, arith, map, take, length, is_some, slice_get}
+use Rattle.std.specs.Prelude.{Result, Ok, Err, IfOk, OnOk, OnErr, ◌⊎◌}
+use Rattle.mm_types.specs.declared.answers.Answer.{Answer}
+use Rattle.mm_types.specs.declared.events.Event.{Event}
+use Rattle.mm_types.specs.declared.frames.Held.{Held}
+use Rattle.mm_types.specs.declared.frames.Held.TheVariants as held
+use Rattle.mm_types.specs.declared.frames.Record.{Record}
+use Rattle.mm_types.specs.declared.moves.LineKind.{LineKind}
+use Rattle.mm_types.specs.declared.moves.Move.{Move}
+use Rattle.mm_types.specs.declared.moves.Move.TheVariants as move
+use Rattle.mm_types.specs.declared.moves.Stored.{Stored}
+use Rattle.mm_types.specs.declared.numbers.Frame.{Frame}
+use Rattle.mm_types.specs.declared.numbers.Key.{Key}
+use Rattle.mm_types.specs.declared.numbers.Pid.{Pid}
+use Rattle.mm_types.specs.declared.numbers.Place.{Place}
+use Rattle.mm_types.specs.Address.{end_of_user_pages}
+use Rattle.mm_life.specs.Frames.{record_at, is_read}
+use Rattle.mm_life.specs.Legal.{has_depth}
+use Rattle.mm_life.specs.Life.{FrameLife}
+use Rattle.mm_life.specs.Effect.{after_move}
+use Rattle.mm_life.specs.Logs.{Log}
+use Rattle.mm_life.specs.Victims.{can_be_written}
+use Rattle.mm_life.proofs.Noting.{grew_nothing}
+use Rattle.mm_world.specs.World.{World}
+use Rattle.mm_walks.specs.Waits.{Waiting}
+use Rattle.mm_walks.specs.Walks.{Walk, Through, walked, waits_through, ages_through, is_lost_move}
+use Rattle.mm_walks.specs.Chores.{TrimMove, all_aged, frame_of, clearings, writes_begun, target, ending, IsEndOf, IsWriteOf, FlushMoves, FlushedAt, ends_lost, Flushing}
+use Rattle.mm_pages.specs.Store.{StoreOf}
+use Rattle.mm_pages.specs.Behind.{Behind}
+use Rattle.mm_pages.specs.Accesses.{walk_from}
+use Rattle.mm_pages.specs.Housekeeping.{Turn, Makes, Ends, AllTurn, Turns, OneMove, NoMove, Exactly, Trims, Clears, WritesOut, Completes, Ages, Flushes}
+use Rattle.mm_pages.specs.Passing.{Passes, PassesIn, Notes, NotesIn}
+use Rattle.mm_paging.specs.Lines.{Does, GivesUp, asks_beside, with_line, ages_of_line, waits_of_line}
+use Rattle.mm_core.specs.Noting.{keeps_keys, takes_away, Each, IsOneWay, Went, Tells, is_later, Halted}
+use Rattle.mm_core.proofs.Begun.{paged, noted, begun_with, Opens, went_from, went_then, noted_then, went_alone}
+use Rattle.mm_core.proofs.Turned.{makes_keep, ends_take, still}
+
+-- ---- results
+
+pub each-ok : {T E : Type 0} {Q : T → Type 0} (r : Result T E) → ((x : T) → Q x) → IfOk r Q
+each-ok (Ok x) f = f x
+each-ok (Err e) f = tt
+
+pub each-err : {T E : Type 0} {Q : Type 0} (r : Result T E) → Q → OnErr r Q
+each-err (Ok x) f = tt
+each-err (Err e) f = f
+
+-- ---- moves that take no key away
+
+each_then : (test : Move → Bool) (xs ys : List Move) → Each test xs → Each test ys → Each test (xs ++ ys)
+each_then test [] ys p q = q
+each_then test (x ∷ xs) ys p q = (p.0, each_then test xs ys p.1 q)
+
+cleared_keep : (fs : List ℕ) → Each keeps_keys (map (λ f. move.Clear (frame_of f)) fs)
+cleared_keep [] = tt
+cleared_keep (f ∷ fs) = (refl, cleared_keep fs)
+
+pub clearings_keep : (n : ℕ) (l : FrameLife) → Each keeps_keys (clearings n l)
+clearings_keep n l = cleared_keep (take n l.frames.free)
+
+written_by : (b c : Bool) (xs ys : List Move) → Each keeps_keys xs → Each keeps_keys ys → Each keeps_keys (cond b (cond c xs ys) [])
+written_by true true xs ys p q = p
+written_by true false xs ys p q = q
+written_by false c xs ys p q = tt
+
+pub written_keep : (n : ℕ) (l : FrameLife) (fs : List ℕ) → Each keeps_keys (writes_begun n l fs)
+written_keep n l [] = tt
+written_keep n l (f ∷ fs) =
+    let m = move.Write (frame_of f) (target (record_at l.frames f).backing l) in
+    written_by _ (can_be_written l f) (m ∷ writes_begun (n - 1) (after_move l m) fs) (writes_begun n l fs)
+    (refl, written_keep (n - 1) (after_move l m) fs) (written_keep n l fs)
+
+trimmed_keep : (pid : Pid) (w : Walk) (ms : List Move) → Through (TrimMove pid) w ms → Each keeps_keys ms
+trimmed_keep pid w [] h = tt
+trimmed_keep pid w (move.Unmap p ∷ ms) h = (refl, trimmed_keep pid (walked w (move.Unmap p)) ms h.1)
+trimmed_keep pid w (_ ∷ ms) h = absurd h.0
+
+ending_keeps : (r : Record) (f : Frame) (ok : Bool) → keeps_keys (ending r f ok) ≡ true
+ending_keeps r f true = by_read (is_read r.request)
+  where
+    by_read : (b : Bool) → keeps_keys (cond b (move.Got f) (move.Wrote f)) ≡ true
+    by_read true = refl
+    by_read false = refl
+ending_keeps r f false = by_read (is_read r.request)
+  where
+    by_read : (b : Bool) → keeps_keys (cond b (move.Bad f) (move.Lost f)) ≡ true
+    by_read true = refl
+    by_read false = refl
+
+end_keeps : (f : Frame) (m : Move) → IsEndOf f m → keeps_keys m ≡ true
+end_keeps f m (inl e) = ap keeps_keys e
+end_keeps f m (inr e) = ap keeps_keys e
+
+write_keeps : (f : Frame) (m : Move) → IsWriteOf f m → keeps_keys m ≡ true
+write_keeps f m e = ap keeps_keys e.1
+
+flush_keeps : (f : Frame) (ms : List Move) → FlushMoves f ms → Each keeps_keys ms
+flush_keeps f [] h = tt
+flush_keeps f (x ∷ []) h = (end_keeps f x h, tt)
+flush_keeps f (x ∷ y ∷ []) h = (write_keeps f x h.0, (end_keeps f y h.1, tt))
+flush_keeps f (x ∷ y ∷ z ∷ []) h = (ap keeps_keys h.0, (write_keeps f y h.1, (end_keeps f z h.2, tt)))
+flush_keeps f (x ∷ y ∷ z ∷ u ∷ ms) h = absurd h
+
+none_keep : (ms : List Move) → ms ≡ [] → Each keeps_keys ms
+none_keep ms e = subst (Each keeps_keys) (sym e) tt
+
+flushed_keep : (h : Held) (ms : List Move) → FlushedAt h ms → Each keeps_keys ms
+flushed_keep (held.Frame f) ms p = flush_keeps f ms p
+flushed_keep (held.Slot s) ms p = none_keep ms p
+flushed_keep (held.Block b) ms p = none_keep ms p
+flushed_keep held.Zero ms p = none_keep ms p
+flushed_keep held.Dead ms p = none_keep ms p
+
+flushing_keep : (l : FrameLife) (ks : List Key) (ms : List Move) → Flushing l ks ms → Each keeps_keys ms
+flushing_keep l [] ms h = none_keep ms h
+flushing_keep l (k ∷ ks) ms h =
+    subst (Each keeps_keys) (sym h.1.1.0) (each_then keeps_keys h.0 h.1.0 (flushed_keep (l.stands k) h.0 h.1.1.1) (by_end (ends_lost h.0) (λ e. none_keep h.1.0 (h.1.1.2 e)) (λ e. flushing_keep l ks h.1.0 (h.1.1.3 e))))
+  where
+    by_end : (b : Bool) → (b ≡ true → Each keeps_keys h.1.0) → (b ≡ false → Each keeps_keys h.1.0) → Each keeps_keys h.1.0
+    by_end true f g = f refl
+    by_end false f g = g refl
+
+-- ---- a line of whatever form, of which ages and waits are told by its moves alone
+
+pub record Plain (e : Event) (w : World) (a : Answer) (b : Behind) : Type 0 where
+  pub ages : (ms : List Move) → ages_of_line w e a b ms ≡ ages_through ms b.ages
+  pub waits : (ws : ℕ → Waiting) (l : FrameLife) → waits_of_line w e a b ws l ≡ ws
+
+module _ (n : ℕ) (k : LineKind) (e : Event) (w : World) (a : Answer) (v : World) where
+  abbrev at : Move
+  at = move.At n k
+
+  module _ (u : Bool) (s m z : StoreOf) (b y c : Behind) (plain : Plain e w a b) where
+    abbrev There : List Move → Type 0
+    There ms = Tells n k e w a v z.report b ms c
+
+    abbrev Done : List Move → Type 0
+    Done ms = Does w e a v z.report (with_line at b) ms c
+
+    abbrev Noted : Type 0
+    Noted = u ≡ false → Went false at There s z b c
+
+    tells : (ms : List Move) → IsOneWay ms → Done ms → c.ages ≡ ages_through ms b.ages → c.waits ≡ waits_through ms b.waits → There ms
+    tells ms way done ages waits = record {
+      one_way = way;
+      does = done;
+      ages = ages ∙ sym (plain.ages ms);
+      waits = waits ∙ sym (plain.waits (waits_through ms b.waits) c.life);
+    }
+
+    -- keys come to be
+    pub marked_makes : ((ms : List Move) → AllTurn Makes ms → Done ms) → PassesIn u (OneMove at) s m b y → PassesIn u (Turns Makes) m z y c → Noted
+    marked_makes done p q paging =
+        went_then n k (Turns Makes) u s m z b y c There paging
+        (λ log ms h. tells ms (inl (makes_keep ms h.all)) (done ms h.all) h.moved.ages h.moved.waits) p q
+
+    -- pages and keys go
+    pub marked_ends : (held : Place → Bool) (from to : ℕ) → ((ms : List Move) (log : Log) → Turns (Ends held from to) (begun_with n k log b) ms c → Done ms) → PassesIn u (OneMove at) s m b y → PassesIn u (Turns (Ends held from to)) m z y c → Noted
+    marked_ends held from to done p q paging =
+        went_then n k (Turns (Ends held from to)) u s m z b y c There paging
+        (λ log ms h. tells ms (inr (ends_take held from to ms h.all)) (done ms log h) h.moved.ages h.moved.waits) p q
+
+    -- a call that makes no move, of which any turn is told
+    pub marked_still : ((ms : List Move) → ms ≡ [] → Done ms) → PassesIn u (OneMove at) s m b y → ((turn : Turn) → PassesIn u (Turns turn) m z y c) → Noted
+    marked_still done p q paging =
+        went_then n k (Exactly []) u s m z b y c There paging
+        (λ log ms h. tells ms (inl (none_keep ms h.are)) (done ms h.are) h.moved.ages h.moved.waits) p
+        (passed u paging (still m z y c (paged u (Turns Makes) m z y c paging (q Makes)) (paged u (Turns (Ends (λ _. false) 0 0)) m z y c paging (q (Ends (λ _. false) 0 0)))))
+      where
+        passed : (u : Bool) → u ≡ false → Passes (Exactly []) m z y c → PassesIn u (Exactly []) m z y c
+        passed true e h = cc
+        passed false e h = h
+
+    -- moves that are known
+    pub marked_exactly : (known : Behind → List Move) → ((log : Log) → Each keeps_keys (known (begun_with n k log b))) → ((ms : List Move) (log : Log) → ms ≡ known (begun_with n k log b) → Done ms) → PassesIn u (OneMove at) s m b y → PassesIn u (λ x ms d. Exactly (known x) x ms d) m z y c → Noted
+    marked_exactly known keeps done p q paging =
+        went_then n k (λ x ms d. Exactly (known x) x ms d) u s m z b y c There paging
+        (λ log ms h. tells ms (inl (subst (Each keeps_keys) (sym h.are) (keeps log))) (done ms log h.are) h.moved.ages h.moved.waits) p q
+
+    pub marked_trims : (pid : Pid) (count : ℕ) → ((ms : List Move) (log : Log) → Trims pid count (begun_with n k log b) ms c → Done ms) → PassesIn u (OneMove at) s m b y → PassesIn u (Trims pid count) m z y c → Noted
+    marked_trims pid count done p q paging =
+        went_then n k (Trims pid count) u s m z b y c There paging
+        (λ log ms h. tells ms (inl (trimmed_keep pid _ ms h.each)) (done ms log h) h.moved.ages h.moved.waits) p q
+
+    pub marked_completes : (i : ℕ) (ok : Bool) → ((ms : List Move) (log : Log) → Completes i ok (begun_with n k log b) ms c → Done ms) → PassesIn u (OneMove at) s m b y → PassesIn u (Completes i ok) m z y c → Noted
+    marked_completes i ok done p q paging =
+        went_then n k (Completes i ok) u s m z b y c There paging
+        (λ log ms h. tells ms (inl (subst (Each keeps_keys) (sym h.one) (ending_keeps (record_at (begun_with n k log b).life.frames h.frame) (frame_of h.frame) ok, tt))) (done ms log h) h.moved.ages h.moved.waits) p q
+
+    pub marked_flushes : (keys : List Key) → ((ms : List Move) → Flushing (with_line at b).life keys ms → Done ms) → PassesIn u (OneMove at) s m b y → PassesIn u (Flushes keys) m z y c → Noted
+    marked_flushes keys done p q paging =
+        went_then n k (Flushes keys) u s m z b y c There paging
+        (λ log ms h. tells ms (inl (flushing_keep (begun_with n k log b).life keys ms h.pages)) (done ms h.pages) h.moved.ages h.moved.waits) p q
+
+    -- none at all
+    pub marked_none : ((ms : List Move) → ms ≡ [] → Done ms) → PassesIn u (OneMove at) s m b y → PassesIn u NoMove m z y c → Noted
+    marked_none done p q paging =
+        went_then n k NoMove u s m z b y c There paging
+        (λ log ms h. tells ms (inl (none_keep ms h.none)) (done ms h.none)
+        (ap (λ (x : Behind). x.ages) h.same ∙ ap (λ t. ages_through t b.ages) (sym h.none))
+        (ap (λ (x : Behind). x.waits) h.same ∙ ap (λ t. waits_through t b.waits) (sym h.none))) p q
+
+  -- a line that makes no call
+  pub marked_alone : (u : Bool) (s z : StoreOf) (b c : Behind) → Plain e w a b → Does w e a v z.report (with_line at b) [] c → PassesIn u (OneMove at) s z b c → u ≡ false → Went false at (λ ms. Tells n k e w a v z.report b ms c) s z b c
+  marked_alone u s z b c plain done p paging =
+      went_alone n k u s z b c (λ ms. Tells n k e w a v z.report b ms c) paging
+      (λ log same. record {
+        one_way = inl tt;
+        does = done;
+        ages = ap (λ (x : Behind). x.ages) same ∙ sym (plain.ages []);
+        waits = ap (λ (x : Behind). x.waits) same ∙ sym (plain.waits b.waits c.life);
+      }) p
+
+-- ---- a line that wanted memory
+
+halted : (beside : Bool) (n : ℕ) (k : LineKind) (s z : StoreOf) (b c : Behind) → is_later k ≡ true → Went beside (move.At n k) (AllTurn Makes) s z b c → Halted n b c
+halted beside n k s z b c later h =
+    record { piece = move.At n k ∷ h.moves; in_range = h.in_range; grew = h.grew; replays = h.replays; cut = inr (k, (h.moves, (later, refl, h.that))) }
+
+pub halted_makes : (n : ℕ) (k : LineKind) → is_later k ≡ true → (u : Bool) (s m z : StoreOf) (b y c : Behind) → PassesIn u (OneMove (move.At n k)) s m b y → PassesIn u (Turns Makes) m z y c → u ≡ false → Halted n b c
+halted_makes n k later u s m z b y c p q paging =
+    halted false n k s z b c later (went_then n k (Turns Makes) u s m z b y c (AllTurn Makes) paging (λ log ms h. h.all) p q)
+
+pub halted_notes : (n : ℕ) (k : LineKind) → is_later k ≡ true → (u : Bool) (s m z : StoreOf) (b y c : Behind) → PassesIn u (OneMove (move.At n k)) s m b y → NotesIn u (Turns Makes) y c → u ≡ false → Halted n b c
+halted_notes n k later u s m z b y c p q paging =
+    halted true n k s z b c later (noted_then n k (Turns Makes) u s m z b y c (AllTurn Makes) paging (λ log ms h. h.all) p q)
+
+pub halted_alone : (n : ℕ) (k : LineKind) → is_later k ≡ true → (u : Bool) (s z : StoreOf) (b c : Behind) → PassesIn u (OneMove (move.At n k)) s z b c → u ≡ false → Halted n b c
+halted_alone n k later u s z b c p paging =
+    halted false n k s z b c later (went_alone n k u s z b c (AllTurn Makes) paging (λ log same. tt) p)
+
+pub halted_none : (n : ℕ) (b c : Behind) → Notes NoMove b c → Halted n b c
+halted_none n b c p = record { piece = p.moves; in_range = p.in_range; grew = p.grew; replays = p.replays; cut = inl p.that.none }

@@ -1,0 +1,86 @@
+-- The moves of an access, over a store that pages, as the definitions of a line ask for them.
+use Rattle.std.specs.Prelude.{◌≡◌, ℕ, true, false, List, Option, Some, None, count_by, ◌==◌, Result, Ok, Err}
+use Rattle.mm_types.specs.declared.answers.Answer.{Answer}
+use Rattle.mm_types.specs.declared.answers.Why.{Why}
+use Rattle.mm_types.specs.declared.moves.Move.{Move}
+use Rattle.mm_types.specs.declared.numbers.Key.{Key}
+use Rattle.mm_types.specs.declared.numbers.Pid.{Pid}
+use Rattle.mm_world.specs.World.{Page}
+use Rattle.mm_world.specs.Access.{Attempt}
+use Rattle.mm_world.specs.Contents.{Tables, world_with}
+use Rattle.mm_world.specs.Report.{Report}
+use Rattle.mm_walks.specs.Searches.{is_valid, Starved}
+use Rattle.mm_walks.specs.Waits.{Idle}
+use Rattle.mm_walks.specs.Walks.{waits_through, ages_through, walked_all, is_read_move}
+use Rattle.mm_pages.specs.Store.{changed}
+use Rattle.mm_pages.specs.Behind.{Behind}
+use Rattle.mm_pages.specs.Accesses.{Aim, AccessMoves, Starts, walk_from}
+use Rattle.mm_pages.specs.Housekeeping.{NoMove}
+use Rattle.mm_pages.specs.declared.outcomes.Start.TheVariants as start
+use Rattle.mm_paging.specs.Kinds.{aim_at}
+use Rattle.mm_paging.specs.Lines.{is_had, is_failed, is_pending_read, place_had}
+use Rattle.mm_tables.specs.Fits.{bytes_of}
+use Rattle.mm_core.specs.declared.threads.Threaded.{Threaded}
+use Rattle.mm_core.specs.declared.threads.Threaded.TheVariants as threaded
+
+-- what an access is about, where it is permitted
+abbrev pub aim_in : Tables → (Key → Option Page) → Behind → Pid → ℕ → Attempt → Option Aim
+aim_in t contents b pid addr what = aim_at (world_with t (bytes_of contents)) b.life pid addr what
+
+-- ---- a plain access
+
+-- an access of this aim was answered: its place is valid and new where it was had, and where it failed for want of a frame none was to be found
+pub record Answers (a : Aim) (r : Answer) (after : Report) (b : Behind) (moves : List Move) (c : Behind) : Type 0 where
+  pub made : AccessMoves a b moves
+  pub valid : is_had r ≡ true → is_valid c.life a.place ≡ true
+  pub starved : is_failed r ≡ true → after.last_failed_read ≡ None → Starved (c.life.valid a.place) (walked_all (walk_from b) moves)
+  pub ages : c.ages ≡ place_had (Some a) r (ages_through moves b.ages)
+  pub waits : c.waits ≡ waits_through moves b.waits
+  pub settled : is_pending_read r ≡ false
+
+-- it was permitted; where its place was ready it read no page
+pub record Answered (aim : Option Aim) (IsReady : Type 0) (r : Answer) (after : Report) (b : Behind) (moves : List Move) (c : Behind) : Type 0 where
+  pub aimed : Aim
+  pub is : aim ≡ Some aimed
+  pub answers : Answers aimed r after b moves c
+  pub calm : IsReady → count_by is_read_move moves ≡ 0
+
+-- ---- an access of a thread
+
+-- it was made, and the thread waits for nothing
+pub record MadeBy (aim : Option Aim) (tid : ℕ) (r : Answer) (b : Behind) (moves : List Move) (c : Behind) : Type 0 where
+  pub aimed : Aim
+  pub is : aim ≡ Some aimed
+  pub made : AccessMoves aimed b moves
+  pub valid : is_had r ≡ true → is_valid c.life aimed.place ≡ true
+  pub ages : c.ages ≡ place_had (Some aimed) r (ages_through moves b.ages)
+  pub waits : c.waits ≡ changed ◌==◌ (waits_through moves b.waits) tid Idle
+  pub settled : is_pending_read r ≡ false
+
+-- it has to wait
+pub record WaitsBy (aim : Option Aim) (tid : ℕ) (why : Why) (b : Behind) (moves : List Move) (c : Behind) : Type 0 where
+  pub aimed : Aim
+  pub is : aim ≡ Some aimed
+  pub starts : Starts aimed tid (start.Pending why) b moves c
+
+-- it is not permitted
+pub record RefusedBy (aim : Option Aim) (b : Behind) (moves : List Move) (c : Behind) : Type 0 where
+  pub none : aim ≡ None
+  pub still : NoMove b moves c
+
+-- it is permitted, and the read that its thread waited for has failed
+pub record FailedBy (aim : Option Aim) (b : Behind) (moves : List Move) (c : Behind) : Type 0 where
+  pub aimed : Aim
+  pub is : aim ≡ Some aimed
+  pub still : NoMove b moves c
+
+abbrev pub TurnedBy : Option Aim → ℕ → Threaded → Behind → List Move → Behind → Type 0
+TurnedBy aim tid (threaded.Refused a) b moves c = RefusedBy aim b moves c
+TurnedBy aim tid threaded.Failed b moves c = FailedBy aim b moves c
+TurnedBy aim tid (threaded.Made a) b moves c = MadeBy aim tid a b moves c
+TurnedBy aim tid (threaded.Waiting why) b moves c = WaitsBy aim tid why b moves c
+
+-- it was permitted, and went on or has to wait
+abbrev pub WentBy : Option Aim → ℕ → Result Answer Why → Behind → List Move → Behind → Type 0
+WentBy aim tid (Ok a) b moves c = MadeBy aim tid a b moves c
+WentBy aim tid (Err why) b moves c = WaitsBy aim tid why b moves c

@@ -1,0 +1,21 @@
+-- A line's piece of the log, over a store that pages.
+use Rattle.std.specs.Prelude.{◌≡◌, ℕ, List, ◌∷◌}
+use Rattle.mm_types.specs.declared.answers.Answer.{Answer}
+use Rattle.mm_types.specs.declared.events.Event.{Event}
+use Rattle.mm_types.specs.declared.moves.Move.{Move}
+use Rattle.mm_types.specs.declared.moves.Move.TheVariants as move
+use Rattle.mm_world.specs.World.{World}
+use Rattle.mm_world.specs.Report.{Report}
+use Rattle.mm_walks.specs.Walks.{waits_through}
+use Rattle.mm_pages.specs.Behind.{Behind}
+use Rattle.mm_paging.specs.Kinds.{kind_of_line}
+use Rattle.mm_paging.specs.Lines.{Does, ages_of_line, waits_of_line, with_line}
+
+-- Its `at`, which numbers it, and behind it the moves that the definitions ask of it, with ages and waits (what `Line` of mm_paging says
+-- beside what follows from any piece that a store's calls passed).
+pub record Lined (w : World) (e : Event) (n : ℕ) (a : Answer) (v : World) (after : Report) (b : Behind) (piece : List Move) (c : Behind) : Type 0 where
+  pub moves : List Move
+  pub begins : piece ≡ move.At n (kind_of_line w e a) ∷ moves
+  pub does : Does w e a v after (with_line (move.At n (kind_of_line w e a)) b) moves c
+  pub ages : c.ages ≡ ages_of_line w e a b moves
+  pub waits : c.waits ≡ waits_of_line w e a b (waits_through moves b.waits) c.life
