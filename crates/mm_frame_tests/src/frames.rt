@@ -189,21 +189,6 @@ fn a_page_on_standby_is_stolen(rt: HostRuntime) -> Result<(), Fail> {
 }
 
 #[test]
-fn a_page_is_copied_to_a_second_frame(rt: HostRuntime) -> Result<(), Fail> {
-    let mut frames = Frames::new(rt.alloc(), 2)?;
-    let one = new_page(&mut frames, SHARED).expect(&rt, "first");
-    frames.write(one, 0, &[0x5A, 0x5B]);
-    let dirty = frames.take_free().expect(&rt, "second");
-    let blank = frames.clear(dirty);
-    let two = frames.bind(blank, PAGE);
-    frames.copy(one, two);
-    let mut page = [0; 4096];
-    frames.take(two, &mut page);
-    assert_eq!(rt; page[1], 0x5B);
-    Ok(())
-}
-
-#[test]
 fn modified_frames_are_walked(rt: HostRuntime) -> Result<(), Fail> {
     let mut frames = Frames::new(rt.alloc(), 2)?;
     let first = new_page(&mut frames, SHARED);
