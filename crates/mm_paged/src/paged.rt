@@ -11,7 +11,7 @@ ghost use Rattle.mm_pages.specs.Housekeeping.{Turns, Makes, OneMove};
 ghost use Rattle.mm_pages.specs.Passing.{Passes, PassesIn};
 ghost use Rattle.mm_pages.specs.Reports.{begun, rearranged, eased, fetched, Served, SomeRose, Ends, IsBegun};
 ghost use Rattle.mm_pages.specs.Store.{changed, same_place};
-ghost use Rattle.mm_paged.specs.Shown.{Kept, own_of};
+ghost use Rattle.mm_paged.specs.Shown.{Kept, own_of, store_of, behind_of};
 
 use crate::faults::{fault, fault_to_write, soil};
 use crate::searching::Searches;
@@ -34,6 +34,44 @@ pub struct Paged<T: Moving> {
     pub(crate) ready: Option<Wanted>,
     pub(crate) blocks_used: u32,
     ghost kept: { Kept (T.shown state) (own_of extended ready blocks_used) },
+}
+
+impl<T: Moving> Paged<T> {
+    ghost use Rattle.mm_paged.specs.Store.{contents, store, behind, loans};
+
+    /// A store over a machine's joined state, in which no file uses a block yet. The state has no request of its own line, and
+    /// nothing stands beside its tables.
+    pub fn over(state: T) -> Self
+        requires own { (T.shown state).own ≡ None }
+        requires aside { (T.shown state).aside ≡ None }
+        requires unused { (b : ℕ) → (T.shown state).life.added b ≡ false }
+        ensures store { store result ≡ store_of (T.shown state) (own_of None None 0) }
+        ensures contents { contents result ≡ (T.shown state).contents }
+        ensures behind { behind result ≡ behind_of (T.shown state) }
+        ensures loans { loans result ≡ T.loans state }
+    {
+        Paged {
+            state,
+            extended: None,
+            ready: None,
+            blocks_used: 0,
+        }
+    }
+
+    /// The joined state, as the store leaves it.
+    pub fn finish(self) -> T
+        ensures contents { (T.shown result).contents ≡ contents self }
+        ensures behind { behind_of (T.shown result) ≡ behind self }
+        ensures loans { T.loans result ≡ loans self }
+    {
+        let Paged {
+            state,
+            extended: _,
+            ready: _,
+            blocks_used: _,
+        } = self;
+        state
+    }
 }
 
 impl<T: Searches> Paged<T> {
