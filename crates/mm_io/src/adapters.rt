@@ -79,4 +79,14 @@ impl<W: Write + Drop> Sink for StdSink<W> {
             }
         }
     }
+
+    fn flush(&mut self) -> Result<(), Failed> {
+        match self.writer.flush() {
+            Ok(()) => Ok(()),
+            Err(_) => {
+                self.faults = self.faults.saturating_add(1);
+                Err(Failed)
+            }
+        }
+    }
 }

@@ -59,4 +59,10 @@ pub trait Sink {
         ensures bytes { Takes (taken self.old) (taken self.new) buf.now result }
         ensures cause { HasCause (faults self.old) (faults self.new) result }
         ensures loans { loans self.new ≡ loans self.old };
+
+    /// Gives on what was taken and is still held here. What was taken stays the same, whatever the result is.
+    fn flush(&mut self) -> Result<(), Failed>
+        ensures taken { taken self.new ≡ taken self.old }
+        ensures cause { HasCause (faults self.old) (faults self.new) result }
+        ensures loans { loans self.new ≡ loans self.old };
 }

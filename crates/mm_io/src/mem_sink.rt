@@ -1,4 +1,4 @@
-ghost use Rattle.std.specs.Prelude.{◌≡◌, ◌≤◌, ◌<◌, ◌+◌, ◌↔◌, ◌⊎◌, [], List, ℕ, Option, Some, length, vec_len, vec_capacity, IfOk, IsErr};
+ghost use Rattle.std.specs.Prelude.{◌≡◌, ◌≤◌, ◌<◌, ◌+◌, ◌↔◌, ◌⊎◌, [], List, ℕ, Option, Some, length, vec_len, vec_capacity, Ok, IfOk, IsErr};
 ghost use Rattle.mm_types.specs.Outside.{Loans, NoLoan, HasCause};
 ghost use Rattle.mm_io.specs.Io.{Takes};
 ghost use Rattle.mm_io.specs.Calls.{NextFails, next_call};
@@ -7,8 +7,9 @@ use crate::Sink;
 use mm_types::{Failed, NoMemory};
 use std::alloc::Global;
 
-/// Room in memory, taken when the sink is made. A call fails exactly where its number, counted from 1, is
-/// in `fails` or the piece is longer than the room left. Any other call takes the whole piece.
+/// Room in memory, taken when the sink is made. A write fails exactly where its number, counted from 1, is
+/// in `fails` or the piece is longer than the room left. Any other write takes the whole piece. A flush does not
+/// fail, and is not counted.
 #[derive(Drop)]
 pub struct MemSink {
     pub bytes: Vec<u8>,
@@ -75,5 +76,16 @@ impl Sink for MemSink {
             Ok(()) => Ok(buf.len()),
             Err(_) => unreachable!(),
         }
+    }
+
+    /// Does nothing: what was taken stands in memory. It is no call that `fails` counts.
+    fn flush(&mut self) -> Result<(), Failed>
+        ensures taken { Some self.new.bytes.items ≡ Some self.old.bytes.items }
+        ensures cause { HasCause self.old.faults self.new.faults result }
+        ensures loans { NoLoan ≡ NoLoan }
+        ensures same { self.new ≡ self.old }
+        ensures ok { result ≡ Ok tt }
+    {
+        Ok(())
     }
 }

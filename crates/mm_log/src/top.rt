@@ -1,5 +1,6 @@
-ghost use Rattle.std.specs.Prelude.{◌≡◌, ◌≢◌, ◌⊎◌, ◌↔◌, ◌≤◌, ◌+◌, ◌++◌, ℕ, List, Option, Some, map, length, IsTrue, IfSome, string_bytes};
-ghost use Rattle.mm_types.specs.Outside.{Rose, Appended};
+ghost use Rattle.std.specs.Prelude.{◌≡◌, ◌≢◌, ◌⊎◌, ◌↔◌, ◌≤◌, ◌+◌, ◌++◌, ℕ, List, Option, Some, map, length, IsTrue, IfSome, string_bytes, is_err};
+ghost use Rattle.mm_types.specs.Outside.{Rose, Appended, HasCause};
+ghost use Rattle.mm_io.specs.Io.{Wrote};
 ghost use Rattle.mm_types.specs.declared.moves.Move.{Move};
 ghost use Rattle.mm_life.specs.Life.{FrameLife, unstarted};
 ghost use Rattle.mm_life.specs.MoveText.{IsSpelled, AreMoves, spelled_moves};
@@ -18,7 +19,7 @@ use mm_moves::read_key;
 use mm_types::{Failed, Key};
 use std::alloc::Global;
 
-/// The status of a run in which a write to `out` failed.
+/// The status of a run in which a write to `out` failed, or the flush behind it.
 const OUT_FAULT: u8 = 5;
 
 /// Whether a word is this text.
@@ -53,7 +54,16 @@ fn asked(words: &[String]) -> Option<Asked>
     }
 }
 
-/// Writes the text, if any, and answers the status, or that of a write that failed.
+/// Writes a text and flushes it. Where the flush fails all of the text was taken.
+fn write_flushed<O: Sink>(out: &mut O, text: &[u8]) -> Result<(), Failed>
+    ensures wrote { Wrote (O.taken out.old) (O.taken out.new) text.now (is_err result) }
+    ensures cause { HasCause (O.faults out.old) (O.faults out.new) result }
+{
+    write_all(out, text)?;
+    out.flush()
+}
+
+/// Writes the text, if any, and flushes it. Answers the status, or that of a write or flush that failed.
 #[tactic(auto, using(crate::proofs::Shown::shown))]
 fn write_text<O: Sink>(out: &mut O, text: &[u8], status: u8) -> u8
     requires { status ≢ 5 }
@@ -65,7 +75,7 @@ fn write_text<O: Sink>(out: &mut O, text: &[u8], status: u8) -> u8
     if text.is_empty() {
         return status;
     }
-    match write_all(out, text) {
+    match write_flushed(out, text) {
         Ok(()) => status,
         Err(Failed) => OUT_FAULT,
     }
@@ -87,7 +97,7 @@ fn answer<S: Source, O: Sink>(alloc: Global, asked: Asked, source: &mut S, out: 
 }
 
 #[tactic(auto, using(crate::proofs::Exactly::exactly))]
-/// Checks the log that the source gives, and writes the answer to `out`. The words are `check`, or `where` and a key.
+/// Checks the log that the source gives, writes the answer to `out` and flushes it. The words are `check`, or `where` and a key.
 /// The status is 0 where the log replays, 1 where memory was refused, 2 where the words are no form, 3 where a line is
 /// no legal move, 4 and 5 where the source and the sink failed, 8 where the log has more than 1,000,000,000,000 bytes.
 pub fn run_log<S: Source, O: Sink>(

@@ -25,6 +25,13 @@ pub trait Moves {
         ensures in_range { IsMove m }
         ensures loans { loans self.new ≡ loans self.old };
 
+    /// Gives on the lines that were written. Where that fails the result alone says so: the bytes written stay,
+    /// and so does whether a note failed.
+    fn flush(&mut self) -> Result<(), Failed>
+        ensures stays { log self.new ≡ record (log self.old) { faults = (log self.new).faults } }
+        ensures cause { HasCause (log self.old).faults (log self.new).faults result }
+        ensures loans { loans self.new ≡ loans self.old };
+
     /// Whether a note failed.
     fn failed(&self) -> bool
         ensures { result ≡ (log self.now).failed };
@@ -91,6 +98,10 @@ impl<'a, K: Sink> Moves for Recorder<'a, K> {
                 Err(Failed) => self.failed = true,
             }
         }
+    }
+
+    fn flush(&mut self) -> Result<(), Failed> {
+        self.sink.flush()
     }
 
     fn failed(&self) -> bool {

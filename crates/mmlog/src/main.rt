@@ -4,6 +4,7 @@
 use mm_io::{StdSink, StdSource};
 use mm_log::run_log;
 use std::alloc::{AllocError, Global};
+use std::io::BufWriter;
 use std::process::ExitCode;
 use std::rt::Env;
 use std::{env, io};
@@ -31,12 +32,22 @@ fn words(rt: &(impl Env + AllocGlobal)) -> Result<Vec<String>, AllocError> {
     }
 }
 
-fn main(rt: HostRuntime) -> ExitCode {
+/// Checks the log on standard input, and answers the status. The answer is flushed by then.
+fn check(rt: &HostRuntime) -> Result<u8, AllocError> {
     let alloc: Global = rt.alloc();
+    let words = words(rt)?;
+    let writer = match BufWriter::new(alloc, io::writer(rt)) {
+        Ok(writer) => writer,
+        Err(_) => return Err(AllocError),
+    };
     let mut source = StdSource::new(rt.reader());
-    let mut out = StdSink::new(io::writer(&rt));
-    match words(&rt) {
-        Ok(words) => ExitCode::from(run_log(alloc, &words, &mut source, &mut out)),
-        Err(_) => ExitCode::from(NO_MEMORY),
+    let mut out = StdSink::new(writer);
+    Ok(run_log(alloc, &words, &mut source, &mut out))
+}
+
+fn main(rt: HostRuntime) -> ExitCode {
+    match check(&rt) {
+        Ok(status) => ExitCode::from(status),
+        Err(AllocError) => ExitCode::from(NO_MEMORY),
     }
 }
