@@ -9,6 +9,7 @@ mod beginning;
 mod built;
 mod deciding;
 mod fetching;
+mod flushing;
 mod forgetting;
 mod memory_lines;
 mod paging_lines;

@@ -1,7 +1,7 @@
 -- Moves of the joined state, one list behind another.
-use Rattle.std.proofs.Common.{◌≡◌, ℕ, ◌+◌, ◌≤◌, Bool, true, false, List, [], ◌∷◌, ◌++◌, refl, sym, ap, ◌∙◌, subst, append_assoc, arith, cond}
+use Rattle.std.proofs.Common.{◌≡◌, ℕ, ◌+◌, Bool, true, false, List, [], ◌∷◌, ◌++◌, refl, sym, ap, ◌∙◌, subst, append_assoc, cond}
 use Rattle.std.proofs.lemmas.List.Sums.{sum_by-append}
-use Rattle.std.specs.Prelude.{map, count_by}
+use Rattle.std.specs.Prelude.{count_by}
 use Rattle.mm_types.specs.declared.devices.Direction.{Direction}
 use Rattle.mm_types.specs.declared.devices.Direction.TheVariants as way
 use Rattle.mm_types.specs.declared.frames.Backing.{Backing}
@@ -11,7 +11,7 @@ use Rattle.mm_types.specs.declared.moves.Move.TheVariants as move
 use Rattle.mm_types.specs.declared.numbers.Place.{Place}
 use Rattle.mm_blocks.specs.declared.device_calls.DeviceCall.{DeviceCall}
 use Rattle.mm_blocks.specs.Traffic.{is_named}
-use Rattle.mm_blocks.specs.Devices.{Call, logged_call, AllServed}
+use Rattle.mm_blocks.specs.Devices.{Call}
 use Rattle.mm_blocks.proofs.Serving.{all_served_then, all_served_one, map-logged}
 use Rattle.mm_life.specs.Life.{FrameLife}
 use Rattle.mm_life.specs.Effect.{after_move}

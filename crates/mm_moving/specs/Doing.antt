@@ -1,5 +1,5 @@
 -- Moves of the joined state, one after another; and a search for a frame.
-use Rattle.std.specs.Prelude.{◌≡◌, ◌≤◌, ◌<◌, ◌⊎◌, ℕ, Bool, true, false, List, [], map, count_by, length, Option, Some}
+use Rattle.std.specs.Prelude.{◌≡◌, ◌≤◌, ◌<◌, ◌⊎◌, ℕ, Bool, true, false, List, [], map, count_by, Option, Some}
 use Rattle.mm_types.specs.declared.moves.Move.{Move}
 use Rattle.mm_types.specs.declared.numbers.Frame.{Frame}
 use Rattle.mm_life.specs.Frames.{is_on}

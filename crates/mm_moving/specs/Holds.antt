@@ -1,5 +1,5 @@
 -- What the joined state keeps at all times: of lines, of pages, of what is on devices, and of the line's device calls.
-use Rattle.std.specs.Prelude.{◌≡◌, ◌≤◌, ◌<◌, ℕ, ◌+◌, Bool, true, false, List, length, Option, Some, None, is_some}
+use Rattle.std.specs.Prelude.{◌≡◌, ◌≤◌, ◌<◌, ℕ, ◌+◌, true, false, List, length, Some, None, is_some}
 use Rattle.mm_types.specs.Address.{end_of_user_pages}
 use Rattle.mm_types.specs.Machine.{IsMachine}
 use Rattle.mm_types.specs.declared.numbers.Frame.{Frame}

@@ -1,6 +1,5 @@
 -- What a machine's joined state shows to the store of pages above it, and what its calls make of that.
-use Rattle.std.specs.Prelude.{◌≡◌, ◌<◌, ◌⊎◌, ℕ, Bool, true, false, ◌==◌, if◌then◌else◌, List, [], ◌∷◌, Option, Some, None, slice_get}
-use Rattle.mm_types.specs.Machine.{MachineOf}
+use Rattle.std.specs.Prelude.{◌≡◌, ◌<◌, ◌⊎◌, ℕ, Bool, true, false, List, [], ◌∷◌, Option, Some, None}
 use Rattle.mm_types.specs.Outside.{Rose}
 use Rattle.mm_types.specs.declared.devices.Direction.{Direction}
 use Rattle.mm_types.specs.declared.devices.Direction.TheVariants as way
@@ -10,7 +9,6 @@ use Rattle.mm_types.specs.declared.numbers.Key.TheVariants.{Private, Shared}
 use Rattle.mm_types.specs.declared.numbers.Place.{Place}
 use Rattle.mm_types.specs.declared.frames.Backing.{Backing}
 use Rattle.mm_types.specs.declared.frames.Backing.TheVariants as backing
-use Rattle.mm_types.specs.declared.frames.Record.{Record}
 use Rattle.mm_types.specs.declared.moves.Move.{Move}
 use Rattle.mm_types.specs.declared.moves.Move.TheVariants as move
 use Rattle.mm_life.specs.Frames.{record_at}
@@ -19,8 +17,6 @@ use Rattle.mm_life.specs.Legal.{IsLegal, is_touch, owner_is}
 use Rattle.mm_life.specs.Effect.{after_move}
 use Rattle.mm_life.specs.Logs.{Log, Grew}
 use Rattle.mm_life.specs.MoveText.{AreMoves, spelled_moves}
-use Rattle.mm_blocks.specs.declared.device_calls.DeviceCall.{DeviceCall}
-use Rattle.mm_blocks.specs.declared.device_calls.NamedCalls.{NamedCalls}
 use Rattle.mm_blocks.specs.Traffic.{is_named}
 use Rattle.mm_blocks.specs.Devices.{DeviceOf, Serves}
 use Rattle.mm_walks.specs.Waits.{Waiting, waits_after, ages_after}

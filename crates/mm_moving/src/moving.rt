@@ -1,7 +1,7 @@
 ghost use Rattle.std.specs.Prelude.{◌≡◌, ◌≢◌, ◌≤◌, ◌<◌, ◌+◌, ◌-◌, ◌^◌, ◌==◌, ◌++◌, ◌∷◌, [], List, ℕ, Bool, true, false, Some, None, IsSome, IfSome, OnOk, OnErr, IsErrOf, is_some, is_ok, length, option_map, replicate, slice_get, slice_set, count_by, unwrap_or};
 ghost use Rattle.std.specs.Option.{MatchOption, ForSome};
 ghost use Rattle.mm_types.specs.Address.{first_user_page, end_of_user_pages};
-ghost use Rattle.mm_types.specs.Outside.{Loans, Rose};
+ghost use Rattle.mm_types.specs.Outside.{Loans, Rose, HasCause};
 ghost use Rattle.mm_types.specs.declared.devices.Device.TheVariants as device_of;
 ghost use Rattle.mm_types.specs.declared.devices.Direction.TheVariants as way;
 ghost use Rattle.mm_types.specs.declared.faults.GrowFault.TheVariants as grow_fault;
@@ -34,7 +34,7 @@ ghost use Rattle.mm_moving.specs.Shown.{StateOf, Made, Begins, Wrote, Called, mo
 ghost use Rattle.mm_moving.specs.Holds.{Holds};
 
 use mm_types::{
-    Area, Block, Counts, Device, Direction, Frame, GrowFault, Held, Key, LineKind, Machine,
+    Area, Block, Counts, Device, Direction, Failed, Frame, GrowFault, Held, Key, LineKind, Machine,
     NoMemory, Pid, Place, Record, Stored, Tid, Vpn, Wait,
 };
 
@@ -461,4 +461,11 @@ pub trait Moving {
     /// Whether the sink of moves has failed.
     fn moves_failed(&self) -> bool
         ensures { result ≡ (shown self.now).log.failed };
+
+    /// Gives on the moves that were noted. `Failed` comes only where the sink's count of faults rose; the moves stay noted then,
+    /// and whether the sink has failed stays as it was.
+    fn flush_moves(&mut self) -> Result<(), Failed>
+        ensures rest { shown self.new ≡ record (shown self.old) { log = record ((shown self.old).log) { faults = (shown self.new).log.faults } } }
+        ensures cause { HasCause (shown self.old).log.faults (shown self.new).log.faults result }
+        ensures loans { loans self.new ≡ loans self.old };
 }

@@ -1,11 +1,10 @@
 -- A request that has ended, by the result of the call.
 use Rattle.std.proofs.Common.{◌≡◌, ℕ, zero, suc, ◌+◌, ◌-◌, ◌≤◌, ◌<◌, Bool, true, false, List, [], ◌∷◌, Option, Some, None, refl, sym, ap, ◌∙◌, subst, arith, inl, inr, ◌⊎◌}
-use Rattle.std.proofs.lemmas.Bool.{eqb-true, lt-ltb}
+use Rattle.std.proofs.lemmas.Bool.{lt-ltb}
 use Rattle.std.proofs.Math.Logic.{∥∥₁_elim}
 use Rattle.std.proofs.Props.{props}
-use Rattle.std.specs.Bool.{IsTrue}
 use Rattle.std.specs.Cmp.{unsigned_Decides}
-use Rattle.std.specs.Prelude.{not, ◌&&◌, ◌||◌, ◌==◌, nat_lt, if◌then◌else◌, is_some, length, option_map, min, slice_get, slice_index_or, ◌^◌}
+use Rattle.std.specs.Prelude.{◌&&◌, ◌||◌, ◌==◌, nat_lt, if◌then◌else◌, length, option_map, min, slice_get, slice_index_or, ◌^◌}
 use Rattle.mm_types.specs.Machine.{MachineOf}
 use Rattle.mm_types.specs.declared.devices.Direction.{Direction}
 use Rattle.mm_types.specs.declared.devices.Direction.TheVariants as way
@@ -14,7 +13,6 @@ use Rattle.mm_types.specs.declared.frames.Backing.TheVariants as backing
 use Rattle.mm_types.specs.declared.frames.Record.{Record}
 use Rattle.mm_types.specs.declared.frames.Request.{Request}
 use Rattle.mm_types.specs.declared.frames.Request.TheVariants as request
-use Rattle.mm_types.specs.declared.moves.LineKind.{LineKind}
 use Rattle.mm_types.specs.declared.moves.LineKind.TheVariants as kind
 use Rattle.mm_types.specs.declared.moves.Move.{Move}
 use Rattle.mm_types.specs.declared.moves.Move.TheVariants as move
@@ -23,28 +21,26 @@ use Rattle.mm_types.specs.declared.numbers.Key.{Key}
 use Rattle.mm_types.specs.declared.numbers.Place.{Place}
 use Rattle.mm_life.specs.Frames.{record_at, blank, is_read, is_write, has_request}
 use Rattle.mm_life.specs.Life.{FrameLife}
-use Rattle.mm_life.specs.Legal.{IsLegal, is_touch, is_io, is_access, is_call}
+use Rattle.mm_life.specs.Legal.{IsLegal, is_touch, is_thread, is_io, is_access, is_call}
 use Rattle.mm_life.specs.Effect.{after_move}
 use Rattle.mm_laws.specs.Fits.{is_backed}
-use Rattle.mm_laws.specs.Reached.{Reached}
-use Rattle.mm_laws.specs.Sound.{Sound}
 use Rattle.mm_laws.specs.Tally.{one_if, times}
 use Rattle.mm_laws.proofs.Deduced.{reached_sound}
 use Rattle.mm_flight.specs.Requests.{nth_oldest}
 use Rattle.mm_walks.specs.Chores.{ending}
-use Rattle.mm_world.specs.Report.{Report, failed_calls}
+use Rattle.mm_world.specs.Report.{failed_calls}
 use Rattle.mm_pages.specs.declared.outcomes.Done.{Done}
 use Rattle.mm_pages.specs.declared.outcomes.Done.TheVariants as done
-use Rattle.mm_pages.specs.Housekeeping.{CompletesAs, Completes, NoMove}
+use Rattle.mm_pages.specs.Housekeeping.{CompletesAs, Completes}
 use Rattle.mm_pages.specs.Passing.{Passes}
-use Rattle.mm_pages.specs.Reports.{completed, fetched, Served, SomeRose}
-use Rattle.mm_pages.specs.Store.{StoreOf, Ready}
+use Rattle.mm_pages.specs.Reports.{completed, fetched, Served}
+use Rattle.mm_pages.specs.Store.{Ready}
 use Rattle.mm_pages.specs.Told.{Told, with_read, with_write}
 use Rattle.mm_pages.proofs.Served.{served_nothing}
 use Rattle.mm_parts.specs.Moves.{read_end, write_end, own_ended}
 use Rattle.mm_moving.specs.Shown.{StateOf, Made, Called, SomeFault, called}
 use Rattle.mm_moving.specs.Holds.{Holds}
-use Rattle.mm_moving.proofs.Doing.{does_one, does_nothing}
+use Rattle.mm_moving.proofs.Doing.{does_one}
 use Rattle.mm_paged.specs.Pieces.{LifeKept, EndsOne, EndsAs}
 use Rattle.mm_paged.specs.Shown.{OwnOf, Kept, store_of, report_of, behind_of}
 use Rattle.mm_paged.proofs.Keeping.{blocks_kept, fetched_by}
@@ -325,6 +321,7 @@ kept_one i ok s z o k io e = record {
   touching = λ r t. absurd (none_ready r t);
   room = λ r t c. absurd (none_ready r t);
   fresh = λ b l. ap (λ (f : ℕ → Bool). f b) (life_one i ok s z e).added ∙ k.fresh b l;
+  calm = λ t. let bad : false ≡ true = sym (ap is_thread ((life_one i ok s z e).kind ∙ io)) ∙ t in cc;
 }
   where
     none_ready : (r : Ready) → o.ready ≡ Some r → ⊥

@@ -28,8 +28,11 @@ use Rattle.mm_paged.specs.Shown.{OwnOf, Kept, store_of, report_of}
 use Rattle.mm_paged.specs.Pieces.{LifeKept}
 use Rattle.mm_paged.proofs.Keeping.{kept_all, blocks_kept, fetched_by}
 use Rattle.mm_paged.proofs.Serving.{InLine, served_by}
+use Rattle.mm_life.specs.Legal.{is_thread}
+use Rattle.mm_pages.specs.Told.{Told}
+use Rattle.mm_paged.proofs.Quiet.{calm_through}
 
-in_line : (a : Aim) (ms : List Move) (w : Walk) → Through (AccessMove a) w ms → InLine ms
+pub in_line : (a : Aim) (ms : List Move) (w : Walk) → Through (AccessMove a) w ms → InLine ms
 in_line a [] w h = tt
 in_line a (move.At n k ∷ ms) w h = h.0
 in_line a (move.Add k b ∷ ms) w h = in_line a ms _ h.1
@@ -142,14 +145,15 @@ pub fresh_in : (w : Bool) (k : Key) (place : Place) (s y : StateOf) (used : ℕ)
 fresh_in w k place s y used m h b l = ap (λ (f : ℕ → Bool). f b) (kept_in w k place s y m).added ∙ h b l
 
 -- nothing is ready once an access faulted
-pub faulted_kept : (w : Bool) (k : Key) (place : Place) (s y z : StateOf) (o u : OwnOf) → Moves w k place s y → Kept s o → y ≡ record (called s y) { names = y.names } → z.life ≡ y.life → z.own ≡ y.own → z.aside ≡ y.aside → u.ready ≡ None → u.blocks_used ≡ o.blocks_used → Kept z u
-faulted_kept w k place s y z o u m h e l a b r q = record {
+pub faulted_kept : (w : Bool) (k : Key) (place : Place) (s y z : StateOf) (o u : OwnOf) → Moves w k place s y → Kept s o → y ≡ record (called s y) { names = y.names } → z.life ≡ y.life → z.own ≡ y.own → z.aside ≡ y.aside → z.told ≡ y.told → u.ready ≡ None → u.blocks_used ≡ o.blocks_used → Kept z u
+faulted_kept w k place s y z o u m h e l a b t r q = record {
   own = a ∙ ap (λ (x : StateOf). x.own) e ∙ h.own;
   aside = b ∙ ap (λ (x : StateOf). x.aside) e ∙ h.aside;
-  ready = λ x t. absurd (none_ready u x r t);
-  touching = λ x t. absurd (none_ready u x r t);
-  room = λ x t c. absurd (none_ready u x r t);
+  ready = λ x n. absurd (none_ready u x r n);
+  touching = λ x n. absurd (none_ready u x r n);
+  room = λ x n c. absurd (none_ready u x r n);
   fresh = λ n low. ap (λ (f : FrameLife). f.added n) l ∙ fresh_in w k place s y o.blocks_used m h.fresh n (subst (λ (used : ℕ). used ≤ n) q low);
+  calm = λ th. ap (λ (x : Told). x.search_writes) t ∙ calm_through (aim_at w k place s) m.moves s y m.does m.each h.calm (sym (ap (λ (f : FrameLife). is_thread f.kind) l) ∙ th);
 }
   where
     none_ready : (u : OwnOf) (x : Ready) → u.ready ≡ None → u.ready ≡ Some x → ⊥

@@ -31,7 +31,7 @@ use Rattle.mm_paged.specs.Pieces.{Went, InFrame, Placed}
 use Rattle.mm_paged.proofs.Records.{mapped_quiet, unmap_requests}
 use Rattle.mm_moving.proofs.Doing.{does_one, does_two}
 
-own_test : (test : Key → Bool) (r : Record) (k : Key) → r.owner ≡ Some k → owner_is test r ≡ test k
+pub own_test : (test : Key → Bool) (r : Record) (k : Key) → r.owner ≡ Some k → owner_is test r ≡ test k
 own_test test r k e = ap (λ (o : Option Key). unwrap_or (option_map test o) false) e
 
 pub map_legal : (k : Key) (f : Frame) (place : Place) (s : StateOf) → Holds s → InFrame k f s → fits_place place k ≡ true → s.life.valid place ≡ None → touches place.pid.0 s.life.kind ≡ true → is_below_max (set_of s.life place.pid.0) ≡ true → IsLegal (move.Map f place) s.life

@@ -26,7 +26,7 @@ use Rattle.mm_paged.specs.Shown.{OwnOf, report_of, store_of, behind_of}
 use Rattle.mm_moving.proofs.Doing.{does_nothing}
 use Rattle.mm_paged.proofs.Shows.{passes_of}
 
-framed_has : (l : FrameLife) (h : Held) → is_framed h ≡ true → has_frame (where_of l h) ≡ true
+pub framed_has : (l : FrameLife) (h : Held) → is_framed h ≡ true → has_frame (where_of l h) ≡ true
 framed_has l (held.Frame f) e = at (is_read (record_at l.frames f.0).request) refl
   where
     at : (b : Bool) → is_read (record_at l.frames f.0).request ≡ b → has_frame (Some (framed_where (record_at l.frames f.0))) ≡ true
@@ -37,21 +37,21 @@ framed_has l (held.Block b) e = cc
 framed_has l held.Zero e = cc
 framed_has l held.Dead e = cc
 
-unframed_has : (l : FrameLife) (h : Held) → is_framed h ≡ false → has_frame (where_of l h) ≡ false
+pub unframed_has : (l : FrameLife) (h : Held) → is_framed h ≡ false → has_frame (where_of l h) ≡ false
 unframed_has l (held.Frame f) e = cc
 unframed_has l (held.Slot t) e = refl
 unframed_has l (held.Block b) e = refl
 unframed_has l held.Zero e = refl
 unframed_has l held.Dead e = refl
 
-same_again : (k : Key) → same_key k k ≡ true
+pub same_again : (k : Key) → same_key k k ≡ true
 same_again (key.Private p v) = grind arith
 same_again (key.Shared a i) = grind arith
 
-nothing_read : (k : Key) (r : Report) → r.last_failed_read ≡ None → read_failed (touch k) r ≡ false
+pub nothing_read : (k : Key) (r : Report) → r.last_failed_read ≡ None → read_failed (touch k) r ≡ false
 nothing_read k r e = ap (λ (o : Option Key). unwrap_or (option_map (same_key k) o) false) e
 
-fails_not : (a b still short : Bool) → still ≡ false → (a && b && still && short) ≡ false
+pub fails_not : (a b still short : Bool) → still ≡ false → (a && b && still && short) ≡ false
 fails_not a b still short e = grind (arith, e)
 
 -- of an access that was had
@@ -69,13 +69,13 @@ empty_counts : (xs : List ℕ) → is_empty xs ≡ true → (length xs == 0) ≡
 empty_counts [] e = refl
 empty_counts (x ∷ xs) e = cc
 
-short_counts : (a b c : Bool) (x y z : List ℕ) → (is_empty x && is_empty y && is_empty z) ≡ true → ((length x == 0) && (length y == 0) && (length z == 0)) ≡ true
+pub short_counts : (a b c : Bool) (x y z : List ℕ) → (is_empty x && is_empty y && is_empty z) ≡ true → ((length x == 0) && (length y == 0) && (length z == 0)) ≡ true
 short_counts a b c [] [] [] h = refl
 short_counts a b c [] [] (z ∷ zs) h = cc
 short_counts a b c [] (y ∷ ys) z h = cc
 short_counts a b c (x ∷ xs) y z h = cc
 
-search_failed_by : (f s : ℕ) (still short : Bool) → 1 ≤ f → s ≡ 0 → still ≡ true → short ≡ true → (nat_lt 0 f && (s == 0) && still && short) ≡ true
+pub search_failed_by : (f s : ℕ) (still short : Bool) → 1 ≤ f → s ≡ 0 → still ≡ true → short ≡ true → (nat_lt 0 f && (s == 0) && still && short) ≡ true
 search_failed_by f s still short a b c d = grind (arith, a, b, c, d)
 
 -- of an access that failed

@@ -14,7 +14,7 @@ use Rattle.mm_life.specs.Effect.{after_move, after_unmap_at, backing_of}
 use Rattle.mm_located.specs.Carried.{IsSoiled}
 
 -- the record is the new one, or no frame has this number
-set_there : (xs : List Record) (f : ℕ) (r : Record) → (slice_index_or (slice_set xs f r) f blank ≡ r) ⊎ ((slice_index_or (slice_set xs f r) f blank ≡ blank) × (slice_index_or xs f blank ≡ blank))
+pub set_there : (xs : List Record) (f : ℕ) (r : Record) → (slice_index_or (slice_set xs f r) f blank ≡ r) ⊎ ((slice_index_or (slice_set xs f r) f blank ≡ blank) × (slice_index_or xs f blank ≡ blank))
 set_there [] f r = inr (refl, refl)
 set_there (x ∷ xs) zero r = inl refl
 set_there (x ∷ xs) (suc f) r = set_there xs f r
@@ -85,7 +85,7 @@ request_set (x ∷ xs) zero (suc g) r e = refl
 request_set (x ∷ xs) (suc f) zero r e = refl
 request_set (x ∷ xs) (suc f) (suc g) r e = request_set xs f g r e
 
-settled_record : (t : Record) (d : FrameTable) (f g : ℕ) → record_at (settled_by t d f) g ≡ record_at d g
+pub settled_record : (t : Record) (d : FrameTable) (f g : ℕ) → record_at (settled_by t d f) g ≡ record_at d g
 settled_record t d f g = at (is_idle t) t.changed
   where
     at : (i c : Bool) → record_at (cond i (cond c (record d { modified = d.modified ++ f ∷ [] }) (record d { standby = d.standby ++ f ∷ [] })) d) g ≡ record_at d g

@@ -141,7 +141,7 @@ stuck_read a f k s z r h = record {
   paid = omega arith;
 }
 
-front_read : (l m : FrameLife) (d : Frame) → m ≡ after_move l (move.Steal d) → is_empty l.frames.free ≡ true → front_for_read m ≡ d
+pub front_read : (l m : FrameLife) (d : Frame) → m ≡ after_move l (move.Steal d) → is_empty l.frames.free ≡ true → front_for_read m ≡ d
 front_read l m d e h = ap front_for_read e ∙ at l.frames.free h
   where
     at : (xs : List ℕ) → is_empty xs ≡ true → front_for_read (record (after_move l (move.Steal d)) { frames = record ((after_move l (move.Steal d)).frames) { free = xs ++ d.0 ∷ [] } }) ≡ d

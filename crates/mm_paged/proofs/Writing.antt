@@ -212,8 +212,8 @@ wrote_kept f s y z o a c k h e =
     let p = soiled_all f s y h in
     subst (λ (x : StateOf). Kept x o) (sym e) (subst (λ (x : StateOf). Kept (record x { ages = a; contents = c }) o) (sym p.same)
     (by_life (λ (l : FrameLife). Kept (record s { life = l; log = y.log; ages = a; contents = c }) o) f s y p
-    (record { own = k.own; aside = k.aside; ready = k.ready; touching = k.touching; room = k.room; fresh = k.fresh })
-    (record { own = k.own; aside = k.aside; ready = k.ready; touching = k.touching; room = k.room; fresh = k.fresh })))
+    (record { own = k.own; aside = k.aside; ready = k.ready; touching = k.touching; room = k.room; fresh = k.fresh; calm = k.calm })
+    (record { own = k.own; aside = k.aside; ready = k.ready; touching = k.touching; room = k.room; fresh = k.fresh; calm = k.calm })))
 
 pub soils_contents : (f : Frame) (s y : StateOf) → Soils f s y → y.contents ≡ s.contents
 soils_contents f s y h = ap (λ (x : StateOf). x.contents) (soiled_all f s y h).same

@@ -2,13 +2,14 @@
 use Rattle.std.specs.Prelude.{◌≡◌, ◌≤◌, ℕ, Bool, true, false, length, Option, Some, None, is_some}
 use Rattle.mm_types.specs.Machine.{limit_of}
 use Rattle.mm_life.specs.Life.{counts_of}
-use Rattle.mm_life.specs.Legal.{is_touch, is_short}
+use Rattle.mm_life.specs.Legal.{is_touch, is_short, is_thread}
 use Rattle.mm_walks.specs.Waits.{wait_of}
 use Rattle.mm_world.specs.Report.{Report}
 use Rattle.mm_pages.specs.Behind.{Behind}
 use Rattle.mm_pages.specs.Store.{StoreOf, Ready}
 use Rattle.mm_pages.specs.Conditions.{need_for}
 use Rattle.mm_pages.specs.Standing.{where_of, block_at, backed_by}
+use Rattle.mm_pages.specs.Reports.{no_calls}
 use Rattle.mm_moving.specs.Shown.{StateOf}
 use Rattle.mm_paged.specs.declared.paged.Wanted.{Wanted}
 
@@ -74,3 +75,5 @@ pub record Kept (s : StateOf) (o : OwnOf) : Type 0 where
   pub room : (r : Ready) → o.ready ≡ Some r → is_some r.need.copy ≡ true → is_short s.life ≡ false
   -- blocks that no file uses were never a key's
   pub fresh : (b : ℕ) → o.blocks_used ≤ b → s.life.added b ≡ false
+  -- in a thread's line no device write was tried
+  pub calm : is_thread s.life.kind ≡ true → s.told.search_writes ≡ no_calls

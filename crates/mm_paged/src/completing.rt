@@ -16,7 +16,7 @@ use mm_pages::Done;
 use mm_types::{Frame, Record, Request};
 
 /// Whether the request of a frame is a read.
-fn is_reading(r: &Record) -> bool
+pub(crate) fn is_reading(r: &Record) -> bool
     ensures { result ≡ is_read r.now.request }
 {
     match r.request {

@@ -7,6 +7,8 @@ ghost use Rattle.mm_pages.specs.Accesses.{Aim};
 ghost use Rattle.mm_pages.specs.Reports.{no_calls};
 ghost use Rattle.mm_pages.specs.Shortage.{is_framed};
 ghost use Rattle.mm_moving.specs.Shown.{StateOf, Made, called};
+ghost use Rattle.mm_moving.specs.Doing.{IsFlightOf};
+ghost use Rattle.mm_types.specs.declared.numbers.Place.{Place};
 ghost use Rattle.mm_located.specs.Carried.{IsSoiled};
 ghost use Rattle.mm_parts.specs.Holds.{HasSet};
 ghost use Rattle.mm_parts.specs.Moves.{front_for_read};
@@ -15,8 +17,8 @@ ghost use Rattle.mm_types.specs.declared.moves.LineKind.TheVariants as kind;
 ghost use Rattle.mm_types.specs.declared.faults.PageFault.TheVariants as fault;
 ghost use Rattle.mm_paged.specs.Pieces.{Went, Stuck, Sought, Took, Missed, ReadsFor, IsFor, Begins, Keeps, Calm, NamesFor, Later, Soils, Placed, Fails, InFrame, ReadsIn};
 
-use crate::searching::{NoFrame, Searches};
 use mm_moving::Moving;
+use mm_reclaim::{NoFrame, find_frame};
 use mm_types::{Frame, Held, Key, PageFault, Place, Record, Request};
 
 /// A demand-zero page gets the first zeroed frame.
@@ -24,12 +26,16 @@ fn give_zeroed<T: Moving>(state: &mut T, key: Key) -> Frame
     requires touch { is_touch (T.shown state.old).life.kind ≡ true }
     requires zero { is_zero ((T.shown state.old).life.stands key) ≡ true }
     requires some { is_empty (T.shown state.old).life.frames.zeroed ≡ false }
-    requires aside { (T.shown state.old).aside ≡ None }
     ensures went { (a : Aim) → IsFor a key → Took a 0 (T.shown state.old) (T.shown state.new) }
     ensures keeps { Keeps (T.shown state.old) (T.shown state.new) }
+    ensures stored { ((T.shown state.new).slots ≡ (T.shown state.old).slots) × ((T.shown state.new).blocks ≡ (T.shown state.old).blocks) }
     ensures calm { (T.shown state.new).told ≡ record ((T.shown state.old).told) { search_writes = no_calls } }
     ensures names { NamesFor key (T.shown state.old) (T.shown state.new) }
     ensures frame { InFrame key result (T.shown state.new) }
+    ensures flight { (T.shown state.new).life.flight ≡ (T.shown state.old).life.flight }
+    ensures valid { (T.shown state.new).life.valid ≡ (T.shown state.old).life.valid }
+    ensures beside { (place : Place) → (T.shown state.old).aside ≡ Some place → key ≡ key_of_place place → (T.shown state.new).names ≡ (T.shown state.old).names }
+    ensures soiled { (record_at (T.shown state.new).life.frames result.0).owner ≡ Some key → IsSoiled (record_at (T.shown state.new).life.frames result.0) }
     ensures loans { T.loans state.new ≡ T.loans state.old }
 {
     state.give(key)
@@ -41,12 +47,16 @@ fn give_free<T: Moving>(state: &mut T, key: Key) -> Frame
     requires zero { is_zero ((T.shown state.old).life.stands key) ≡ true }
     requires none { is_empty (T.shown state.old).life.frames.zeroed ≡ true }
     requires some { is_empty (T.shown state.old).life.frames.free ≡ false }
-    requires aside { (T.shown state.old).aside ≡ None }
     ensures went { (a : Aim) → IsFor a key → Took a 0 (T.shown state.old) (T.shown state.new) }
     ensures keeps { Keeps (T.shown state.old) (T.shown state.new) }
+    ensures stored { ((T.shown state.new).slots ≡ (T.shown state.old).slots) × ((T.shown state.new).blocks ≡ (T.shown state.old).blocks) }
     ensures calm { (T.shown state.new).told ≡ record ((T.shown state.old).told) { search_writes = no_calls } }
     ensures names { NamesFor key (T.shown state.old) (T.shown state.new) }
     ensures frame { InFrame key result (T.shown state.new) }
+    ensures flight { (T.shown state.new).life.flight ≡ (T.shown state.old).life.flight }
+    ensures valid { (T.shown state.new).life.valid ≡ (T.shown state.old).life.valid }
+    ensures beside { (place : Place) → (T.shown state.old).aside ≡ Some place → key ≡ key_of_place place → (T.shown state.new).names ≡ (T.shown state.old).names }
+    ensures soiled { (record_at (T.shown state.new).life.frames result.0).owner ≡ Some key → IsSoiled (record_at (T.shown state.new).life.frames result.0) }
     ensures loans { T.loans state.new ≡ T.loans state.old }
 {
     state.clear();
@@ -60,12 +70,16 @@ fn give_standby<T: Moving>(state: &mut T, key: Key) -> Frame
     requires none { is_empty (T.shown state.old).life.frames.zeroed ≡ true }
     requires none_free { is_empty (T.shown state.old).life.frames.free ≡ true }
     requires some { is_empty (T.shown state.old).life.frames.standby ≡ false }
-    requires aside { (T.shown state.old).aside ≡ None }
     ensures went { (a : Aim) → IsFor a key → Took a 0 (T.shown state.old) (T.shown state.new) }
     ensures keeps { Keeps (T.shown state.old) (T.shown state.new) }
+    ensures stored { ((T.shown state.new).slots ≡ (T.shown state.old).slots) × ((T.shown state.new).blocks ≡ (T.shown state.old).blocks) }
     ensures calm { (T.shown state.new).told ≡ record ((T.shown state.old).told) { search_writes = no_calls } }
     ensures names { NamesFor key (T.shown state.old) (T.shown state.new) }
     ensures frame { InFrame key result (T.shown state.new) }
+    ensures flight { (T.shown state.new).life.flight ≡ (T.shown state.old).life.flight }
+    ensures valid { (T.shown state.new).life.valid ≡ (T.shown state.old).life.valid }
+    ensures beside { (place : Place) → (T.shown state.old).aside ≡ Some place → key ≡ key_of_place place → (T.shown state.new).names ≡ (T.shown state.old).names }
+    ensures soiled { (record_at (T.shown state.new).life.frames result.0).owner ≡ Some key → IsSoiled (record_at (T.shown state.new).life.frames result.0) }
     ensures loans { T.loans state.new ≡ T.loans state.old }
 {
     state.sound();
@@ -79,12 +93,16 @@ pub(crate) fn give<T: Moving>(state: &mut T, key: Key) -> Frame
     requires touch { is_touch (T.shown state.old).life.kind ≡ true }
     requires zero { is_zero ((T.shown state.old).life.stands key) ≡ true }
     requires some { is_short (T.shown state.old).life ≡ false }
-    requires aside { (T.shown state.old).aside ≡ None }
     ensures went { (a : Aim) → IsFor a key → Took a 0 (T.shown state.old) (T.shown state.new) }
     ensures keeps { Keeps (T.shown state.old) (T.shown state.new) }
+    ensures stored { ((T.shown state.new).slots ≡ (T.shown state.old).slots) × ((T.shown state.new).blocks ≡ (T.shown state.old).blocks) }
     ensures calm { (T.shown state.new).told ≡ record ((T.shown state.old).told) { search_writes = no_calls } }
     ensures names { NamesFor key (T.shown state.old) (T.shown state.new) }
     ensures frame { InFrame key result (T.shown state.new) }
+    ensures flight { (T.shown state.new).life.flight ≡ (T.shown state.old).life.flight }
+    ensures valid { (T.shown state.new).life.valid ≡ (T.shown state.old).life.valid }
+    ensures beside { (place : Place) → (T.shown state.old).aside ≡ Some place → key ≡ key_of_place place → (T.shown state.new).names ≡ (T.shown state.old).names }
+    ensures soiled { (record_at (T.shown state.new).life.frames result.0).owner ≡ Some key → IsSoiled (record_at (T.shown state.new).life.frames result.0) }
     ensures loans { T.loans state.new ≡ T.loans state.old }
 {
     if !state.no_zeroed() {
@@ -110,6 +128,7 @@ fn read_free<T: Moving>(state: &mut T, key: Key) -> Result<Frame, PageFault>
     ensures names { (T.shown state.new).names ≡ (T.shown state.old).names }
     ensures frame { IfOk result (λ f. InFrame key f (T.shown state.new)) }
     ensures fails { IfErr result (λ e. Fails e key (T.shown state.old) (T.shown state.new)) }
+    ensures flight { IfOk result (λ f. IsFlightOf (T.shown state.old).life.flight (Some f) (T.shown state.new).life) }
     ensures loans { T.loans state.new ≡ T.loans state.old }
 {
     let f = state.start_read(key);
@@ -137,6 +156,7 @@ fn read_standby<T: Moving>(state: &mut T, key: Key) -> Result<Frame, PageFault>
     ensures names { (T.shown state.new).names ≡ (T.shown state.old).names }
     ensures frame { IfOk result (λ f. InFrame key f (T.shown state.new)) }
     ensures fails { IfErr result (λ e. Fails e key (T.shown state.old) (T.shown state.new)) }
+    ensures flight { IfOk result (λ f. IsFlightOf (T.shown state.old).life.flight (Some f) (T.shown state.new).life) }
     ensures loans { T.loans state.new ≡ T.loans state.old }
 {
     state.sound();
@@ -158,6 +178,7 @@ fn read_in<T: Moving>(state: &mut T, key: Key) -> Result<Frame, PageFault>
     ensures names { (T.shown state.new).names ≡ (T.shown state.old).names }
     ensures frame { IfOk result (λ f. InFrame key f (T.shown state.new)) }
     ensures fails { IfErr result (λ e. Fails e key (T.shown state.old) (T.shown state.new)) }
+    ensures flight { IfOk result (λ f. IsFlightOf (T.shown state.old).life.flight (Some f) (T.shown state.new).life) }
     ensures loans { T.loans state.new ≡ T.loans state.old }
 {
     if state.no_zeroed() {
@@ -181,6 +202,7 @@ fn settle<T: Moving>(state: &mut T, key: Key, f: Frame) -> Result<Frame, PageFau
     ensures names { (T.shown state.new).names ≡ (T.shown state.old).names }
     ensures frame { IfOk result (λ g. InFrame key g (T.shown state.new)) }
     ensures fails { IfErr result (λ e. Fails e key (T.shown state.old) (T.shown state.new)) }
+    ensures flight { IfOk result (λ f. IsFlightOf (T.shown state.old).life.flight (Some f) (T.shown state.new).life) }
     ensures loans { T.loans state.new ≡ T.loans state.old }
 {
     state.sound();
@@ -193,7 +215,7 @@ fn settle<T: Moving>(state: &mut T, key: Key, f: Frame) -> Result<Frame, PageFau
 }
 
 /// Sees that there is a frame to be taken, for a page that has none.
-fn find<T: Searches>(state: &mut T, key: Key) -> Result<(), PageFault>
+fn find<T: Moving>(state: &mut T, key: Key) -> Result<(), PageFault>
     requires access { is_access (T.shown state.old).life.kind ≡ true }
     requires unframed { is_framed ((T.shown state.old).life.stands key) ≡ false }
     requires own { (T.shown state.old).own ≡ None }
@@ -207,11 +229,12 @@ fn find<T: Searches>(state: &mut T, key: Key) -> Result<(), PageFault>
     ensures later { Later (T.shown state.old) (T.shown state.new) }
     ensures same { (T.shown state.new) ≡ called (T.shown state.old) (T.shown state.new) }
     ensures fails { IfErr result (λ e. Fails e key (T.shown state.old) (T.shown state.new)) }
+    ensures flight { OnOk result (IsFlightOf (T.shown state.old).life.flight None (T.shown state.new).life) }
     ensures loans { T.loans state.new ≡ T.loans state.old }
 {
     state.sound();
     if state.no_zeroed() && state.no_free() && state.no_standby() {
-        if let Err(NoFrame) = state.find_frame(None) {
+        if let Err(NoFrame) = find_frame(state, None) {
             return Err(PageFault::NoFrame);
         }
     }
@@ -219,7 +242,7 @@ fn find<T: Searches>(state: &mut T, key: Key) -> Result<(), PageFault>
 }
 
 /// A page's frame, which is found where it has none.
-fn bring<T: Searches>(state: &mut T, key: Key) -> Result<Frame, PageFault>
+fn bring<T: Moving>(state: &mut T, key: Key) -> Result<Frame, PageFault>
     requires access { is_access (T.shown state.old).life.kind ≡ true }
     requires live { is_live (T.shown state.old).life key ≡ true }
     requires own { (T.shown state.old).own ≡ None }
@@ -231,6 +254,7 @@ fn bring<T: Searches>(state: &mut T, key: Key) -> Result<Frame, PageFault>
     ensures names { OnOk result (NamesFor key (T.shown state.old) (T.shown state.new)) }
     ensures frame { IfOk result (λ f. InFrame key f (T.shown state.new)) }
     ensures fails { IfErr result (λ e. Fails e key (T.shown state.old) (T.shown state.new)) }
+    ensures flight { IfOk result (λ f. IsFlightOf (T.shown state.old).life.flight (Some f) (T.shown state.new).life) }
     ensures loans { T.loans state.new ≡ T.loans state.old }
 {
     state.sound();
@@ -242,7 +266,7 @@ fn bring<T: Searches>(state: &mut T, key: Key) -> Result<Frame, PageFault>
 }
 
 /// A demand-zero page gets a frame.
-fn bring_zero<T: Searches>(state: &mut T, key: Key) -> Result<Frame, PageFault>
+fn bring_zero<T: Moving>(state: &mut T, key: Key) -> Result<Frame, PageFault>
     requires access { is_access (T.shown state.old).life.kind ≡ true }
     requires zero { is_zero ((T.shown state.old).life.stands key) ≡ true }
     requires own { (T.shown state.old).own ≡ None }
@@ -254,6 +278,7 @@ fn bring_zero<T: Searches>(state: &mut T, key: Key) -> Result<Frame, PageFault>
     ensures names { OnOk result (NamesFor key (T.shown state.old) (T.shown state.new)) }
     ensures frame { IfOk result (λ f. InFrame key f (T.shown state.new)) }
     ensures fails { IfErr result (λ e. Fails e key (T.shown state.old) (T.shown state.new)) }
+    ensures flight { IfOk result (λ f. IsFlightOf (T.shown state.old).life.flight (Some f) (T.shown state.new).life) }
     ensures loans { T.loans state.new ≡ T.loans state.old }
 {
     find(state, key)?;
@@ -261,7 +286,7 @@ fn bring_zero<T: Searches>(state: &mut T, key: Key) -> Result<Frame, PageFault>
 }
 
 /// A page on a device is read into a frame that is found for it.
-fn bring_stored<T: Searches>(state: &mut T, key: Key) -> Result<Frame, PageFault>
+fn bring_stored<T: Moving>(state: &mut T, key: Key) -> Result<Frame, PageFault>
     requires access { is_access (T.shown state.old).life.kind ≡ true }
     requires stored { is_stored ((T.shown state.old).life.stands key) ≡ true }
     requires own { (T.shown state.old).own ≡ None }
@@ -272,6 +297,7 @@ fn bring_stored<T: Searches>(state: &mut T, key: Key) -> Result<Frame, PageFault
     ensures names { OnOk result (NamesFor key (T.shown state.old) (T.shown state.new)) }
     ensures frame { IfOk result (λ f. InFrame key f (T.shown state.new)) }
     ensures fails { IfErr result (λ e. Fails e key (T.shown state.old) (T.shown state.new)) }
+    ensures flight { IfOk result (λ f. IsFlightOf (T.shown state.old).life.flight (Some f) (T.shown state.new).life) }
     ensures loans { T.loans state.new ≡ T.loans state.old }
 {
     find(state, key)?;
@@ -289,7 +315,9 @@ fn put_below<T: Moving>(state: &mut T, key: Key, f: Frame, place: Place)
     requires below { is_below_max (set_of (T.shown state.old).life place.pid.0) ≡ true }
     requires aside { (T.shown state.old).aside ≡ None }
     ensures made { Made (move.Map f place) (T.shown state.old) (T.shown state.new) }
+    ensures stored { ((T.shown state.new).slots ≡ (T.shown state.old).slots) × ((T.shown state.new).blocks ≡ (T.shown state.old).blocks) }
     ensures placed { Placed key f place (T.shown state.old) (T.shown state.new) }
+    ensures flight { (T.shown state.new).life.flight ≡ (T.shown state.old).life.flight }
     ensures loans { T.loans state.new ≡ T.loans state.old }
 {
     state.sound();
@@ -308,7 +336,9 @@ fn put_full<T: Moving>(state: &mut T, key: Key, f: Frame, place: Place)
     requires full { is_at_max (set_of (T.shown state.old).life place.pid.0) ≡ true }
     requires aside { (T.shown state.old).aside ≡ None }
     ensures went { (a : Aim) → a.place ≡ place → Went a 0 (T.shown state.old) (T.shown state.new) }
+    ensures stored { ((T.shown state.new).slots ≡ (T.shown state.old).slots) × ((T.shown state.new).blocks ≡ (T.shown state.old).blocks) }
     ensures placed { Placed key f place (T.shown state.old) (T.shown state.new) }
+    ensures flight { (T.shown state.new).life.flight ≡ (T.shown state.old).life.flight }
     ensures loans { T.loans state.new ≡ T.loans state.old }
 {
     state.sound();
@@ -326,7 +356,7 @@ fn put_full<T: Moving>(state: &mut T, key: Key, f: Frame, place: Place)
 }
 
 /// A page becomes valid at a place.
-fn put<T: Moving>(state: &mut T, key: Key, f: Frame, place: Place)
+pub(crate) fn put<T: Moving>(state: &mut T, key: Key, f: Frame, place: Place)
     requires touch { touches place.pid.0 (T.shown state.old).life.kind ≡ true }
     requires frame { InFrame key f (T.shown state.old) }
     requires bound { (T.shown state.old).bound place ≡ true }
@@ -335,7 +365,9 @@ fn put<T: Moving>(state: &mut T, key: Key, f: Frame, place: Place)
     requires free { (T.shown state.old).life.valid place ≡ None }
     requires aside { (T.shown state.old).aside ≡ None }
     ensures went { (a : Aim) → a.place ≡ place → Went a 0 (T.shown state.old) (T.shown state.new) }
+    ensures stored { ((T.shown state.new).slots ≡ (T.shown state.old).slots) × ((T.shown state.new).blocks ≡ (T.shown state.old).blocks) }
     ensures placed { Placed key f place (T.shown state.old) (T.shown state.new) }
+    ensures flight { (T.shown state.new).life.flight ≡ (T.shown state.old).life.flight }
     ensures loans { T.loans state.new ≡ T.loans state.old }
 {
     state.sound();
@@ -347,7 +379,7 @@ fn put<T: Moving>(state: &mut T, key: Key, f: Frame, place: Place)
 }
 
 /// A page that is not valid at a place becomes so.
-pub(crate) fn fault<T: Searches>(state: &mut T, key: Key, place: Place) -> Result<(), PageFault>
+pub(crate) fn fault<T: Moving>(state: &mut T, key: Key, place: Place) -> Result<(), PageFault>
     requires access { (T.shown state.old).life.kind ≡ kind.Access place.pid }
     requires live { is_live (T.shown state.old).life key ≡ true }
     requires bound { (T.shown state.old).bound place ≡ true }
@@ -365,6 +397,7 @@ pub(crate) fn fault<T: Searches>(state: &mut T, key: Key, place: Place) -> Resul
     ensures names { OnOk result ((T.shown state.new).names ≡ changed same_place (T.shown state.old).names place (Some key)) }
     ensures same { (T.shown state.new) ≡ record (called (T.shown state.old) (T.shown state.new)) { names = (T.shown state.new).names } }
     ensures fails { IfErr result (λ e. Fails e key (T.shown state.old) (T.shown state.new)) }
+    ensures flight { OnOk result ((f : Frame) → (T.shown state.new).life.valid place ≡ Some f → IsFlightOf (T.shown state.old).life.flight (Some f) (T.shown state.new).life) }
     ensures loans { T.loans state.new ≡ T.loans state.old }
 {
     let f = bring(state, key)?;
@@ -400,7 +433,7 @@ pub(crate) fn soil<T: Moving>(state: &mut T, place: Place, f: Frame)
 }
 
 /// A page that is not valid at a place becomes so, and can be written.
-pub(crate) fn fault_to_write<T: Searches>(
+pub(crate) fn fault_to_write<T: Moving>(
     state: &mut T,
     key: Key,
     place: Place,

@@ -1,7 +1,7 @@
 ghost use Rattle.std.specs.Prelude.{◌≡◌, ◌+◌, is_some, Ok, ◌<◌, ◌≤◌, ℕ, true, false, None, Some, OnOk, OnErr, IsOk, length, take, drop, unwrap_or};
 ghost use Rattle.mm_types.specs.declared.moves.LineKind.TheVariants as kind;
 ghost use Rattle.mm_types.specs.declared.moves.Move.TheVariants as move;
-ghost use Rattle.mm_life.specs.Legal.{is_touch};
+ghost use Rattle.mm_life.specs.Legal.{is_touch, is_thread};
 ghost use Rattle.mm_world.specs.Access.{written};
 ghost use Rattle.mm_world.specs.World.{filled};
 ghost use Rattle.mm_world.specs.Failure.{same_key};
@@ -9,12 +9,11 @@ ghost use Rattle.mm_pages.specs.Accesses.{Touches};
 ghost use Rattle.mm_pages.specs.Conditions.{IsLineKind, pid_after, HasHome, IsAt, MayAccess, IsReady, touch};
 ghost use Rattle.mm_pages.specs.Housekeeping.{Turns, Makes, OneMove};
 ghost use Rattle.mm_pages.specs.Passing.{Passes, PassesIn};
-ghost use Rattle.mm_pages.specs.Reports.{begun, rearranged, eased, fetched, Served, SomeRose, Ends, IsBegun};
+ghost use Rattle.mm_pages.specs.Reports.{begun, rearranged, eased, fetched, no_calls, Served, SomeRose, Ends, IsBegun};
 ghost use Rattle.mm_pages.specs.Store.{changed, same_place};
 ghost use Rattle.mm_paged.specs.Shown.{Kept, own_of, store_of, behind_of};
 
 use crate::faults::{fault, fault_to_write, soil};
-use crate::searching::Searches;
 use mm_moving::Moving;
 use mm_pages::Need;
 use mm_types::{Frame, Key, LineKind, PageFault, Place};
@@ -22,9 +21,9 @@ use mm_types::{Frame, Key, LineKind, PageFault, Place};
 /// An access that needs no device.
 #[derive(Clone, Copy)]
 pub(crate) struct Wanted {
-    place: Place,
-    key: Key,
-    need: Need,
+    pub(crate) place: Place,
+    pub(crate) key: Key,
+    pub(crate) need: Need,
 }
 
 /// A store that pages.
@@ -40,11 +39,12 @@ impl<T: Moving> Paged<T> {
     ghost use Rattle.mm_paged.specs.Store.{contents, store, behind, loans};
 
     /// A store over a machine's joined state, in which no file uses a block yet. The state has no request of its own line, and
-    /// nothing stands beside its tables.
+    /// nothing stands beside its tables; where its line is a thread's, no device write was tried in it.
     pub fn over(state: T) -> Self
         requires own { (T.shown state).own ≡ None }
         requires aside { (T.shown state).aside ≡ None }
         requires unused { (b : ℕ) → (T.shown state).life.added b ≡ false }
+        requires calm { is_thread (T.shown state).life.kind ≡ true → (T.shown state).told.search_writes ≡ no_calls }
         ensures store { store result ≡ store_of (T.shown state) (own_of None None 0) }
         ensures contents { contents result ≡ (T.shown state).contents }
         ensures behind { behind result ≡ behind_of (T.shown state) }
@@ -60,6 +60,7 @@ impl<T: Moving> Paged<T> {
 
     /// The joined state, as the store leaves it.
     pub fn finish(self) -> T
+        ensures state { result ≡ self.state }
         ensures contents { (T.shown result).contents ≡ contents self }
         ensures behind { behind_of (T.shown result) ≡ behind self }
         ensures loans { T.loans result ≡ loans self }
@@ -74,7 +75,7 @@ impl<T: Moving> Paged<T> {
     }
 }
 
-impl<T: Searches> Paged<T> {
+impl<T: Moving> Paged<T> {
     ghost use Rattle.mm_paged.specs.Store.{contents, store, behind, loans};
 
     /// A line begins.

@@ -85,6 +85,15 @@ named_frame o p (entry.Transition g) f h = cc
 named_frame o p (entry.Valid g n) f h = let same : f ≡ g = cc in ap (λ (x : Frame). o x.0) same
 named_frame o p (entry.Proto a i) f h = cc
 
+unnamed_at : (o : Owners) (p : Place) (e : Entry) → (is_there e ≡ true → ⊥) → named_by o p e ≡ None
+unnamed_at o p entry.Empty none = refl
+unnamed_at o p entry.Zero none = refl
+unnamed_at o p (entry.Paged s) none = absurd (none refl)
+unnamed_at o p (entry.InFile b) none = refl
+unnamed_at o p (entry.Transition f) none = absurd (none refl)
+unnamed_at o p (entry.Valid f n) none = absurd (none refl)
+unnamed_at o p (entry.Proto a i) none = absurd (none refl)
+
 owned_low : (t : JoinedParts) → Kept t → (f : ℕ) → is_some (record_at t.table f).owner ≡ true → f < t.line.machine.frames
 owned_low t kept f some =
     let low = kept_inside t.table f (or_left (is_some (record_at t.table f).owner) (has_request (record_at t.table f).request) some) in
@@ -118,6 +127,8 @@ pages_hold t kept there bound open_now begun within =
       low = λ p f v. owned_low t kept f.0 (valid_owned t kept p f v);
       shared = facts.shares;
       unread = valid_calm t kept;
+      unnamed = λ p h. unnamed_at (owners t.table) p (t.words.at p) (λ held. let bad : true ≡ false = sym (bound p held) ∙ h in cc);
+      user = kept.ranges.user;
       open_process = open_now;
       sets = λ pid h. has_set t kept within pid (set_in t.words.sets pid) refl (begun pid h);
     }

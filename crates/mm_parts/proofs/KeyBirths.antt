@@ -313,7 +313,7 @@ module _ (t : JoinedParts) (kept : Kept t) (p : Pid) (v : Vpn) (legal : IsLegal 
       line = record { machine = kept.line.machine; begun = kept.line.begun; blocks = kept.line.blocks };
       words = aside_words;
       within = record { requesting = kept.within.requesting; copying = λ h. touch };
-      ranges = record { sets = kept.ranges.sets; areas = kept.ranges.areas };
+      ranges = record { sets = kept.ranges.sets; areas = kept.ranges.areas; user = kept.ranges.user };
       depth = kept.depth;
       waits = kept.waits;
     };

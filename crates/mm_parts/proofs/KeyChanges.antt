@@ -298,6 +298,7 @@ module _ (t : JoinedParts) (kept : Kept t) (d' : FrameTable) (f : Frame) (r : Re
       ranges = record {
         sets = λ pid s h. kept.ranges.sets pid s (ap (λ z. set_in z pid) (sym (sets_set t.words k e)) ∙ h);
         areas = λ a h. kept.ranges.areas a (ap (λ (s : ℕ → Option ℕ). is_some (s a)) (sym (sizes_set t.words k e)) ∙ h);
+        user = λ p h. kept.ranges.user p (ap (λ (b : Place → Bool). b p) (sym (bound_set t.words k e)) ∙ h);
       };
       depth = depth ∙ kept.depth ∙ ap (λ (m : MachineOf). m.depth) (sym same_machine);
       waits = waits;

@@ -70,7 +70,7 @@ process_line t kept n pid min max legal low high own aside =
         line = record { machine = kept.line.machine; begun = omega (arith, number); blocks = kept.line.blocks };
         words = record { transition = kept.words.transition; valid_shared = kept.words.valid_shared; no_file = kept.words.no_file; no_proto = kept.words.no_proto; beside = kept.words.beside; beside_bound = kept.words.beside_bound; beside_other = kept.words.beside_other };
         within = within_line (kind.Process pid min max) t.own (words_begun (kind.Process pid min max) t.words) own aside;
-        ranges = record { areas = kept.ranges.areas; sets = sets };
+        ranges = record { areas = kept.ranges.areas; sets = sets; user = kept.ranges.user };
         depth = kept.depth;
         waits = kept.waits;
       };

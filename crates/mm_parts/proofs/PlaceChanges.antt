@@ -198,6 +198,7 @@ module _ (t : JoinedParts) (kept : Kept t) (f : Frame) (place : Place) (legal : 
       ranges = record {
         sets = sets_kept t.words.sets place.pid.0 (λ n. n + 1) kept.ranges.sets;
         areas = kept.ranges.areas;
+        user = kept.ranges.user;
       };
       depth = kept.depth;
       waits = waits_frame t.table (after_map t.table f.0) f.0 (shared (record_at t.table f.0)) t.flight map_change (λ read. read) kept.waits;
@@ -352,6 +353,7 @@ module _ (t : JoinedParts) (kept : Kept t) (f : Frame) (place : Place) (legal : 
       ranges = record {
         sets = sets_kept t.words.sets place.pid.0 (λ n. n - 1) kept.ranges.sets;
         areas = kept.ranges.areas;
+        user = kept.ranges.user;
       };
       depth = kept.depth;
       waits = waits_frame t.table (after_unmap t.table f.0) f.0 (unshared (record_at t.table f.0)) t.flight unmap_change (λ read. read) kept.waits;

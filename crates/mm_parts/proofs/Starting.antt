@@ -87,7 +87,7 @@ start_step m h = record {
       beside_other = λ x e. cc;
     };
     within = record { requesting = λ e. cc; copying = λ e. cc };
-    ranges = record { areas = λ a e. cc; sets = no_set };
+    ranges = record { areas = λ a e. cc; sets = no_set; user = λ p e. cc };
     depth = refl;
     waits = λ t f e. absurd (nobody_waits 256 t f e);
   };

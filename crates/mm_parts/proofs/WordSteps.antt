@@ -2,7 +2,7 @@
 use Rattle.std.proofs.Common.{◌≡◌, ◌⊎◌, ℕ, ◌+◌, ◌<◌, ◌≤◌, ◌^◌, Bool, true, false, cond, List, Option, Some, None, refl, sym, ap, ◌∙◌, subst, inl, inr, arith}
 use Rattle.std.specs.Prelude.{◌==◌, ◌&&◌, nat_le, nat_lt, is_some, option_map, unwrap_or, if◌then◌else◌, slice_index_or}
 use Rattle.std.proofs.lemmas.Bool.{and_parts, eqb-true, leb-true, ltb-true}
-use Rattle.mm_types.specs.Address.{Range, holds_page}
+use Rattle.mm_types.specs.Address.{Range, holds_page, end_of_user_pages}
 use Rattle.mm_types.specs.declared.numbers.Area.{Area}
 use Rattle.mm_types.specs.declared.numbers.Pid.{Pid}
 use Rattle.mm_types.specs.declared.numbers.Key.{Key}
@@ -34,14 +34,15 @@ abbrev pub with_homes : WordsOf → (ℕ → Bool) → (Place → Bool) → (ℕ
 with_homes w open_now bound sizes = record w { is_open = open_now; bound = bound; sizes = sizes }
 
 pub homes_step : (t : JoinedParts) → Kept t → (open_now : ℕ → Bool) (bound : Place → Bool) (sizes : ℕ → Option ℕ) → ((x : Aside) → t.words.aside ≡ Some x → bound x.place ≡ true) → ((a : ℕ) → is_some (sizes a) ≡ true → a < 2 ^ 28)
+    → ((p : Place) → bound p ≡ true → p.vpn.0 < end_of_user_pages)
     → Step (record t { words = with_homes t.words open_now bound sizes }) (record (shown_of t) { is_open = open_now; bound = bound; areas = sizes })
-homes_step t kept open_now bound sizes beside areas = record {
+homes_step t kept open_now bound sizes beside areas user = record {
   kept = record {
     reached = kept.reached;
     line = kept.line;
     words = record { transition = kept.words.transition; valid_shared = kept.words.valid_shared; no_file = kept.words.no_file; no_proto = kept.words.no_proto; beside = kept.words.beside; beside_bound = beside; beside_other = kept.words.beside_other };
     within = record { requesting = kept.within.requesting; copying = kept.within.copying };
-    ranges = record { areas = areas; sets = kept.ranges.sets };
+    ranges = record { areas = areas; sets = kept.ranges.sets; user = user };
     depth = kept.depth;
     waits = kept.waits;
   };
@@ -49,7 +50,7 @@ homes_step t kept open_now bound sizes beside areas = record {
 }
 
 pub open_step : (t : JoinedParts) → Kept t → (open_now : ℕ → Bool) → Step (record t { words = record t.words { is_open = open_now } }) (record (shown_of t) { is_open = open_now })
-open_step t kept open_now = homes_step t kept open_now t.words.bound t.words.sizes kept.words.beside_bound kept.ranges.areas
+open_step t kept open_now = homes_step t kept open_now t.words.bound t.words.sizes kept.words.beside_bound kept.ranges.areas kept.ranges.user
 
 bound_more : (f : Place → Bool) (pid : ℕ) (r : Range) (x : Place) → f x ≡ true → changed_in f pid r true x ≡ true
 bound_more f pid r x h = by ((x.pid.0 == pid) && holds_page r x.vpn.0)
@@ -58,8 +59,24 @@ bound_more f pid r x h = by ((x.pid.0 == pid) && holds_page r x.vpn.0)
     by true = refl
     by false = h
 
-pub bind_step : (t : JoinedParts) → Kept t → (pid : ℕ) (r : Range) → Step (record t { words = record t.words { bound = changed_in t.words.bound pid r true } }) (record (shown_of t) { bound = changed_in t.words.bound pid r true })
-bind_step t kept pid r = homes_step t kept t.words.is_open (changed_in t.words.bound pid r true) t.words.sizes (λ x e. bound_more t.words.bound pid r x.place (kept.words.beside_bound x e)) kept.ranges.areas
+-- pages that are bound anew are user pages
+bound_user : (f : Place → Bool) (pid : ℕ) (r : Range) → ((v : ℕ) → holds_page r v ≡ true → v < end_of_user_pages) → ((p : Place) → f p ≡ true → p.vpn.0 < end_of_user_pages) → (x : Place)
+    → changed_in f pid r true x ≡ true → x.vpn.0 < end_of_user_pages
+bound_user f pid r low kept x h = by ((x.pid.0 == pid) && holds_page r x.vpn.0) refl h
+  where
+    by : (b : Bool) → ((x.pid.0 == pid) && holds_page r x.vpn.0) ≡ b → (if b then true else f x) ≡ true → x.vpn.0 < end_of_user_pages
+    by true e g = low x.vpn.0 (and_parts (x.pid.0 == pid) (holds_page r x.vpn.0) e).1
+    by false e g = kept x g
+
+bound_less : (f : Place → Bool) (pid : ℕ) (r : Range) (x : Place) → changed_in f pid r false x ≡ true → f x ≡ true
+bound_less f pid r x h = by ((x.pid.0 == pid) && holds_page r x.vpn.0) h
+  where
+    by : (b : Bool) → (if b then false else f x) ≡ true → f x ≡ true
+    by true g = cc
+    by false g = g
+
+pub bind_step : (t : JoinedParts) → Kept t → (pid : ℕ) (r : Range) → ((v : ℕ) → holds_page r v ≡ true → v < end_of_user_pages) → Step (record t { words = record t.words { bound = changed_in t.words.bound pid r true } }) (record (shown_of t) { bound = changed_in t.words.bound pid r true })
+bind_step t kept pid r low = homes_step t kept t.words.is_open (changed_in t.words.bound pid r true) t.words.sizes (λ x e. bound_more t.words.bound pid r x.place (kept.words.beside_bound x e)) kept.ranges.areas (bound_user t.words.bound pid r low kept.ranges.user)
 
 sized : (f : ℕ → Option ℕ) (a : ℕ) (n : Option ℕ) → (is_some n ≡ true → a < 2 ^ 28) → ((b : ℕ) → is_some (f b) ≡ true → b < 2 ^ 28) → (b : ℕ) → is_some (changed ◌==◌ f a n b) ≡ true → b < 2 ^ 28
 sized f a n now kept b h = by (b == a) refl h
@@ -70,7 +87,7 @@ sized f a n now kept b h = by (b == a) refl h
 
 pub area_step : (t : JoinedParts) → Kept t → (a : ℕ) (n : Option ℕ) → (is_some n ≡ true → a < 2 ^ 28)
     → Step (record t { words = record t.words { sizes = changed ◌==◌ t.words.sizes a n } }) (record (shown_of t) { areas = changed ◌==◌ t.words.sizes a n })
-area_step t kept a n low = homes_step t kept t.words.is_open t.words.bound (changed ◌==◌ t.words.sizes a n) kept.words.beside_bound (sized t.words.sizes a n low kept.ranges.areas)
+area_step t kept a n low = homes_step t kept t.words.is_open t.words.bound (changed ◌==◌ t.words.sizes a n) kept.words.beside_bound (sized t.words.sizes a n low kept.ranges.areas) kept.ranges.user
 
 -- a dead page of a control area has no entry
 pub area_clear : (t : JoinedParts) → Kept t → (a : Area) (i : ℕ) → (life_in t).stands (Shared a i) ≡ held.Dead → t.words.proto a.0 i ≡ entry.Empty
@@ -161,7 +178,7 @@ module _ (t : JoinedParts) (kept : Kept t) (pid : ℕ) (r : Range) (g : Givable 
       line = kept.line;
       words = given_kept;
       within = record { requesting = kept.within.requesting; copying = kept.within.copying };
-      ranges = record { areas = kept.ranges.areas; sets = kept.ranges.sets };
+      ranges = record { areas = kept.ranges.areas; sets = kept.ranges.sets; user = λ x h. kept.ranges.user x (bound_less t.words.bound pid r x h) };
       depth = kept.depth;
       waits = kept.waits;
     };
@@ -192,6 +209,10 @@ used_step t kept place bytes' = record {
 
 range_of : (f n v : ℕ) → holds_page (pages f n) v ≡ true → (f ≤ v) × (v < f + n)
 range_of f n v h = let p = and_parts (nat_le f v) (nat_lt v (f + n)) h in (leb-true f v p.0, ltb-true v (f + n) p.1)
+
+-- pages up to there are user pages
+pub range_user : (f n : ℕ) → f + n ≤ end_of_user_pages → (v : ℕ) → holds_page (pages f n) v ≡ true → v < end_of_user_pages
+range_user f n high v h = let r = (range_of f n v h).1 in omega (arith, r, high)
 
 pub range_invalid : (t : JoinedParts) (x : Place) → (life_in t).valid x ≡ None → is_valid (t.words.at x) ≡ false
 range_invalid t x e = invalid_entry (t.words.at x) e

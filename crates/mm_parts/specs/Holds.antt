@@ -1,5 +1,6 @@
 -- What the parts keep at all times, in terms of what they show: of lines, of pages, and of what is on devices.
 use Rattle.std.specs.Prelude.{◌≡◌, ◌≤◌, ◌<◌, ℕ, true, false, length, Some, None, is_some, slice_get}
+use Rattle.mm_types.specs.Address.{end_of_user_pages}
 use Rattle.mm_types.specs.Machine.{IsMachine}
 use Rattle.mm_types.specs.declared.numbers.Frame.{Frame}
 use Rattle.mm_types.specs.declared.numbers.Key.{Key}
@@ -55,7 +56,9 @@ pub record PagesHold (s : PartsOf) : Type 0 where
   pub low : (p : Place) (f : Frame) → s.life.valid p ≡ Some f → f.0 < s.life.machine.frames
   pub shared : (p : Place) (f : Frame) → s.life.valid p ≡ Some f → 1 ≤ (record_at s.life.frames f.0).shares
   pub unread : (p : Place) (f : Frame) → s.life.valid p ≡ Some f → is_read (record_at s.life.frames f.0).request ≡ false
-  -- a bound place is of an open process, which has a working set
+  -- a place that is not bound names nothing; a bound place is a user page of an open process, which has a working set
+  pub unnamed : (p : Place) → s.bound p ≡ false → s.names p ≡ None
+  pub user : (p : Place) → s.bound p ≡ true → p.vpn.0 < end_of_user_pages
   pub open_process : (p : Place) → s.bound p ≡ true → s.is_open p.pid.0 ≡ true
   pub sets : (pid : ℕ) → s.is_open pid ≡ true → HasSet s.life pid
 

@@ -1,7 +1,9 @@
 -- What the parts keep, over plain lists and maps.
 use Rattle.std.specs.Prelude.{◌≡◌, ◌≤◌, ◌<◌, ◌^◌, ℕ, true, length, Option, Some, is_some, slice_get}
+use Rattle.mm_types.specs.Address.{end_of_user_pages}
 use Rattle.mm_types.specs.Machine.{IsMachine}
 use Rattle.mm_types.specs.declared.numbers.Frame.{Frame}
+use Rattle.mm_types.specs.declared.numbers.Place.{Place}
 use Rattle.mm_types.specs.declared.moves.LineKind.{LineKind}
 use Rattle.mm_life.specs.declared.sets.ResidentSet.{ResidentSet}
 use Rattle.mm_life.specs.Frames.{FrameTable, record_at, is_read}
@@ -29,10 +31,11 @@ pub record WithinLine (k : LineKind) (own : Option Frame) (w : WordsOf) : Type 0
   pub requesting : is_some own ≡ true → is_own_line k ≡ true
   pub copying : is_some w.aside ≡ true → is_touch k ≡ true
 
--- areas have numbers that a word has room for, and working sets are of these sizes
+-- areas have numbers that a word has room for, working sets are of these sizes, and user pages alone are bound
 pub record RangesKept (w : WordsOf) : Type 0 where
   pub areas : (a : ℕ) → is_some (w.sizes a) ≡ true → a < 2 ^ 28
   pub sets : (pid : ℕ) (s : ResidentSet) → set_in w.sets pid ≡ Some s → (1 ≤ s.max) × (s.max ≤ 65536)
+  pub user : (p : Place) → w.bound p ≡ true → p.vpn.0 < end_of_user_pages
 
 pub record Kept (t : JoinedParts) : Type 0 where
   -- the state that they show was reached by legal moves

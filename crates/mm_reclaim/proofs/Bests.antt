@@ -1,13 +1,11 @@
 -- The best so far, as the code keeps it.
-use Rattle.std.proofs.Common.{◌≡◌, ℕ, ◌+◌, ◌<◌, ◌≤◌, Bool, true, false, length, Option, Some, None, refl, sym, ap, ◌∙◌, subst, arith}
+use Rattle.std.proofs.Common.{◌≡◌, ℕ, ◌+◌, ◌<◌, Bool, true, false, Option, Some, None, refl, sym, ap, ◌∙◌, arith}
 use Rattle.std.specs.Prelude.{MatchOption, is_some}
-use Rattle.std.specs.Option.{ForSome}
 use Rattle.std.proofs.Math.Logic.{∥∥₁_elim}
 use Rattle.std.proofs.Props.{props}
 use Rattle.mm_types.specs.declared.numbers.Frame.{Frame}
 use Rattle.mm_types.specs.declared.numbers.Place.{Place}
 use Rattle.mm_life.specs.Life.{FrameLife, set_of}
-use Rattle.mm_laws.specs.Reached.{Reached}
 use Rattle.mm_laws.proofs.Deduced.{reached_sound}
 use Rattle.mm_laws.proofs.Machines.{in_range}
 use Rattle.mm_walks.specs.Order.{Ages, may_go, IsOldest, IsVictim}

@@ -1,6 +1,13 @@
 pub mod Ranks
 pub mod Bests
 pub mod Steps
+pub mod Writables
 pub mod Phases
 pub mod Trying
 pub mod Targets
+pub mod Walking
+pub mod Turning
+pub mod Chained
+pub mod Clearing
+pub mod Trimming
+pub mod Writing

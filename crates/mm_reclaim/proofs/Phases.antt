@@ -1,9 +1,9 @@
 -- A search in its two phases, over the replay alone: the walk over the modified list, and the turns.
-use Rattle.std.proofs.Common.{◌≡◌, ◌≢◌, ◌⊎◌, ℕ, zero, suc, ◌+◌, ◌<◌, ◌≤◌, Bool, true, false, cond, List, [], ◌∷◌, ◌++◌, length, Option, Some, None, refl, sym, ap, ◌∙◌, subst, inl, inr, append_assoc, arith}
-use Rattle.std.specs.Prelude.{◌==◌, ◌&&◌, ◌||◌, not, is_some, slice_get}
+use Rattle.std.proofs.Common.{◌≡◌, ◌⊎◌, ℕ, ◌+◌, ◌<◌, ◌≤◌, Bool, true, false, cond, List, [], ◌∷◌, ◌++◌, length, Some, None, refl, sym, ap, ◌∙◌, subst, inl, inr, append_assoc, arith}
+use Rattle.std.specs.Prelude.{◌==◌, ◌&&◌, ◌||◌, not, filter, slice_get}
 use Rattle.std.specs.Cmp.{unsigned_Decides}
 use Rattle.std.proofs.lemmas.Bool.{or_left, or_right}
-use Rattle.mm_types.specs.Machine.{MachineOf, IsMachine}
+use Rattle.mm_types.specs.Machine.{IsMachine}
 use Rattle.mm_types.specs.declared.numbers.Frame.{Frame}
 use Rattle.mm_types.specs.declared.numbers.Place.{Place}
 use Rattle.mm_types.specs.declared.moves.Stored.{Stored}
@@ -20,19 +20,21 @@ use Rattle.mm_laws.specs.Reached.{Reached}
 use Rattle.mm_laws.specs.Sound.{Sound}
 use Rattle.mm_laws.specs.Settling.{joined}
 use Rattle.mm_laws.proofs.Tallies.{tally-append, times_on}
-use Rattle.mm_laws.proofs.Deduced.{reached_sound, reached_along}
+use Rattle.mm_laws.proofs.Deduced.{reached_sound}
 use Rattle.mm_laws.proofs.Kept.{kept_along}
 use Rattle.mm_laws.proofs.Machines.{in_range}
 use Rattle.mm_laws.proofs.PlaceCounts.{has_shares}
 use Rattle.mm_laws.proofs.FromSound.{modified_frame}
 use Rattle.mm_room.specs.Room.{IsWithinDepth}
 use Rattle.mm_room.specs.Steps.{walked, is_last, Unmapped, after_failed, put_last}
-use Rattle.mm_room.specs.Searches.{failed_write, lost_in, is_lost_of, Walking, Emptying, first_passing, is_untried, next_try}
+use Rattle.mm_room.specs.Searches.{failed_write, lost_in, is_lost_of, Walking, first_passing, is_untried, next_try}
 use Rattle.mm_room.proofs.Unmapping.{unmapped}
 use Rattle.mm_room.proofs.Writing.{failed}
-use Rattle.mm_room.proofs.Walks.{walk_begins, walk_on, walk_passes, walk_fails, writes_same, writers_same, on_append, on_last, on_left, any_append, or_none, lost_still}
+use Rattle.mm_room.proofs.Walks.{walk_begins, walk_on, walk_passes_all, walk_fails, writes_same, writers_same, on_append, on_last, on_left, any_append, or_none, lost_still}
 use Rattle.mm_room.proofs.Turns.{walk_then, turn_kept, turn_failed}
-use Rattle.mm_reclaim.specs.Seeking.{WalkedTo, SoughtTo}
+use Rattle.mm_types.proofs.Bytes.{append_nil}
+use Rattle.mm_reclaim.specs.Seeking.{writable_modified, WalkedTo, SoughtTo}
+use Rattle.mm_reclaim.proofs.Writables.{FirstOf, first_of, front_behind, none_passes}
 
 false_if : (b : Bool) → (b ≡ true → ⊥) → b ≡ false
 false_if true h = absurd (h refl)
@@ -65,141 +67,106 @@ not_lost moves place g = any_append (λ m. is_lost_of g m) moves (move.Unmap pla
 
 -- ---- the walk
 
-pub walk_start : (l : FrameLife) (n : ℕ) (next : Option ℕ) → n ≡ length l.frames.modified → next ≡ slice_get l.frames.modified 0 → WalkedTo l l [] n 0 next
-walk_start l n next e a = record {
+pub walk_start : (l : FrameLife) (n : ℕ) → n ≡ length (writable_modified l) → WalkedTo l l [] n 0
+walk_start l n e = record {
   passed = [];
   left = l.frames.modified;
   lost = [];
   walking = walk_begins l;
   only = λ g h. cc;
   count = omega (arith, e);
-  at = λ h. a;
 }
 
-pub walk_done : (start l : FrameLife) (moves : List Move) (n i : ℕ) (next : Option ℕ) → n ≤ i → Reached start → Replays moves start l → is_access start.kind ≡ true → is_short start ≡ true → IsWithinDepth start
-    → WalkedTo start l moves n i next → SoughtTo start l moves
-walk_done start l moves n i next end r replays access short few w =
+pub walk_done : (start l : FrameLife) (moves : List Move) (n i : ℕ) → n ≤ i → Reached start → Replays moves start l → is_access start.kind ≡ true → is_short start ≡ true → IsWithinDepth start
+    → WalkedTo start l moves n i → SoughtTo start l moves
+walk_done start l moves n i end r replays access short few w =
     let range = in_range start r in
-    let none : w.left ≡ [] = empty w.left (let a = w.count in omega (arith, a, end)) in
-    let walk : Walking start l w.passed [] w.lost moves = subst (λ (xs : List ℕ). Walking start l w.passed xs w.lost moves) none w.walking in
-    let same = walk.now in
+    let bars = none_passes (can_be_written start) w.left (let a = w.count in omega (arith, a, end)) in
+    let same = w.walking.now in
+    let walk : Walking start l (w.passed ++ w.left) [] w.lost moves = walk_passes_all start l w.passed w.left [] w.lost moves
+    (subst (λ (xs : List ℕ). Walking start l w.passed xs w.lost moves) (sym (append_nil w.left)) w.walking)
+    (λ g h. writes_same start l (walked w.passed w.left w.lost) same g ∙ bars g h) in
     record {
-      emptying = walk_then start l w.passed w.lost moves walk replays
+      emptying = walk_then start l (w.passed ++ w.left) w.lost moves walk replays
           (subst (λ (k : FrameLife). IsMachine k.machine) (sym same) (range.machine (range.begun (or_left (is_access start.kind) (is_thread start.kind) access))))
           (ap (λ (k : FrameLife). is_access k.kind) same ∙ access)
           (ap (λ (k : FrameLife). is_short k) same ∙ short)
           (subst (λ (k : FrameLife). IsWithinDepth k) (sym same) few);
-      listed = λ g h. ap (λ (k : FrameLife). is_on g k.frames.modified) walk.now ∙ (on_append g w.passed w.lost ∙ or_right (is_on g w.passed) (is_on g w.lost) (w.only g h));
+      listed = λ g h. ap (λ (k : FrameLife). is_on g k.frames.modified) same
+          ∙ (on_append g w.passed (w.left ++ w.lost) ∙ or_right (is_on g w.passed) (is_on g (w.left ++ w.lost))
+          (on_append g w.left w.lost ∙ or_right (is_on g w.left) (is_on g w.lost) (w.only g h)));
     }
-  where
-    empty : (xs : List ℕ) → length xs ≡ 0 → xs ≡ []
-    empty [] h = refl
-    empty (x ∷ xs) h = absurd (omega (arith, h))
 
--- a place on a list
-get_mid : (xs : List ℕ) (f : ℕ) (rest : List ℕ) → slice_get (xs ++ (f ∷ rest)) (length xs) ≡ Some f
-get_mid [] f rest = refl
-get_mid (x ∷ xs) f rest = get_mid xs f rest
-
-get_after : (xs : List ℕ) (f : ℕ) (rest : List ℕ) → slice_get (xs ++ (f ∷ rest)) (suc (length xs)) ≡ slice_get rest 0
-get_after [] f rest = refl
-get_after (x ∷ xs) f rest = get_after xs f rest
-
-get_next : (xs : List ℕ) (f : ℕ) (rest : List ℕ) → slice_get (xs ++ (f ∷ rest)) (length xs + 1) ≡ slice_get rest 0
-get_next xs f rest = ap (slice_get (xs ++ (f ∷ rest))) (plus_one (length xs)) ∙ get_after xs f rest
-  where
-    plus_one : (n : ℕ) → n + 1 ≡ suc n
-    plus_one n = omega arith
-
-module _ (start l : FrameLife) (moves : List Move) (n i : ℕ) (next : Option ℕ) (w : WalkedTo start l moves n i next) (r : Reached start) (replays : Replays moves start l) (low : i < n) where
+module _ (start l : FrameLife) (moves : List Move) (n i : ℕ) (w : WalkedTo start l moves n i) (r : Reached start) (replays : Replays moves start l) (low : i < n) where
   sound : Sound l
   sound = kept_along moves start l (reached_sound start r) replays
 
-  pub record Head : Type 0 where
-    pub first : ℕ
-    pub rest : List ℕ
-    pub is : w.left ≡ first ∷ rest
-    pub next_is : next ≡ Some first
+  -- which frames can be written stays in the walk
+  same_test : (g : ℕ) → can_be_written l g ≡ can_be_written start g
+  same_test g = writes_same start l (walked w.passed w.left w.lost) w.walking.now g
 
-  pub head : Head
-  head = at w.left refl (let a = w.count in omega (arith, a, low))
-    where
-      at : (xs : List ℕ) → w.left ≡ xs → 1 ≤ length xs → Head
-      at [] e h = absurd (omega (arith, h))
-      at (x ∷ xs) e h = record { first = x; rest = xs; is = e; next_is = w.at (let k = ap (λ (ys : List ℕ). length ys) e in omega (arith, k)) ∙ ap (λ (ys : List ℕ). slice_get ys 0) e }
+  next : FirstOf (can_be_written start) w.left
+  next = first_of (can_be_written start) w.left (let a = w.count in omega (arith, a, low))
 
-  pub not_none : next ≡ None → ⊥
-  not_none e = let bad : None ≡ Some head.first = sym e ∙ head.next_is in cc
+  front_is : slice_get (writable_modified l) 0 ≡ Some next.first
+  front_is =
+      ap (λ (k : FrameLife). slice_get (filter (can_be_written k) k.frames.modified) 0) w.walking.now
+      ∙ ap (λ (xs : List ℕ). slice_get xs 0) (front_behind (can_be_written start) w.passed (w.left ++ w.lost) w.walking.over)
+      ∙ next.front w.lost
 
-  module _ (f : Frame) (next_is : next ≡ Some f.0) where
-    pub walking : Walking start l w.passed (f.0 ∷ head.rest) w.lost moves
-    walking =
-        let both : Some head.first ≡ Some f.0 = sym head.next_is ∙ next_is in
-        let same : head.first ≡ f.0 = cc in
-        subst (λ (xs : List ℕ). Walking start l w.passed xs w.lost moves) (head.is ∙ ap (λ (x : ℕ). x ∷ head.rest) same) w.walking
+  pub not_none : None ≡ slice_get (writable_modified l) 0 → ⊥
+  not_none e = let bad : None ≡ Some next.first = e ∙ front_is in cc
 
-    list : l.frames.modified ≡ walked w.passed (f.0 ∷ head.rest) w.lost
+  module _ (f : Frame) (is_front : Some f.0 ≡ slice_get (writable_modified l) 0) where
+    same_frame : next.first ≡ f.0
+    same_frame = let both : Some next.first ≡ Some f.0 = sym front_is ∙ sym is_front in cc
+
+    abbrev before : List ℕ
+    before = w.passed ++ next.more
+
+    walking : Walking start l before (f.0 ∷ next.behind) w.lost moves
+    walking = walk_passes_all start l w.passed next.more (f.0 ∷ next.behind) w.lost moves
+        (subst (λ (xs : List ℕ). Walking start l w.passed xs w.lost moves) (next.is ∙ ap (λ (x : ℕ). next.more ++ (x ∷ next.behind)) same_frame) w.walking)
+        (λ g h. same_test g ∙ next.none g h)
+
+    list : l.frames.modified ≡ walked before (f.0 ∷ next.behind) w.lost
     list = ap (λ (k : FrameLife). k.frames.modified) walking.now
 
     pub on_list : is_on f.0 l.frames.modified ≡ true
-    on_list = walk_on start l w.passed head.rest w.lost moves f walking
+    on_list = walk_on start l before next.behind w.lost moves f walking
 
-    -- where it stands
-    pub stands_at : slice_get l.frames.modified (length w.passed) ≡ Some f.0
-    stands_at = ap (λ (xs : List ℕ). slice_get xs (length w.passed)) list ∙ get_mid w.passed f.0 (head.rest ++ w.lost)
-
-    count_now : length head.rest + (i + 1) ≡ n
-    count_now = let a = w.count in let b = ap (λ (ys : List ℕ). length ys) head.is in omega (arith, a, b)
-
-    next_now : (after : Option ℕ) → after ≡ slice_get l.frames.modified (length w.passed + 1) → 1 ≤ length head.rest → after ≡ slice_get head.rest 0
-    next_now after e h = e ∙ ap (λ (xs : List ℕ). slice_get xs (length w.passed + 1)) list ∙ get_next w.passed f.0 (head.rest ++ w.lost) ∙ front_of head.rest h
-      where
-        front_of : (xs : List ℕ) → 1 ≤ length xs → slice_get (xs ++ w.lost) 0 ≡ slice_get xs 0
-        front_of [] h = absurd (omega (arith, h))
-        front_of (x ∷ xs) h = refl
+    pub can : can_be_written l f.0 ≡ true
+    can = same_test f.0 ∙ ap (can_be_written start) (sym same_frame) ∙ next.passes
 
     -- it was not tried, and is the next
     fresh : lost_in moves f.0 ≡ false
     fresh = false_if (lost_in moves f.0) (λ h.
         let on = w.only f.0 h in
         let once = sym (ap (λ (xs : List ℕ). times f.0 xs) list) ∙ (modified_frame l sound f.0 on_list).once in
-        let a = tally-append (λ x. x == f.0) w.passed (f.0 ∷ (head.rest ++ w.lost)) in
-        let b = tally-append (λ x. x == f.0) head.rest w.lost in
+        let a = tally-append (λ x. x == f.0) before (f.0 ∷ (next.behind ++ w.lost)) in
+        let b = tally-append (λ x. x == f.0) next.behind w.lost in
         let one : one_if (f.0 == f.0) ≡ 1 = ap one_if ((unsigned_Decides f.0 f.0).1 refl) in
         let more = times_on f.0 w.lost on in
         absurd (omega (arith, once, a, b, one, more)))
 
-    pub tries : can_be_written l f.0 ≡ true → next_try l moves ≡ Some f.0
-    tries can =
+    pub tries : next_try l moves ≡ Some f.0
+    tries =
         ap (λ (xs : List ℕ). first_passing (is_untried l moves) xs) list
-        ∙ passes_first (is_untried l moves) w.passed (head.rest ++ w.lost) f.0
-        (λ x h. ap (λ b. b && not (lost_in moves x)) (writes_same start l (walked w.passed (f.0 ∷ head.rest) w.lost) walking.now x ∙ walking.over x h))
+        ∙ passes_first (is_untried l moves) before (next.behind ++ w.lost) f.0
+        (λ x h. ap (λ b. b && not (lost_in moves x)) (same_test x ∙ walking.over x h))
         (ap (λ b. b && not (lost_in moves f.0)) can ∙ ap not fresh)
 
-    pub walk_over : (after : Option ℕ) → after ≡ slice_get l.frames.modified (length w.passed + 1) → can_be_written l f.0 ≡ false → WalkedTo start l moves n (i + 1) after
-    walk_over after e bars = record {
-      passed = w.passed ++ f.0 ∷ [];
-      left = head.rest;
-      lost = w.lost;
-      walking = walk_passes start l w.passed head.rest w.lost moves f walking bars;
-      only = w.only;
-      count = count_now;
-      at = next_now after e;
-    }
-
-    pub walk_lost : (after : Option ℕ) (home : Stored) (m : FrameLife) → after ≡ slice_get l.frames.modified (length w.passed + 1) → IsLegal (move.Write f home) l → m ≡ after_failed l f home
-        → WalkedTo start m (moves ++ failed_write f home) n (i + 1) after
-    walk_lost after home m e legal same = record {
-      passed = w.passed;
-      left = head.rest;
+    pub walk_lost : (home : Stored) (m : FrameLife) → IsLegal (move.Write f home) l → m ≡ after_failed l f home → WalkedTo start m (moves ++ failed_write f home) n (i + 1)
+    walk_lost home m legal same = record {
+      passed = before;
+      left = next.behind;
       lost = w.lost ++ f.0 ∷ [];
-      walking = subst (λ (k : FrameLife). Walking start k w.passed head.rest (w.lost ++ f.0 ∷ []) (moves ++ failed_write f home)) (sym same) (walk_fails start l w.passed head.rest w.lost moves f walking sound home legal);
+      walking = subst (λ (k : FrameLife). Walking start k before next.behind (w.lost ++ f.0 ∷ []) (moves ++ failed_write f home)) (sym same) (walk_fails start l before next.behind w.lost moves f walking sound home legal);
       only = λ g h. elim (lost_more moves f home g h) [
         | inl a ↦ on_append g w.lost (f.0 ∷ []) ∙ or_left (is_on g w.lost) (is_on g (f.0 ∷ [])) (w.only g a)
         | inr a ↦ ap (λ (k : ℕ). is_on k (w.lost ++ f.0 ∷ [])) a ∙ on_last f.0 w.lost
       ];
-      count = count_now;
-      at = next_now after e;
+      count = let a = w.count in let b = next.fewer in omega (arith, a, b);
     }
 
 -- ---- the turns

@@ -1,5 +1,5 @@
 -- Each page that goes next has a greater rank, so a set is gone through.
-use Rattle.std.proofs.Common.{◌≡◌, ◌-◌, ◌<◌, ◌≤◌, Option, Some, None, inl, inr, arith}
+use Rattle.std.proofs.Common.{◌-◌, ◌<◌, ◌≤◌, Option, Some, None, inl, inr, arith}
 use Rattle.mm_types.specs.declared.numbers.Pid.{Pid}
 use Rattle.mm_types.specs.declared.numbers.Vpn.{Vpn}
 use Rattle.mm_types.specs.declared.numbers.Place.{Place}

@@ -1,6 +1,6 @@
 -- The steps of a search: what each adds to its moves.
-use Rattle.std.proofs.Common.{◌≡◌, ◌≢◌, ◌⊎◌, ℕ, ◌+◌, ◌<◌, ◌≤◌, Bool, true, false, cond, List, [], ◌∷◌, ◌++◌, length, Option, Some, None, refl, sym, ap, ◌∙◌, subst, inl, inr, arith}
-use Rattle.std.specs.Prelude.{◌&&◌, ◌||◌, ◌==◌, not, is_some, nat_lt, if◌then◌else◌, count_by}
+use Rattle.std.proofs.Common.{◌≡◌, ◌≢◌, ℕ, ◌+◌, ◌<◌, ◌≤◌, Bool, true, false, List, [], ◌∷◌, ◌++◌, length, Option, Some, None, refl, sym, ap, ◌∙◌, subst, inl, inr, arith}
+use Rattle.std.specs.Prelude.{◌&&◌, ◌||◌, ◌==◌, not, if◌then◌else◌}
 use Rattle.std.proofs.lemmas.Bool.{eqb-true}
 use Rattle.mm_types.specs.Outside.{Rose}
 use Rattle.mm_types.specs.declared.frames.Backing.{Backing}
@@ -15,8 +15,8 @@ use Rattle.mm_life.specs.Life.{FrameLife}
 use Rattle.mm_life.specs.Legal.{is_short, is_access}
 use Rattle.mm_types.specs.Machine.{MachineOf}
 use Rattle.mm_life.specs.Victims.{can_be_written}
-use Rattle.mm_walks.specs.Walks.{Walk, Through, walked, walked_all, is_wrote_move, is_read_move}
-use Rattle.mm_walks.specs.Searches.{IsWriteEnded, SearchMove, writable_in, next_writable, Starved}
+use Rattle.mm_walks.specs.Walks.{Walk, Through, walked_all, is_wrote_move, is_read_move}
+use Rattle.mm_walks.specs.Searches.{SearchMove, writable_in, next_writable, Starved}
 use Rattle.mm_walks.specs.Order.{IsVictim, is_frame, is_unpinned}
 use Rattle.mm_pages.proofs.Walking.{through_then, walked_then}
 use Rattle.mm_pages.specs.Told.{Told, told_after}
@@ -30,7 +30,7 @@ use Rattle.mm_moving.proofs.Doing.{does_nothing, does_one, does_two, does_then, 
 use Rattle.mm_reclaim.specs.Seeking.{Begun, Tries, Seeks}
 use Rattle.std.proofs.Math.Logic.{∥∥₁_elim}
 use Rattle.std.proofs.Props.{props}
-use Rattle.mm_types.proofs.Bytes.{rose_then, rose_later}
+use Rattle.mm_types.proofs.Bytes.{rose_later}
 use Rattle.mm_types.specs.declared.devices.Direction.TheVariants as way
 use Rattle.mm_types.specs.declared.frames.Record.{Record}
 use Rattle.mm_types.specs.declared.moves.Stored.TheVariants as stored
@@ -140,7 +140,7 @@ tries_called f ok s z r on home mid b e =
 -- ---- what stays
 
 -- the kind, the machine and the line's own request stay in a search
-begun_then : (s z : StateOf) → Begun s → z.life.kind ≡ s.life.kind → z.life.flight ≡ s.life.flight → z.life.machine ≡ s.life.machine → z ≡ called s z → Begun z
+pub begun_then : (s z : StateOf) → Begun s → z.life.kind ≡ s.life.kind → z.life.flight ≡ s.life.flight → z.life.machine ≡ s.life.machine → z ≡ called s z → Begun z
 begun_then s z b k q m same = record {
   access = ap is_access k ∙ b.access;
   few =
@@ -153,7 +153,7 @@ begun_then s z b k q m same = record {
 called_then : (s y z : StateOf) → y ≡ called s y → z ≡ called y z → z ≡ called s z
 called_then s y z p q = q ∙ (λ i. called (p i) z)
 
-moved_called : (s z : StateOf) → z ≡ moved s z → z ≡ called s z
+pub moved_called : (s z : StateOf) → z ≡ moved s z → z ≡ called s z
 moved_called s z e = e ∙ (λ i. record (moved s z) {
   paging = ap (λ (t : StateOf). t.paging) (sym e) i;
   files = ap (λ (t : StateOf). t.files) (sym e) i;

@@ -1,27 +1,21 @@
 -- Where a modified frame is written to, and that it can be.
-use Rattle.std.proofs.Common.{◌≡◌, ◌≢◌, ◌⊎◌, ℕ, zero, suc, ◌+◌, ◌<◌, ◌≤◌, Bool, true, false, cond, List, [], ◌∷◌, ◌++◌, length, Option, Some, None, refl, sym, ap, ◌∙◌, subst, inl, inr, arith}
-use Rattle.std.specs.Prelude.{◌==◌, ◌&&◌, ◌||◌, not, is_some, nat_lt, slice_get, count_by, if◌then◌else◌}
-use Rattle.std.specs.List.{list_any}
+use Rattle.std.proofs.Common.{◌≡◌, ℕ, zero, suc, ◌<◌, ◌≤◌, Bool, true, false, List, refl, sym, ap, ◌∙◌, subst, arith}
+use Rattle.std.specs.Prelude.{◌==◌, ◌&&◌, ◌||◌, not, is_some, nat_lt, count_by}
 use Rattle.std.proofs.lemmas.Bool.{eqb-true, lt-ltb}
 use Rattle.std.proofs.Math.Logic.{∥∥₁_elim}
 use Rattle.std.proofs.Math.Bool.{Bool-set}
 use Rattle.std.proofs.Props.{props}
 use Rattle.mm_types.specs.declared.frames.Backing.{Backing}
 use Rattle.mm_types.specs.declared.frames.Backing.TheVariants as backing
-use Rattle.mm_types.specs.declared.frames.Record.{Record}
 use Rattle.mm_types.specs.declared.numbers.Frame.{Frame}
-use Rattle.mm_types.specs.declared.numbers.Slot.{Slot}
-use Rattle.mm_types.specs.declared.numbers.Block.{Block}
 use Rattle.mm_types.specs.declared.moves.Stored.{Stored}
 use Rattle.mm_types.specs.declared.moves.Stored.TheVariants as stored
 use Rattle.mm_types.specs.declared.moves.Move.TheVariants as move
 use Rattle.mm_life.specs.Frames.{record_at, is_on, is_idle, has_request}
 use Rattle.mm_life.specs.Life.{FrameLife}
-use Rattle.mm_life.specs.Legal.{IsLegal, is_access, is_lowest, is_block}
-use Rattle.mm_life.specs.Effect.{after_move}
+use Rattle.mm_life.specs.Legal.{IsLegal}
 use Rattle.mm_life.specs.Victims.{can_be_written}
 use Rattle.mm_laws.specs.FileBlocks.{block_of}
-use Rattle.mm_laws.specs.Reached.{Reached}
 use Rattle.mm_laws.specs.Sound.{Sound}
 use Rattle.mm_laws.specs.Tally.{one_if, times}
 use Rattle.mm_laws.proofs.Deduced.{reached_sound}
@@ -33,11 +27,11 @@ use Rattle.mm_slots.specs.Slots.{IsLowest as LowestSlot}
 use Rattle.mm_room.specs.Room.{Writable}
 use Rattle.mm_room.proofs.Counting.{on_times}
 use Rattle.mm_room.proofs.Writing.{which_writes, store_there, wrote_legal, slot_parts, slot_backing, block_is}
-use Rattle.mm_parts.specs.Moves.{goes_to, lowest_free, write_target, write_end}
+use Rattle.mm_parts.specs.Moves.{goes_to, lowest_free, write_target}
 use Rattle.mm_parts.proofs.Requesting.{lowest_is as lowest_number}
-use Rattle.mm_moving.specs.Shown.{StateOf, Made, SomeFault, moved, called}
+use Rattle.mm_moving.specs.Shown.{StateOf, Made}
 use Rattle.mm_moving.specs.Holds.{Holds}
-use Rattle.mm_reclaim.specs.Seeking.{Begun, Tries}
+use Rattle.mm_reclaim.specs.Seeking.{Begun}
 
 lt_prop : (a b : ℕ) → IsProp (a < b)
 lt_prop a b = hlevel props

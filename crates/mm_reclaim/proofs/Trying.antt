@@ -1,6 +1,6 @@
 -- One frame of the walk, or of a turn, is tried.
-use Rattle.std.proofs.Common.{◌≡◌, ◌≢◌, ◌⊎◌, ℕ, ◌+◌, ◌<◌, ◌≤◌, Bool, true, false, cond, List, [], ◌∷◌, ◌++◌, length, Option, Some, None, refl, sym, ap, ◌∙◌, subst, inl, inr, arith}
-use Rattle.std.specs.Prelude.{◌==◌, ◌&&◌, is_some, slice_get, ◌-◌, ◌^◌, min}
+use Rattle.std.proofs.Common.{◌≡◌, ◌≢◌, ℕ, ◌+◌, ◌<◌, ◌≤◌, Bool, true, false, List, [], ◌∷◌, ◌++◌, Option, Some, refl, sym, ap, ◌∙◌, subst, arith}
+use Rattle.std.specs.Prelude.{◌-◌, ◌^◌, min}
 use Rattle.std.proofs.Math.Logic.{∥∥₁_elim}
 use Rattle.std.proofs.Props.{props}
 use Rattle.std.proofs.Math.Bool.{Bool-set}
@@ -13,26 +13,22 @@ use Rattle.mm_types.specs.declared.moves.Move.{Move}
 use Rattle.mm_types.specs.declared.moves.Move.TheVariants as move
 use Rattle.mm_life.specs.Frames.{record_at, is_on, without}
 use Rattle.mm_life.specs.Life.{FrameLife}
-use Rattle.mm_life.specs.Legal.{IsLegal, is_short, is_access}
+use Rattle.mm_life.specs.Legal.{is_short}
 use Rattle.mm_life.specs.Effect.{after_move}
-use Rattle.mm_life.specs.Replay.{Replays}
-use Rattle.mm_life.specs.Victims.{can_be_written}
 use Rattle.mm_laws.specs.Reached.{Reached}
-use Rattle.mm_laws.specs.Sound.{Sound}
-use Rattle.mm_laws.specs.Tally.{times, one_if}
-use Rattle.mm_laws.proofs.Deduced.{reached_sound, reached_along}
+use Rattle.mm_laws.specs.Tally.{times}
+use Rattle.mm_laws.proofs.Deduced.{reached_sound}
 use Rattle.mm_laws.proofs.FromSound.{modified_frame}
 use Rattle.mm_laws.proofs.Lists.{begun_ended}
 use Rattle.mm_laws.proofs.Tallies.{times_on}
 use Rattle.mm_room.specs.Steps.{after_written, after_failed, put_last}
 use Rattle.mm_room.specs.Searches.{failed_write, next_try}
 use Rattle.mm_room.proofs.Writing.{failed, written_found}
-use Rattle.mm_pages.specs.Told.{Told, with_write, told_after}
-use Rattle.mm_moving.specs.Shown.{StateOf, Made}
+use Rattle.mm_pages.specs.Told.{Told, with_write}
+use Rattle.mm_moving.specs.Shown.{StateOf}
 use Rattle.mm_moving.specs.Doing.{Searched}
-use Rattle.mm_reclaim.specs.Seeking.{Begun, Tries, Tried, Over, Wrote, Seeks, Walks, WalkedTo}
-use Rattle.mm_reclaim.proofs.Steps.{Target, Stays, seeks_failed, wrote_found, backed_mid, Backed, tries_called, CalledOne}
-use Rattle.mm_reclaim.proofs.Phases.{walk_over, walk_lost, tries, on_list, walking}
+use Rattle.mm_reclaim.specs.Seeking.{Tries, Seeks}
+use Rattle.mm_reclaim.proofs.Steps.{Target, Stays, seeks_failed, wrote_found, backed_mid, tries_called}
 
 -- ---- what a write tells
 
@@ -69,7 +65,7 @@ flight_write l f (stored.Slot t) = refl
 flight_write l f (stored.Block b) = refl
 
 -- the state after both moves
-two_life : (f : Frame) (s z : StateOf) (t : Tries f false s z) → z.life ≡ after_failed s.life f t.home
+pub two_life : (f : Frame) (s z : StateOf) (t : Tries f false s z) → z.life ≡ after_failed s.life f t.home
 two_life f s z t = t.ends.life ∙ ap (λ (l : FrameLife). after_move l (move.Lost f)) t.begins.life
 
 two_written : (f : Frame) (s z : StateOf) (t : Tries f true s z) → z.life ≡ after_written s.life f t.home

@@ -1,2 +1,4 @@
 pub mod Choosing
 pub mod Seeking
+pub mod Searching
+pub mod Chores

@@ -1,7 +1,6 @@
 -- What a search has come to.
-use Rattle.std.specs.Prelude.{◌≡◌, ◌≢◌, ◌≤◌, ◌<◌, ◌+◌, ℕ, Bool, true, false, List, [], ◌∷◌, length, count_by, Option, Some, None, slice_get}
+use Rattle.std.specs.Prelude.{◌≡◌, ◌≤◌, ◌<◌, ◌+◌, ℕ, Bool, true, false, List, length, count_by, filter, Option, Some, None}
 use Rattle.mm_types.specs.declared.numbers.Frame.{Frame}
-use Rattle.mm_types.specs.declared.numbers.Place.{Place}
 use Rattle.mm_types.specs.declared.moves.Stored.{Stored}
 use Rattle.mm_types.specs.declared.moves.Move.{Move}
 use Rattle.mm_types.specs.declared.moves.Move.TheVariants as move
@@ -55,25 +54,28 @@ pub record Seeks (pin : Option Frame) (s z : StateOf) (moves : List Move) : Type
   pub short : is_short z.life ≡ true
   pub flight : z.life.flight ≡ s.life.flight
 
--- in the walk over the modified list, with i of n frames behind it
-pub record WalkedTo (l m : FrameLife) (moves : List Move) (n i : ℕ) (next : Option ℕ) : Type 0 where
+-- the modified frames that can be written, in the order of the modified list
+abbrev pub writable_modified : FrameLife → List ℕ
+writable_modified l = filter (can_be_written l) l.frames.modified
+
+-- in the walk over the modified list, with i of the n frames that can be written behind it
+pub record WalkedTo (l m : FrameLife) (moves : List Move) (n i : ℕ) : Type 0 where
   pub passed : List ℕ
   pub left : List ℕ
   pub lost : List ℕ
   pub walking : Walking l m passed left lost moves
   pub only : (g : ℕ) → lost_in moves g ≡ true → is_on g lost ≡ true
-  pub count : length left + i ≡ n
-  pub at : 1 ≤ length left → next ≡ slice_get left 0
+  pub count : length (filter (can_be_written l) left) + i ≡ n
 
 -- once the walk is over
 pub record SoughtTo (l m : FrameLife) (moves : List Move) : Type 0 where
   pub emptying : Emptying l m moves
   pub listed : (g : ℕ) → lost_in moves g ≡ true → is_on g m.frames.modified ≡ true
 
-pub record Walks (pin : Option Frame) (s z : StateOf) (n i : ℕ) (next : Option ℕ) : Type 0 where
+pub record Walks (pin : Option Frame) (s z : StateOf) (n i : ℕ) : Type 0 where
   pub moves : List Move
   pub seeks : Seeks pin s z moves
-  pub to : Reached s.life → WalkedTo s.life z.life moves n i next
+  pub to : Reached s.life → WalkedTo s.life z.life moves n i
 
 pub record Seeking (pin : Option Frame) (s z : StateOf) : Type 0 where
   pub moves : List Move

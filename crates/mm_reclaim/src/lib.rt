@@ -1,8 +1,12 @@
-//! Reclaim: which page goes first, and the write of a modified frame, over the joined state.
+//! Reclaim over the joined state: a page frame is found, working sets are trimmed, frames are cleared, and write-outs begin.
 #![tactic(auto)]
 
 mod choosing;
+mod chores;
+mod searching;
 mod seeking;
 
 pub use choosing::victim;
+pub use chores::{trim, write_out, zero};
+pub use searching::{Found, NoFrame, find_frame};
 pub use seeking::try_frame;

@@ -32,7 +32,7 @@ fn can_be_written<T: Moving>(state: &T, f: Frame) -> bool
 
 /// A modified frame that can be written is, in an access. Answers whether the write succeeded.
 #[tactic(auto, using(crate::proofs::Targets::target_legal, crate::proofs::Targets::end_legal))]
-fn write_frame<T: Moving>(state: &mut T, f: Frame) -> bool
+pub(crate) fn write_frame<T: Moving>(state: &mut T, f: Frame) -> bool
     requires begun { Begun (T.shown state.old) }
     requires writable { Writable (T.shown state.old).life f.0 }
     ensures tries { Tries f result (T.shown state.old) (T.shown state.new) }

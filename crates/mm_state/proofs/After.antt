@@ -1,6 +1,6 @@
 -- What single moves leave of the record of a frame, and of a working set.
-use Rattle.std.proofs.Common.{◌≡◌, ◌≢◌, ◌⊎◌, ℕ, zero, suc, ◌-◌, ◌<◌, ◌≤◌, Bool, true, false, List, Option, Some, None, refl, sym, ap, ◌∙◌, inl, inr, arith, length}
-use Rattle.std.specs.Prelude.{◌==◌, ◌&&◌, ◌||◌, not, is_some, is_none, nat_lt, if◌then◌else◌, option_map, unwrap_or, slice_get, slice_set}
+use Rattle.std.proofs.Common.{◌≡◌, ℕ, zero, suc, ◌-◌, ◌≤◌, Bool, true, false, Option, Some, None, refl, sym, ap, ◌∙◌, inl, inr, arith}
+use Rattle.std.specs.Prelude.{◌&&◌, ◌||◌, not, is_some, is_none, nat_lt, if◌then◌else◌, option_map, unwrap_or, slice_get}
 use Rattle.std.proofs.lemmas.Bool.{and_parts, not-true, eqb-true, lt-ltb, ltb-true}
 use Rattle.mm_types.proofs.Cells.{same_or_not, get_set_same, get_within}
 use Rattle.mm_types.specs.declared.numbers.Frame.{Frame}
@@ -26,7 +26,7 @@ use Rattle.mm_laws.proofs.Sound.{owner_passes}
 use Rattle.mm_parts.specs.Moves.{read_end}
 use Rattle.mm_located.specs.Carried.{IsSoiled, is_calm}
 use Rattle.mm_located.proofs.Alone.{others_set, here_set, records_ended}
-use Rattle.mm_located.proofs.Facts.{Facts, facts_of}
+use Rattle.mm_located.proofs.Facts.{facts_of}
 use Rattle.mm_located.proofs.FrameMoves.{owned_low, asked_low, shown_calm}
 
 asked_write : (q : Request) → has_request q ≡ true → is_read q ≡ false → is_write q ≡ true

@@ -13,7 +13,7 @@ use Rattle.mm_pages.specs.Told.{Told}
 use Rattle.mm_located.specs.Carried.{Carries}
 use Rattle.mm_located.proofs.Carrying.{carries_block}
 use Rattle.mm_state.specs.Shown.{state_of}
-use Rattle.mm_state.specs.Tallied.{written_if}
+use Rattle.mm_moving.specs.Shown.{written_if}
 
 pub block_written : (ok : Bool) (after before : BlockBytes) (write : BlockBytes → BlockBytes) → OnTrue ok (after ≡ write before) → OnFalse ok (after ≡ before) → after ≡ written_if ok write before
 block_written true after before write there kept = OnTrue_at refl there

@@ -31,8 +31,8 @@ use Rattle.mm_located.proofs.FrameMoves.{asked_low, not_reading}
 use Rattle.mm_located.proofs.Moving.{home_bytes}
 use Rattle.mm_parts.specs.Reading.{waits_of}
 use Rattle.mm_parts.proofs.Waiting.{waits_ended}
-use Rattle.mm_state.specs.Shown.{StateOf, Calls, Called, CalledFor, backing_of_frame}
-use Rattle.mm_state.specs.Tallied.{page_if, read_told, written_if}
+use Rattle.mm_moving.specs.Shown.{StateOf, Calls, Called, CalledFor, backing_of_frame, written_if}
+use Rattle.mm_state.specs.Tallied.{page_if, read_told}
 
 -- ---- reads
 

@@ -7,3 +7,5 @@ pub mod Blocks
 pub mod Storing
 pub mod Waiting
 pub mod After
+pub mod Whole
+pub mod Behind

@@ -15,7 +15,8 @@ use Rattle.mm_walks.specs.Waits.{Waiting, waits_after, ages_after}
 use Rattle.mm_pages.specs.Told.{Told, told_after}
 use Rattle.mm_parts.specs.Shown.{PartsOf}
 use Rattle.mm_located.specs.Carried.{Carries}
-use Rattle.mm_state.specs.Shown.{StateOf, state_of, Made, Calls, asked_to_grow}
+use Rattle.mm_moving.specs.Shown.{StateOf, Made, Calls, asked_to_grow}
+use Rattle.mm_state.specs.Shown.{state_of}
 
 pub made_by : (x : Move) (s z : StateOf) → IsLegal x s.life → IsMove x → Grew s.log z.log (spelling_of_move x) → z.life ≡ after_move s.life x → z.ages ≡ ages_after x s.ages → z.waits ≡ waits_after x s.waits
     → z.told ≡ told_after s.life x s.told → Calls x s z → Made x s z

@@ -1,4 +1,5 @@
 pub mod Shown
 pub mod Tallied
-pub mod Holds
+pub mod Whole
 pub mod StateShown
+pub mod Worked

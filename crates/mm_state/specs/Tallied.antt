@@ -1,8 +1,7 @@
--- What a call of a device leaves: the counts of a line, and the blocks.
+-- What a call of a device leaves: the counts of a line.
 use Rattle.std.specs.Prelude.{◌≡◌, ◌<◌, ◌+◌, ℕ, is_some, Bool, true, false, List, Option, Some, None}
 use Rattle.mm_types.specs.declared.frames.Backing.{Backing}
 use Rattle.mm_types.specs.declared.numbers.Key.{Key}
-use Rattle.mm_life.specs.Located.{BlockBytes}
 use Rattle.mm_pages.specs.Reports.{no_calls}
 use Rattle.mm_pages.specs.Told.{Told, with_read}
 
@@ -23,11 +22,6 @@ read_told false home owner t = with_bad home owner t
 abbrev pub page_if : Bool → List ℕ → Option (List ℕ)
 page_if true page = Some page
 page_if false page = None
-
--- the blocks of a device, where the write succeeded
-abbrev pub written_if : Bool → (BlockBytes → BlockBytes) → BlockBytes → BlockBytes
-written_if true write blocks = write blocks
-written_if false write blocks = blocks
 
 -- a failed call of the line's search, or a read that failed, is one of the line's device calls
 pub record IsTallied (t : Told) : Type 0 where

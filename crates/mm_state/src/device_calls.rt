@@ -4,8 +4,7 @@ ghost use Rattle.mm_types.specs.declared.devices.Direction.TheVariants as way;
 ghost use Rattle.mm_types.specs.declared.frames.Backing.TheVariants as backing;
 ghost use Rattle.mm_pages.specs.Reports.{with_named};
 ghost use Rattle.mm_pages.specs.Told.{with_write};
-ghost use Rattle.mm_state.specs.Shown.{Called};
-ghost use Rattle.mm_state.specs.Tallied.{written_if};
+ghost use Rattle.mm_moving.specs.Shown.{Called, written_if};
 
 use crate::devices::write_device;
 use crate::states::State;

@@ -9,8 +9,8 @@ ghost use Rattle.mm_laws.specs.FileBlocks.{block_of};
 ghost use Rattle.mm_blocks.specs.Traffic.{is_named};
 ghost use Rattle.mm_blocks.specs.Devices.{Serves};
 ghost use Rattle.mm_located.specs.Carried.{slots_written, blocks_written};
-ghost use Rattle.mm_state.specs.Shown.{CalledFor, device_with};
-ghost use Rattle.mm_state.specs.Tallied.{written_if};
+ghost use Rattle.mm_moving.specs.Shown.{CalledFor, written_if};
+ghost use Rattle.mm_state.specs.Shown.{device_with};
 ghost use Rattle.std.specs.Prelude.{[]};
 
 use mm_blocks::Blocks;

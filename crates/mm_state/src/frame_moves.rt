@@ -4,7 +4,7 @@ ghost use Rattle.mm_life.specs.Frames.{record_at, is_empty, is_read};
 ghost use Rattle.mm_life.specs.Legal.{IsLegal};
 ghost use Rattle.mm_parts.specs.PartsShown as parts_of;
 ghost use Rattle.mm_parts.specs.Moves.{front};
-ghost use Rattle.mm_state.specs.Shown.{Made, moved, names_after_give};
+ghost use Rattle.mm_moving.specs.Shown.{Made, moved, names_after_give};
 
 use crate::states::State;
 use mm_blocks::Inject;

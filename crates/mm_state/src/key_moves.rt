@@ -3,7 +3,7 @@ ghost use Rattle.mm_types.specs.declared.moves.Move.TheVariants as move;
 ghost use Rattle.mm_life.specs.Life.{changed, same_key};
 ghost use Rattle.mm_life.specs.Legal.{IsLegal};
 ghost use Rattle.mm_life.specs.Located.{zero_page};
-ghost use Rattle.mm_state.specs.Shown.{Made, moved, HasHome, IsClear, aside_after_add, names_after_drop};
+ghost use Rattle.mm_moving.specs.Shown.{Made, moved, HasHome, IsClear, aside_after_add, names_after_drop};
 
 use crate::states::State;
 use mm_blocks::Inject;

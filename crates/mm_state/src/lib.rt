@@ -1,8 +1,10 @@
 //! The joined state: the parts of a machine over two devices and a sink of moves. Each call of a move makes it, notes it and keeps the bytes of every key.
 #![tactic(auto)]
 
+mod calls;
 mod device_calls;
 mod devices;
+mod flushing;
 mod frame_moves;
 mod homes;
 mod key_moves;
@@ -18,3 +20,6 @@ mod tallies;
 mod waits;
 
 pub use states::State;
+
+#[cfg(test)]
+mod tests;

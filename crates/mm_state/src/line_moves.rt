@@ -8,7 +8,7 @@ ghost use Rattle.mm_life.specs.Legal.{IsLegal};
 ghost use Rattle.mm_life.specs.Located.{zero_page};
 ghost use Rattle.mm_parts.specs.PartsShown as parts_of;
 ghost use Rattle.mm_parts.specs.Moves.{IsPlainLine};
-ghost use Rattle.mm_state.specs.Shown.{Made, Begins, moved, asked_to_grow};
+ghost use Rattle.mm_moving.specs.Shown.{Made, Begins, moved, asked_to_grow};
 
 use crate::states::State;
 use crate::tallies::Tallies;
@@ -48,7 +48,7 @@ impl<P: Inject, F: Inject, M: Moves> State<P, F, M> {
     }
 
     /// A line begins in which the paging file grows by `n` slots of zeros. Where the paging device fails the line is a call that changes
-    /// nothing; after `Memory` no line has begun.
+    /// nothing; after `Memory` no line has begun, and nothing has changed.
     pub fn grow(&mut self, line: u32, n: u32) -> Result<(), GrowFault>
         requires legal { IsLegal (move.At line (kind.Grow n)) (shown self.old).life }
         requires done { (shown self.old).own ≡ None }
@@ -62,7 +62,7 @@ impl<P: Inject, F: Inject, M: Moves> State<P, F, M> {
         ensures kept { IsErrOf result grow_fault.Failed → shown self.new ≡ record (moved (shown self.old) (shown self.new)) {
           paging = asked_to_grow (shown self.old).paging (shown self.new).paging;
         } }
-        ensures memory { IsErrOf result grow_fault.Memory → shown self.new ≡ record (shown self.old) { paging = asked_to_grow (shown self.old).paging (shown self.new).paging } }
+        ensures memory { IsErrOf result grow_fault.Memory → shown self.new ≡ shown self.old }
         ensures later { (shown self.old).paging.faults ≤ (shown self.new).paging.faults }
         ensures cause { IsErrOf result grow_fault.Failed → Rose (shown self.old).paging.faults (shown self.new).paging.faults }
         ensures loans { loans self.new ≡ loans self.old }

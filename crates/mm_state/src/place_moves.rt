@@ -6,7 +6,7 @@ ghost use Rattle.mm_life.specs.Life.{set_of};
 ghost use Rattle.mm_life.specs.Legal.{IsLegal, is_at_max, is_below_max};
 ghost use Rattle.mm_located.specs.Carried.{IsSoiled};
 ghost use Rattle.mm_parts.specs.Moves.{left_by};
-ghost use Rattle.mm_state.specs.Shown.{Made, moved, MayMap, names_after_map};
+ghost use Rattle.mm_moving.specs.Shown.{Made, moved, MayMap, names_after_map};
 
 use crate::states::State;
 use mm_blocks::Inject;

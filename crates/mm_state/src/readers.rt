@@ -5,7 +5,7 @@ ghost use Rattle.mm_life.specs.Legal.{has_depth, is_at_max, is_above_min};
 ghost use Rattle.mm_frames.specs.Base.{has_block, modified_with_block};
 ghost use Rattle.mm_frames.specs.Placing.{IsAtRest};
 ghost use Rattle.mm_parts.specs.Reading.{first_of};
-ghost use Rattle.mm_state.specs.Shown.{HasHome};
+ghost use Rattle.mm_moving.specs.Shown.{HasHome};
 
 use crate::states::State;
 use mm_blocks::Inject;

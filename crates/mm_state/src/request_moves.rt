@@ -6,7 +6,7 @@ ghost use Rattle.mm_life.specs.Legal.{IsLegal};
 ghost use Rattle.mm_flight.specs.Requests.{ended};
 ghost use Rattle.mm_parts.specs.PartsShown as parts_of;
 ghost use Rattle.mm_parts.specs.Moves.{after, front_for_read, own_after, own_ended, read_end, write_end, write_target, page_filled};
-ghost use Rattle.mm_state.specs.Shown.{Made, Wrote, moved, called, CanBegin, backing_of_frame};
+ghost use Rattle.mm_moving.specs.Shown.{Made, Wrote, moved, called, CanBegin, backing_of_frame};
 ghost use Rattle.mm_state.specs.Tallied.{page_if};
 
 use crate::devices::{get_page, put_page};
@@ -109,6 +109,7 @@ impl<P: Inject, F: Inject, M: Moves> State<P, F, M> {
         ensures ownerless { (record_at (shown self.old).life.frames f.0).owner ≡ None → (shown self.new).blocks ≡ (shown self.old).blocks }
         ensures loans { loans self.new ≡ loans self.old }
     {
+        self.parts.bytes_hold();
         let mut page = [0; 4096];
         self.parts.take(f, &mut page);
         let home = self.parts.look(f).backing;

@@ -1,4 +1,4 @@
-ghost use Rattle.mm_state.specs.Holds.{Holds};
+ghost use Rattle.mm_moving.specs.Holds.{Holds};
 
 use crate::states::State;
 use mm_blocks::Inject;
@@ -12,5 +12,7 @@ impl<P: Inject, F: Inject, M: Moves> State<P, F, M> {
         ensures holds { Holds (shown self.now) }
     {
         self.parts.parts_hold();
+        self.parts.sets_agree();
+        self.parts.bytes_hold();
     }
 }

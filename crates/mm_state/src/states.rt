@@ -5,6 +5,7 @@ ghost use Rattle.mm_parts.specs.PartsShown as parts_of;
 ghost use Rattle.mm_parts.specs.Start.{first_move};
 ghost use Rattle.mm_state.specs.Shown.{Starts, device_with};
 ghost use Rattle.mm_state.specs.Tallied.{IsTallied};
+ghost use Rattle.mm_state.specs.Whole.{AreWhole};
 
 use crate::tallies::Tallies;
 use mm_blocks::{Blocks, Inject};
@@ -25,6 +26,8 @@ pub struct State<P: Inject, F: Inject, M: Moves> {
     pub(crate) told: Tallies,
     ghost located: { BytesLocated (parts_of.shown parts).life (parts_of.shown parts).bytes (P.Blocks.blocks paging) (F.Blocks.blocks files) },
     ghost tallied: { IsTallied told },
+    ghost slots_whole: { AreWhole (P.Blocks.blocks paging) },
+    ghost blocks_whole: { AreWhole (F.Blocks.blocks files) },
 }
 
 /// The first line of a machine.
@@ -56,6 +59,8 @@ impl<P: Inject, F: Inject, M: Moves> State<P, F, M> {
     ) -> Result<State<P, F, M>, Unmade<(P, F, M)>>
         requires slots { length (P.Blocks.blocks paging) ≡ machine.slots }
         requires blocks { length (F.Blocks.blocks files) ≡ machine.blocks }
+        requires slots_whole { AreWhole (P.Blocks.blocks paging) }
+        requires blocks_whole { AreWhole (F.Blocks.blocks files) }
         ensures starts { IfOk result (λ s. Starts machine (M.log moves) (device_with (P.Blocks.log paging) (P.Blocks.named paging) (P.Blocks.faults paging)) (device_with (F.Blocks.log files) (F.Blocks.named files) (F.Blocks.faults files)) (P.Blocks.blocks paging) (F.Blocks.blocks files) (shown s)) }
         ensures devices { IfOk result (λ s. (s.paging ≡ paging) × (s.files ≡ files)) }
         ensures loans { IfOk result (λ s. loans s ≡ Both (Both (P.Blocks.loans paging) (F.Blocks.loans files)) (M.loans moves)) }

@@ -1,8 +1,9 @@
-use Rattle.std.proofs.Common.{ap, true, false}
+use Rattle.std.proofs.Common.{ap, true, false, refl, None}
 use Rattle.std.specs.Prelude.{is_ok}
 use Rattle.mm_paged.proofs.Doing.{sought_nothing}
 use Rattle.mm_paged.proofs.Bringing.{does_later}
 use Rattle.mm_paged.proofs.Sought.{sought_by, stuck_by, search_fails, search_stands, search_as, search_keeps}
+use Rattle.mm_paged.proofs.InFlight.{search_flight, flight_same}
 use Rattle.mm_paged.proofs.faults.find.Goals as goal
 
 pub returns-in-Err-clause-stuck : goal.returns-in-Err-clause-stuck
@@ -31,3 +32,9 @@ returns-in-Err-clause-later g c = does_later _ _ _ c.find_frame.ensures.searched
 
 pub returns-in_default-clause-later : goal.returns-in_default-clause-later
 returns-in_default-clause-later g c = does_later _ _ _ c.find_frame.ensures.searched.does
+
+pub returns-in_default-clause-flight : goal.returns-in_default-clause-flight
+returns-in_default-clause-flight g c = search_flight _ (g.T.Moving.shown c.args.state.now) (g.T.Moving.shown c.find_frame.new.state) c.find_frame.ensures.searched
+
+pub returns-else-no_zeroed-clause-flight : goal.returns-else-no_zeroed-clause-flight
+returns-else-no_zeroed-clause-flight g c = flight_same (g.T.Moving.shown c.args.state.now).life.flight None (g.T.Moving.shown c.args.state.now).life refl

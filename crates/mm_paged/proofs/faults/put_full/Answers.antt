@@ -1,5 +1,6 @@
-use Rattle.std.proofs.Common.{refl}
+use Rattle.std.proofs.Common.{refl, ◌∙◌}
 use Rattle.mm_paged.proofs.Placing.{went_unmap_map, full_oldest, in_frame_then, below_then, some_page}
+use Rattle.mm_paged.proofs.InFlight.{unmapped_flight}
 use Rattle.mm_paged.proofs.faults.put_full.Goals as goal
 
 pub returns-clause-went : goal.returns-clause-went
@@ -13,3 +14,6 @@ put_below-requires-clause-below g c = below_then _ _ (record { pid = c.args.plac
 
 pub unreachable-requires : goal.unreachable-requires
 unreachable-requires g c = some_page _ c.args.place.pid.0 c.sound.ensures.holds c.requires.set c.requires.full c.in-None.ensures.next
+
+pub returns-clause-flight : goal.returns-clause-flight
+returns-clause-flight g c = c.put_below.ensures.flight ∙ unmapped_flight (g.T.Moving.shown c.args.state.now).life (g.T.Moving.shown c.unmap.new.self).life (record { pid = c.args.place.pid; vpn = c.in-Some.vpn }) c.unmap.ensures.made.life

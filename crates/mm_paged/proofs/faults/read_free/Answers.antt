@@ -1,4 +1,5 @@
 use Rattle.mm_paged.proofs.Taking.{read_legal, read_in_frame, read_fails}
+use Rattle.mm_paged.proofs.InFlight.{read_flight}
 use Rattle.mm_paged.proofs.faults.read_free.Goals as goal
 
 pub end_read-requires : goal.end_read-requires
@@ -9,3 +10,6 @@ returns-then-end_read-clause-frame g c = read_in_frame c.args.key _ _ _ _ c.star
 
 pub returns-else-end_read-clause-fails : goal.returns-else-end_read-clause-fails
 returns-else-end_read-clause-fails g c = read_fails c.args.key _ _ _ _ c.sound.ensures.holds c.requires.own c.start_read-f.ensures.made c.start_read-f.ensures.rest c.if-end_read.ensures.made c.if-end_read.ensures.rest
+
+pub returns-then-end_read-clause-flight : goal.returns-then-end_read-clause-flight
+returns-then-end_read-clause-flight g c = read_flight c.args.key _ _ _ _ c.start_read-f.ensures.made c.if-end_read.ensures.made

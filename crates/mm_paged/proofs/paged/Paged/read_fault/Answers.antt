@@ -36,7 +36,7 @@ pub returns-in-Err-clause-passes : goal.returns-in-Err-clause-passes
 returns-in-Err-clause-passes g c = stuck_passes false _ c.args.key c.args.place _ _ (own_in c.args.self.now) _ _ c.requires.free (λ r. c.args.self.now.kept.ready _ r) c.in-Err.ensures.stuck
 
 pub invariant_of-self : goal.invariant_of-self
-invariant_of-self g c = record { kept = faulted_kept false c.args.key c.args.place (state_of c.args.self.now) (g.T.Moving.shown c.fault-done.new.state) _ (own_in c.args.self.now) _ (of_stuck false _ c.args.key c.args.place _ _ c.requires.free c.in-Err.ensures.stuck) c.args.self.now.kept c.fault-done.ensures.same refl refl refl refl refl }
+invariant_of-self g c = record { kept = faulted_kept false c.args.key c.args.place (state_of c.args.self.now) (g.T.Moving.shown c.fault-done.new.state) _ (own_in c.args.self.now) _ (of_stuck false _ c.args.key c.args.place _ _ c.requires.free c.in-Err.ensures.stuck) c.args.self.now.kept c.fault-done.ensures.same refl refl refl refl refl refl }
 
 pub invariant_of-self-2 : goal.invariant_of-self-2
-invariant_of-self-2 g c = record { kept = faulted_kept false c.args.key c.args.place (state_of c.args.self.now) (g.T.Moving.shown c.fault-done.new.state) _ (own_in c.args.self.now) _ (of_went c.args.key c.args.place _ _ c.requires.free c.in_default.ensures.went) c.args.self.now.kept c.fault-done.ensures.same (ap (λ (s : StateOf). s.life) c.read.ensures.rest) (ap (λ (s : StateOf). s.own) c.read.ensures.rest) (ap (λ (s : StateOf). s.aside) c.read.ensures.rest) refl refl }
+invariant_of-self-2 g c = record { kept = faulted_kept false c.args.key c.args.place (state_of c.args.self.now) (g.T.Moving.shown c.fault-done.new.state) _ (own_in c.args.self.now) _ (of_went c.args.key c.args.place _ _ c.requires.free c.in_default.ensures.went) c.args.self.now.kept c.fault-done.ensures.same (ap (λ (s : StateOf). s.life) c.read.ensures.rest) (ap (λ (s : StateOf). s.own) c.read.ensures.rest) (ap (λ (s : StateOf). s.aside) c.read.ensures.rest) (ap (λ (s : StateOf). s.told) c.read.ensures.rest) refl refl }

@@ -43,7 +43,7 @@ pub returns-clause-fault : goal.returns-clause-fault
 returns-clause-fault g c b = faulted_ends c.args.key (state_of c.args.self.now) (g.T.Moving.shown c.fault_to_write-done.new.state) _ (own_in c.args.self.now) _ _ _ c.write.ensures.rest c.in_default.ensures.calm.read c.in_default.ensures.framed b
 
 pub invariant_of-self : goal.invariant_of-self
-invariant_of-self g c = record { kept = faulted_kept true c.args.key c.args.place (state_of c.args.self.now) (g.T.Moving.shown c.fault_to_write-done.new.state) _ (own_in c.args.self.now) _ (of_stuck true _ c.args.key c.args.place _ _ c.requires.free c.in-Err.ensures.stuck) c.args.self.now.kept c.fault_to_write-done.ensures.same refl refl refl refl refl }
+invariant_of-self g c = record { kept = faulted_kept true c.args.key c.args.place (state_of c.args.self.now) (g.T.Moving.shown c.fault_to_write-done.new.state) _ (own_in c.args.self.now) _ (of_stuck true _ c.args.key c.args.place _ _ c.requires.free c.in-Err.ensures.stuck) c.args.self.now.kept c.fault_to_write-done.ensures.same refl refl refl refl refl refl }
 
 pub invariant_of-self-2 : goal.invariant_of-self-2
-invariant_of-self-2 g c = record { kept = faulted_kept true c.args.key c.args.place (state_of c.args.self.now) (g.T.Moving.shown c.fault_to_write-done.new.state) _ (own_in c.args.self.now) _ (of_went_to_write c.args.key c.args.place _ _ c.requires.free c.in_default.ensures.went) c.args.self.now.kept c.fault_to_write-done.ensures.same (ap (λ (s : StateOf). s.life) c.write.ensures.rest) (ap (λ (s : StateOf). s.own) c.write.ensures.rest) (ap (λ (s : StateOf). s.aside) c.write.ensures.rest) refl refl }
+invariant_of-self-2 g c = record { kept = faulted_kept true c.args.key c.args.place (state_of c.args.self.now) (g.T.Moving.shown c.fault_to_write-done.new.state) _ (own_in c.args.self.now) _ (of_went_to_write c.args.key c.args.place _ _ c.requires.free c.in_default.ensures.went) c.args.self.now.kept c.fault_to_write-done.ensures.same (ap (λ (s : StateOf). s.life) c.write.ensures.rest) (ap (λ (s : StateOf). s.own) c.write.ensures.rest) (ap (λ (s : StateOf). s.aside) c.write.ensures.rest) (ap (λ (s : StateOf). s.told) c.write.ensures.rest) refl refl }

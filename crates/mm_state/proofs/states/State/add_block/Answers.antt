@@ -13,7 +13,7 @@ invariant_of-self g c =
     let s = c.args.self.now in
     let u = parts_of.shown s.parts in
     let now = carried _ _ _ _ _ c.add_block.ensures.made (carries_add_block u.life s.parts.kept.reached u.bytes _ _ s.located c.args.key c.args.b c.requires.legal) in
-    record { located = now.located; tallied = s.tallied }
+    record { located = now.located; tallied = s.tallied; slots_whole = s.slots_whole; blocks_whole = s.blocks_whole }
 
 pub returns-clause-made : goal.returns-clause-made
 returns-clause-made g c =

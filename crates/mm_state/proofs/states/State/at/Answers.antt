@@ -16,7 +16,7 @@ invariant_of-self g c =
     let s = c.args.self.now in
     let u = parts_of.shown s.parts in
     let now = carried _ _ _ _ _ c.at.ensures.made (carries_at_plain u.life s.parts.kept.reached u.bytes _ _ s.located c.args.line c.args.kind s.parts.kept.line.begun (plain_grown c.args.kind c.requires.plain) c.requires.legal) in
-    record { located = now.located; tallied = subst IsTallied (sym c.none-self.ensures) tallied_none }
+    record { located = now.located; tallied = subst IsTallied (sym c.none-self.ensures) tallied_none; slots_whole = s.slots_whole; blocks_whole = s.blocks_whole }
 
 pub returns-clause-made : goal.returns-clause-made
 returns-clause-made g c =

@@ -20,6 +20,7 @@ use Rattle.mm_state.specs.Shown.{device_with}
 use Rattle.mm_state.specs.Tallied.{read_told, IsTallied}
 use Rattle.mm_state.proofs.Making.{made_by, rest_called, carried_on}
 use Rattle.mm_state.proofs.Tallying.{tallied_read}
+use Rattle.mm_state.proofs.Whole.{whole_on}
 use Rattle.mm_state.proofs.Ends.{read_low, is_reading, read_legal, read_carries, read_ages, read_waits, read_tells, read_calls, called_at}
 use Rattle.mm_state.proofs.After.{read_quiet}
 use Rattle.mm_state.proofs.states.State.end_read.Goals as goal
@@ -58,7 +59,7 @@ invariant_of-self g c =
     let now = carried_on _ _ _ _ _ _ _ c.settle_read.ensures c.get_page-ok.ensures.slots c.get_page-ok.ensures.blocks
     (read_carries ok u.life s.parts.kept.reached u.bytes (g.P.Blocks.blocks s.paging) (g.F.Blocks.blocks s.files) s.located c.args.f c.get_page-ok.new.page c.requires.legal there) in
     let backed = ap (λ (x : Record). is_backed x.backing) c.look-r.ensures ∙ read_backed u.life s.parts.kept.reached u.bytes _ _ s.located c.args.f (is_reading u.life c.args.f c.requires.legal) in
-    record { located = now.located; tallied = subst IsTallied (sym c.read.ensures) (tallied_read s.told ok c.look-r.result.backing c.look-r.result.owner backed s.tallied) }
+    record { located = now.located; tallied = subst IsTallied (sym c.read.ensures) (tallied_read s.told ok c.look-r.result.backing c.look-r.result.owner backed s.tallied); slots_whole = whole_on _ _ c.get_page-ok.ensures.slots s.slots_whole; blocks_whole = whole_on _ _ c.get_page-ok.ensures.blocks s.blocks_whole }
 
 pub returns-clause-made : goal.returns-clause-made
 returns-clause-made g c =

@@ -16,9 +16,11 @@ use Rattle.mm_parts.specs.Moves.{write_end}
 use Rattle.mm_located.specs.Carried.{slots_written, blocks_written}
 use Rattle.mm_located.proofs.Carrying.{write_backed, slot_there, block_there, page_of_key}
 use Rattle.mm_state.specs.Shown.{device_with}
-use Rattle.mm_state.specs.Tallied.{written_if, IsTallied}
+use Rattle.mm_moving.specs.Shown.{written_if}
+use Rattle.mm_state.specs.Tallied.{IsTallied}
 use Rattle.mm_state.proofs.Making.{made_by, rest_of, carried_on}
 use Rattle.mm_state.proofs.Tallying.{tallied_write}
+use Rattle.mm_state.proofs.Whole.{slots_whole, blocks_whole}
 use Rattle.mm_state.proofs.Ends.{write_low, is_writing, write_legal, write_carries, write_ages, write_waits, write_tells, write_calls, called_at, write_calm, same_page, no_block}
 use Rattle.mm_state.proofs.states.State.end_write.Goals as goal
 
@@ -61,7 +63,13 @@ invariant_of-self g c =
     (c.put_page-ok.ensures.slots ∙ ap (λ (x : Record). written_if ok (slots_written x.backing page) slots) c.look-home.ensures)
     (c.put_page-ok.ensures.blocks ∙ ap (λ (x : Record). written_if ok (blocks_written x.backing page) blocks) c.look-home.ensures)
     (write_carries ok u.life s.parts.kept.reached u.bytes slots blocks s.located c.args.f page c.requires.legal c.take.ensures) in
-    record { located = now.located; tallied = subst IsTallied (sym c.wrote.ensures) (tallied_write s.told ok c.look-home.result.backing s.tallied) }
+    let n = c.bytes_hold.ensures.whole c.args.f.0 page c.take.ensures in
+    record {
+      located = now.located;
+      tallied = subst IsTallied (sym c.wrote.ensures) (tallied_write s.told ok c.look-home.result.backing s.tallied);
+      slots_whole = slots_whole page n ok c.look-home.result.backing _ _ c.put_page-ok.ensures.slots s.slots_whole;
+      blocks_whole = blocks_whole page n ok c.look-home.result.backing _ _ c.put_page-ok.ensures.blocks s.blocks_whole;
+    }
 
 pub returns-clause-made : goal.returns-clause-made
 returns-clause-made g c =

@@ -19,7 +19,7 @@ invariant_of-self g c =
     let s = c.args.self.now in
     let u = parts_of.shown s.parts in
     let now = carried _ _ _ _ _ c.give-f.ensures.made (carries_give u.life s.parts.kept.reached u.bytes _ _ s.located c.give-f.result c.args.key (legal_at u.life _ _ (ap (λ (f : Frame). move.Give f c.args.key) c.give-f.ensures.frame) c.requires.legal)) in
-    record { located = now.located; tallied = subst IsTallied (sym c.search.ensures) (tallied_search s.told s.tallied) }
+    record { located = now.located; tallied = subst IsTallied (sym c.search.ensures) (tallied_search s.told s.tallied); slots_whole = s.slots_whole; blocks_whole = s.blocks_whole }
 
 pub returns-clause-made : goal.returns-clause-made
 returns-clause-made g c =

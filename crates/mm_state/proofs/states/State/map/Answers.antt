@@ -1,4 +1,4 @@
-use Rattle.std.proofs.Common.{refl, ap, ◌∙◌, sym}
+use Rattle.std.proofs.Common.{refl, ap, ◌∙◌}
 use Rattle.mm_types.specs.Outside.{Loans, Both}
 use Rattle.mm_types.specs.declared.moves.Move.TheVariants as move
 use Rattle.mm_parts.specs.Shown.{PartsOf}
@@ -15,7 +15,7 @@ invariant_of-self g c =
     let s = c.args.self.now in
     let u = parts_of.shown s.parts in
     let now = carried _ _ _ _ _ c.map.ensures.made (carries_map u.life s.parts.kept.reached u.bytes _ _ s.located c.args.f c.args.place c.requires.legal) in
-    record { located = now.located; tallied = s.tallied }
+    record { located = now.located; tallied = s.tallied; slots_whole = s.slots_whole; blocks_whole = s.blocks_whole }
 
 pub returns-clause-made : goal.returns-clause-made
 returns-clause-made g c =

@@ -10,7 +10,7 @@ use Rattle.mm_state.proofs.states.State.new.Goals as goal
 pub invariant_of-result : goal.invariant_of-result
 invariant_of-result g c =
     let now = carried _ _ _ _ _ c.in-Ok.ensures (carries_start c.args.machine (g.P.Blocks.blocks c.args.paging) (g.F.Blocks.blocks c.args.files) c.requires.slots c.requires.blocks) in
-    record { located = now.located; tallied = subst IsTallied (sym c.none.ensures) tallied_none }
+    record { located = now.located; tallied = subst IsTallied (sym c.none.ensures) tallied_none; slots_whole = c.requires.slots_whole; blocks_whole = c.requires.blocks_whole }
 
 pub returns-in-Ok-clause-starts : goal.returns-in-Ok-clause-starts
 returns-in-Ok-clause-starts g c =

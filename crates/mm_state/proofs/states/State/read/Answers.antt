@@ -7,7 +7,7 @@ use Rattle.mm_state.proofs.PageBytes.{pick, valid_names, valid_calm, own_bytes}
 use Rattle.mm_state.proofs.states.State.read.Goals as goal
 
 pub invariant_of-self : goal.invariant_of-self
-invariant_of-self g c = let s = c.args.self.now in record { located = located_on _ _ _ _ c.read.ensures.made s.located; tallied = s.tallied }
+invariant_of-self g c = let s = c.args.self.now in record { located = located_on _ _ _ _ c.read.ensures.made s.located; tallied = s.tallied; slots_whole = s.slots_whole; blocks_whole = s.blocks_whole }
 
 pub returns-clause-bytes : goal.returns-clause-bytes
 returns-clause-bytes g c =

@@ -1,9 +1,8 @@
-use Rattle.std.proofs.Common.{sym, arith}
-use Rattle.std.proofs.lemmas.Bool.{lt-ltb}
-use Rattle.mm_life.specs.Frames.{record_at}
+use Rattle.std.proofs.Common.{sym}
 use Rattle.mm_parts.specs.PartsShown as parts_of
 use Rattle.mm_state.proofs.Storing.{stored_bytes}
-use Rattle.mm_state.proofs.Waiting.{waited_frame}
+use Rattle.mm_state.proofs.Waiting.{waited_frame, young_or}
+use Rattle.mm_state.proofs.Whole.{page_whole}
 use Rattle.mm_state.proofs.states.State.sound.Goals as goal
 
 pub returns : goal.returns
@@ -15,34 +14,42 @@ returns g c =
     let d = c.parts_hold.ensures.storage in
     record {
       holds = record {
+        young = λ p. young_or (parts_of.ages_of s.parts p) (c.sets_agree.ensures.young p);
         reached = a.reached;
         machine = a.machine;
         begun = a.begun;
         few = a.few;
         own_line = a.own_line;
         copying = a.copying;
-        waiting = λ t f e. let w = waited_frame u.waits t f e in a.waits t (record { 0 = f }) w;
+        awaited = λ t f e. let w = waited_frame u.waits t f e in (a.waits t (record { 0 = f }) w).0;
+        others_wait = λ t f e. let w = waited_frame u.waits t f e in (a.waits t (record { 0 = f }) w).1;
         live = λ k. sym (s.located.live k);
+        whole = page_whole u.life u.bytes _ _ c.bytes_hold.ensures.whole s.slots_whole s.blocks_whole;
         home = b.home;
         owner = b.owner;
-        of_frame = λ f k e. b.of_frame k f e;
+        of_frame = λ k f e. b.of_frame k f e;
         there = b.there;
-        valid_bound = b.bound;
+        bound = b.bound;
         named = b.named;
         owned = b.owned;
         fits = b.fits;
         low = b.low;
-        shared = λ p f v. let some = b.shared p f v in lt-ltb 0 (record_at u.life.frames f.0).shares (omega (arith, some));
+        shared = b.shared;
         unread = b.unread;
-        opened = b.open_process;
-        has_set = b.sets;
-        sets = λ p e. b.sets p.pid.0 (b.open_process p e);
+        unnamed = b.unnamed;
+        user = b.user;
+        open_process = b.open_process;
+        sets = b.sets;
         reading = d.reading;
         writing = λ f e. (d.writing f e).0;
-        slots_there = s.located.room;
-        blocks_there = s.located.file_room;
+        homes = d.home;
+        backings = d.backing;
+        blocks_apart = d.blocks_apart;
+        block_there = d.block_there;
+        slots = s.located.room;
+        blocks = s.located.file_room;
         stored = stored_bytes u.life s.parts.kept.reached u.bytes _ _ s.located;
         search = s.tallied.search;
-        read_failed = s.tallied.read;
+        read = s.tallied.read;
       };
     }

@@ -15,7 +15,7 @@ invariant_of-self g c =
     let s = c.args.self.now in
     let u = parts_of.shown s.parts in
     let now = carried _ _ _ _ _ c.start_write-to.ensures.made (carries_write u.life s.parts.kept.reached u.bytes _ _ s.located c.args.f c.start_write-to.result (legal_at u.life _ _ (ap (λ (t : Stored). move.Write c.args.f t) c.start_write-to.ensures.to) c.requires.legal)) in
-    record { located = now.located; tallied = s.tallied }
+    record { located = now.located; tallied = s.tallied; slots_whole = s.slots_whole; blocks_whole = s.blocks_whole }
 
 pub returns-clause-made : goal.returns-clause-made
 returns-clause-made g c =

@@ -1,4 +1,4 @@
-use Rattle.std.proofs.Common.{refl, ap, ◌∙◌, sym}
+use Rattle.std.proofs.Common.{refl, ap, ◌∙◌}
 use Rattle.mm_types.specs.Outside.{Loans, Both}
 use Rattle.mm_types.specs.declared.moves.Move.TheVariants as move
 use Rattle.mm_parts.specs.Shown.{PartsOf}
@@ -6,7 +6,7 @@ use Rattle.mm_parts.specs.PartsShown as parts_of
 use Rattle.mm_parts.specs.Reading.{waits_of}
 use Rattle.mm_located.proofs.Carrying.{carries_unmap}
 use Rattle.mm_state.proofs.Making.{made_by, rest_of, carried}
-use Rattle.mm_life.specs.Frames.{record_at, is_read}
+use Rattle.mm_life.specs.Frames.{record_at}
 use Rattle.mm_life.specs.Life.{set_of}
 use Rattle.mm_life.specs.Legal.{is_below_max}
 use Rattle.mm_state.proofs.After.{unmap_requests, unmap_below}
@@ -17,7 +17,7 @@ invariant_of-self g c =
     let s = c.args.self.now in
     let u = parts_of.shown s.parts in
     let now = carried _ _ _ _ _ c.unmap.ensures.made (carries_unmap u.life s.parts.kept.reached u.bytes _ _ s.located c.args.place c.requires.legal) in
-    record { located = now.located; tallied = s.tallied }
+    record { located = now.located; tallied = s.tallied; slots_whole = s.slots_whole; blocks_whole = s.blocks_whole }
 
 pub returns-clause-made : goal.returns-clause-made
 returns-clause-made g c =

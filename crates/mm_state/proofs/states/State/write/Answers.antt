@@ -19,7 +19,7 @@ invariant_of-self g c =
     let k = valid_owner u.life s.parts.kept.reached u.bytes slots blocks s.located c.args.place at.0 at.1 in
     let page = overwritten (bytes_of u.bytes at.0.0) c.args.off c.args.bytes.now in
     let now = carried _ _ _ _ _ (c.write.ensures.made at.0 at.1) (carries_written u.life s.parts.kept.reached u.bytes slots blocks s.located at.0 k.0 page k.1 (c.requires.soiled at.0 at.1)) in
-    record { located = now.located; tallied = s.tallied }
+    record { located = now.located; tallied = s.tallied; slots_whole = s.slots_whole; blocks_whole = s.blocks_whole }
 
 pub returns-clause-bytes : goal.returns-clause-bytes
 returns-clause-bytes g c =

@@ -1,0 +1,286 @@
+-- What a copy leaves of the store, and how it ends.
+use Rattle.std.proofs.Common.{◌≡◌, ℕ, ◌≤◌, ◌+◌, Bool, true, false, List, Option, Some, None, refl, sym, ap, ◌∙◌, subst, arith, inl, inr, ◌⊎◌}
+use Rattle.std.specs.Prelude.{not, is_some, is_none, IsSome, ◌==◌, ◌||◌, if◌then◌else◌, option_map, unwrap_or, Ok, Err}
+use Rattle.mm_types.specs.Machine.{limit_of}
+use Rattle.mm_types.specs.declared.faults.PageFault.{PageFault}
+use Rattle.mm_types.specs.declared.faults.PageFault.TheVariants as fault
+use Rattle.mm_types.specs.declared.frames.Held.{Held}
+use Rattle.mm_types.specs.declared.frames.Held.TheVariants as held
+use Rattle.mm_types.specs.declared.moves.LineKind.TheVariants as kind
+use Rattle.mm_types.specs.declared.moves.Move.{Move}
+use Rattle.mm_types.specs.declared.numbers.Frame.{Frame}
+use Rattle.mm_types.specs.declared.numbers.Key.{Key}
+use Rattle.mm_types.specs.declared.numbers.Place.{Place}
+use Rattle.mm_life.specs.Life.{FrameLife, changed, same_place, key_of_place, is_live, is_dead}
+use Rattle.mm_life.specs.Legal.{is_short, is_touch}
+use Rattle.mm_life.specs.Replay.{Replays}
+use Rattle.mm_laws.proofs.Owners.{key_or_not, changed_here, changed_else}
+use Rattle.mm_laws.proofs.PlaceCounts.{same_place-true}
+use Rattle.mm_world.specs.World.{Page}
+use Rattle.mm_world.specs.Failure.{same_key as same_in_world, still_needs_frame, search_failed}
+use Rattle.mm_world.specs.Report.{is_short as report_is_short}
+use Rattle.mm_pages.specs.Accesses.{Aim, Copies}
+use Rattle.mm_pages.specs.Conditions.{MayAccess, IsReady, copying}
+use Rattle.mm_pages.specs.Passing.{Passes}
+use Rattle.mm_pages.specs.Reports.{Ends, IsBegun, Served, fetched}
+use Rattle.mm_pages.specs.Standing.{where_of, block_at, backed_by}
+use Rattle.mm_pages.specs.Store.{StoreOf, Ready, own_key}
+use Rattle.mm_moving.specs.Shown.{StateOf, called}
+use Rattle.mm_moving.specs.Doing.{walk_of}
+use Rattle.mm_moving.specs.Holds.{Holds}
+use Rattle.mm_paged.specs.Pieces.{Went, Stuck, LifeKept}
+use Rattle.mm_paged.specs.Copies.{CopiesFrom, Copied, FailsToCopy, most_reads}
+use Rattle.mm_paged.specs.Shown.{OwnOf, Kept, store_of, report_of, behind_of}
+use Rattle.mm_paged.proofs.Quiet.{calm_through}
+use Rattle.mm_paged.proofs.Ending.{in_line}
+use Rattle.mm_paged.proofs.Keeping.{block_same, blocks_kept, paging_has_none, dead_has_none, fetched_by}
+use Rattle.mm_paged.proofs.Reading.{framed_has, nothing_read, fails_not, short_counts, search_failed_by, same_again}
+use Rattle.mm_paged.proofs.Serving.{served_by}
+use Rattle.mm_paged.proofs.Shows.{changed_keys, passes_of}
+
+-- ---- when it may be made
+
+pub some_bytes : (o : Option Page) → IsSome o → is_some o ≡ true
+some_bytes None n = cc
+some_bytes (Some v) n = refl
+
+pub plain_where_free : (place : Place) (k : Key) (s : StateOf) (o : OwnOf) → Kept s o → MayAccess (store_of s o) place (copying k place) → s.life.valid place ≡ None → s.life.kind ≡ kind.Access place.pid
+plain_where_free place k s o h (inl e) n = e
+plain_where_free place k s o h (inr e) n = let bad : false ≡ true = sym (ap is_some n) ∙ h.ready _ e.1 in cc
+
+pub plain_where_short : (place : Place) (k : Key) (s : StateOf) (o : OwnOf) → Kept s o → MayAccess (store_of s o) place (copying k place) → is_short s.life ≡ true → s.life.kind ≡ kind.Access place.pid
+plain_where_short place k s o h (inl e) n = e
+plain_where_short place k s o h (inr e) n = let bad : true ≡ false = sym n ∙ h.room _ e.1 refl in cc
+
+-- where it was ready it does not fail
+pub never_unready : (place : Place) (k : Key) (s : StateOf) (o : OwnOf) → Kept s o → IsReady (store_of s o) place (copying k place) → (s.life.valid place ≡ None) ⊎ (is_short s.life ≡ true) → ⊥
+never_unready place k s o h r (inl e) = let bad : false ≡ true = sym (ap is_some e) ∙ h.ready _ r in cc
+never_unready place k s o h r (inr e) = let bad : true ≡ false = sym e ∙ h.room _ r refl in cc
+
+-- ---- its moves
+
+abbrev pub copy_aim : Key → Place → StateOf → Aim
+copy_aim k place s = record { place = place; need = copying k place; writes = true; start = s.life }
+
+pub aims : (k : Key) (place : Place) (s : StateOf) → CopiesFrom (copy_aim k place s) k place s
+aims k place s = record { reaches = record { at = refl; needs = refl; from = refl }; copy = refl }
+
+pub copy_served : (n : ℕ) (k : Key) (place : Place) (s z : StateOf) (o u : OwnOf) → ((a : Aim) → CopiesFrom a k place s → Went a n s z) → Served (store_of s o) (store_of z u)
+copy_served n k place s z o u h = let w = h (copy_aim k place s) (aims k place s) in served_by w.moves s z o u (in_line (copy_aim k place s) w.moves (walk_of s) w.each) w.does
+
+pub failed_served : (e : PageFault) (k : Key) (place : Place) (s z : StateOf) (o u : OwnOf) → ((a : Aim) → CopiesFrom a k place s → Stuck a e 1 s z) → Served (store_of s o) (store_of z u)
+failed_served e k place s z o u h = let w = h (copy_aim k place s) (aims k place s) in served_by w.moves s z o u (in_line (copy_aim k place s) w.moves (walk_of s) w.each) w.does
+
+-- ---- what the store keeps
+
+touches_then : (place : Place) (k : Key) (s : StateOf) (o : OwnOf) → MayAccess (store_of s o) place (copying k place) → is_touch s.life.kind ≡ true
+touches_then place k s o (inl e) = ap is_touch e
+touches_then place k s o (inr e) = ap is_touch e.0
+
+-- the page copied to is ready
+pub copied_kept : (n : ℕ) (k : Key) (place : Place) (s z : StateOf) (o u : OwnOf) (now : Ready) → Kept s o → MayAccess (store_of s o) place (copying k place) → ((a : Aim) → CopiesFrom a k place s → Went a n s z) → Copied k place s z
+    → u.ready ≡ Some now → now.place ≡ place → now.need.copy ≡ None → u.blocks_used ≡ o.blocks_used → Kept z u
+copied_kept n k place s z o u now h may went c ready at none used = record {
+  own = ap (λ (x : StateOf). x.own) c.same ∙ h.own;
+  aside = ap (λ (x : StateOf). x.aside) c.same ∙ h.aside;
+  ready = λ r e. ap (λ (x : Ready). is_some (z.life.valid x.place)) (sym (is_now r e)) ∙ ap (λ (p : Place). is_some (z.life.valid p)) at ∙ c.valid;
+  touching = λ r e. ap is_touch c.life.kind ∙ touches_then place k s o may;
+  room = λ r e copies. let bad : false ≡ true = sym (ap is_some none) ∙ ap (λ (x : Ready). is_some x.need.copy) (is_now r e) ∙ copies in cc;
+  fresh = λ b low. ap (λ (f : ℕ → Bool). f b) c.life.added ∙ h.fresh b (subst (λ (a : ℕ). a ≤ b) used low);
+  calm = λ t. let w = went (copy_aim k place s) (aims k place s) in calm_through (copy_aim k place s) w.moves s z w.does w.each h.calm t;
+}
+  where
+    is_now : (r : Ready) → u.ready ≡ Some r → now ≡ r
+    is_now r e = let both : Some now ≡ Some r = sym ready ∙ e in cc
+
+-- nothing is ready
+pub failed_kept : (e : PageFault) (k : Key) (place : Place) (s z : StateOf) (o u : OwnOf) → Kept s o → ((a : Aim) → CopiesFrom a k place s → Stuck a e 1 s z) → LifeKept s.life z.life → z ≡ record (called s z) { names = z.names }
+    → u.ready ≡ None → u.blocks_used ≡ o.blocks_used → Kept z u
+failed_kept e k place s z o u h stuck life same none used = record {
+  own = ap (λ (x : StateOf). x.own) same ∙ h.own;
+  aside = ap (λ (x : StateOf). x.aside) same ∙ h.aside;
+  ready = λ r t. absurd (none_ready r t);
+  touching = λ r t. absurd (none_ready r t);
+  room = λ r t copies. absurd (none_ready r t);
+  fresh = λ b low. ap (λ (f : ℕ → Bool). f b) life.added ∙ h.fresh b (subst (λ (a : ℕ). a ≤ b) used low);
+  calm = λ t. let w = stuck (copy_aim k place s) (aims k place s) in calm_through (copy_aim k place s) w.moves s z w.does w.each h.calm t;
+}
+  where
+    none_ready : (r : Ready) → u.ready ≡ Some r → ⊥
+    none_ready r t = let bad : None ≡ Some r = sym none ∙ t in cc
+
+young_still : {V : Type 0} (g : Place → V) (p : Place) (v : V) → g p ≡ v → g ≡ changed same_place g p v
+young_still {V} g p v e = λ i. λ q. at q i
+  where
+    by : (q : Place) (b : Bool) → same_place q p ≡ b → g q ≡ (if b then v else g q)
+    by q true h = ap g (same_place-true q p h) ∙ e
+    by q false h = refl
+
+    at : (q : Place) → g q ≡ changed same_place g p v q
+    at q = by q (same_place q p) refl
+
+few_of : (o : Option Frame) (n : ℕ) → n ≤ most_reads o → n ≤ 1
+few_of None n h = h
+few_of (Some f) n h = omega (arith, h)
+
+none_of : (o : Option Frame) (n : ℕ) → n ≤ most_reads o → is_some o ≡ true → n ≡ 0
+none_of None n h e = cc
+none_of (Some f) n h e = omega (arith, h)
+
+pub copy_passes : (k : Key) (place : Place) (s z : StateOf) (o u : OwnOf) → Kept s o → ((a : Aim) → CopiesFrom a k place s → Went a (most_reads (s.life.valid place)) s z) → Copied k place s z
+    → Passes (Copies {T = Unit {0}} (copy_aim k place s) (IsReady (store_of s o) place (copying k place)) (Ok tt)) (store_of s o) (store_of z u) (behind_of s) (behind_of z)
+copy_passes k place s z o u h went c =
+    let w = went (copy_aim k place s) (aims k place s) in
+    passes_of _ w.moves s z o u w.does (record {
+      ends = record {
+        made = record { each = w.each; one_read = few_of (s.life.valid place) _ w.few_reads; few_writes = w.few_writes };
+        waits = w.does.waits;
+        valid = c.valid;
+        ages = young_still z.ages place 0 c.young ∙ ap (λ (g : Place → ℕ). changed same_place g place 0) w.does.ages;
+      };
+      calm = λ r. none_of (s.life.valid place) _ w.few_reads (h.ready _ r);
+    })
+
+pub failed_passes : (e : PageFault) (k : Key) (place : Place) (s z : StateOf) (o u : OwnOf) → Kept s o → ((a : Aim) → CopiesFrom a k place s → Stuck a e 1 s z) → (s.life.valid place ≡ None) ⊎ (is_short s.life ≡ true)
+    → Passes (Copies {T = Unit {0}} (copy_aim k place s) (IsReady (store_of s o) place (copying k place)) (Err e)) (store_of s o) (store_of z u) (behind_of s) (behind_of z)
+failed_passes e k place s z o u h stuck never =
+    let w = stuck (copy_aim k place s) (aims k place s) in
+    passes_of _ w.moves s z o u w.does (record {
+      ends = record {
+        made = record { each = w.each; one_read = w.few_reads; few_writes = w.few_writes };
+        waits = w.does.waits;
+        ages = w.does.ages;
+        starved = w.starved;
+      };
+      calm = λ r. absurd (never_unready place k s o h r never);
+    })
+
+-- ---- the store after it
+
+block_copied : (k : Key) (place : Place) (s z : StateOf) (ms : List Move) → Holds s → Holds z → Replays ms s.life z.life → s.contents (key_of_place place) ≡ None → Copied k place s z → (q : Key)
+    → block_at (backed_by z.life (z.life.stands q)) ≡ block_at (backed_by s.life (s.life.stands q))
+block_copied k place s z ms h g r dead c q = elim (key_or_not q (key_of_place place)) [
+  | inl e ↦
+      subst (λ (x : Key). block_at (backed_by z.life (z.life.stands x)) ≡ block_at (backed_by s.life (s.life.stands x))) (sym e.0)
+      (paging_has_none z (key_of_place place) g (ap (λ (p : Key → Bool). p (key_of_place place)) c.life.paging ∙ changed_here s.life.paging (key_of_place place) true) ∙ sym (dead_has_none s (key_of_place place) h dead))
+  | inr n ↦
+      block_same s z ms h g r q (ap (λ (p : Key → Bool). p q) c.life.paging ∙ changed_else s.life.paging (key_of_place place) q true n.0)
+      (ap is_some (ap (λ (p : Key → Option Page). p q) c.contents ∙ changed_else s.contents (key_of_place place) q (s.contents k) n.0))
+]
+
+-- the store with a new page-file key, which its place names
+abbrev pub with_copy : StoreOf → StoreOf → Place → Key → StoreOf
+with_copy s z place to = record (fetched s z) {
+  names = changed same_place s.names place (Some to);
+  paging = changed same_in_world s.paging to true;
+  paging_keys = s.paging_keys + 1;
+}
+
+pub copied_store : (n : ℕ) (k : Key) (place : Place) (s z : StateOf) (o u : OwnOf) → Holds s → Holds z → s.contents (key_of_place place) ≡ None → ((a : Aim) → CopiesFrom a k place s → Went a n s z) → Copied k place s z → u.extended ≡ o.extended → u.blocks_used ≡ o.blocks_used
+    → store_of z u ≡ with_copy (store_of s o) (store_of z u) place (own_key place)
+copied_store n k place s z o u h g dead went c x b =
+    let w = went (copy_aim k place s) (aims k place s) in
+    let blocks = block_copied k place s z w.moves h g w.does.replays dead c in
+    let paging : z.life.paging ≡ changed same_in_world s.life.paging (own_key place) true = c.life.paging ∙ changed_keys s.life.paging (key_of_place place) true in
+    let opened : z.is_open ≡ s.is_open = ap (λ (t : StateOf). t.is_open) c.same in
+    let areas : z.areas ≡ s.areas = ap (λ (t : StateOf). t.areas) c.same in
+    let bound : z.bound ≡ s.bound = ap (λ (t : StateOf). t.bound) c.same in
+    λ i. record {
+      machine = c.life.machine i;
+      is_open = opened i;
+      areas = areas i;
+      bound = bound i;
+      names = c.names i;
+      paging = paging i;
+      paging_keys = c.life.keys i;
+      room = limit_of (c.life.machine i);
+      block_of = λ q. blocks q i;
+      blocks_used = b i;
+      file_blocks = z.blocks;
+      line = c.life.line i;
+      kind = c.life.kind i;
+      last_pid = c.life.pids i;
+      ready = u.ready;
+      report = record (report_of z u) { extended = x i };
+      paging_device = z.paging;
+      file_device = z.files;
+    }
+
+pub failed_store : (e : PageFault) (k : Key) (place : Place) (s z : StateOf) (o u : OwnOf) → Holds s → Holds z → ((a : Aim) → CopiesFrom a k place s → Stuck a e 1 s z) → LifeKept s.life z.life → z ≡ record (called s z) { names = z.names } → u.extended ≡ o.extended → u.blocks_used ≡ o.blocks_used
+    → store_of z u ≡ record (fetched (store_of s o) (store_of z u)) { names = z.names }
+failed_store e k place s z o u h g stuck l c x b =
+    let w = stuck (copy_aim k place s) (aims k place s) in
+    fetched_by s z o u l (blocks_kept s z w.moves h g w.does.replays l.paging (ap (λ (t : StateOf). t.contents) c))
+    (ap (λ (t : StateOf). t.is_open) c) (ap (λ (t : StateOf). t.areas) c) (ap (λ (t : StateOf). t.bound) c) x b
+
+-- ---- how it ends, by the report
+
+live_where : (l : FrameLife) (h : Held) → not (is_dead h) ≡ true → not (is_none (where_of l h)) ≡ true
+live_where l (held.Frame f) e = refl
+live_where l (held.Slot s) e = refl
+live_where l (held.Block b) e = refl
+live_where l held.Zero e = refl
+live_where l held.Dead e = cc
+
+dead_where : (l : FrameLife) (h : Held) → not (is_dead h) ≡ false → not (is_none (where_of l h)) ≡ false
+dead_where l (held.Frame f) e = cc
+dead_where l (held.Slot s) e = cc
+dead_where l (held.Block b) e = cc
+dead_where l held.Zero e = cc
+dead_where l held.Dead e = refl
+
+either_none : (a b : Bool) → a ≡ true → b ≡ true → (not a || not b) ≡ false
+either_none a b p q = grind (arith, p, q)
+
+either_some : (a b : Bool) → b ≡ false → (not a || not b) ≡ true
+either_some a b q = grind (arith, q)
+
+-- the place's own page lives then
+copied_live : (k : Key) (place : Place) (s z : StateOf) → Holds z → Copied k place s z → is_some (s.contents k) ≡ true → is_live z.life (key_of_place place) ≡ true
+copied_live k place s z g c some = g.live (key_of_place place) ∙ ap (λ (p : Key → Option Page). is_some (p (key_of_place place))) c.contents ∙ ap is_some (changed_here s.contents (key_of_place place) (s.contents k)) ∙ some
+
+-- a report tells of the store's own fields the extension alone
+abbrev told_by : Option Bool → OwnOf
+told_by x = record { extended = x; ready = None; blocks_used = 0 }
+
+pub copied_ends : (k : Key) (place : Place) (s z : StateOf) (o : OwnOf) (x : Option Bool) → Holds z → Copied k place s z → is_some (s.contents k) ≡ true → IsBegun (report_of s o) → Ends {T = Unit {0}} (copying k place) (report_of z (told_by x)) (Ok tt)
+copied_ends k place s z o x g c some b =
+    let still : still_needs_frame (copying k place) (report_of z (told_by x)) ≡ false =
+    either_none _ _ (framed_has z.life (z.life.stands k) c.framed) (live_where z.life (z.life.stands (key_of_place place)) (copied_live k place s z g c some)) in
+    record {
+      ok = ap (λ (f : Bool). f || search_failed (copying k place) (report_of z (told_by x))) (nothing_read k (report_of z (told_by x)) (c.read ∙ b.no_failed_read)) ∙ fails_not _ (z.told.search_writes.succeeded == 0) (still_needs_frame (copying k place) (report_of z (told_by x))) (report_is_short (report_of z (told_by x))) still;
+      had = still;
+      read = λ h. cc;
+      no_frame = λ h. cc;
+    }
+
+pub failed_ends_copy : (why : PageFault) (k : Key) (place : Place) (s z : StateOf) (o : OwnOf) (x : Option Bool) → Holds z → z.contents (key_of_place place) ≡ None → FailsToCopy why k s z → IsBegun (report_of s o) → Ends {T = Unit {0}} (copying k place) (report_of z (told_by x)) (Err why)
+failed_ends_copy fault.Read k place s z o x g dead h b = record {
+  ok = tt;
+  had = tt;
+  read = λ e. ap (λ (r : Option Key). unwrap_or (option_map (same_in_world k) r) false) (h.read refl) ∙ same_again k;
+  no_frame = λ e. cc;
+}
+failed_ends_copy fault.NoFrame k place s z o x g dead h b =
+    let still : still_needs_frame (copying k place) (report_of z (told_by x)) ≡ true =
+    either_some _ _ (dead_where z.life (z.life.stands (key_of_place place)) (g.live (key_of_place place) ∙ ap is_some dead)) in
+    record {
+      ok = tt;
+      had = tt;
+      read = λ e. cc;
+      no_frame = λ e. (
+        nothing_read k (report_of z (told_by x)) (h.kept refl ∙ b.no_failed_read),
+        search_failed_by z.told.search_writes.failed z.told.search_writes.succeeded _ _ (h.failed refl) (h.none refl b.no_failed_write) still
+            (short_counts true true true z.life.frames.zeroed z.life.frames.free z.life.frames.standby (h.short refl)),
+      );
+    }
+
+-- ---- in the call's own words
+
+-- the place's own page is dead still
+pub failed_dead : (s z : StateOf) (place : Place) → z ≡ record (called s z) { names = z.names } → s.contents (key_of_place place) ≡ None → z.contents (key_of_place place) ≡ None
+failed_dead s z place e dead = ap (λ (x : StateOf). x.contents (key_of_place place)) e ∙ dead
+
+pub copied_store_at : (n : ℕ) (k : Key) (place : Place) (to : Key) (s z : StateOf) (o u : OwnOf) → to ≡ own_key place → Holds s → Holds z → s.contents (key_of_place place) ≡ None → ((a : Aim) → CopiesFrom a k place s → Went a n s z) → Copied k place s z → u.extended ≡ o.extended → u.blocks_used ≡ o.blocks_used
+    → store_of z u ≡ with_copy (store_of s o) (store_of z u) place to
+copied_store_at n k place to s z o u e h g dead went c x b = copied_store n k place s z o u h g dead went c x b ∙ ap (with_copy (store_of s o) (store_of z u) place) (sym e)

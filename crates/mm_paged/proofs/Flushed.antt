@@ -1,0 +1,549 @@
+-- A page of a file that is written to its block.
+use Rattle.std.proofs.Common.{◌≡◌, ◌≢◌, ℕ, zero, suc, ◌+◌, ◌-◌, ◌<◌, Bool, true, false, List, [], ◌∷◌, ◌++◌, Option, Some, None, refl, sym, ap, ◌∙◌, subst, arith, inl, inr, ◌⊎◌}
+use Rattle.std.proofs.Math.Logic.{∥∥₁_elim}
+use Rattle.std.proofs.Props.{props}
+use Rattle.std.specs.Cmp.{unsigned_Decides}
+use Rattle.std.specs.Prelude.{not, ◌&&◌, ◌||◌, ◌==◌, if◌then◌else◌, is_some, IsSome, length, min, slice_get, slice_set, slice_index_or, ◌^◌, Result, Ok, Err, OnOk, OnErr, is_ok}
+use Rattle.mm_types.specs.Machine.{MachineOf, limit_of}
+use Rattle.mm_types.specs.declared.devices.Direction.TheVariants as way
+use Rattle.mm_types.specs.declared.frames.Backing.{Backing}
+use Rattle.mm_types.specs.declared.frames.Backing.TheVariants as backing
+use Rattle.mm_types.specs.declared.frames.Held.{Held}
+use Rattle.mm_types.specs.declared.frames.Held.TheVariants as held
+use Rattle.mm_types.specs.declared.frames.Record.{Record}
+use Rattle.mm_types.specs.declared.frames.Request.{Request}
+use Rattle.mm_types.specs.declared.frames.Request.TheVariants as request
+use Rattle.mm_types.specs.declared.moves.LineKind.{LineKind}
+use Rattle.mm_types.specs.declared.moves.LineKind.TheVariants as kind
+use Rattle.mm_types.specs.declared.moves.Move.{Move}
+use Rattle.mm_types.specs.declared.moves.Move.TheVariants as move
+use Rattle.mm_types.specs.declared.moves.Stored.{Stored}
+use Rattle.mm_types.specs.declared.moves.Stored.TheVariants as stored
+use Rattle.mm_types.specs.declared.numbers.Block.{Block}
+use Rattle.mm_types.specs.declared.numbers.Frame.{Frame}
+use Rattle.mm_types.specs.declared.numbers.Key.{Key}
+use Rattle.mm_types.proofs.Bytes.{rose_later}
+use Rattle.mm_types.proofs.Cells.{get_set_other}
+use Rattle.mm_life.specs.Frames.{record_at, blank, is_read, is_write, is_again, has_request, write_done, without_slot, being_written}
+use Rattle.mm_life.specs.Life.{FrameLife, is_live, is_dead}
+use Rattle.mm_life.specs.Legal.{IsLegal, is_touch, is_access, is_writer, is_call, is_block, has_depth}
+use Rattle.mm_life.specs.Effect.{after_move}
+use Rattle.mm_life.specs.Frames.{is_on}
+use Rattle.mm_laws.specs.Settling.{ended_as}
+use Rattle.mm_laws.proofs.Deduced.{reached_sound}
+use Rattle.mm_laws.proofs.Settling.{wrote_settles}
+use Rattle.mm_walks.specs.Chores.{IsEndOf, FlushMoves, FlushedAt}
+use Rattle.mm_pages.specs.Housekeeping.{Flushes}
+use Rattle.mm_pages.specs.Passing.{Passes}
+use Rattle.mm_pages.specs.Reports.{wrote, Served}
+use Rattle.mm_pages.specs.Standing.{stored_of, backed_by, block_at, in_backing, is_on_device, bytes_at}
+use Rattle.mm_pages.specs.Shortage.{is_framed}
+use Rattle.mm_pages.specs.Store.{Ready}
+use Rattle.mm_blocks.specs.Devices.{DeviceOf}
+use Rattle.mm_pages.specs.Told.{Told, with_write}
+use Rattle.mm_parts.specs.Moves.{write_end, write_target, goes_to, lowest_free, own_after, own_ended}
+use Rattle.mm_walks.specs.Waits.{wait_of}
+use Rattle.mm_moving.specs.Shown.{StateOf, CalledFor, Made, Wrote, backing_of_frame, moved, called, written_if}
+use Rattle.mm_moving.specs.Doing.{Does}
+use Rattle.mm_moving.specs.Holds.{Holds}
+use Rattle.mm_moving.proofs.Doing.{does_one, does_two, does_then, does_nothing}
+use Rattle.mm_located.specs.Carried.{blocks_written, slots_written}
+use Rattle.mm_paged.specs.Flushed.{Filed, WritesTo, WritesBack, EndsFlight, WritesChanged, FlushesFrame, FlushesPage}
+use Rattle.mm_paged.specs.Pieces.{LifeKept}
+use Rattle.mm_paged.specs.Shown.{OwnOf, Kept, store_of, report_of, behind_of}
+use Rattle.mm_paged.proofs.Quiet.{no_thread}
+use Rattle.mm_paged.proofs.Completed.{called_by_write}
+use Rattle.mm_paged.proofs.Keeping.{kept_same, kept_then, blocks_kept}
+use Rattle.mm_paged.proofs.Serving.{InLine, served_by}
+use Rattle.mm_paged.proofs.Shows.{passes_of}
+
+-- ---- blocks
+
+same_self : (n : ℕ) → (n == n) ≡ true
+same_self n = (unsigned_Decides n n).1 refl
+
+-- a backing with this block
+block_is : (x : Backing) (n : ℕ) → block_at (in_backing x) ≡ Some n → x ≡ backing.Block (record { 0 = n })
+block_is backing.None n e = cc
+block_is (backing.Slot s) n e = cc
+block_is (backing.Block c) n e = let same : c.0 ≡ n = cc in ap (λ (k : ℕ). backing.Block (record { 0 = k })) same
+
+pub block_of_frame : (s : StateOf) (k : Key) (f : Frame) (n : ℕ) → s.life.stands k ≡ held.Frame f → block_at (backed_by s.life (s.life.stands k)) ≡ Some n → backing_of_frame s f ≡ backing.Block (record { 0 = n })
+block_of_frame s k f n e b = block_is (backing_of_frame s f) n (sym (ap (λ (h : Held). block_at (backed_by s.life h)) e) ∙ b)
+
+some_in : {A : Type 0} (o : Option A) → is_some o ≡ true → (v : A) × (o ≡ Some v)
+some_in None h = cc
+some_in (Some v) h = (v, refl)
+
+pub some_there : {A : Type 0} (o : Option A) → IsSome o → (v : A) × (o ≡ Some v)
+some_there None h = cc
+some_there (Some v) h = (v, refl)
+
+pub filed_of : (s : StateOf) (k : Key) (f : Frame) → s.life.stands k ≡ held.Frame f → IsSome (block_at (backed_by s.life (s.life.stands k))) → Filed f s
+filed_of s k f e b = let n = some_there (block_at (backed_by s.life (s.life.stands k))) b in record { key = k; stands = e; block = record { 0 = n.0 }; backed = block_of_frame s k f n.0 e n.1 }
+
+live_frame : (s : StateOf) (k : Key) (f : Frame) → s.life.stands k ≡ held.Frame f → is_live s.life k ≡ true
+live_frame s k f e = ap (λ (h : Held). not (is_dead h)) e
+
+page_of : (s : StateOf) (k : Key) (f : Frame) → Holds s → s.life.stands k ≡ held.Frame f → (page : List ℕ) × (s.contents k ≡ Some page)
+page_of s k f h e = some_in (s.contents k) (sym (h.live k) ∙ live_frame s k f e)
+
+-- ---- device calls
+
+device_none : (b : Block) (s z : StateOf) → z.paging ≡ s.paging → z.files ≡ s.files → z.slots ≡ s.slots → z.blocks ≡ s.blocks → z.waits ≡ s.waits → z.told ≡ s.told → WritesTo b true s z
+device_none b s z p f l k w t = record {
+  paging = p;
+  slots = l;
+  waits = w;
+  others = λ other n. ap (λ (x : List (List ℕ)). slice_get x other) k;
+  told = subst (λ (x : Told). x ≡ record s.told { file_writes = x.file_writes; search_writes = x.search_writes }) (sym t) refl;
+  later = let e = ap (λ (x : DeviceOf). x.faults) f in omega (arith, e);
+  quiet = λ e. ap (λ (x : Told). x.file_writes.failed) t;
+  failed = λ e. cc;
+  blamed = λ e. cc;
+}
+
+device_then : (b : Block) (ok : Bool) (s y z : StateOf) → WritesTo b true s y → WritesTo b ok y z → WritesTo b ok s z
+device_then b ok s y z p q = record {
+  paging = q.paging ∙ p.paging;
+  slots = q.slots ∙ p.slots;
+  waits = q.waits ∙ p.waits;
+  others = λ other n. q.others other n ∙ p.others other n;
+  told = q.told ∙ ap (λ (t : Told). record t { file_writes = z.told.file_writes; search_writes = z.told.search_writes }) p.told;
+  later = let a = p.later in let c = q.later in omega (arith, a, c);
+  quiet = λ e. q.quiet e ∙ p.quiet refl;
+  failed = q.failed;
+  blamed = λ e. rose_later s.files.faults y.files.faults z.files.faults p.later (q.blamed e);
+}
+
+slots_same : (b : Block) (page : List ℕ) (ok : Bool) (xs : List (List ℕ)) → written_if ok (slots_written (backing.Block b) page) xs ≡ xs
+slots_same b page true xs = refl
+slots_same b page false xs = refl
+
+others_same : (b : Block) (page : List ℕ) (ok : Bool) (xs : List (List ℕ)) (other : ℕ) → other ≢ b.0 → slice_get (written_if ok (blocks_written (backing.Block b) page) xs) other ≡ slice_get xs other
+others_same b page true xs other n = get_set_other xs b.0 other page n
+others_same b page false xs other n = refl
+
+none_failed : (t : Told) (b : Block) (ok : Bool) → ok ≡ true → (with_write ok (backing.Block b) t).file_writes.failed ≡ t.file_writes.failed
+none_failed t b true e = refl
+none_failed t b false e = cc
+
+one_failed : (t : Told) (b : Block) (ok : Bool) → ok ≡ false → 0 < (with_write ok (backing.Block b) t).file_writes.failed
+one_failed t b true e = cc
+one_failed t b false e = some_more t.file_writes.failed
+  where
+    some_more : (n : ℕ) → 0 < min (n + 1) (2 ^ 64 - 1)
+    some_more n = grind arith
+
+by_call : (b : Block) (page : List ℕ) (ok : Bool) (s z : StateOf) → z.told ≡ with_write ok (backing.Block b) s.told → z.waits ≡ s.waits → CalledFor way.Write (backing.Block b) ok s.paging s.files z.paging z.files → Wrote (backing.Block b) page ok s z → WritesTo b ok s z
+by_call b page ok s z t w c p = record {
+  paging = c.1;
+  slots = p.slots_are ∙ slots_same b page ok s.slots;
+  waits = w;
+  others = λ other n. ap (λ (x : List (List ℕ)). slice_get x other) p.blocks_are ∙ others_same b page ok s.blocks other n;
+  told = subst (λ (x : Told). x ≡ record s.told { file_writes = x.file_writes; search_writes = x.search_writes }) (sym t) refl;
+  later = c.0.later;
+  quiet = λ e. ap (λ (x : Told). x.file_writes.failed) t ∙ none_failed s.told b ok e;
+  failed = λ e. subst (λ (x : Told). 0 < x.file_writes.failed) (sym t) (one_failed s.told b ok e);
+  blamed = λ e. c.0.cause e;
+}
+
+ended_device : (b : Block) (f : Frame) (page : List ℕ) (ok : Bool) (s z : StateOf) → backing_of_frame s f ≡ backing.Block b → Made (write_end ok f) s z → Wrote (backing_of_frame s f) page ok s z → WritesTo b ok s z
+ended_device b f page true s z e m w = by_call b page true s z (m.told ∙ ap (λ (h : Backing). with_write true h s.told) e) m.waits (subst (λ (h : Backing). CalledFor way.Write h true s.paging s.files z.paging z.files) e m.calls) (subst (λ (h : Backing). Wrote h page true s z) e w)
+ended_device b f page false s z e m w = by_call b page false s z (m.told ∙ ap (λ (h : Backing). with_write false h s.told) e) m.waits (subst (λ (h : Backing). CalledFor way.Write h false s.paging s.files z.paging z.files) e m.calls) (subst (λ (h : Backing). Wrote h page false s z) e w)
+
+-- ---- the life of the frames
+
+kept_end : (ok : Bool) (f : Frame) (l : FrameLife) → LifeKept l (after_move l (write_end ok f))
+kept_end true f l = record { machine = refl; line = refl; kind = refl; paging = refl; keys = refl; pids = refl; added = refl }
+kept_end false f l = record { machine = refl; line = refl; kind = refl; paging = refl; keys = refl; pids = refl; added = refl }
+
+stands_end : (ok : Bool) (f : Frame) (l : FrameLife) → (after_move l (write_end ok f)).stands ≡ l.stands
+stands_end true f l = refl
+stands_end false f l = refl
+
+life_end : (ok : Bool) (f : Frame) (s z : StateOf) → Made (write_end ok f) s z → LifeKept s.life z.life
+life_end ok f s z m = subst (λ (l : FrameLife). LifeKept s.life l) (sym m.life) (kept_end ok f s.life)
+
+held_end : (ok : Bool) (f : Frame) (s z : StateOf) → Made (write_end ok f) s z → z.life.stands ≡ s.life.stands
+held_end ok f s z m = ap (λ (l : FrameLife). l.stands) m.life ∙ stands_end ok f s.life
+
+life_start : (b : Block) (f : Frame) (s z : StateOf) → Made (move.Write f (stored.Block b)) s z → LifeKept s.life z.life
+life_start b f s z m = subst (λ (l : FrameLife). LifeKept s.life l) (sym m.life) (record { machine = refl; line = refl; kind = refl; paging = refl; keys = refl; pids = refl; added = refl })
+
+held_start : (b : Block) (f : Frame) (s z : StateOf) → Made (move.Write f (stored.Block b)) s z → z.life.stands ≡ s.life.stands
+held_start b f s z m = ap (λ (l : FrameLife). l.stands) m.life
+
+-- the frame's page has the block that it had
+backed_after : (s z : StateOf) (ms : List Move) (k : Key) (f : Frame) (b : Block) → Holds s → Holds z → Does ms s z → LifeKept s.life z.life → z.life.stands ≡ s.life.stands → z.contents ≡ s.contents → s.life.stands k ≡ held.Frame f → backing_of_frame s f ≡ backing.Block b → backing_of_frame z f ≡ backing.Block b
+backed_after s z ms k f b h g d l st c e w =
+    block_of_frame z k f b.0 (ap (λ (x : Key → Held). x k) st ∙ e)
+    (blocks_kept s z ms h g d.replays l.paging c k ∙ ap (λ (x : Held). block_at (backed_by s.life x)) e ∙ ap (λ (x : Backing). block_at (in_backing x)) w)
+
+-- ---- one list of writes behind another
+
+pub writes_none : (b : Block) (s : StateOf) → WritesBack b true [] s s
+writes_none b s = record { does = does_nothing s; life = kept_same s.life; stands = refl; same = refl; device = device_none b s s refl refl refl refl refl refl }
+
+writes_then : (b : Block) (ok : Bool) (xs ys : List Move) (s y z : StateOf) → WritesBack b true xs s y → WritesBack b ok ys y z → WritesBack b ok (xs ++ ys) s z
+writes_then b ok xs ys s y z p q = record {
+  does = does_then xs ys s y z p.does q.does;
+  life = kept_then s.life y.life z.life p.life q.life;
+  stands = q.stands ∙ p.stands;
+  same = q.same ∙ ap (λ (x : StateOf). called x z) p.same;
+  device = device_then b ok s y z p.device q.device;
+}
+
+-- ---- a write in flight ends
+
+done_still : (r : Record) → is_write (ended_as write_done r).request ≡ false
+done_still r = at (is_some r.owner) (is_again r.request)
+  where
+    at : (o a : Bool) → is_write (if o then (if a then record r { request = request.None; backing = without_slot r.backing } else record r { request = request.None; changed = false }) else blank).request ≡ false
+    at true true = refl
+    at true false = refl
+    at false a = refl
+
+ended_still : (ok : Bool) (f : Frame) (s z : StateOf) → Holds s → Made (write_end ok f) s z → ok ≡ true → is_write (record_at z.life.frames f.0).request ≡ false
+ended_still true f s z h m e = ∥∥₁_elim h.reached (hlevel props) (λ r.
+    ap (λ (l : FrameLife). is_write (record_at l.frames f.0).request) m.life
+    ∙ ap (λ (t : Record). is_write t.request) (wrote_settles s.life (reached_sound s.life r) f m.legal).here
+    ∙ done_still (record_at s.life.frames f.0))
+ended_still false f s z h m e = cc
+
+pub flight_none : (b : Block) (f : Frame) (s : StateOf) → backing_of_frame s f ≡ backing.Block b → is_write (record_at s.life.frames f.0).request ≡ false → EndsFlight b f true s s
+flight_none b f s e w = record { moves = []; are = inl refl; writes = writes_none b s; backed = e; still = λ q. w }
+
+-- what the end of a write tells of the page that is written
+abbrev pub WroteOf : Frame → Bool → StateOf → StateOf → Type 0
+WroteOf f ok s z = (k : Key) (page : List ℕ) → (record_at s.life.frames f.0).owner ≡ Some k → s.contents k ≡ Some page → Wrote (backing_of_frame s f) page ok s z
+
+pub flight_ended : (b : Block) (f : Frame) (ok : Bool) (s z : StateOf) → Holds s → Holds z → Filed f s → backing_of_frame s f ≡ backing.Block b → s.own ≡ None → Made (write_end ok f) s z → z ≡ record (called s z) { own = own_ended s.own f.0 } → WroteOf f ok s z → EndsFlight b f ok s z
+flight_ended b f ok s z h g i e o m r w =
+    let same = called_by_write s z f.0 o r in
+    let page = page_of s i.key f h i.stands in
+    record {
+      moves = write_end ok f ∷ [];
+      are = inr refl;
+      writes = record {
+        does = does_one (write_end ok f) s z m;
+        life = life_end ok f s z m;
+        stands = held_end ok f s z m;
+        same = same;
+        device = ended_device b f page.0 ok s z e m (w i.key page.0 (h.owner i.key f i.stands) page.1);
+      };
+      backed = backed_after s z (write_end ok f ∷ []) i.key f b h g (does_one (write_end ok f) s z m) (life_end ok f s z m) (held_end ok f s z m) (ap (λ (x : StateOf). x.contents) same) i.stands e;
+      still = ended_still ok f s z h m;
+    }
+
+-- the page is in the same frame then
+pub filed_after : (b : Block) (f : Frame) (ok : Bool) (s z : StateOf) → EndsFlight b f ok s z → Filed f s → Filed f z
+filed_after b f ok s z p i = record { key = i.key; stands = ap (λ (x : Key → Held). x i.key) p.writes.stands ∙ i.stands; block = b; backed = p.backed }
+
+-- ---- a changed page is written
+
+pub changed_none : (b : Block) (f : Frame) (s : StateOf) → backing_of_frame s f ≡ backing.Block b → (record_at s.life.frames f.0).changed ≡ false → WritesChanged b f true s s
+changed_none b f s e c = record { moves = []; are = inl refl; writes = writes_none b s; backed = e; clean = λ q. c }
+
+pub target_is : (l : FrameLife) (f : Frame) (b : Block) → (record_at l.frames f.0).backing ≡ backing.Block b → write_target l f ≡ stored.Block b
+target_is l f b e = ap (λ (h : Backing). goes_to h (lowest_free l.free_slots)) e
+
+-- a changed page that is not being written has no request at all
+no_request : (q : Request) → is_write q ≡ false → (is_read q ≡ true → ⊥) → has_request q ≡ false
+no_request request.None w r = refl
+no_request request.Read w r = absurd (r refl)
+no_request request.Write w r = cc
+no_request request.WriteAgain w r = cc
+
+quiet_frame : (s : StateOf) (f : Frame) → Holds s → is_write (record_at s.life.frames f.0).request ≡ false → (record_at s.life.frames f.0).changed ≡ true → has_request (record_at s.life.frames f.0).request ≡ false
+quiet_frame s f h w c = ∥∥₁_elim h.reached (hlevel props) (λ r. no_request (record_at s.life.frames f.0).request w (λ e.
+    let n = (((reached_sound s.life r).standing f.0).fit.reading e).1 in let bad : true ≡ false = sym c ∙ n in cc))
+
+is_its_block : (x : Backing) (b : Block) → x ≡ backing.Block b → is_block b.0 x ≡ true
+is_its_block x b e = ap (is_block b.0) e ∙ same_self b.0
+
+writes_in_call : (a b c d x y z : Bool) → a ≡ true → b ≡ true → c ≡ false → d ≡ true → z ≡ true → (a && b && not c && d && (x || y || z)) ≡ true
+writes_in_call true true false true true y z p q r s t = refl
+writes_in_call true true false true false true z p q r s t = refl
+writes_in_call true true false true false false z p q r s t = t
+writes_in_call true true false false x y z p q r s t = cc
+writes_in_call true true true d x y z p q r s t = cc
+writes_in_call true false c d x y z p q r s t = cc
+writes_in_call false b c d x y z p q r s t = cc
+
+pub start_legal : (s : StateOf) (f : Frame) → Holds s → Filed f s → s.life.kind ≡ kind.Call → is_write (record_at s.life.frames f.0).request ≡ false → (record_at s.life.frames f.0).changed ≡ true → IsLegal (move.Write f (write_target s.life f)) s.life
+start_legal s f h i k w c = subst (λ (t : Stored). IsLegal (move.Write f t) s.life) (sym (target_is s.life f i.block i.backed))
+    (writes_in_call r.changed (is_some r.owner) (has_request r.request) (is_block i.block.0 r.backing)
+    (is_on f.0 s.life.frames.modified && is_access s.life.kind) (is_on f.0 s.life.frames.modified && is_writer s.life.kind && has_depth s.life) (is_call s.life.kind)
+    c (ap is_some (h.owner i.key f i.stands)) (quiet_frame s f h w c) (is_its_block r.backing i.block i.backed) (ap is_call k))
+  where
+    r : Record
+    r = record_at s.life.frames f.0
+
+-- the record of the frame that is being written
+begun_record : (b : Block) (f : Frame) (s y : StateOf) → Made (move.Write f (stored.Block b)) s y → (record_at y.life.frames f.0 ≡ being_written (backing.Block b) (record_at s.life.frames f.0)) ⊎ ((record_at y.life.frames f.0 ≡ blank) × (record_at s.life.frames f.0 ≡ blank))
+begun_record b f s y m = elim (set_here s.life.frames.records f.0 (being_written (backing.Block b) (record_at s.life.frames f.0))) [
+  | inl h ↦ inl (ap (λ (l : FrameLife). record_at l.frames f.0) m.life ∙ h)
+  | inr h ↦ inr (ap (λ (l : FrameLife). record_at l.frames f.0) m.life ∙ h.0, h.1)
+]
+  where
+    set_here : (xs : List Record) (n : ℕ) (r : Record) → (slice_index_or (slice_set xs n r) n blank ≡ r) ⊎ ((slice_index_or (slice_set xs n r) n blank ≡ blank) × (slice_index_or xs n blank ≡ blank))
+    set_here [] n r = inr (refl, refl)
+    set_here (x ∷ xs) zero r = inl refl
+    set_here (x ∷ xs) (suc n) r = set_here xs n r
+
+begun_once : (b : Block) (f : Frame) (s y : StateOf) → Made (move.Write f (stored.Block b)) s y → is_again (record_at y.life.frames f.0).request ≡ false
+begun_once b f s y m = elim (begun_record b f s y m) [
+  | inl h ↦ ap (λ (r : Record). is_again r.request) h
+  | inr h ↦ ap (λ (r : Record). is_again r.request) h.0
+]
+
+done_clean : (r : Record) → is_again r.request ≡ false → (ended_as write_done r).changed ≡ false
+done_clean r e = at (is_some r.owner) (is_again r.request) e
+  where
+    at : (o a : Bool) → a ≡ false → (if o then (if a then record r { request = request.None; backing = without_slot r.backing } else record r { request = request.None; changed = false }) else blank).changed ≡ false
+    at true true q = cc
+    at true false q = refl
+    at false a q = refl
+
+ended_clean : (ok : Bool) (f : Frame) (s z : StateOf) → Holds s → Made (write_end ok f) s z → is_again (record_at s.life.frames f.0).request ≡ false → ok ≡ true → (record_at z.life.frames f.0).changed ≡ false
+ended_clean true f s z h m a e = ∥∥₁_elim h.reached (hlevel props) (λ r.
+    ap (λ (l : FrameLife). (record_at l.frames f.0).changed) m.life
+    ∙ ap (λ (t : Record). t.changed) (wrote_settles s.life (reached_sound s.life r) f m.legal).here
+    ∙ done_clean (record_at s.life.frames f.0) a)
+ended_clean false f s z h m a e = cc
+
+own_done : (s y z : StateOf) (f : Frame) → s.own ≡ None → s.life.kind ≡ kind.Call → y ≡ record (moved s y) { own = own_after s.life.kind s.own f } → z ≡ record (called y z) { own = own_ended y.own f.0 } → z ≡ called s z
+own_done s y z f o k a e =
+    e
+    ∙ ap (λ (x : Option Frame). record (called y z) { own = own_ended x f.0 }) (ap (λ (x : StateOf). x.own) a ∙ ap (λ (x : LineKind). own_after x s.own f) k)
+    ∙ ap (λ (b : Bool). record (called y z) { own = if b then None else Some f }) (same_self f.0)
+    ∙ ap (λ (x : StateOf). record (called x z) { own = None }) a
+    ∙ ap (λ (x : Option Frame). record (called s z) { own = x }) (sym o)
+
+pub changed_written : (b : Block) (f : Frame) (to : Stored) (ok : Bool) (s y z : StateOf) → Holds s → Holds y → Holds z → Filed f s → backing_of_frame s f ≡ backing.Block b → s.own ≡ None → s.life.kind ≡ kind.Call
+    → to ≡ write_target s.life f → Made (move.Write f to) s y → y ≡ record (moved s y) { own = own_after s.life.kind s.own f }
+    → Made (write_end ok f) y z → z ≡ record (called y z) { own = own_ended y.own f.0 } → WroteOf f ok y z → WritesChanged b f ok s z
+changed_written b f to ok s y z h hy g i e o k t n a m r w =
+    let start : Made (move.Write f (stored.Block b)) s y = subst (λ (x : Stored). Made (move.Write f x) s y) (t ∙ target_is s.life f b e) n in
+    let xs : List Move = move.Write f (stored.Block b) ∷ write_end ok f ∷ [] in
+    let does = does_two (move.Write f (stored.Block b)) (write_end ok f) s y z start m in
+    let life = kept_then s.life y.life z.life (life_start b f s y start) (life_end ok f y z m) in
+    let stands = held_end ok f y z m ∙ held_start b f s y start in
+    let same = own_done s y z f o k a r in
+    let at : y.life.stands i.key ≡ held.Frame f = ap (λ (x : Key → Held). x i.key) (held_start b f s y start) ∙ i.stands in
+    let backed = backed_after s y (move.Write f (stored.Block b) ∷ []) i.key f b h hy (does_one (move.Write f (stored.Block b)) s y start) (life_start b f s y start) (held_start b f s y start) (ap (λ (x : StateOf). x.contents) a) i.stands e in
+    let page = page_of y i.key f hy at in
+    record {
+      moves = xs;
+      are = inr (stored.Block b, refl);
+      writes = record {
+        does = does;
+        life = life;
+        stands = stands;
+        same = same;
+        device = device_then b ok s y z (device_none b s y start.calls.0 start.calls.1 (ap (λ (x : StateOf). x.slots) a) (ap (λ (x : StateOf). x.blocks) a) start.waits start.told)
+            (ended_device b f page.0 ok y z backed m (w i.key page.0 (hy.owner i.key f at) page.1));
+      };
+      backed = backed_after s z xs i.key f b h g does life stands (ap (λ (x : StateOf). x.contents) same) i.stands e;
+      clean = ended_clean ok f y z hy m (begun_once b f s y start);
+    }
+
+-- ---- a page in a frame is flushed
+
+end_is : (ok : Bool) (f : Frame) → IsEndOf f (write_end ok f)
+end_is true f = inl refl
+end_is false f = inr refl
+
+pub frame_lost : (b : Block) (f : Frame) (s z : StateOf) → EndsFlight b f false s z → FlushesFrame b f false s z
+frame_lost b f s z p = record { moves = p.moves; are = shape p.moves p.are; writes = p.writes; backed = p.backed; clean = λ e. cc }
+  where
+    shape : (ms : List Move) → (ms ≡ []) ⊎ (ms ≡ write_end false f ∷ []) → FlushMoves f ms
+    shape ms (inl e) = subst (FlushMoves f) (sym e) tt
+    shape ms (inr e) = subst (FlushMoves f) (sym e) (end_is false f)
+
+pub frame_flushed : (b : Block) (f : Frame) (ok : Bool) (s y z : StateOf) → EndsFlight b f true s y → WritesChanged b f ok y z → FlushesFrame b f ok s z
+frame_flushed b f ok s y z p q = record {
+  moves = p.moves ++ q.moves;
+  are = shape p.moves q.moves p.are q.are;
+  writes = writes_then b ok p.moves q.moves s y z p.writes q.writes;
+  backed = q.backed;
+  clean = q.clean;
+}
+  where
+    shape : (xs ys : List Move) → (xs ≡ []) ⊎ (xs ≡ write_end true f ∷ []) → (ys ≡ []) ⊎ ((to : Stored) × (ys ≡ move.Write f to ∷ write_end ok f ∷ [])) → FlushMoves f (xs ++ ys)
+    shape xs ys (inl d) (inl e) = subst (λ (ms : List Move). FlushMoves f (ms ++ ys)) (sym d) (subst (FlushMoves f) (sym e) tt)
+    shape xs ys (inl d) (inr e) = subst (λ (ms : List Move). FlushMoves f (ms ++ ys)) (sym d) (subst (FlushMoves f) (sym e.1) ((e.0, refl), end_is ok f))
+    shape xs ys (inr d) (inl e) = subst (λ (ms : List Move). FlushMoves f (ms ++ ys)) (sym d) (subst (λ (ms : List Move). FlushMoves f (move.Wrote f ∷ ms)) (sym e) (inl refl))
+    shape xs ys (inr d) (inr e) = subst (λ (ms : List Move). FlushMoves f (ms ++ ys)) (sym d) (subst (λ (ms : List Move). FlushMoves f (move.Wrote f ∷ ms)) (sym e.1) (refl, (e.0, refl), end_is ok f))
+
+-- ---- a page is flushed
+
+pub page_framed : (k : Key) (b : Block) (f : Frame) (ok : Bool) (s z : StateOf) → s.life.stands k ≡ held.Frame f → FlushesFrame b f ok s z → FlushesPage k b ok s z
+page_framed k b f ok s z e p = record {
+  moves = p.moves;
+  writes = p.writes;
+  page = subst (λ (h : Held). FlushedAt h p.moves) (sym e) p.are;
+  clean = λ q. ap (stored_of z.life) (ap (λ (x : Key → Held). x k) p.writes.stands ∙ e) ∙ (λ i. if p.clean q i then held.Dead else in_backing (p.backed i));
+}
+
+-- without a frame it is in its block
+home_is : (l : FrameLife) (h : Held) (b : Block) → is_framed h ≡ false → block_at (backed_by l h) ≡ Some b.0 → h ≡ held.Block b
+home_is l (held.Frame f) b n e = cc
+home_is l (held.Slot s) b n e = cc
+home_is l (held.Block c) b n e = let same : c.0 ≡ b.0 = cc in ap (λ (x : ℕ). held.Block (record { 0 = x })) same
+home_is l held.Zero b n e = cc
+home_is l held.Dead b n e = cc
+
+pub page_home : (k : Key) (b : Block) (s : StateOf) → is_framed (s.life.stands k) ≡ false → block_at (backed_by s.life (s.life.stands k)) ≡ Some b.0 → FlushesPage k b true s s
+page_home k b s n e =
+    let h = home_is s.life (s.life.stands k) b n e in
+    record { moves = []; writes = writes_none b s; page = subst (λ (x : Held). FlushedAt x []) (sym h) refl; clean = λ q. ap (stored_of s.life) h }
+
+-- ---- what the store shows then
+
+pub flushed_store : (k : Key) (b : Block) (ok : Bool) (s z : StateOf) (o : OwnOf) → Holds s → Holds z → FlushesPage k b ok s z → store_of z o ≡ wrote (store_of s o) (store_of z o)
+flushed_store k b ok s z o h g p = λ i. record {
+  machine = life.machine i;
+  is_open = opened i;
+  areas = areas i;
+  bound = bound i;
+  names = names i;
+  paging = life.paging i;
+  paging_keys = life.keys i;
+  room = limit_of (life.machine i);
+  block_of = λ key. blocks key i;
+  blocks_used = o.blocks_used;
+  file_blocks = z.blocks;
+  line = life.line i;
+  kind = life.kind i;
+  last_pid = life.pids i;
+  ready = o.ready;
+  report = record (report_of z o) {
+    paging_reads = (told i).paging_reads;
+    paging_writes = (told i).paging_writes;
+    file_reads = (told i).file_reads;
+    last_failed_read = (told i).last_failed_read;
+    wait = λ tid. wait_of (waits i tid);
+  };
+  paging_device = device i;
+  file_device = z.files;
+}
+  where
+    life : LifeKept s.life z.life
+    life = p.writes.life
+
+    opened : z.is_open ≡ s.is_open
+    opened = ap (λ (x : StateOf). x.is_open) p.writes.same
+
+    areas : z.areas ≡ s.areas
+    areas = ap (λ (x : StateOf). x.areas) p.writes.same
+
+    bound : z.bound ≡ s.bound
+    bound = ap (λ (x : StateOf). x.bound) p.writes.same
+
+    names : z.names ≡ s.names
+    names = ap (λ (x : StateOf). x.names) p.writes.same
+
+    told : z.told ≡ record s.told { file_writes = z.told.file_writes; search_writes = z.told.search_writes }
+    told = p.writes.device.told
+
+    waits : z.waits ≡ s.waits
+    waits = p.writes.device.waits
+
+    device : z.paging ≡ s.paging
+    device = p.writes.device.paging
+
+    blocks : (key : Key) → block_at (backed_by z.life (z.life.stands key)) ≡ block_at (backed_by s.life (s.life.stands key))
+    blocks = blocks_kept s z p.moves h g p.writes.does.replays p.writes.life.paging (ap (λ (x : StateOf). x.contents) p.writes.same)
+
+pub on_ok_if : {T E : Type 0} {P : Type 0} (r : Result T E) → (is_ok r ≡ true → P) → OnOk r P
+on_ok_if (Ok v) f = f refl
+on_ok_if (Err e) f = tt
+
+pub on_err_if : {T E : Type 0} {P : Type 0} (r : Result T E) → (is_ok r ≡ false → P) → OnErr r P
+on_err_if (Ok v) f = tt
+on_err_if (Err e) f = f refl
+
+-- its block holds its bytes
+pub flushed_bytes : (k : Key) (b : Block) (ok : Bool) (s z : StateOf) → Holds z → FlushesPage k b ok s z → ok ≡ true → slice_get z.blocks b.0 ≡ s.contents k
+flushed_bytes k b ok s z g p e =
+    let at = p.clean e in
+    sym (ap (bytes_at z.slots z.blocks) at) ∙ sym (g.stored k (ap is_on_device at)) ∙ ap (λ (x : StateOf). x.contents k) p.writes.same
+
+end_in_line : (f : Frame) (m : Move) → IsEndOf f m → InLine (m ∷ [])
+end_in_line f m (inl e) = subst (λ (x : Move). InLine (x ∷ [])) (sym e) tt
+end_in_line f m (inr e) = subst (λ (x : Move). InLine (x ∷ [])) (sym e) tt
+
+flush_in_line : (f : Frame) (ms : List Move) → FlushMoves f ms → InLine ms
+flush_in_line f [] h = tt
+flush_in_line f (x ∷ []) h = end_in_line f x h
+flush_in_line f (x ∷ y ∷ []) h = subst (λ (m : Move). InLine (m ∷ y ∷ [])) (sym h.0.1) (end_in_line f y h.1)
+flush_in_line f (x ∷ y ∷ z ∷ []) h = subst (λ (m : Move). InLine (m ∷ y ∷ z ∷ [])) (sym h.0) (subst (λ (m : Move). InLine (m ∷ z ∷ [])) (sym h.1.1) (end_in_line f z h.2))
+flush_in_line f (x ∷ y ∷ z ∷ u ∷ ms) h = absurd h
+
+flushed_in_line : (h : Held) (ms : List Move) → FlushedAt h ms → InLine ms
+flushed_in_line (held.Frame f) ms p = flush_in_line f ms p
+flushed_in_line (held.Slot s) ms p = subst InLine (sym p) tt
+flushed_in_line (held.Block b) ms p = subst InLine (sym p) tt
+flushed_in_line held.Zero ms p = subst InLine (sym p) tt
+flushed_in_line held.Dead ms p = subst InLine (sym p) tt
+
+pub flushed_served : (k : Key) (b : Block) (ok : Bool) (s z : StateOf) (o : OwnOf) → FlushesPage k b ok s z → Served (store_of s o) (store_of z o)
+flushed_served k b ok s z o p = served_by p.moves s z o o (flushed_in_line (s.life.stands k) p.moves p.page) p.writes.does
+
+pub flushed_stored : (k : Key) (b : Block) (ok : Bool) (s z : StateOf) → Holds s → Holds z → FlushesPage k b ok s z → length z.blocks ≡ length s.blocks
+flushed_stored k b ok s z h g p = g.blocks ∙ ap (λ (n : MachineOf). n.blocks) p.writes.life.machine ∙ sym h.blocks
+
+append-nil : {A : Type 0} (xs : List A) → xs ≡ xs ++ []
+append-nil [] = refl
+append-nil (x ∷ xs) = ap (λ t. x ∷ t) (append-nil xs)
+
+pub flushed_passes : (k : Key) (b : Block) (ok : Bool) (s z : StateOf) (o : OwnOf) → FlushesPage k b ok s z → Passes (Flushes (k ∷ [])) (store_of s o) (store_of z o) (behind_of s) (behind_of z)
+flushed_passes k b ok s z o p = passes_of (Flushes (k ∷ [])) p.moves s z o o p.writes.does (record {
+  pages = (p.moves, ([], (append-nil p.moves, p.page, (λ e. refl), (λ e. refl))));
+  moved = record { waits = p.writes.does.waits; ages = p.writes.does.ages };
+  slots = p.writes.device.slots;
+})
+
+pub flushed_kept : (k : Key) (b : Block) (ok : Bool) (s z : StateOf) (o : OwnOf) → Kept s o → s.life.kind ≡ kind.Call → FlushesPage k b ok s z → Kept z o
+flushed_kept k b ok s z o h c p = record {
+  own = ap (λ (x : StateOf). x.own) p.writes.same ∙ h.own;
+  aside = ap (λ (x : StateOf). x.aside) p.writes.same ∙ h.aside;
+  ready = λ r t. absurd (none_ready r t);
+  touching = λ r t. absurd (none_ready r t);
+  room = λ r t q. absurd (none_ready r t);
+  fresh = λ n l. ap (λ (f : ℕ → Bool). f n) p.writes.life.added ∙ h.fresh n l;
+  calm = λ th. absurd (no_thread s.life.kind z.life.kind p.writes.life.kind (ap is_touch c) th);
+}
+  where
+    none_ready : (r : Ready) → o.ready ≡ Some r → ⊥
+    none_ready r t = let bad : false ≡ true = sym (ap is_touch c) ∙ h.touching r t in cc
+
+-- not in a frame
+pub not_framed : (h : Held) → ((f : Frame) → h ≡ held.Frame f → ⊥) → is_framed h ≡ false
+not_framed (held.Frame f) n = absurd (n f refl)
+not_framed (held.Slot s) n = refl
+not_framed (held.Block b) n = refl
+not_framed held.Zero n = refl
+not_framed held.Dead n = refl
+
+-- the block of a page, and how it was flushed
+pub record Flushing (k : Key) (ok : Bool) (s z : StateOf) : Type 0 where
+  pub block : Block
+  pub is : block_at (backed_by s.life (s.life.stands k)) ≡ Some block.0
+  pub page : FlushesPage k block ok s z
+
+pub flushing_of : (k : Key) (ok : Bool) (s z : StateOf) → IsSome (block_at (backed_by s.life (s.life.stands k))) → ((b : Block) → block_at (backed_by s.life (s.life.stands k)) ≡ Some b.0 → FlushesPage k b ok s z) → Flushing k ok s z
+flushing_of k ok s z h f = let n = some_there (block_at (backed_by s.life (s.life.stands k))) h in record { block = record { 0 = n.0 }; is = n.1; page = f (record { 0 = n.0 }) n.1 }
+
+-- that block is the only one
+pub its_bytes : (k : Key) (ok : Bool) (s z : StateOf) → Holds z → Flushing k ok s z → ok ≡ true → (block : ℕ) → block_at (backed_by s.life (s.life.stands k)) ≡ Some block → slice_get z.blocks block ≡ s.contents k
+its_bytes k ok s z g p e block is =
+    let both : Some p.block.0 ≡ Some block = sym p.is ∙ is in let same : p.block.0 ≡ block = cc in
+    ap (λ (n : ℕ). slice_get z.blocks n) (sym same) ∙ flushed_bytes k p.block ok s z g p.page e
+
+pub its_others : (k : Key) (ok : Bool) (s z : StateOf) → Flushing k ok s z → (block other : ℕ) → block_at (backed_by s.life (s.life.stands k)) ≡ Some block → other ≢ block → slice_get z.blocks other ≡ slice_get s.blocks other
+its_others k ok s z p block other is n =
+    let both : Some p.block.0 ≡ Some block = sym p.is ∙ is in let same : p.block.0 ≡ block = cc in
+    p.page.writes.device.others other (λ e. n (e ∙ same))

@@ -1,0 +1,169 @@
+-- A page that is valid at a place is copied to the place's own page.
+use Rattle.std.proofs.Common.{◌≡◌, ◌≢◌, ◌<◌, ℕ, ◌+◌, Bool, true, false, List, Option, Some, None, refl, sym, ap, ◌∙◌, subst}
+use Rattle.std.specs.Prelude.{length, is_some, IsSome, if◌then◌else◌, option_map, unwrap_or}
+use Rattle.mm_types.specs.Machine.{MachineOf, limit_of}
+use Rattle.mm_types.specs.declared.frames.Held.{Held}
+use Rattle.mm_types.specs.declared.frames.Held.TheVariants as held
+use Rattle.mm_types.specs.declared.numbers.Frame.{Frame}
+use Rattle.mm_types.specs.declared.numbers.Key.{Key}
+use Rattle.mm_types.specs.declared.numbers.Place.{Place}
+use Rattle.mm_life.specs.Frames.{record_at}
+use Rattle.mm_life.specs.Life.{FrameLife, changed, same_key, same_place, is_shared, key_of_place}
+use Rattle.mm_life.specs.Located.{zero_page}
+use Rattle.mm_laws.proofs.Owners.{changed_else}
+use Rattle.mm_pages.specs.Accesses.{Aim}
+use Rattle.mm_pages.specs.Shortage.{is_framed}
+use Rattle.mm_pages.specs.Told.{Told}
+use Rattle.mm_moving.specs.Shown.{StateOf, called}
+use Rattle.mm_moving.specs.Holds.{Holds}
+use Rattle.mm_paged.specs.Pieces.{Went, Sought, Took, LifeKept}
+use Rattle.mm_paged.specs.Copies.{HeldAt, Spares, KeyAdded, Copied}
+use Rattle.mm_paged.proofs.Doing.{went_then, sought_took}
+
+-- ---- the page copied from stays where it is
+
+pub held_then : (k : Key) (f : Frame) (place : Place) (s t : StateOf) → HeldAt k f place s → Spares f s t → HeldAt k f place t
+held_then k f place s t h p = record { valid = p.valid place h.valid; named = ap (λ (x : StateOf). x.names place) p.same ∙ h.named }
+
+pub held_still : (k : Key) (f : Frame) (place : Place) (t u : StateOf) → HeldAt k f place t → u.life.valid ≡ t.life.valid → u.names ≡ t.names → HeldAt k f place u
+held_still k f place t u h v n = record { valid = ap (λ (x : Place → Option Frame). x place) v ∙ h.valid; named = ap (λ (x : Place → Option Key). x place) n ∙ h.named }
+
+stands_held : (k : Key) (f : Frame) (place : Place) (u : StateOf) → Holds u → HeldAt k f place u → u.life.stands k ≡ held.Frame f
+stands_held k f place u h at = h.of_frame k f (h.named place f at.valid ∙ at.named)
+
+-- it is none of the place's own
+not_own : (k : Key) (place : Place) → is_shared k ≡ true → k ≢ key_of_place place
+not_own k place e = λ q. let bad : true ≡ false = sym e ∙ ap is_shared q in cc
+
+-- ---- the bytes can be copied
+
+pub owner_then : (k : Key) (f : Frame) (u v : StateOf) → Holds v → v.life.stands ≡ u.life.stands → u.life.stands k ≡ held.Frame f → (record_at v.life.frames f.0).owner ≡ Some k
+owner_then k f u v h s e = h.owner k f (ap (λ (x : Key → Held). x k) s ∙ e)
+
+pub from_owner : (k : Key) (f : Frame) (place : Place) (u v : StateOf) → Holds u → Holds v → HeldAt k f place u → v.life.stands ≡ u.life.stands → (record_at v.life.frames f.0).owner ≡ Some k
+from_owner k f place u v g h at s = owner_then k f u v h s (stands_held k f place u g at)
+
+pub some_of : {A : Type 0} (o : Option A) (x : A) → o ≡ Some x → IsSome o
+some_of o x e = ap is_some e
+
+pub other_frame : (k : Key) (place : Place) (f g : Frame) (v : StateOf) → is_shared k ≡ true → (record_at v.life.frames f.0).owner ≡ Some k → (record_at v.life.frames g.0).owner ≡ Some (key_of_place place) → f.0 ≢ g.0
+other_frame k place f g v e p q = λ h.
+    let same : Some k ≡ Some (key_of_place place) = sym p ∙ ap (λ (n : ℕ). (record_at v.life.frames n).owner) h ∙ q in
+    let bad : true ≡ false = sym e ∙ ap (λ (o : Option Key). unwrap_or (option_map is_shared o) false) same in
+    cc
+
+-- ---- the piece
+
+-- bytes are no move
+went_bytes : (a : Aim) (n : ℕ) (s v : StateOf) (c : Key → Option (List ℕ)) → Went a n s v → Went a n s (record v { contents = c })
+went_bytes a n s v c w = record {
+  moves = w.moves;
+  does = record {
+    in_range = w.does.in_range;
+    grew = w.does.grew;
+    replays = w.does.replays;
+    ages = w.does.ages;
+    waits = w.does.waits;
+    told = w.does.told;
+    paging_calls = w.does.paging_calls;
+    paging = w.does.paging;
+    paging_are = w.does.paging_are;
+    file_calls = w.does.file_calls;
+    files = w.does.files;
+    files_are = w.does.files_are;
+  };
+  each = w.each;
+  fresh = w.fresh;
+  few_reads = w.few_reads;
+  few_writes = w.few_writes;
+}
+
+pub went_held : (a : Aim) (s t u v z : StateOf) → Sought a s t → Took a 0 t u → Went a 0 u v → z ≡ record v { contents = z.contents } → Went a 0 s z
+went_held a s t u v z p q r e = subst (λ (x : StateOf). Went a 0 s x) (sym e) (went_bytes a 0 s v z.contents (went_then a 0 0 s u v (sought_took a 0 s t u p q) r))
+
+-- ---- what is there then
+
+-- a key's page, changed twice
+key_twice : {V : Type 0} (f : Key → V) (k : Key) (x v : V) → changed same_key (changed same_key f k x) k v ≡ changed same_key f k v
+key_twice {V} f k x v = λ i. λ q. at q i
+  where
+    by : (b : Bool) (y : V) → (if b then v else (if b then x else y)) ≡ (if b then v else y)
+    by true y = refl
+    by false y = refl
+
+    at : (q : Key) → changed same_key (changed same_key f k x) k v q ≡ changed same_key f k v q
+    at q = by (same_key q k) (f q)
+
+-- the steps of it: a search, the key's frame, the place, the bytes
+pub record Makes (k : Key) (place : Place) (f g : Frame) (s t u v z : StateOf) : Type 0 where
+  pub at : HeldAt k f place s
+  pub shared : is_shared k ≡ true
+  pub aside : s.aside ≡ None
+  pub spares : Spares f s t
+  pub added : KeyAdded (key_of_place place) t.life u.life
+  pub valid_given : u.life.valid ≡ t.life.valid
+  pub names_given : u.names ≡ t.names
+  pub contents_given : u.contents ≡ changed same_key t.contents (key_of_place place) (Some zero_page)
+  pub read_given : u.told.last_failed_read ≡ t.told.last_failed_read
+  pub given : u ≡ record (called t u) { names = u.names; aside = u.aside; contents = u.contents }
+  pub holds : Holds u
+  pub kept : LifeKept u.life v.life
+  pub valid_put : v.life.valid place ≡ Some g
+  pub young : v.ages place ≡ 0
+  pub stands : v.life.stands ≡ u.life.stands
+  pub names_put : v.names ≡ changed same_place u.names place (Some (key_of_place place))
+  pub told : v.told ≡ u.told
+  pub put : v ≡ record (called u v) { names = v.names; aside = None }
+  pub bytes : z.contents ≡ changed same_key v.contents (key_of_place place) (v.contents k)
+  pub rest : z ≡ record v { contents = z.contents }
+
+module _ (k : Key) (place : Place) (f g : Frame) (s t u v z : StateOf) (m : Makes k place f g s t u v z) where
+  made_life : KeyAdded (key_of_place place) s.life z.life
+  made_life =
+      let e : z.life ≡ v.life = ap (λ (x : StateOf). x.life) m.rest in
+      record {
+        machine = ap (λ (l : FrameLife). l.machine) e ∙ m.kept.machine ∙ m.added.machine ∙ m.spares.life.machine;
+        line = ap (λ (l : FrameLife). l.line) e ∙ m.kept.line ∙ m.added.line ∙ m.spares.life.line;
+        kind = ap (λ (l : FrameLife). l.kind) e ∙ m.kept.kind ∙ m.added.kind ∙ m.spares.life.kind;
+        paging = ap (λ (l : FrameLife). l.paging) e ∙ m.kept.paging ∙ m.added.paging ∙ ap (λ (p : Key → Bool). changed same_key p (key_of_place place) true) m.spares.life.paging;
+        keys = ap (λ (l : FrameLife). l.paging_keys) e ∙ m.kept.keys ∙ m.added.keys ∙ ap (λ (n : ℕ). n + 1) m.spares.life.keys;
+        pids = ap (λ (l : FrameLife). length l.sets) e ∙ m.kept.pids ∙ m.added.pids ∙ m.spares.life.pids;
+        added = ap (λ (l : FrameLife). l.added) e ∙ m.kept.added ∙ m.added.added ∙ m.spares.life.added;
+      }
+
+  zeroed_first : v.contents ≡ changed same_key s.contents (key_of_place place) (Some zero_page)
+  zeroed_first = ap (λ (x : StateOf). x.contents) m.put ∙ m.contents_given ∙ ap (λ (x : StateOf). changed same_key x.contents (key_of_place place) (Some zero_page)) m.spares.same
+
+  made_contents : z.contents ≡ changed same_key s.contents (key_of_place place) (s.contents k)
+  made_contents =
+      m.bytes ∙ ap (λ (c : Key → Option (List ℕ)). changed same_key c (key_of_place place) (c k)) zeroed_first
+      ∙ ap (λ (x : Option (List ℕ)). changed same_key (changed same_key s.contents (key_of_place place) (Some zero_page)) (key_of_place place) x) (changed_else s.contents (key_of_place place) k (Some zero_page) (not_own k place m.shared))
+      ∙ key_twice s.contents (key_of_place place) (Some zero_page) (s.contents k)
+
+  made_held : HeldAt k f place u
+  made_held = held_still k f place t u (held_then k f place s t m.at m.spares) m.valid_given m.names_given
+
+  made_same : z ≡ record (called s z) { names = z.names; contents = z.contents }
+  made_same =
+      m.rest
+      ∙ ap (λ (x : StateOf). record x { contents = z.contents }) m.put
+      ∙ ap (λ (x : StateOf). record (called x v) { names = v.names; aside = None; contents = z.contents }) m.given
+      ∙ ap (λ (x : StateOf). record (called x v) { names = v.names; aside = None; contents = z.contents }) m.spares.same
+      ∙ sym (ap (λ (x : StateOf). record (called s x) { names = x.names; aside = None; contents = z.contents }) m.rest)
+      ∙ ap (λ (o : Option Place). record (called s z) { names = z.names; aside = o; contents = z.contents }) (sym m.aside)
+
+  pub made_copied : Copied k place s z
+  made_copied = record {
+    life = made_life;
+    valid = ap (λ (x : StateOf). is_some (x.life.valid place)) m.rest ∙ ap is_some m.valid_put;
+    young = ap (λ (x : StateOf). x.ages place) m.rest ∙ m.young;
+    names = ap (λ (x : StateOf). x.names) m.rest ∙ m.names_put ∙ ap (λ (n : Place → Option Key). changed same_place n place (Some (key_of_place place))) (m.names_given ∙ ap (λ (x : StateOf). x.names) m.spares.same);
+    contents = made_contents;
+    framed = ap (λ (x : StateOf). is_framed (x.life.stands k)) m.rest ∙ ap (λ (x : Key → Held). is_framed (x k)) m.stands ∙ ap is_framed (stands_held k f place u m.holds made_held);
+    read = ap (λ (x : StateOf). x.told.last_failed_read) m.rest ∙ ap (λ (x : Told). x.last_failed_read) m.told ∙ m.read_given ∙ m.spares.read;
+    same = made_same;
+  }
+
+-- there is room for it still
+pub room_then : (l m : FrameLife) → LifeKept l m → l.paging_keys < limit_of l.machine → m.paging_keys < limit_of m.machine
+room_then l m k h = subst (λ (n : ℕ). n < limit_of m.machine) (sym k.keys) (subst (λ (x : MachineOf). l.paging_keys < limit_of x) (sym k.machine) h)

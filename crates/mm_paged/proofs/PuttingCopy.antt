@@ -1,0 +1,96 @@
+-- A copy becomes valid at its place, where the page that it is a copy of goes.
+use Rattle.std.proofs.Common.{◌≡◌, ℕ, ◌≤◌, true, false, [], ◌∷◌, Option, Some, None, refl, sym, ap, ◌∙◌, arith}
+use Rattle.std.specs.Prelude.{not, ◌-◌, option_map, unwrap_or}
+use Rattle.mm_types.specs.declared.frames.Held.{Held}
+use Rattle.mm_types.specs.declared.frames.Record.{Record}
+use Rattle.mm_types.specs.declared.moves.Move.TheVariants as move
+use Rattle.mm_types.specs.declared.numbers.Frame.{Frame}
+use Rattle.mm_types.specs.declared.numbers.Key.{Key}
+use Rattle.mm_types.specs.declared.numbers.Place.{Place}
+use Rattle.mm_life.specs.declared.sets.ResidentSet.{ResidentSet}
+use Rattle.mm_life.specs.Frames.{record_at, with_record, unshared, shared}
+use Rattle.mm_life.specs.Life.{FrameLife, changed, same_place, key_of_place, is_live, is_dead, is_shared, set_of}
+use Rattle.mm_life.specs.Legal.{IsLegal, touches, is_below_max, shows_shared, owner_is}
+use Rattle.mm_life.specs.Effect.{after_unmap_at}
+use Rattle.mm_laws.proofs.PlaceCounts.{same_place-self}
+use Rattle.mm_room.proofs.Unmapping.{sized}
+use Rattle.mm_parts.specs.Holds.{HasSet}
+use Rattle.mm_pages.specs.Accesses.{Aim, ByCopy}
+use Rattle.mm_pages.specs.Conditions.{touch}
+use Rattle.mm_moving.specs.Shown.{StateOf, Made, MayMap, names_after_map}
+use Rattle.mm_moving.specs.Holds.{Holds}
+use Rattle.mm_moving.proofs.Doing.{does_one}
+use Rattle.mm_paged.specs.Pieces.{Went, InFrame}
+use Rattle.mm_paged.proofs.Doing.{went_then}
+use Rattle.mm_paged.proofs.Giving.{place_here}
+use Rattle.mm_paged.proofs.Placing.{own_test, map_legal, in_frame_then, kind_then, went_map}
+use Rattle.mm_paged.proofs.Records.{settled_record}
+use Rattle.mm_paged.proofs.Writing.{look_set}
+
+-- ---- the page that was copied goes
+
+in_frame_live : (k : Key) (f : Frame) (s : StateOf) → InFrame k f s → is_live s.life k ≡ true
+in_frame_live k f s i = ap (λ (h : Held). not (is_dead h)) i.stands
+
+unmapped_gone : (l : FrameLife) (p : Place) (o : Option Frame) → l.valid p ≡ o → (after_unmap_at o l p).valid p ≡ None
+unmapped_gone l p None e = e
+unmapped_gone l p (Some f) e = place_here l.valid p None
+
+pub unmapped_here : (s y : StateOf) (p : Place) → Made (move.Unmap p) s y → y.life.valid p ≡ None
+unmapped_here s y p m = ap (λ (l : FrameLife). l.valid p) m.life ∙ unmapped_gone s.life p (s.life.valid p) refl
+
+-- ---- the copy comes
+
+fewer_below : (t : ResidentSet) → 1 ≤ t.max → t.resident ≤ t.max → is_below_max (Some (record t { resident = t.resident - 1 })) ≡ true
+fewer_below t m w = grind (arith, m, w)
+
+shows_valid : (l : FrameLife) (p : Place) (o : Option Frame) → unwrap_or (option_map (λ f. owner_is is_shared (record_at l.frames f.0)) o) false ≡ true → l.valid p ≡ o → (f : Frame) × (l.valid p ≡ Some f)
+shows_valid l p None e v = cc
+shows_valid l p (Some f) e v = (f, v)
+
+pub below_copied : (place : Place) (s y : StateOf) → HasSet s.life place.pid.0 → shows_shared s.life place ≡ true → Made (move.Unmap place) s y → is_below_max (set_of y.life place.pid.0) ≡ true
+below_copied place s y h shows m =
+    let f = shows_valid s.life place (s.life.valid place) shows refl in
+    ap (λ (x : FrameLife). is_below_max (set_of x place.pid.0)) m.life ∙ ap is_below_max (sized s.life place f.0 h.set f.1 h.found) ∙ fewer_below h.set h.some h.within
+
+pub map_copy : (place : Place) (f : Frame) (s y : StateOf) → Holds s → Holds y → InFrame (key_of_place place) f s → s.bound place ≡ true → shows_shared s.life place ≡ true → touches place.pid.0 s.life.kind ≡ true → Made (move.Unmap place) s y → IsLegal (move.Map f place) y.life
+map_copy place f s y h g i bound shows touch m =
+    map_legal (key_of_place place) f place y g (in_frame_then (key_of_place place) f s y place i m.life) (same_place-self place) (unmapped_here s y place m)
+    (ap (touches place.pid.0) (kind_then s y place m.life) ∙ touch)
+    (below_copied place s y (h.sets place.pid.0 (h.open_process place bound)) shows m)
+
+pub own_may_map : (place : Place) (f : Frame) (y : StateOf) → Holds y → InFrame (key_of_place place) f y → MayMap y f place
+own_may_map place f y g i = λ e. let bad : false ≡ true = sym (own_test is_shared (record_at y.life.frames f.0) (key_of_place place) (g.owner (key_of_place place) f i.stands)) ∙ e in cc
+
+-- ---- the piece
+
+went_unmap : (a : Aim) (place : Place) (s y : StateOf) → a.place ≡ place → a.need.copy ≡ Some (key_of_place place) → is_live s.life (key_of_place place) ≡ true → Made (move.Unmap place) s y → Went a 0 s y
+went_unmap a place s y e c l m = record {
+  moves = move.Unmap place ∷ [];
+  does = does_one (move.Unmap place) s y m;
+  each = (ByCopy (sym e) (ap (λ (o : Option Key). unwrap_or (option_map (λ k. is_live s.life k) o) false) c ∙ l), tt);
+  fresh = refl;
+  few_reads = omega arith;
+  few_writes = omega arith;
+}
+
+pub went_put : (a : Aim) (place : Place) (f : Frame) (s y z : StateOf) → a.place ≡ place → a.need.copy ≡ Some (key_of_place place) → InFrame (key_of_place place) f s → Made (move.Unmap place) s y → Made (move.Map f place) y z → Went a 0 s z
+went_put a place f s y z e c i u m = went_then a 0 0 s y z (went_unmap a place s y e c (in_frame_live (key_of_place place) f s i) u) (went_map a f place y z e m)
+
+-- ---- what stays
+
+-- what of the records does not hang on shares
+look_unmap : {A : Type 0} (look : Record → A) → ((r : Record) (n : ℕ) → look (record r { shares = n }) ≡ look r) → (l : FrameLife) (p : Place) (g : ℕ) (o : Option Frame) → look (record_at (after_unmap_at o l p).frames g) ≡ look (record_at l.frames g)
+look_unmap look same l p g None = refl
+look_unmap look same l p g (Some f) =
+    let d = with_record l.frames f.0 (unshared (record_at l.frames f.0)) in
+    ap look (settled_record (record_at d f.0) d f.0 g) ∙ look_set look l.frames.records f.0 g (unshared (record_at l.frames f.0)) (same (record_at l.frames f.0) _)
+
+pub put_look : {A : Type 0} (look : Record → A) → ((r : Record) (n : ℕ) → look (record r { shares = n }) ≡ look r) → (place : Place) (f : Frame) (s y z : StateOf) → Made (move.Unmap place) s y → Made (move.Map f place) y z → (g : ℕ) → look (record_at z.life.frames g) ≡ look (record_at s.life.frames g)
+put_look look same place f s y z u m g =
+    ap (λ (l : FrameLife). look (record_at l.frames g)) m.life ∙ look_set look y.life.frames.records f.0 g (shared (record_at y.life.frames f.0)) (same (record_at y.life.frames f.0) _)
+    ∙ ap (λ (l : FrameLife). look (record_at l.frames g)) u.life ∙ look_unmap look same s.life place g (s.life.valid place)
+
+pub put_names : (place : Place) (f : Frame) (s y z : StateOf) → Holds y → InFrame (key_of_place place) f y → y.names ≡ s.names → z.names ≡ names_after_map y f place → z.names ≡ changed same_place s.names place (Some (key_of_place place))
+put_names place f s y z g i n e =
+    e ∙ ap (λ (o : Option Key). changed same_place y.names place o) (g.owner (key_of_place place) f i.stands) ∙ ap (λ (h : Place → Option Key). changed same_place h place (Some (key_of_place place))) n

@@ -1,0 +1,179 @@
+-- What the moves of an access leave alone in a thread's line: no device is called there, and no read ends.
+use Rattle.std.proofs.Common.{◌≡◌, ℕ, Bool, true, false, List, [], ◌∷◌, ◌++◌, Option, None, Some, refl, sym, ap, ◌∙◌}
+use Rattle.std.specs.Bool.{IsTrue}
+use Rattle.std.specs.Prelude.{◌&&◌, ◌||◌, map}
+use Rattle.mm_types.specs.declared.moves.LineKind.{LineKind}
+use Rattle.mm_types.specs.declared.moves.LineKind.TheVariants as kind
+use Rattle.mm_types.specs.declared.moves.Move.{Move}
+use Rattle.mm_types.specs.declared.moves.Move.TheVariants as move
+use Rattle.mm_types.specs.declared.moves.Stored.TheVariants as stored
+use Rattle.mm_types.specs.declared.numbers.Frame.{Frame}
+use Rattle.mm_types.specs.declared.numbers.Place.{Place}
+use Rattle.mm_blocks.specs.declared.device_calls.DeviceCall.{DeviceCall}
+use Rattle.mm_blocks.specs.Devices.{DeviceOf, Call, AllServed, logged_call}
+use Rattle.mm_life.specs.Frames.{record_at, is_read, is_write}
+use Rattle.mm_life.specs.Life.{FrameLife}
+use Rattle.mm_life.specs.Legal.{IsLegal, is_thread, is_touch, is_io, is_access, is_call}
+use Rattle.mm_life.specs.Effect.{after_move, after_unmap_at}
+use Rattle.mm_life.specs.Replay.{Replays}
+use Rattle.mm_pages.specs.Accesses.{Aim, AccessMove}
+use Rattle.mm_pages.specs.Reports.{no_calls}
+use Rattle.mm_pages.specs.Told.{Told, told_after, told_through, in_slot, in_block, call_of, calls_of}
+use Rattle.mm_walks.specs.Waits.{Waiting, waits_after}
+use Rattle.mm_walks.specs.Walks.{Walk, Through, walked, waits_through}
+use Rattle.mm_world.specs.Report.{Tally}
+use Rattle.mm_moving.specs.Shown.{StateOf}
+use Rattle.mm_moving.specs.Doing.{Does, walk_of}
+
+-- ---- the line goes on
+
+unmapped_kind : (l : FrameLife) (p : Place) (o : Option Frame) → (after_unmap_at o l p).kind ≡ l.kind
+unmapped_kind l p None = refl
+unmapped_kind l p (Some f) = refl
+
+kind_after : (a : Aim) (w : Walk) (m : Move) (ms : List Move) → AccessMove a w m ms → (after_move w.life m).kind ≡ w.life.kind
+kind_after a w (move.At n k) ms h = absurd h
+kind_after a w (move.Add k None) ms h = refl
+kind_after a w (move.Add k (Some b)) ms h = absurd h
+kind_after a w (move.Drop k) ms h = absurd h
+kind_after a w (move.Clear f) ms h = refl
+kind_after a w (move.Steal f) ms h = refl
+kind_after a w (move.Give f k) ms h = refl
+kind_after a w (move.Read f k) ms h = refl
+kind_after a w (move.Got f) ms h = refl
+kind_after a w (move.Bad f) ms h = refl
+kind_after a w (move.Map f p) ms h = refl
+kind_after a w (move.Unmap p) ms h = unmapped_kind w.life p (w.life.valid p)
+kind_after a w (move.Soil f) ms h = refl
+kind_after a w (move.Write f (stored.Slot s)) ms h = refl
+kind_after a w (move.Write f (stored.Block b)) ms h = refl
+kind_after a w (move.Wrote f) ms h = refl
+kind_after a w (move.Lost f) ms h = refl
+
+pub kind_through : (a : Aim) (ms : List Move) (w : Walk) (m : FrameLife) → Through (AccessMove a) w ms → Replays ms w.life m → m.kind ≡ w.life.kind
+kind_through a [] w m h r = ap (λ (l : FrameLife). l.kind) r
+kind_through a (x ∷ xs) w m h r = kind_through a xs (walked w x) m h.1 r.1 ∙ kind_after a w x xs h.0
+
+-- ---- one move
+
+no_end : (r : Bool) (k : LineKind) → is_thread k ≡ true → IsTrue (r && (is_io k || is_access k)) → ⊥
+no_end r (kind.Machine a b c d) t h = cc
+no_end r (kind.Process pid min max) t h = cc
+no_end r (kind.Unbind pid) t h = cc
+no_end r (kind.Access pid) t h = cc
+no_end true (kind.Thread pid) t h = cc
+no_end false (kind.Thread pid) t h = cc
+no_end r (kind.Trim pid) t h = cc
+no_end r kind.Writer t h = cc
+no_end r kind.Zeroer t h = cc
+no_end r kind.Io t h = cc
+no_end r kind.Call t h = cc
+no_end r (kind.Grow n) t h = cc
+
+no_write_end : (r : Bool) (k : LineKind) → is_thread k ≡ true → IsTrue (r && (is_io k || is_access k || is_call k)) → ⊥
+no_write_end r (kind.Machine a b c d) t h = cc
+no_write_end r (kind.Process pid min max) t h = cc
+no_write_end r (kind.Unbind pid) t h = cc
+no_write_end r (kind.Access pid) t h = cc
+no_write_end true (kind.Thread pid) t h = cc
+no_write_end false (kind.Thread pid) t h = cc
+no_write_end r (kind.Trim pid) t h = cc
+no_write_end r kind.Writer t h = cc
+no_write_end r kind.Zeroer t h = cc
+no_write_end r kind.Io t h = cc
+no_write_end r kind.Call t h = cc
+no_write_end r (kind.Grow n) t h = cc
+
+record QuietOne (m : Move) (l : FrameLife) : Type 0 where
+  pub told : (t : Told) → t.search_writes ≡ no_calls → told_after l m t ≡ t
+  pub slots : call_of in_slot l m ≡ []
+  pub blocks : call_of in_block l m ≡ []
+  pub waits : (w : ℕ → Waiting) → waits_after m w ≡ w
+
+reset : (t : Told) → t.search_writes ≡ no_calls → record t { search_writes = no_calls } ≡ t
+reset t e = ap (λ (x : Tally). record t { search_writes = x }) (sym e)
+
+quiet_one : (a : Aim) (w : Walk) (m : Move) (ms : List Move) → is_thread w.life.kind ≡ true → AccessMove a w m ms → IsLegal m w.life → QuietOne m w.life
+quiet_one a w (move.At n k) ms t h i = absurd h
+quiet_one a w (move.Add k b) ms t h i = record { told = λ x e. refl; slots = refl; blocks = refl; waits = λ v. refl }
+quiet_one a w (move.Drop k) ms t h i = absurd h
+quiet_one a w (move.Clear f) ms t h i = record { told = λ x e. refl; slots = refl; blocks = refl; waits = λ v. refl }
+quiet_one a w (move.Steal f) ms t h i = record { told = λ x e. refl; slots = refl; blocks = refl; waits = λ v. refl }
+quiet_one a w (move.Give f k) ms t h i = record { told = reset; slots = refl; blocks = refl; waits = λ v. refl }
+quiet_one a w (move.Read f k) ms t h i = record { told = reset; slots = refl; blocks = refl; waits = λ v. refl }
+quiet_one a w (move.Got f) ms t h i = absurd (no_end (is_read (record_at w.life.frames f.0).request) w.life.kind t i)
+quiet_one a w (move.Bad f) ms t h i = absurd (no_end (is_read (record_at w.life.frames f.0).request) w.life.kind t i)
+quiet_one a w (move.Map f p) ms t h i = record { told = λ x e. refl; slots = refl; blocks = refl; waits = λ v. refl }
+quiet_one a w (move.Unmap p) ms t h i = record { told = λ x e. refl; slots = refl; blocks = refl; waits = λ v. refl }
+quiet_one a w (move.Soil f) ms t h i = record { told = λ x e. refl; slots = refl; blocks = refl; waits = λ v. refl }
+quiet_one a w (move.Write f s) ms t h i = record { told = λ x e. refl; slots = refl; blocks = refl; waits = λ v. refl }
+quiet_one a w (move.Wrote f) ms t h i = absurd (no_write_end (is_write (record_at w.life.frames f.0).request) w.life.kind t i)
+quiet_one a w (move.Lost f) ms t h i = absurd (no_write_end (is_write (record_at w.life.frames f.0).request) w.life.kind t i)
+
+-- ---- lines that access no page
+
+thread_touches : (k : LineKind) → is_thread k ≡ true → is_touch k ≡ true
+thread_touches (kind.Machine a b c d) t = cc
+thread_touches (kind.Process pid min max) t = cc
+thread_touches (kind.Unbind pid) t = cc
+thread_touches (kind.Access pid) t = refl
+thread_touches (kind.Thread pid) t = refl
+thread_touches (kind.Trim pid) t = cc
+thread_touches kind.Writer t = cc
+thread_touches kind.Zeroer t = cc
+thread_touches kind.Io t = cc
+thread_touches kind.Call t = cc
+thread_touches (kind.Grow n) t = cc
+
+-- such a line is no thread's
+pub no_thread : (k l : LineKind) → l ≡ k → is_touch k ≡ false → is_thread l ≡ true → ⊥
+no_thread k l e n t = let bad : false ≡ true = sym n ∙ ap is_touch (sym e) ∙ thread_touches l t in cc
+
+-- ---- all of them
+
+record Quiet (ms : List Move) (l : FrameLife) : Type 0 where
+  pub told : (t : Told) → t.search_writes ≡ no_calls → told_through l ms t ≡ t
+  pub slots : calls_of in_slot l ms ≡ []
+  pub blocks : calls_of in_block l ms ≡ []
+  pub waits : (w : ℕ → Waiting) → waits_through ms w ≡ w
+
+quiet_all : (a : Aim) (ms : List Move) (w : Walk) (m : FrameLife) → is_thread w.life.kind ≡ true → Through (AccessMove a) w ms → Replays ms w.life m → Quiet ms w.life
+quiet_all a [] w m t h r = record { told = λ x e. refl; slots = refl; blocks = refl; waits = λ v. refl }
+quiet_all a (x ∷ xs) w m t h r =
+    let one = quiet_one a w x xs t h.0 r.0 in
+    let more = quiet_all a xs (walked w x) m (ap is_thread (kind_after a w x xs h.0) ∙ t) h.1 r.1 in
+    record {
+      told = λ y e. ap (told_through (after_move w.life x) xs) (one.told y e) ∙ more.told y e;
+      slots = ap (λ (cs : List DeviceCall). cs ++ calls_of in_slot (after_move w.life x) xs) one.slots ∙ more.slots;
+      blocks = ap (λ (cs : List DeviceCall). cs ++ calls_of in_block (after_move w.life x) xs) one.blocks ∙ more.blocks;
+      waits = λ v. ap (waits_through xs) (one.waits v) ∙ more.waits v;
+    }
+
+none_served : (cs : List Call) (d e : DeviceOf) → map logged_call cs ≡ [] → AllServed cs d e → e ≡ d
+none_served [] d e n h = h
+none_served (c ∷ cs) d e n h = cc
+
+-- what of the state stays then
+pub record Rests (s z : StateOf) : Type 0 where
+  pub kind : z.life.kind ≡ s.life.kind
+  pub told : z.told ≡ s.told
+  pub waits : z.waits ≡ s.waits
+  pub paging : z.paging ≡ s.paging
+  pub files : z.files ≡ s.files
+
+pub rests_through : (a : Aim) (ms : List Move) (s z : StateOf) → Does ms s z → Through (AccessMove a) (walk_of s) ms → is_thread s.life.kind ≡ true → s.told.search_writes ≡ no_calls → Rests s z
+rests_through a ms s z d h t e =
+    let q = quiet_all a ms (walk_of s) z.life t h d.replays in
+    record {
+      kind = kind_through a ms (walk_of s) z.life h d.replays;
+      told = d.told ∙ q.told s.told e;
+      waits = d.waits ∙ q.waits s.waits;
+      paging = none_served d.paging_calls s.paging z.paging (d.paging_are ∙ q.slots) d.paging;
+      files = none_served d.file_calls s.files z.files (d.files_are ∙ q.blocks) d.files;
+    }
+
+-- no device write was tried, still
+pub calm_through : (a : Aim) (ms : List Move) (s z : StateOf) → Does ms s z → Through (AccessMove a) (walk_of s) ms → (is_thread s.life.kind ≡ true → s.told.search_writes ≡ no_calls) → is_thread z.life.kind ≡ true → z.told.search_writes ≡ no_calls
+calm_through a ms s z d h e t =
+    let was = sym (ap is_thread (kind_through a ms (walk_of s) z.life h d.replays)) ∙ t in
+    ap (λ (x : Told). x.search_writes) (rests_through a ms s z d h was (e was)).told ∙ e was

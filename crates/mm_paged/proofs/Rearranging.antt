@@ -1,0 +1,187 @@
+-- Chores: places are unmapped, frames cleared, writes begun. Frames go from list to list, and no device is called.
+use Rattle.std.proofs.Common.{◌≡◌, ℕ, ◌-◌, Bool, true, false, List, [], ◌∷◌, Some, refl, sym, ap, ◌∙◌, subst}
+use Rattle.std.specs.Prelude.{◌&&◌, nat_lt, if◌then◌else◌, map, take}
+use Rattle.mm_types.specs.declared.moves.LineKind.TheVariants as kind
+use Rattle.mm_types.specs.declared.moves.Move.{Move}
+use Rattle.mm_types.specs.declared.moves.Move.TheVariants as move
+use Rattle.mm_types.specs.declared.moves.Stored.{Stored}
+use Rattle.mm_types.specs.declared.moves.Stored.TheVariants as stored
+use Rattle.mm_types.specs.declared.numbers.Frame.{Frame}
+use Rattle.mm_types.specs.declared.numbers.Pid.{Pid}
+use Rattle.mm_types.specs.declared.numbers.Place.{Place}
+use Rattle.mm_life.specs.Frames.{record_at}
+use Rattle.mm_life.specs.Life.{FrameLife}
+use Rattle.mm_life.specs.Legal.{is_touch, has_depth}
+use Rattle.mm_life.specs.Effect.{after_move}
+use Rattle.mm_life.specs.Replay.{Replays}
+use Rattle.mm_life.specs.Victims.{can_be_written}
+use Rattle.mm_pages.specs.Housekeeping.{Trims, Clears, WritesOut}
+use Rattle.mm_pages.specs.Passing.{Passes}
+use Rattle.mm_pages.specs.Reports.{rearranged}
+use Rattle.mm_pages.specs.Store.{Ready}
+use Rattle.mm_pages.specs.Told.{Told, told_after, told_through}
+use Rattle.mm_walks.specs.Chores.{TrimMove, frame_of, clearings, target, writes_begun}
+use Rattle.mm_walks.specs.Waits.{Waiting, waits_after}
+use Rattle.mm_walks.specs.Walks.{Walk, Through, walked, waits_through}
+use Rattle.mm_moving.specs.Shown.{StateOf, moved}
+use Rattle.mm_moving.specs.Doing.{Does, walk_of}
+use Rattle.mm_moving.specs.Holds.{Holds}
+use Rattle.mm_reclaim.specs.Chores.{Trimmed}
+use Rattle.mm_paged.specs.Pieces.{LifeKept}
+use Rattle.mm_paged.specs.Shown.{OwnOf, Kept, store_of, report_of, behind_of}
+use Rattle.mm_paged.proofs.Quiet.{no_thread}
+use Rattle.mm_paged.proofs.Keeping.{kept_same, kept_then, kept_unmap, blocks_kept}
+use Rattle.mm_paged.proofs.LettingGo.{rearranged_by}
+use Rattle.mm_paged.proofs.Shows.{passes_of}
+
+-- ---- moves of chores
+
+data Chore (m : Move) : Type 0 where
+  Unmaps : (p : Place) → m ≡ move.Unmap p → Chore m
+  Cleans : (f : Frame) → m ≡ move.Clear f → Chore m
+  Begins : (f : Frame) (home : Stored) → m ≡ move.Write f home → Chore m
+
+abbrev AllChores : List Move → Type 0
+AllChores [] = Unit {0}
+AllChores (m ∷ ms) = Chore m × AllChores ms
+
+-- what such a move leaves
+record Quiet (l : FrameLife) (m : Move) : Type 0 where
+  life : LifeKept l (after_move l m)
+  told : (t : Told) → told_after l m t ≡ t
+  waits : (w : ℕ → Waiting) → waits_after m w ≡ w
+
+quiet_unmap : (l : FrameLife) (p : Place) → Quiet l (move.Unmap p)
+quiet_unmap l p = record { life = kept_unmap l p (l.valid p); told = λ t. refl; waits = λ w. refl }
+
+quiet_clear : (l : FrameLife) (f : Frame) → Quiet l (move.Clear f)
+quiet_clear l f = record { life = record { machine = refl; line = refl; kind = refl; paging = refl; keys = refl; pids = refl; added = refl }; told = λ t. refl; waits = λ w. refl }
+
+quiet_write : (l : FrameLife) (f : Frame) (home : Stored) → Quiet l (move.Write f home)
+quiet_write l f (stored.Slot s) = record { life = record { machine = refl; line = refl; kind = refl; paging = refl; keys = refl; pids = refl; added = refl }; told = λ t. refl; waits = λ w. refl }
+quiet_write l f (stored.Block b) = record { life = record { machine = refl; line = refl; kind = refl; paging = refl; keys = refl; pids = refl; added = refl }; told = λ t. refl; waits = λ w. refl }
+
+quiet : (l : FrameLife) (m : Move) → Chore m → Quiet l m
+quiet l m (Unmaps p e) = subst (λ (x : Move). Quiet l x) (sym e) (quiet_unmap l p)
+quiet l m (Cleans f e) = subst (λ (x : Move). Quiet l x) (sym e) (quiet_clear l f)
+quiet l m (Begins f home e) = subst (λ (x : Move). Quiet l x) (sym e) (quiet_write l f home)
+
+life_kept : (ms : List Move) (l m : FrameLife) → AllChores ms → Replays ms l m → LifeKept l m
+life_kept [] l m a r = subst (λ (x : FrameLife). LifeKept l x) (sym r) (kept_same l)
+life_kept (x ∷ xs) l m a r = kept_then l (after_move l x) m (quiet l x a.0).life (life_kept xs (after_move l x) m a.1 r.1)
+
+told_kept : (ms : List Move) (l : FrameLife) (t : Told) → AllChores ms → told_through l ms t ≡ t
+told_kept [] l t a = refl
+told_kept (x ∷ xs) l t a = ap (told_through (after_move l x) xs) ((quiet l x a.0).told t) ∙ told_kept xs (after_move l x) t a.1
+
+waits_kept : (ms : List Move) (l : FrameLife) (w : ℕ → Waiting) → AllChores ms → waits_through ms w ≡ w
+waits_kept [] l w a = refl
+waits_kept (x ∷ xs) l w a = ap (waits_through xs) ((quiet l x a.0).waits w) ∙ waits_kept xs l w a.1
+
+-- ---- which moves they are
+
+of_trim : (pid : Pid) (w : Walk) (m : Move) (ms : List Move) → TrimMove pid w m ms → Chore m
+of_trim pid w (move.At n k) ms h = absurd h
+of_trim pid w (move.Add k b) ms h = absurd h
+of_trim pid w (move.Drop k) ms h = absurd h
+of_trim pid w (move.Clear f) ms h = absurd h
+of_trim pid w (move.Steal f) ms h = absurd h
+of_trim pid w (move.Give f k) ms h = absurd h
+of_trim pid w (move.Read f k) ms h = absurd h
+of_trim pid w (move.Got f) ms h = absurd h
+of_trim pid w (move.Bad f) ms h = absurd h
+of_trim pid w (move.Map f p) ms h = absurd h
+of_trim pid w (move.Unmap p) ms h = Unmaps p refl
+of_trim pid w (move.Soil f) ms h = absurd h
+of_trim pid w (move.Write f b) ms h = absurd h
+of_trim pid w (move.Wrote f) ms h = absurd h
+of_trim pid w (move.Lost f) ms h = absurd h
+
+all_of_trim : (pid : Pid) (w : Walk) (ms : List Move) → Through (TrimMove pid) w ms → AllChores ms
+all_of_trim pid w [] t = tt
+all_of_trim pid w (m ∷ ms) t = (of_trim pid w m ms t.0, all_of_trim pid (walked w m) ms t.1)
+
+all_cleared : (fs : List ℕ) → AllChores (map (λ f. move.Clear (frame_of f)) fs)
+all_cleared [] = tt
+all_cleared (f ∷ fs) = (Cleans (frame_of f) refl, all_cleared fs)
+
+all_begun : (n : ℕ) (l : FrameLife) (fs : List ℕ) → AllChores (writes_begun n l fs)
+all_begun n l [] = tt
+all_begun n l (f ∷ fs) = at (nat_lt 0 n && has_depth l) (can_be_written l f) (all_begun (n - 1) (after_move l (move.Write (frame_of f) (target (record_at l.frames f).backing l))) fs) (all_begun n l fs)
+  where
+    m : Move
+    m = move.Write (frame_of f) (target (record_at l.frames f).backing l)
+
+    at : (a b : Bool) → AllChores (writes_begun (n - 1) (after_move l m) fs) → AllChores (writes_begun n l fs) → AllChores (if a then (if b then m ∷ writes_begun (n - 1) (after_move l m) fs else writes_begun n l fs) else [])
+    at true true more over = (Begins (frame_of f) (target (record_at l.frames f).backing l) refl, more)
+    at true false more over = over
+    at false b more over = tt
+
+-- ---- what a chore leaves
+
+record Tidied (ms : List Move) (s z : StateOf) : Type 0 where
+  does : Does ms s z
+  all : AllChores ms
+  same : z ≡ moved s z
+
+module _ (ms : List Move) (s z : StateOf) (o : OwnOf) (t : Tidied ms s z) where
+  life_now : LifeKept s.life z.life
+  life_now = life_kept ms s.life z.life t.all t.does.replays
+
+  store_now : Holds s → Holds z → store_of z o ≡ record (store_of s o) { report = rearranged (report_of s o) (report_of z o) }
+  store_now h g =
+      rearranged_by s z o life_now (blocks_kept s z ms h g t.does.replays life_now.paging (ap (λ (x : StateOf). x.contents) t.same))
+      (t.does.told ∙ told_kept ms s.life s.told t.all) (t.does.waits ∙ waits_kept ms s.life s.waits t.all) t.same
+
+  -- nothing is ready in a line that accesses no page
+  kept_now : Kept s o → is_touch s.life.kind ≡ false → Kept z o
+  kept_now k still = record {
+    own = ap (λ (x : StateOf). x.own) t.same ∙ k.own;
+    aside = ap (λ (x : StateOf). x.aside) t.same ∙ k.aside;
+    ready = λ r e. absurd (none_ready r e);
+    touching = λ r e. absurd (none_ready r e);
+    room = λ r e c. absurd (none_ready r e);
+    fresh = λ b low. ap (λ (f : ℕ → Bool). f b) life_now.added ∙ k.fresh b low;
+    calm = λ th. absurd (no_thread s.life.kind z.life.kind life_now.kind still th);
+  }
+    where
+      none_ready : (r : Ready) → o.ready ≡ Some r → ⊥
+      none_ready r e = let bad : false ≡ true = sym still ∙ k.touching r e in cc
+
+-- ---- each chore
+
+by_trim : (pid : Pid) (n : ℕ) (s z : StateOf) (t : Trimmed pid n s z) → Tidied t.moves s z
+by_trim pid n s z t = record { does = t.does; all = all_of_trim pid (walk_of s) t.moves t.each; same = t.same }
+
+by_clears : (n : ℕ) (s z : StateOf) → Does (clearings n s.life) s z → z ≡ moved s z → Tidied (clearings n s.life) s z
+by_clears n s z d e = record { does = d; all = all_cleared (take n s.life.frames.free); same = e }
+
+by_writes : (n : ℕ) (s z : StateOf) → Does (writes_begun n s.life s.life.frames.modified) s z → z ≡ moved s z → Tidied (writes_begun n s.life s.life.frames.modified) s z
+by_writes n s z d e = record { does = d; all = all_begun n s.life s.life.frames.modified; same = e }
+
+pub trim_store : (pid : Pid) (n : ℕ) (s z : StateOf) (o : OwnOf) → Holds s → Holds z → Trimmed pid n s z → store_of z o ≡ record (store_of s o) { report = rearranged (report_of s o) (report_of z o) }
+trim_store pid n s z o h g t = store_now t.moves s z o (by_trim pid n s z t) h g
+
+pub trim_kept : (pid : Pid) (n : ℕ) (s z : StateOf) (o : OwnOf) → Kept s o → s.life.kind ≡ kind.Trim pid → Trimmed pid n s z → Kept z o
+trim_kept pid n s z o k e t = kept_now t.moves s z o (by_trim pid n s z t) k (ap is_touch e)
+
+pub trim_passes : (pid : Pid) (n : ℕ) (s z : StateOf) (o u : OwnOf) → Trimmed pid n s z → Passes (Trims pid n) (store_of s o) (store_of z u) (behind_of s) (behind_of z)
+trim_passes pid n s z o u t = passes_of (Trims pid n) t.moves s z o u t.does (record { each = t.each; count = t.count; moved = record { waits = t.does.waits; ages = t.does.ages }; slots = ap (λ (x : StateOf). x.slots) t.same })
+
+pub zero_store : (n : ℕ) (s z : StateOf) (o : OwnOf) → Holds s → Holds z → Does (clearings n s.life) s z → z ≡ moved s z → store_of z o ≡ record (store_of s o) { report = rearranged (report_of s o) (report_of z o) }
+zero_store n s z o h g d e = store_now (clearings n s.life) s z o (by_clears n s z d e) h g
+
+pub zero_kept : (n : ℕ) (s z : StateOf) (o : OwnOf) → Kept s o → s.life.kind ≡ kind.Zeroer → Does (clearings n s.life) s z → z ≡ moved s z → Kept z o
+zero_kept n s z o k i d e = kept_now (clearings n s.life) s z o (by_clears n s z d e) k (ap is_touch i)
+
+pub zero_passes : (n : ℕ) (s z : StateOf) (o u : OwnOf) → Does (clearings n s.life) s z → z ≡ moved s z → Passes (Clears n) (store_of s o) (store_of z u) (behind_of s) (behind_of z)
+zero_passes n s z o u d e = passes_of (Clears n) (clearings n s.life) s z o u d (record { are = refl; moved = record { waits = d.waits; ages = d.ages }; slots = ap (λ (x : StateOf). x.slots) e })
+
+pub write_store : (n : ℕ) (s z : StateOf) (o : OwnOf) → Holds s → Holds z → Does (writes_begun n s.life s.life.frames.modified) s z → z ≡ moved s z → store_of z o ≡ record (store_of s o) { report = rearranged (report_of s o) (report_of z o) }
+write_store n s z o h g d e = store_now (writes_begun n s.life s.life.frames.modified) s z o (by_writes n s z d e) h g
+
+pub write_kept : (n : ℕ) (s z : StateOf) (o : OwnOf) → Kept s o → s.life.kind ≡ kind.Writer → Does (writes_begun n s.life s.life.frames.modified) s z → z ≡ moved s z → Kept z o
+write_kept n s z o k i d e = kept_now (writes_begun n s.life s.life.frames.modified) s z o (by_writes n s z d e) k (ap is_touch i)
+
+pub write_passes : (n : ℕ) (s z : StateOf) (o u : OwnOf) → Does (writes_begun n s.life s.life.frames.modified) s z → z ≡ moved s z → Passes (WritesOut n) (store_of s o) (store_of z u) (behind_of s) (behind_of z)
+write_passes n s z o u d e = passes_of (WritesOut n) (writes_begun n s.life s.life.frames.modified) s z o u d (record { are = refl; moved = record { waits = d.waits; ages = d.ages }; slots = ap (λ (x : StateOf). x.slots) e })

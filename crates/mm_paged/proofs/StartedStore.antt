@@ -1,0 +1,252 @@
+-- What the store shows once an access of a thread has begun.
+use Rattle.std.proofs.Common.{◌≡◌, ℕ, ◌≤◌, Bool, true, false, Option, Some, None, refl, sym, ap, ◌∙◌, subst, inl, inr, ◌⊎◌}
+use Rattle.std.specs.Prelude.{not, is_some, is_none, ◌&&◌, ◌||◌, ◌==◌, if◌then◌else◌}
+use Rattle.mm_types.specs.Machine.{limit_of}
+use Rattle.mm_types.specs.declared.answers.Wait.{Wait}
+use Rattle.mm_types.specs.declared.answers.Why.{Why}
+use Rattle.mm_types.specs.declared.answers.Why.TheVariants as why
+use Rattle.mm_types.specs.declared.frames.Held.{Held}
+use Rattle.mm_types.specs.declared.moves.LineKind.{LineKind}
+use Rattle.mm_types.specs.declared.numbers.Key.{Key}
+use Rattle.mm_types.specs.declared.numbers.Place.{Place}
+use Rattle.mm_life.specs.Life.{counts_of}
+use Rattle.mm_life.specs.Legal.{is_thread, is_touch, is_access}
+use Rattle.mm_world.specs.Report.{Whereabouts}
+use Rattle.mm_world.specs.Failure.{pending, still_needs_frame, has_frame}
+use Rattle.mm_pages.specs.Accesses.{Aim, Starts, wait_begun}
+use Rattle.mm_pages.specs.Conditions.{touch, copying, need_for, wait_after}
+use Rattle.mm_pages.specs.Passing.{Passes}
+use Rattle.mm_pages.specs.Reports.{started, no_calls}
+use Rattle.mm_pages.specs.Shortage.{is_framed}
+use Rattle.mm_pages.specs.Standing.{where_of}
+use Rattle.mm_pages.specs.Store.{Ready, changed, own_key}
+use Rattle.mm_pages.specs.Told.{Told}
+use Rattle.mm_pages.specs.declared.outcomes.Need.{Need}
+use Rattle.mm_pages.specs.declared.outcomes.Need.TheVariants as need
+use Rattle.mm_pages.specs.declared.outcomes.Start.{Start}
+use Rattle.mm_pages.specs.declared.outcomes.Start.TheVariants as start
+use Rattle.mm_walks.specs.Waits.{Waiting, wait_of}
+use Rattle.mm_moving.specs.Shown.{StateOf}
+use Rattle.mm_moving.specs.Holds.{Holds}
+use Rattle.mm_moving.specs.Doing.{walk_of}
+use Rattle.mm_paged.specs.Pieces.{Went, LifeKept}
+use Rattle.mm_paged.specs.Shown.{OwnOf, Kept, report_of, store_of, behind_of}
+use Rattle.mm_paged.specs.Started.{Begun, IsBeingRead, is_copy, ready_after}
+use Rattle.mm_paged.proofs.Ending.{aim_at}
+use Rattle.mm_paged.proofs.Keeping.{kept_all, blocks_kept}
+use Rattle.mm_paged.proofs.Quiet.{Rests, rests_through}
+use Rattle.mm_paged.proofs.Reading.{unframed_has}
+use Rattle.mm_paged.proofs.Started.{shown_short}
+use Rattle.mm_paged.proofs.Unmoved.{stands_nowhere}
+
+-- ---- what stays
+
+went_plain : (n : Need) (k : Key) (place : Place) (r : Start) (s y : StateOf) → Begun n k place r s y → Went (aim_at false k place s) 1 s y
+went_plain n k place r s y h = h.went (aim_at false k place s) (record { at = refl; needs = refl; from = refl })
+
+pub begun_rests : (n : Need) (k : Key) (place : Place) (r : Start) (s y : StateOf) → Begun n k place r s y → is_thread s.life.kind ≡ true → s.told.search_writes ≡ no_calls → Rests s y
+begun_rests n k place r s y h t e = let w = went_plain n k place r s y h in rests_through (aim_at false k place s) w.moves s y w.does w.each t e
+
+begun_life : (n : Need) (k : Key) (place : Place) (r : Start) (s y : StateOf) → Begun n k place r s y → LifeKept s.life y.life
+begun_life n k place r s y h = let w = went_plain n k place r s y h in kept_all (aim_at false k place s) w.moves (walk_of s) y.life refl w.each w.does.replays
+
+-- ---- what the store shows
+
+-- the thread's wait is set then
+abbrev pub waiting : StateOf → (ℕ → Waiting) → StateOf
+waiting y w = record y { waits = w }
+
+shown_started : (n : Need) (k : Key) (place : Place) (r : Start) (s y : StateOf) (w : ℕ → Waiting) (o u : OwnOf) → Begun n k place r s y → is_thread s.life.kind ≡ true → s.told.search_writes ≡ no_calls → Holds s → Holds (waiting y w)
+    → u.extended ≡ o.extended → u.blocks_used ≡ o.blocks_used → store_of (waiting y w) u ≡ started (store_of s o) (store_of (waiting y w) u)
+shown_started n k place r s y w o u h t e hs hz ext used = λ i. record {
+  machine = life.machine i;
+  is_open = ap (λ (x : StateOf). x.is_open) h.same i;
+  areas = ap (λ (x : StateOf). x.areas) h.same i;
+  bound = ap (λ (x : StateOf). x.bound) h.same i;
+  names = y.names;
+  paging = life.paging i;
+  paging_keys = life.keys i;
+  room = limit_of (life.machine i);
+  block_of = λ q. blocks_kept s (waiting y w) moves.moves hs hz moves.does.replays life.paging (ap (λ (x : StateOf). x.contents) h.same) q i;
+  blocks_used = used i;
+  file_blocks = h.blocks i;
+  line = life.line i;
+  kind = life.kind i;
+  last_pid = life.pids i;
+  ready = u.ready;
+  report = record {
+    paging_reads = (rests.told i).paging_reads;
+    paging_writes = (rests.told i).paging_writes;
+    file_reads = (rests.told i).file_reads;
+    file_writes = (rests.told i).file_writes;
+    last_failed_read = (rests.told i).last_failed_read;
+    search_writes = (rests.told i).search_writes;
+    counts = counts_of y.life;
+    whereabouts = λ q. where_of y.life (y.life.stands q);
+    wait = λ tid. wait_of (w tid);
+    extended = ext i;
+  };
+  paging_device = rests.paging i;
+  file_device = rests.files i;
+}
+  where
+    life : LifeKept s.life y.life
+    life = begun_life n k place r s y h
+
+    rests : Rests s y
+    rests = begun_rests n k place r s y h t e
+
+    moves : Went (aim_at false k place s) 1 s y
+    moves = went_plain n k place r s y h
+
+pub started_store : (n : Need) (k : Key) (place : Place) (r : Start) (s y z : StateOf) (w : ℕ → Waiting) (o u : OwnOf) → Begun n k place r s y → z ≡ waiting y w → is_thread s.life.kind ≡ true → s.told.search_writes ≡ no_calls → Holds s → Holds z
+    → u.extended ≡ o.extended → u.blocks_used ≡ o.blocks_used → store_of z u ≡ started (store_of s o) (store_of z u)
+started_store n k place r s y z w o u h q t e hs hz ext used =
+    subst (λ (x : StateOf). store_of x u ≡ started (store_of s o) (store_of x u)) (sym q) (shown_started n k place r s y w o u h t e hs (subst (λ (x : StateOf). Holds x) q hz) ext used)
+
+-- ---- why it waits
+
+abbrev reason : Start → Option Why
+reason start.Ready = None
+reason (start.Pending w) = Some w
+
+pend_at_once : (a b c d : Bool) (w : Why) → (if a then Some why.Read else if b then Some why.Full else if c then Some why.Read else None) ≡ Some w
+    → (if a then Some why.Read else if b then Some why.Full else if c then Some why.Read else if d then Some why.Frame else None) ≡ Some w
+pend_at_once true b c d w e = e
+pend_at_once false true c d w e = e
+pend_at_once false false true d w e = e
+pend_at_once false false false d w e = cc
+
+pend_frame : (a b c d : Bool) → (if a then Some why.Read else if b then Some why.Full else if c then Some why.Read else None) ≡ None → d ≡ true
+    → (if a then Some why.Read else if b then Some why.Full else if c then Some why.Read else if d then Some why.Frame else None) ≡ Some why.Frame
+pend_frame true b c d e f = cc
+pend_frame false true c d e f = cc
+pend_frame false false true d e f = cc
+pend_frame false false false d e f = ap (λ (x : Bool). if x then Some why.Frame else None) f
+
+or_true : (b : Bool) → (b || true) ≡ true
+or_true true = refl
+or_true false = refl
+
+-- a frame is still needed
+touch_needs : (k : Key) (y : StateOf) (u : OwnOf) → (is_framed (y.life.stands k) ≡ false) ⊎ (is_copy need.Touch ≡ true) → still_needs_frame (touch k) (report_of y u) ≡ true
+touch_needs k y u (inl e) = ap (λ (b : Bool). not b || false) (unframed_has y.life (y.life.stands k) e)
+touch_needs k y u (inr e) = cc
+
+copy_needs : (k : Key) (place : Place) (y : StateOf) (u : OwnOf) → Holds y → y.contents (own_key place) ≡ None → still_needs_frame (copying k place) (report_of y u) ≡ true
+copy_needs k place y u h e =
+    ap (λ (d : Held). still (where_of y.life d)) (stands_nowhere y (own_key place) h e) ∙ or_true (not (has_frame (where_of y.life (y.life.stands k))))
+  where
+    still : Option Whereabouts → Bool
+    still w = not (has_frame (where_of y.life (y.life.stands k))) || not (not (is_none w))
+
+both_true : (a b : Bool) → a ≡ true → b ≡ true → (a && b) ≡ true
+both_true a b p q = (λ i. p i && q i)
+
+touch_pends : (k : Key) (place : Place) (r : Start) (w : Why) (s y : StateOf) (v : ℕ → Waiting) (o u : OwnOf) → Begun need.Touch k place r s y → r ≡ start.Pending w → pending s.life.machine.depth (touch k) (report_of s o) (report_of (waiting y v) u) ≡ Some w
+touch_pends k place start.Ready w s y v o u h e = cc
+touch_pends k place (start.Pending why.Read) w s y v o u h e = pend_at_once _ _ _ _ why.Read (h.at_once o) ∙ ap reason e
+touch_pends k place (start.Pending why.Full) w s y v o u h e = pend_at_once _ _ _ _ why.Full (h.at_once o) ∙ ap reason e
+touch_pends k place (start.Pending why.Frame) w s y v o u h e =
+    pend_frame _ _ _ _ (h.at_once o) (both_true _ _ (touch_needs k (waiting y v) u (h.wanting refl)) (shown_short (waiting y v) u ∙ h.short refl)) ∙ ap reason e
+
+copy_pends : (k : Key) (place : Place) (r : Start) (w : Why) (s y : StateOf) (v : ℕ → Waiting) (o u : OwnOf) → Begun need.Copy k place r s y → Holds (waiting y v) → s.contents (own_key place) ≡ None → r ≡ start.Pending w
+    → pending s.life.machine.depth (copying k place) (report_of s o) (report_of (waiting y v) u) ≡ Some w
+copy_pends k place start.Ready w s y v o u h hz d e = cc
+copy_pends k place (start.Pending why.Read) w s y v o u h hz d e = pend_at_once _ _ _ _ why.Read (h.at_once o) ∙ ap reason e
+copy_pends k place (start.Pending why.Full) w s y v o u h hz d e = pend_at_once _ _ _ _ why.Full (h.at_once o) ∙ ap reason e
+copy_pends k place (start.Pending why.Frame) w s y v o u h hz d e =
+    pend_frame _ _ _ _ (h.at_once o) (both_true _ _ (copy_needs k place (waiting y v) u hz (ap (λ (x : StateOf). x.contents (own_key place)) h.same ∙ d)) (shown_short (waiting y v) u ∙ h.short refl)) ∙ ap reason e
+
+pub started_pends : (n : Need) (k : Key) (place : Place) (r : Start) (w : Why) (s y z : StateOf) (v : ℕ → Waiting) (o u : OwnOf) → Begun n k place r s y → z ≡ waiting y v → Holds z → (n ≡ need.Copy → s.contents (own_key place) ≡ None) → r ≡ start.Pending w
+    → pending s.life.machine.depth (need_for n k place) (report_of s o) (report_of z u) ≡ Some w
+started_pends need.Touch k place r w s y z v o u h q hz d e = subst (λ (x : StateOf). pending s.life.machine.depth (touch k) (report_of s o) (report_of x u) ≡ Some w) (sym q) (touch_pends k place r w s y v o u h e)
+started_pends need.Copy k place r w s y z v o u h q hz d e = subst (λ (x : StateOf). pending s.life.machine.depth (copying k place) (report_of s o) (report_of x u) ≡ Some w) (sym q) (copy_pends k place r w s y v o u h (subst (λ (x : StateOf). Holds x) q hz) (d refl) e)
+
+-- ---- the wait
+
+wait_is : (k : Key) (r : Start) (y : StateOf) → (r ≡ start.Pending why.Read → IsBeingRead k y) → wait_of (wait_begun r (y.life.stands k)) ≡ wait_after r
+wait_is k start.Ready y h = refl
+wait_is k (start.Pending why.Read) y h = ap (λ (d : Held). wait_of (wait_begun (start.Pending why.Read) d)) (h refl).1
+wait_is k (start.Pending why.Frame) y h = refl
+wait_is k (start.Pending why.Full) y h = refl
+
+wait_set : (b : Bool) (v : Waiting) (x : Wait) (p q : Waiting) → wait_of v ≡ x → p ≡ q → wait_of (if b then v else p) ≡ (if b then x else wait_of q)
+wait_set true v x p q e f = e
+wait_set false v x p q e f = ap wait_of f
+
+-- the thread's wait, and no other, has changed
+pub started_waits : (n : Need) (k : Key) (place : Place) (r : Start) (tid : ℕ) (s y z : StateOf) (o u : OwnOf) → Begun n k place r s y → z ≡ waiting y (changed ◌==◌ y.waits tid (wait_begun r (y.life.stands k))) → is_thread s.life.kind ≡ true → s.told.search_writes ≡ no_calls
+    → (report_of z u).wait ≡ changed ◌==◌ (report_of s o).wait tid (wait_after r)
+started_waits n k place r tid s y z o u h q t e =
+    ap (λ (x : StateOf). (report_of x u).wait) q
+    ∙ (λ i. λ id. wait_set (id == tid) (wait_begun r (y.life.stands k)) (wait_after r) (y.waits id) (s.waits id) (wait_is k r y h.reading) (ap (λ (f : ℕ → Waiting). f id) (begun_rests n k place r s y h t e).waits) i)
+
+-- ---- the moves
+
+need_key : (n : Need) (k : Key) (place : Place) → (need_for n k place).key ≡ k
+need_key need.Touch k place = refl
+need_key need.Copy k place = refl
+
+abbrev aim_for : Bool → Need → Key → Place → StateOf → Aim
+aim_for w n k place s = record { place = place; need = need_for n k place; writes = w; start = s.life }
+
+pub started_passes : (writes : Bool) (n : Need) (k : Key) (place : Place) (r : Start) (tid : ℕ) (s y z : StateOf) (o u : OwnOf) → Begun n k place r s y → z ≡ waiting y (changed ◌==◌ y.waits tid (wait_begun r (y.life.stands k)))
+    → Passes (Starts (record { place = place; need = need_for n k place; writes = writes; start = s.life }) tid r) (store_of s o) (store_of z u) (behind_of s) (behind_of z)
+started_passes writes n k place r tid s y z o u h q =
+    let p : Went (aim_for writes n k place s) 1 s y = h.went (aim_for writes n k place s) (record { at = refl; needs = need_key n k place; from = refl }) in
+    subst (λ (x : StateOf). Passes (Starts (aim_for writes n k place s) tid r) (store_of s o) (store_of x u) (behind_of s) (behind_of x)) (sym q)
+    (record {
+      moves = p.moves;
+      in_range = p.does.in_range;
+      grew = p.does.grew;
+      replays = p.does.replays;
+      that = record {
+        made = record { each = p.each; one_read = p.few_reads; few_writes = p.few_writes };
+        waits = λ i. changed ◌==◌ (p.does.waits i) tid (wait_begun r (y.life.stands (sym (need_key n k place) i)));
+        ages = p.does.ages;
+        slots = h.slots;
+        valid = h.valid;
+      };
+      report = p.does.told;
+      paging_calls = p.does.paging_calls;
+      paging = p.does.paging;
+      paging_are = p.does.paging_are;
+      file_calls = p.does.file_calls;
+      files = p.does.files;
+      files_are = p.does.files_are;
+    })
+
+-- ---- what the store keeps
+
+ready_is : (r : Start) (n : Need) (k : Key) (place : Place) (x : Ready) → ready_after r n k place ≡ Some x → (r ≡ start.Ready) × (x ≡ record { place = place; need = need_for n k place })
+ready_is start.Ready n k place x e = (refl, sym (some_same e))
+  where
+    out : Ready → Option Ready → Ready
+    out d None = d
+    out d (Some v) = v
+
+    some_same : {a b : Ready} → Some a ≡ Some b → a ≡ b
+    some_same {a} {b} e = ap (out a) e
+ready_is (start.Pending w) n k place x e = cc
+
+copy_needed : (n : Need) (k : Key) (place : Place) → is_some (need_for n k place).copy ≡ true → is_copy n ≡ true
+copy_needed need.Touch k place e = e
+copy_needed need.Copy k place e = refl
+
+thread_touch : (k : LineKind) → is_thread k ≡ true → is_touch k ≡ true
+thread_touch k e = ap (λ (b : Bool). is_access k || b) e ∙ or_true (is_access k)
+
+pub started_kept : (n : Need) (k : Key) (place : Place) (r : Start) (s y z : StateOf) (w : ℕ → Waiting) (o u : OwnOf) → Begun n k place r s y → z ≡ waiting y w → is_thread s.life.kind ≡ true → Kept s o → u.ready ≡ ready_after r n k place → u.blocks_used ≡ o.blocks_used → Kept z u
+started_kept n k place r s y z w o u h q t kept e used = subst (λ (x : StateOf). Kept x u) (sym q) (record {
+  own = ap (λ (x : StateOf). x.own) h.same ∙ kept.own;
+  aside = ap (λ (x : StateOf). x.aside) h.same ∙ kept.aside;
+  ready = λ x f. let is = ready_is r n k place x (sym e ∙ f) in ap (λ (a : Ready). is_some (y.life.valid a.place)) is.1 ∙ h.valid is.0;
+  touching = λ x f. ap (λ (a : LineKind). is_touch a) life.kind ∙ thread_touch s.life.kind t;
+  room = λ x f c. let is = ready_is r n k place x (sym e ∙ f) in h.room is.0 (copy_needed n k place (ap (λ (a : Ready). is_some a.need.copy) (sym is.1) ∙ c));
+  fresh = λ b low. ap (λ (f : ℕ → Bool). f b) life.added ∙ kept.fresh b (subst (λ (a : ℕ). a ≤ b) used low);
+  calm = λ th. ap (λ (a : Told). a.search_writes) (begun_rests n k place r s y h t (kept.calm t)).told ∙ kept.calm t;
+})
+  where
+    life : LifeKept s.life y.life
+    life = begun_life n k place r s y h

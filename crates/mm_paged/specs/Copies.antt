@@ -1,0 +1,99 @@
+-- Pieces of an access that makes a copy.
+use Rattle.std.specs.Prelude.{◌≡◌, ◌≤◌, ◌+◌, ◌⊎◌, ℕ, true, false, length, Option, Some, None, is_some}
+use Rattle.mm_types.specs.declared.faults.PageFault.{PageFault}
+use Rattle.mm_types.specs.declared.faults.PageFault.TheVariants as fault
+use Rattle.mm_types.specs.declared.numbers.Frame.{Frame}
+use Rattle.mm_types.specs.declared.numbers.Key.{Key}
+use Rattle.mm_types.specs.declared.numbers.Place.{Place}
+use Rattle.mm_life.specs.Life.{FrameLife, changed, same_key, same_place, is_live, key_of_place}
+use Rattle.mm_life.specs.Legal.{is_short}
+use Rattle.mm_pages.specs.Accesses.{Aim}
+use Rattle.mm_pages.specs.Reports.{no_calls}
+use Rattle.mm_pages.specs.Shortage.{is_framed}
+use Rattle.mm_moving.specs.Shown.{StateOf, called, SomeFault}
+use Rattle.mm_moving.specs.Doing.{IsFlightOf}
+use Rattle.mm_paged.specs.Pieces.{Went, Calm, LifeKept}
+
+-- the access begins here, at this place, for this page
+pub record Reaches (a : Aim) (k : Key) (place : Place) (s : StateOf) : Type 0 where
+  pub at : a.place ≡ place
+  pub needs : a.need.key ≡ k
+  pub from : a.start ≡ s.life
+
+-- it makes a copy of the page, which becomes the place's own
+pub record CopiesFrom (a : Aim) (k : Key) (place : Place) (s : StateOf) : Type 0 where
+  pub reaches : Reaches a k place s
+  pub copy : a.need.copy ≡ Some (key_of_place place)
+
+-- at most so many reads: none where the page is valid at the place
+abbrev pub most_reads : Option Frame → ℕ
+most_reads None = 1
+most_reads (Some f) = 0
+
+-- a page is valid at a place, in this frame
+pub record HeldAt (k : Key) (f : Frame) (place : Place) (s : StateOf) : Type 0 where
+  pub valid : s.life.valid place ≡ Some f
+  pub named : s.names place ≡ Some k
+
+-- the page is valid at the place now, where it was or by a fault, and its frame can be pinned
+pub record Readied (k : Key) (f : Frame) (place : Place) (s z : StateOf) : Type 0 where
+  pub went : (a : Aim) → Reaches a k place s → Went a (most_reads (s.life.valid place)) s z
+  pub held : HeldAt k f place z
+  pub flight : IsFlightOf s.life.flight (Some f) z.life
+  pub calm : Calm s z
+  pub names : (z.names ≡ s.names) ⊎ (z.names ≡ changed same_place s.names place (Some k))
+  pub still : is_some (s.life.valid place) ≡ true → z ≡ s
+  pub same : z ≡ record (called s z) { names = z.names }
+
+-- an access that makes a copy, at a place that is valid for the page copied from, in this frame
+pub record Pins (a : Aim) (place : Place) (f : Frame) (s : StateOf) : Type 0 where
+  pub at : a.place ≡ place
+  pub copy : a.need.copy ≡ Some (key_of_place place)
+  pub dead : is_live s.life (key_of_place place) ≡ false
+  pub valid : s.life.valid place ≡ Some f
+  pub flight : IsFlightOf a.start.flight (Some f) s.life
+
+-- what a search leaves while a frame is pinned
+pub record Spares (pinned : Frame) (s z : StateOf) : Type 0 where
+  pub life : LifeKept s.life z.life
+  pub stands : z.life.stands ≡ s.life.stands
+  pub valid : (p : Place) → s.life.valid p ≡ Some pinned → z.life.valid p ≡ Some pinned
+  pub read : z.told.last_failed_read ≡ s.told.last_failed_read
+  pub same : z ≡ called s z
+
+-- a search found no frame, by the report
+pub record Lacks (s z : StateOf) : Type 0 where
+  pub short : is_short z.life ≡ true
+  pub failed : 1 ≤ z.told.search_writes.failed
+  pub none : s.told.search_writes.succeeded ≡ 0 → z.told.search_writes.succeeded ≡ 0
+  pub fault : SomeFault s z
+
+-- a page-file key came to be, and else the life of the frames is as moves within a line leave it
+pub record KeyAdded (k : Key) (l m : FrameLife) : Type 0 where
+  pub machine : m.machine ≡ l.machine
+  pub line : m.line ≡ l.line
+  pub kind : m.kind ≡ l.kind
+  pub paging : m.paging ≡ changed same_key l.paging k true
+  pub keys : m.paging_keys ≡ l.paging_keys + 1
+  pub pids : length m.sets ≡ length l.sets
+  pub added : m.added ≡ l.added
+
+-- the place's own page is there, a copy of this page, and valid
+pub record Copied (k : Key) (place : Place) (s z : StateOf) : Type 0 where
+  pub life : KeyAdded (key_of_place place) s.life z.life
+  pub valid : is_some (z.life.valid place) ≡ true
+  pub young : z.ages place ≡ 0
+  pub names : z.names ≡ changed same_place s.names place (Some (key_of_place place))
+  pub contents : z.contents ≡ changed same_key s.contents (key_of_place place) (s.contents k)
+  pub framed : is_framed (z.life.stands k) ≡ true
+  pub read : z.told.last_failed_read ≡ s.told.last_failed_read
+  pub same : z ≡ record (called s z) { names = z.names; contents = z.contents }
+
+-- why there is no copy, by the report: the read of the page copied from, or a search
+pub record FailsToCopy (why : PageFault) (k : Key) (s z : StateOf) : Type 0 where
+  pub read : why ≡ fault.Read → z.told.last_failed_read ≡ Some k
+  pub kept : why ≡ fault.NoFrame → z.told.last_failed_read ≡ s.told.last_failed_read
+  pub short : why ≡ fault.NoFrame → is_short z.life ≡ true
+  pub failed : why ≡ fault.NoFrame → 1 ≤ z.told.search_writes.failed
+  pub none : why ≡ fault.NoFrame → s.told.search_writes ≡ no_calls → z.told.search_writes.succeeded ≡ 0
+  pub fault : SomeFault s z

@@ -1,0 +1,78 @@
+-- How an access of a thread begins: what became of its page, and what it waits for.
+use Rattle.std.specs.Prelude.{◌≡◌, ◌⊎◌, Bool, true, false, Option, Some, None, is_some}
+use Rattle.mm_types.specs.declared.answers.Why.{Why}
+use Rattle.mm_types.specs.declared.answers.Why.TheVariants as why
+use Rattle.mm_types.specs.declared.frames.Held.TheVariants as held
+use Rattle.mm_types.specs.declared.numbers.Frame.{Frame}
+use Rattle.mm_types.specs.declared.numbers.Key.{Key}
+use Rattle.mm_types.specs.declared.numbers.Place.{Place}
+use Rattle.mm_life.specs.Frames.{record_at, is_read}
+use Rattle.mm_life.specs.Life.{changed, same_place}
+use Rattle.mm_life.specs.Legal.{is_short}
+use Rattle.mm_pages.specs.Accesses.{Aim}
+use Rattle.mm_pages.specs.Conditions.{need_for, waits_at_once}
+use Rattle.mm_pages.specs.Shortage.{is_framed}
+use Rattle.mm_pages.specs.Store.{Ready}
+use Rattle.mm_pages.specs.declared.outcomes.Need.{Need}
+use Rattle.mm_pages.specs.declared.outcomes.Need.TheVariants as need
+use Rattle.mm_pages.specs.declared.outcomes.Start.{Start}
+use Rattle.mm_pages.specs.declared.outcomes.Start.TheVariants as start
+use Rattle.mm_types.specs.declared.moves.Move.TheVariants as move
+use Rattle.mm_moving.specs.Shown.{StateOf, Made, moved, called}
+use Rattle.mm_paged.specs.Pieces.{Went, Took, ReadsFor}
+use Rattle.mm_paged.specs.Shown.{OwnOf, report_of}
+
+-- an access of this page at this place begins
+pub record AimsAt (a : Aim) (k : Key) (place : Place) (s : StateOf) : Type 0 where
+  pub at : a.place ≡ place
+  pub needs : a.need.key ≡ k
+  pub from : a.start ≡ s.life
+
+-- why it waits whatever frames there are, by its answer
+abbrev pub reason_at_once : Start → Option Why
+reason_at_once start.Ready = None
+reason_at_once (start.Pending why.Read) = Some why.Read
+reason_at_once (start.Pending why.Full) = Some why.Full
+reason_at_once (start.Pending why.Frame) = None
+
+abbrev pub is_copy : Need → Bool
+is_copy need.Touch = false
+is_copy need.Copy = true
+
+-- a read of the page is in flight
+abbrev pub IsBeingRead : Key → StateOf → Type 0
+IsBeingRead k s = (f : Frame) × (s.life.stands k ≡ held.Frame f) × (is_read (record_at s.life.frames f.0).request ≡ true)
+
+-- the access has begun so far as its moves go, and this is its answer
+pub record Begun (n : Need) (k : Key) (place : Place) (result : Start) (s z : StateOf) : Type 0 where
+  pub went : (a : Aim) → AimsAt a k place s → Went a 1 s z
+  pub names : (z.names ≡ s.names) ⊎ (z.names ≡ changed same_place s.names place (Some k))
+  pub slots : z.slots ≡ s.slots
+  pub blocks : z.blocks ≡ s.blocks
+  pub same : z ≡ record (called s z) { names = z.names }
+  -- its page is valid at its place, and for a copy there is a frame
+  pub valid : result ≡ start.Ready → is_some (z.life.valid place) ≡ true
+  pub room : result ≡ start.Ready → is_copy n ≡ true → is_short z.life ≡ false
+  -- why it waits
+  pub at_once : (o : OwnOf) → waits_at_once s.life.machine.depth k (report_of s o) ≡ reason_at_once result
+  pub reading : result ≡ start.Pending why.Read → IsBeingRead k z
+  pub short : result ≡ start.Pending why.Frame → is_short z.life ≡ true
+  pub wanting : result ≡ start.Pending why.Frame → (is_framed (z.life.stands k) ≡ false) ⊎ (is_copy n ≡ true)
+
+-- what is ready then
+abbrev pub ready_after : Start → Need → Key → Place → Option Ready
+ready_after start.Ready n k place = Some (record { place = place; need = need_for n k place })
+ready_after (start.Pending w) n k place = None
+
+-- an answer, once a frame for the copy was looked for where the page is had
+abbrev pub answered : Need → Start → Bool → Start
+answered need.Copy start.Ready true = start.Pending why.Frame
+answered n r short = r
+
+-- a read of the page begins
+pub record Reads (k : Key) (s z : StateOf) : Type 0 where
+  pub frame : Frame
+  pub mid : StateOf
+  pub made : Made (move.Read frame k) mid z
+  pub took : (a : Aim) → ReadsFor a k → Took a 1 s z
+  pub same : z ≡ moved s z

@@ -1,0 +1,10 @@
+use Rattle.std.proofs.Common.{◌≡◌, ◌≤◌}
+use Rattle.mm_reclaim.specs.Chores.{TrimsTo}
+use Rattle.mm_reclaim.proofs.chores.trim.Given as goal
+
+abbrev pub invariant-loop-trimmed : goal.invariant-loop-trimmed
+invariant-loop-trimmed g l = record {
+  few : l._trimmed ≤ l.n;
+  trims : TrimsTo l.pid l._trimmed (g.T.Moving.shown l.fn.state) (g.T.Moving.shown l.state);
+  loans : g.T.Moving.loans l.state ≡ g.T.Moving.loans l.fn.state;
+}

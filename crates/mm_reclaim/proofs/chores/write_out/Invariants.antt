@@ -1,0 +1,10 @@
+use Rattle.std.proofs.Common.{◌≡◌, ◌≤◌}
+use Rattle.mm_reclaim.specs.Chores.{RoundsTo, writings}
+use Rattle.mm_reclaim.proofs.chores.write_out.Given as goal
+
+abbrev pub invariant-loop-begun : goal.invariant-loop-begun
+invariant-loop-begun g l = record {
+  few : l._begun ≤ l.n;
+  rounds : RoundsTo writings l.n l._begun (g.T.Moving.shown l.fn.state) (g.T.Moving.shown l.state);
+  loans : g.T.Moving.loans l.state ≡ g.T.Moving.loans l.fn.state;
+}

@@ -1,0 +1,13 @@
+use Rattle.std.proofs.Common.{◌≡◌}
+use Rattle.mm_laws.specs.Places.{valid_places}
+use Rattle.mm_reclaim.specs.Seeking.{Seeking}
+use Rattle.mm_reclaim.proofs.searching.search.Given as goal
+
+abbrev pub invariant-turns : goal.invariant-turns
+invariant-turns g l = record {
+  seeking : Seeking l.pinned (g.T.Moving.shown l.fn.state) (g.T.Moving.shown l.state);
+  loans : g.T.Moving.loans l.state ≡ g.T.Moving.loans l.fn.state;
+}
+
+abbrev pub decreases-turns : goal.decreases-turns
+decreases-turns g l = valid_places (g.T.Moving.shown l.state).life

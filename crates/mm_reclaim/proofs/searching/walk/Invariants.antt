@@ -1,0 +1,9 @@
+use Rattle.std.proofs.Common.{◌≡◌}
+use Rattle.mm_reclaim.specs.Seeking.{Walks}
+use Rattle.mm_reclaim.proofs.searching.walk.Given as goal
+
+abbrev pub invariant-loop-i : goal.invariant-loop-i
+invariant-loop-i g l = record {
+  walks : Walks l.fn.pinned (g.T.Moving.shown l.fn.state) (g.T.Moving.shown l.state) l.n l.i;
+  loans : g.T.Moving.loans l.state ≡ g.T.Moving.loans l.fn.state;
+}

@@ -1,0 +1,30 @@
+-- One turn of a search: a place is unmapped, and its frame written where it can be.
+use Rattle.std.specs.Prelude.{◌≡◌, Bool, true, false}
+use Rattle.mm_types.specs.declared.numbers.Frame.{Frame}
+use Rattle.mm_types.specs.declared.numbers.Place.{Place}
+use Rattle.mm_types.specs.declared.moves.Move.TheVariants as move
+use Rattle.mm_life.specs.Frames.{is_on, is_empty}
+use Rattle.mm_life.specs.Life.{FrameLife}
+use Rattle.mm_life.specs.Legal.{is_short}
+use Rattle.mm_moving.specs.Shown.{StateOf, Made, moved}
+use Rattle.mm_reclaim.specs.declared.searching.Found.{Found}
+use Rattle.mm_reclaim.specs.declared.searching.Found.TheVariants as found
+use Rattle.mm_reclaim.specs.Seeking.{Tried}
+
+-- the first of the lists that has a frame
+abbrev pub IsFirst : Found → FrameLife → Type 0
+IsFirst found.Zeroed l = is_empty l.frames.zeroed ≡ false
+IsFirst found.Free l = (is_empty l.frames.zeroed ≡ true) × (is_empty l.frames.free ≡ false)
+IsFirst found.Standby l = (is_empty l.frames.zeroed ≡ true) × ((is_empty l.frames.free ≡ true) × (is_empty l.frames.standby ≡ false))
+
+-- after the unmap the lists have a frame, or the place's own frame is not modified, or it is and is tried
+pub data AfterUnmap (f : Frame) (found : Bool) (m z : StateOf) : Type 0 where
+  Freed : is_short m.life ≡ false → found ≡ true → z ≡ m → AfterUnmap f found m z
+  Unchanged : is_short m.life ≡ true → is_on f.0 m.life.frames.modified ≡ false → found ≡ false → z ≡ m → AfterUnmap f found m z
+  Changed : is_short m.life ≡ true → is_on f.0 m.life.frames.modified ≡ true → Tried f found m z → AfterUnmap f found m z
+
+pub record Turned (place : Place) (f : Frame) (found : Bool) (s z : StateOf) : Type 0 where
+  pub mid : StateOf
+  pub unmaps : Made (move.Unmap place) s mid
+  pub rest : mid ≡ moved s mid
+  pub after : AfterUnmap f found mid z

@@ -1,0 +1,5 @@
+use Rattle.mm_state.proofs.Waiting.{front_is}
+use Rattle.mm_state.proofs.calls.StateMoving.front_modified.Goals as goal
+
+pub returns-clause-first : goal.returns-clause-first
+returns-clause-first g c = front_is _ _ c.front_modified.ensures.first

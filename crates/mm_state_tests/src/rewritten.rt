@@ -1,0 +1,167 @@
+ghost use Rattle.std.specs.Prelude.{◌≡◌, None, Some, OnOk, replicate};
+ghost use Rattle.std.specs.Bool.{OnTrue};
+ghost use Rattle.mm_blocks.specs.Traffic.{empty_block};
+ghost use Rattle.mm_state_tests.specs.Rows.{Begun, Stands, page};
+
+use crate::devices::opened;
+use mm_blocks::{Injected, MemBlocks};
+use mm_io::MemSink;
+use mm_moves::Recorder;
+use mm_moving::Moving;
+use mm_state::State;
+use mm_types::{Frame, Key, LineKind, Machine, NoMemory, Pid, Place, Vpn};
+use std::alloc::Global;
+use std::test::Fail;
+
+const KEY: Key = Key::Private(Pid(1), Vpn(16));
+
+const PLACE: Place = Place {
+    pid: Pid(1),
+    vpn: Vpn(16),
+};
+
+const LOG: &[u8] = b"at 1 machine 8 8 1 0
+at 2 process 1 0 8
+at 3 call
+add p1.16 zero
+at 4 access 1
+clear 0
+give 0 p1.16
+map 0 1.16
+at 5 trim 1
+unmap 1.16
+at 6 writer
+write 0 slot 0
+at 7 call
+at 8 access 1
+map 0 1.16
+soil 0
+at 9 call
+at 10 trim 1
+unmap 1.16
+at 11 io
+wrote 0
+at 12 call
+at 13 access 1
+map 0 1.16
+";
+
+/// A process of one page.
+fn set_up<T: Moving>(state: &mut T) -> Result<(), NoMemory>
+    requires { Begun (T.shown state.old) }
+    ensures { OnOk result (Stands 4 None (T.shown state.new)) }
+{
+    state.at(2, LineKind::Process(Pid(1), 0, 8));
+    state.open_process(Pid(1))?;
+    state.bind(Pid(1), Vpn(16), 1)?;
+    state.at(3, LineKind::Call);
+    state.add_zero(KEY);
+    Ok(())
+}
+
+/// The page is used for the first time.
+fn first_write<T: Moving>(state: &mut T)
+    requires { Stands 4 None (T.shown state.old) }
+    ensures { Stands 8 (Some page) (T.shown state.new) }
+{
+    state.at(4, LineKind::Access(Pid(1)));
+    state.clear();
+    let f = state.give(KEY);
+    state.map(f, PLACE);
+    state.write(PLACE, 0, &[1]);
+}
+
+/// Its write begins.
+fn begin_write<T: Moving>(state: &mut T)
+    requires { Stands 8 (Some page) (T.shown state.old) }
+    ensures { Stands 13 (Some page) (T.shown state.new) }
+{
+    state.at(5, LineKind::Trim(Pid(1)));
+    state.unmap(PLACE);
+    state.at(6, LineKind::Writer);
+    state.start_write(Frame(0));
+    state.at(7, LineKind::Call);
+}
+
+/// It is changed meanwhile.
+fn second_write<T: Moving>(state: &mut T)
+    requires { Stands 13 (Some page) (T.shown state.old) }
+    ensures { Stands 17 (Some page) (T.shown state.new) }
+{
+    state.at(8, LineKind::Access(Pid(1)));
+    state.map(Frame(0), PLACE);
+    state.soil(Frame(0));
+    state.write(PLACE, 0, &[2]);
+    state.at(9, LineKind::Call);
+}
+
+/// Its write ends.
+fn end_write<T: Moving>(state: &mut T) -> bool
+    requires { Stands 17 (Some page) (T.shown state.old) }
+    ensures { OnTrue result (Stands 21 (Some page) (T.shown state.new)) }
+{
+    state.at(10, LineKind::Trim(Pid(1)));
+    state.unmap(PLACE);
+    state.at(11, LineKind::Io);
+    state.end_write(Frame(0))
+}
+
+/// It is read.
+fn last_read<T: Moving>(state: &mut T) -> u8
+    requires { Stands 21 (Some page) (T.shown state.old) }
+{
+    state.at(12, LineKind::Call);
+    state.at(13, LineKind::Access(Pid(1)));
+    state.map(Frame(0), PLACE);
+    let mut out = [0; 1];
+    state.read(PLACE, 0, &mut out);
+    out[0]
+}
+
+/// The moves as they come, to the last.
+fn rewrite<T: Moving>(state: &mut T) -> Option<u8>
+    requires { Begun (T.shown state.old) }
+{
+    let Ok(()) = set_up(state) else {
+        return None;
+    };
+    first_write(state);
+    begin_write(state);
+    second_write(state);
+    if end_write(state) {
+        Some(last_read(state))
+    } else {
+        None
+    }
+}
+
+/// The row on devices that were opened: the byte that is read last.
+fn run_row<'a>(
+    alloc: Global,
+    paging: &'a mut MemBlocks,
+    files: &'a mut MemBlocks,
+    sink: &'a mut MemSink,
+) -> Option<u8>
+    requires slots { paging.old.blocks ≡ replicate 8 empty_block }
+    requires blocks { files.old.blocks ≡ replicate 0 empty_block }
+{
+    let machine = Machine::new(8, 8, 1, 0);
+    let paging = Injected::new(paging);
+    let files = Injected::new(files);
+    let moves = Recorder::new(sink);
+    match State::new(alloc, machine, paging, files, moves) {
+        Ok(mut state) => rewrite(&mut state),
+        Err(_) => None,
+    }
+}
+
+#[test]
+fn a_page_rewritten_while_it_is_written(rt: HostRuntime) -> Result<(), Fail> {
+    let mut paging = opened(rt.alloc(), 8)?;
+    let mut files = opened(rt.alloc(), 0)?;
+    let mut sink = MemSink::new(rt.alloc(), 1000, Vec::new(rt.alloc())).map_err(|_| "no room")?;
+    let byte = run_row(rt.alloc(), &mut paging, &mut files, &mut sink);
+    assert_eq!(rt; byte, Some(2));
+    assert_eq!(rt; sink.bytes(), LOG);
+    Ok(())
+}
