@@ -1,37 +1,33 @@
 -- Where no `fail` line was answered `ok`, an answer tells of a failure only where a count of faults rose.
-use Rattle.std.proofs.Common.{◌≡◌, ◌⊎◌, ◌≤◌, ℕ, ◌+◌, ◌-◌, ◌^◌, List, [], ◌∷◌, refl, sym, ap, ◌∙◌, subst, inl, inr, arith}
-use Rattle.std.specs.Prelude.{true, false, min, map}
+use Rattle.std.proofs.Common.{◌≡◌, ◌≢◌, ◌⊎◌, ◌≤◌, ℕ, suc, true, false, List, [], ◌∷◌, Option, Some, None, length, refl, sym, ap, ◌∙◌, subst, inl, inr, arith}
 use Rattle.mm_types.specs.Outside.{Rose}
+use Rattle.mm_types.specs.Spelling.{Text}
+use Rattle.mm_types.proofs.Bytes.{rose_then, rose_later}
 use Rattle.mm_types.specs.declared.answers.Answer.{Answer}
 use Rattle.mm_types.specs.declared.answers.Answer.TheVariants as answer
-use Rattle.mm_types.specs.declared.codes.Raise.{Raise}
 use Rattle.mm_types.specs.declared.codes.Raise.TheVariants as raise
-use Rattle.mm_types.specs.declared.devices.Device.{Device}
-use Rattle.mm_types.specs.declared.devices.Direction.{Direction}
-use Rattle.mm_types.specs.declared.devices.Device.TheVariants as device
 use Rattle.mm_types.specs.declared.events.Event.{Event}
 use Rattle.mm_types.specs.declared.events.Event.TheVariants as line
-use Rattle.std.specs.Prelude.{Option, Some, None}
-use Rattle.mm_blocks.specs.declared.device_calls.DeviceCall.{DeviceCall}
-use Rattle.mm_blocks.specs.Traffic.{one_further}
-use Rattle.mm_world.specs.World.{Page}
-use Rattle.mm_blocks.specs.Devices.{DeviceOf, Call, AllServed, no_device}
-use Rattle.mm_types.specs.declared.answers.Wait.TheVariants as wait
+use Rattle.mm_types.specs.declared.moves.Move.{Move}
+use Rattle.mm_life.specs.Life.{unstarted}
+use Rattle.mm_life.specs.Replay.{Replays}
+use Rattle.mm_laws.specs.Sound.{Sound}
+use Rattle.mm_laws.proofs.Kept.{kept_along, replay_sound}
+use Rattle.mm_blocks.specs.Devices.{DeviceOf}
+use Rattle.mm_world.specs.World.{World}
 use Rattle.mm_world.specs.Failure.{wait_failed}
-use Rattle.mm_world.specs.Report.{Report}
-use Rattle.mm_core.specs.Serving.{Named, IsFailure, OneRose, is_fail, resumed_thread, HasFailed, FailedBefore}
-use Rattle.mm_run.specs.Scenes.{Scene, Stage, NotBegun, Running}
-use Rattle.mm_run.specs.Ends.{Leaves}
-use Rattle.mm_run.specs.Steps.{Decides, Stepped, Run, NamesNone, NoneNames, NoneFails}
-
--- over a store where no thread waits no read has failed before its `resume`
-pub rose_in : {A : Type 0} (e : Event) (r : Report) → ((tid : ℕ) → r.wait tid ≡ wait.None) → FailedBefore e r ⊎ A → A
-rose_in {A = A} e r idle h = by_thread (resumed_thread e) h
-  where
-    by_thread : (o : Option ℕ) → HasFailed o r ⊎ A → A
-    by_thread o (inr a) = a
-    by_thread None (inl bad) = absurd bad
-    by_thread (Some tid) (inl bad) = let never : false ≡ true = ap wait_failed (sym (idle tid)) ∙ bad in cc
+use Rattle.mm_walks.specs.Waits.{wait_of}
+use Rattle.mm_paging.specs.Runs.{Scene}
+use Rattle.mm_core.specs.Serving.{IsFailure, OneRose, HasFailed, resumed_thread, is_fail}
+use Rattle.mm_run.specs.declared.endings.Ending.{Ending}
+use Rattle.mm_run.specs.declared.endings.Ending.TheVariants as ending
+use Rattle.mm_run.specs.Scenes.{Outset, Stage, NotBegun, Running, Follows}
+use Rattle.mm_run.specs.Steps.{Begins, Decides, IsDecided}
+use Rattle.mm_run.specs.Answered.{DecidedLine, AreAnswered, last_stage, NamesNone, NoneNames, NoneFails}
+use Rattle.mm_run.specs.Ends.{Left, Leaves, Closes, BreaksAt}
+use Rattle.mm_run.specs.Ran.{SomeRose, NoneNamed, begun_at}
+use Rattle.mm_run.proofs.Named.{count_stays}
+use Rattle.mm_run.proofs.Lost.{is_lost, lost_line}
 
 pub failure_or : (a : Answer) → (IsFailure a → ⊥) ⊎ IsFailure a
 failure_or answer.Ok = inl (λ h. h)
@@ -58,156 +54,254 @@ failure_or answer.Fault = inr tt
 failure_or (answer.Watched x) = inl (λ h. h)
 failure_or (answer.Stack x y z) = inl (λ h. h)
 
--- a `fail` line that names nothing leaves the file device
-named_none : (d : Device) (w : Direction) (k n : ℕ) (a : Answer) (p q s z : DeviceOf) → NamesNone (line.Fail d w k n) a → Named true (line.Fail d w k n) a p q s z → z ≡ s
-named_none d w k n answer.Ok p q s z u h = absurd u
-named_none d w k n (answer.Limit x) p q s z u h = h.1
-named_none d w k n (answer.NewProcess x) p q s z u h = h.1
-named_none d w k n (answer.At x) p q s z u h = h.1
-named_none d w k n (answer.OldProt x) p q s z u h = h.1
-named_none d w k n (answer.Info x) p q s z u h = h.1
-named_none d w k n (answer.Created x y) p q s z u h = h.1
-named_none d w k n (answer.Opened x) p q s z u h = h.1
-named_none d w k n (answer.Bytes x) p q s z u h = h.1
-named_none d w k n (answer.Charge x y) p q s z u h = h.1
-named_none d w k n (answer.Counts x) p q s z u h = h.1
-named_none d w k n (answer.Error x) p q s z u h = h.1
-named_none d w k n (answer.Raised x) p q s z u h = h.1
-named_none d w k n (answer.Pending x) p q s z u h = h.1
-named_none d w k n answer.Nothing p q s z u h = h.1
-named_none d w k n answer.Busy p q s z u h = h.1
-named_none d w k n answer.Full p q s z u h = h.1
-named_none d w k n answer.Fault p q s z u h = h.1
-named_none d w k n (answer.Watched x) p q s z u h = h.1
-named_none d w k n (answer.Stack x y t) p q s z u h = h.1
+-- a line that names calls was not answered `ok`
+names_not_ok : (e : Event) (a : Answer) → NamesNone e a → is_fail e ≡ true → a ≢ answer.Ok
+names_not_ok (line.Fail d w k n) answer.Ok u q = λ ok. u
+names_not_ok (line.Fail d w k n) a u q = λ ok. cc
+names_not_ok e a u q = (let no_way : false ≡ true = q in cc)
 
-fail_leaves : (e : Event) (a : Answer) (p q s z : DeviceOf) → is_fail e ≡ true → NamesNone e a → Named true e a p q s z → z ≡ s
-fail_leaves (line.Machine v0) a p q s z i u h = (let no_way : false ≡ true = i in cc)
-fail_leaves (line.Process v0 v1) a p q s z i u h = (let no_way : false ≡ true = i in cc)
-fail_leaves (line.Exit v0) a p q s z i u h = (let no_way : false ≡ true = i in cc)
-fail_leaves (line.File v0 v1 v2) a p q s z i u h = (let no_way : false ≡ true = i in cc)
-fail_leaves (line.Alloc v0 v1 v2 v3 v4) a p q s z i u h = (let no_way : false ≡ true = i in cc)
-fail_leaves (line.Free v0 v1 v2 v3) a p q s z i u h = (let no_way : false ≡ true = i in cc)
-fail_leaves (line.Protect v0 v1 v2 v3) a p q s z i u h = (let no_way : false ≡ true = i in cc)
-fail_leaves (line.Query v0 v1) a p q s z i u h = (let no_way : false ≡ true = i in cc)
-fail_leaves (line.Create v0 v1 v2 v3) a p q s z i u h = (let no_way : false ≡ true = i in cc)
-fail_leaves (line.CreateFile v0 v1 v2 v3) a p q s z i u h = (let no_way : false ≡ true = i in cc)
-fail_leaves (line.Open v0 v1) a p q s z i u h = (let no_way : false ≡ true = i in cc)
-fail_leaves (line.Close v0 v1) a p q s z i u h = (let no_way : false ≡ true = i in cc)
-fail_leaves (line.Map v0 v1 v2 v3 v4 v5) a p q s z i u h = (let no_way : false ≡ true = i in cc)
-fail_leaves (line.Unmap v0 v1) a p q s z i u h = (let no_way : false ≡ true = i in cc)
-fail_leaves (line.Flush v0 v1 v2) a p q s z i u h = (let no_way : false ≡ true = i in cc)
-fail_leaves (line.Read v0 v1 v2) a p q s z i u h = (let no_way : false ≡ true = i in cc)
-fail_leaves (line.Write v0 v1 v2) a p q s z i u h = (let no_way : false ≡ true = i in cc)
-fail_leaves (line.Exec v0 v1) a p q s z i u h = (let no_way : false ≡ true = i in cc)
-fail_leaves (line.Begin v0 v1 v2) a p q s z i u h = (let no_way : false ≡ true = i in cc)
-fail_leaves (line.Resume v0) a p q s z i u h = (let no_way : false ≡ true = i in cc)
-fail_leaves (line.Io v0) a p q s z i u h = (let no_way : false ≡ true = i in cc)
-fail_leaves (line.Trim v0 v1) a p q s z i u h = (let no_way : false ≡ true = i in cc)
-fail_leaves (line.Age v0) a p q s z i u h = (let no_way : false ≡ true = i in cc)
-fail_leaves (line.Writer v0) a p q s z i u h = (let no_way : false ≡ true = i in cc)
-fail_leaves (line.Zeroer v0) a p q s z i u h = (let no_way : false ≡ true = i in cc)
-fail_leaves (line.Fail v0 v1 v2 v3) a p q s z i u h = named_none v0 v1 v2 v3 a p q s z u h
-fail_leaves line.Charge a p q s z i u h = (let no_way : false ≡ true = i in cc)
-fail_leaves line.Counts a p q s z i u h = (let no_way : false ≡ true = i in cc)
-fail_leaves (line.Grow v0) a p q s z i u h = (let no_way : false ≡ true = i in cc)
-fail_leaves (line.Watch v0 v1 v2 v3 v4) a p q s z i u h = (let no_way : false ≡ true = i in cc)
-fail_leaves (line.ResetWatch v0 v1 v2) a p q s z i u h = (let no_way : false ≡ true = i in cc)
-fail_leaves (line.Stack v0 v1 v2 v3) a p q s z i u h = (let no_way : false ≡ true = i in cc)
-fail_leaves (line.Probe v0 v1) a p q s z i u h = (let no_way : false ≡ true = i in cc)
+none_of : {A : Type 0} (xs : List A) → length xs ≤ 0 → xs ≡ []
+none_of [] h = refl
+none_of (x ∷ xs) h = absurd (omega arith)
 
--- no call is named by calls that were made
-served_names_none : (cs : List Call) (s z : DeviceOf) → AllServed cs s z → s.named ≡ [] → z.named ≡ []
-served_names_none [] s z h e = ap (λ (d : DeviceOf). d.named) h ∙ e
-served_names_none (c ∷ cs) s z h e =
-    served_names_none cs h.0 z h.1.1 (h.1.0.after ∙ ap (λ ds. map (one_further c.way) ds) e)
+-- a device's count rose since the outset
+abbrev pub RoseTo : Outset → Scene → Type 0
+RoseTo o s = Rose o.paging s.paging.faults ⊎ Rose o.files s.files.faults
 
-names_none : (s z : Scene) (e : Event) (a : Answer) → Decides s e a z → NamesNone e a → s.files.named ≡ [] → z.files.named ≡ []
-names_none s z e a d u n = elim (is_fail e) as (λ b. is_fail e ≡ b → z.files.named ≡ []) [
-  | true ↦ λ q. ap (λ (f : DeviceOf). f.named) (fail_leaves e a s.paging z.paging s.files z.files q u d.named) ∙ n
-  | false ↦ λ q. (let asked = d.asked q in served_names_none asked.calls s.files z.files asked.served n)
-] refl
+-- no call was named so far, and no read failed that a thread waits for but where a device's count rose
+record Calm (o : Outset) (s : Scene) : Type 0 where
+  pub none : s.world.fails_taken ≡ 0
+  pub paging_named : length s.paging.named ≤ s.world.fails_taken
+  pub files_named : length s.files.named ≤ s.world.fails_taken
+  pub paging_later : o.paging ≤ s.paging.faults
+  pub files_later : o.files ≤ s.files.faults
+  pub sound : Sound s.behind.life
+  pub waits_are : (t : ℕ) → s.report.wait t ≡ wait_of (s.behind.waits t)
+  pub lost : (t : ℕ) → is_lost (s.behind.waits t) ≡ true → RoseTo o s
 
-rose_later : (a b c : ℕ) → Rose a b → b ≤ c → Rose a c
-rose_later a b c r l = omega (arith, r, l)
+rose_on : (o : Outset) (s z : Scene) → s.paging.faults ≤ z.paging.faults → s.files.faults ≤ z.files.faults → RoseTo o s → RoseTo o z
+rose_on o s z p f (inl r) = inl (rose_then o.paging s.paging.faults z.paging.faults r p)
+rose_on o s z p f (inr r) = inr (rose_then o.files s.files.faults z.files.faults r f)
 
-rose_before : (a b c : ℕ) → a ≤ b → Rose b c → Rose a c
-rose_before a b c l r = omega (arith, r, l)
+rose_from : (o : Outset) (s z : Scene) → o.paging ≤ s.paging.faults → o.files ≤ s.files.faults → OneRose s.paging z.paging s.files z.files → RoseTo o z
+rose_from o s z p f (inl r) = inl (rose_later o.paging s.paging.faults z.paging.faults p r)
+rose_from o s z p f (inr r) = inr (rose_later o.files s.files.faults z.files.faults f r)
 
--- what lines leave of devices, one after another
-pub record Quiet (s : Scene) (answers : List Answer) (z : Scene) : Type 0 where
-  pub none_named : z.files.named ≡ []
+module _ (o : Outset) (s z : Scene) (e : Event) (a : Answer) (ms : List Move) (d : Decides s e a ms z) (replays : Replays ms s.behind.life z.behind.life) (calm : Calm o s) where
+  calm_line : NamesNone e a → Calm o z
+  calm_line u =
+      let p = d.paging_later in let f = d.files_later in let po = calm.paging_later in let fo = calm.files_later in
+      record {
+        none = count_stays s.world z.world e a s.report z.report (names_not_ok e a u) d.answered ∙ calm.none;
+        paging_named = d.few_paging;
+        files_named = d.few_files;
+        paging_later = omega arith;
+        files_later = omega arith;
+        sound = kept_along ms s.behind.life z.behind.life calm.sound replays;
+        waits_are = d.line.agrees.waits;
+        lost = λ t h. elim (lost_line s.world s.report s.behind s.paging s.files e a ms z.world z.report z.behind z.paging z.files d.line calm.sound replays t h) [
+          | inl was ↦ rose_on o s z p f (calm.lost t was)
+          | inr rose ↦ rose_from o s z po fo rose
+        ];
+      }
+
+  by_thread : (t : Option ℕ) → HasFailed t s.report → RoseTo o s
+  by_thread None h = absurd h
+  by_thread (Some t) h = calm.lost t (sym (ap wait_failed (calm.waits_are t)) ∙ h)
+
+  fails_line : IsFailure a → RoseTo o z
+  fails_line bad = elim (d.failed bad) [
+    | inl before ↦ rose_on o s z d.paging_later d.files_later (by_thread (resumed_thread e) before)
+    | inr rose ↦ rose_from o s z calm.paging_later calm.files_later rose
+  ]
+
+-- ---- the lines behind the first
+
+record Quiet (o : Outset) (s : Scene) (lines : List DecidedLine) (z : Scene) : Type 0 where
+  pub calm : Calm o z
   pub paging_later : s.paging.faults ≤ z.paging.faults
   pub files_later : s.files.faults ≤ z.files.faults
-  pub fails : NoneFails answers ⊎ OneRose s.paging z.paging s.files z.files
+  pub fails : NoneFails lines ⊎ RoseTo o z
 
-abbrev pub QuietTo : Scene → List Answer → Stage → Type 0
-QuietTo s answers (NotBegun faults) = ⊥
-QuietTo s answers (Running z) = Quiet s answers z
+abbrev QuietTo : Outset → Scene → List DecidedLine → Stage → Type 0
+QuietTo o s lines (NotBegun q) = ⊥
+QuietTo o s lines (Running z) = Quiet o s lines z
 
-quiet_more : (s m z : Scene) (e : Event) (a : Answer) (rest : List Answer) → Decides s e a m → Quiet m rest z → Quiet s (a ∷ rest) z
-quiet_more s m z e a rest d q =
+abbrev scene_in : Scene → Stage → Scene
+scene_in s (NotBegun o) = s
+scene_in s (Running z) = z
+
+calm_follows : (o : Outset) (s z : Scene) → Follows (Running s) (Running z) → Calm o s → Calm o z
+calm_follows o s z h c =
+    let k = z.behind.log.faults in
+    let calm : Calm o (record s { behind = record (s.behind) { log = record (s.behind.log) { faults = k } } }) = record {
+      none = c.none;
+      paging_named = c.paging_named;
+      files_named = c.files_named;
+      paging_later = c.paging_later;
+      files_later = c.files_later;
+      sound = c.sound;
+      waits_are = c.waits_are;
+      lost = c.lost;
+    } in
+    subst (λ (x : Scene). Calm o x) (sym (ap (scene_in s) h.same)) calm
+
+same_devices : (s z : Scene) → Follows (Running s) (Running z) → (z.paging ≡ s.paging) × (z.files ≡ s.files)
+same_devices s z h = (ap (λ (x : Stage). (scene_in s x).paging) h.same, ap (λ (x : Stage). (scene_in s x).files) h.same)
+
+quiet_more : (o : Outset) (s m n z : Scene) (l : DecidedLine) (ls : List DecidedLine) (ms : List Move) → Follows (Running s) (Running m) → Decides m l.event l.answer ms n → Replays ms m.behind.life n.behind.life → Calm o m → Quiet o n ls z → Quiet o s (l ∷ ls) z
+quiet_more o s m n z l ls ms h d r calm q =
+    let same = same_devices s m h in
+    let sp = ap (λ (x : DeviceOf). x.faults) same.0 in let sf = ap (λ (x : DeviceOf). x.faults) same.1 in
     let pl = d.paging_later in let fl = d.files_later in let ql = q.paging_later in let rl = q.files_later in
     record {
-      none_named = q.none_named;
+      calm = q.calm;
       paging_later = omega arith;
       files_later = omega arith;
-      fails = elim (failure_or a) [
-        | inr bad ↦ inr (elim (d.failed bad) [ inl r ↦ inl (rose_later s.paging.faults m.paging.faults z.paging.faults r ql) | inr r ↦ inr (rose_later s.files.faults m.files.faults z.files.faults r rl) ])
-        | inl good ↦ elim q.fails [
-          | inl none ↦ inl (good, none)
-          | inr rose ↦ inr (elim rose [ inl r ↦ inl (rose_before s.paging.faults m.paging.faults z.paging.faults pl r) | inr r ↦ inr (rose_before s.files.faults m.files.faults z.files.faults fl r) ])
-        ]
+      fails = elim (failure_or l.answer) [
+        | inr bad ↦ inr (rose_on o n z ql rl (fails_line o m n l.event l.answer ms d r calm bad))
+        | inl good ↦ elim q.fails [ inl none ↦ inl (good, none) | inr rose ↦ inr rose ]
       ];
     }
 
-quiet_here : (s z : Scene) → z ≡ s → s.files.named ≡ [] → Quiet s [] z
-quiet_here s z e n = record {
-  none_named = ap (λ (t : Scene). t.files.named) e ∙ n;
-  paging_later = (let same = ap (λ (t : Scene). t.paging.faults) e in omega arith);
-  files_later = (let same = ap (λ (t : Scene). t.files.faults) e in omega arith);
-  fails = inl tt;
-}
+quiet_to : (o : Outset) (s m n : Scene) (l : DecidedLine) (ls : List DecidedLine) (ms : List Move) (last : Stage) → Follows (Running s) (Running m) → Decides m l.event l.answer ms n → Replays ms m.behind.life n.behind.life → Calm o m → QuietTo o n ls last → QuietTo o s (l ∷ ls) last
+quiet_to o s m n l ls ms (NotBegun f) h d r calm q = q
+quiet_to o s m n l ls ms (Running z) h d r calm q = quiet_more o s m n z l ls ms h d r calm q
 
-running_is : (s : Scene) (last : Stage) → last ≡ Running s → s.files.named ≡ [] → QuietTo s [] last
-running_is s last e n = subst (λ (t : Stage). QuietTo s [] t) (sym e) (quiet_here s s refl n)
+quiet_here : (o : Outset) (s : Scene) → Calm o s → Quiet o s [] s
+quiet_here o s c = record { calm = c; paging_later = omega arith; files_later = omega arith; fails = inl tt }
 
-quiet_to : (s m : Scene) (e : Event) (a : Answer) (rest : List Answer) (last : Stage) → Decides s e a m → QuietTo m rest last → QuietTo s (a ∷ rest) last
-quiet_to s m e a rest (NotBegun f) d q = q
-quiet_to s m e a rest (Running z) d q = quiet_more s m z e a rest d q
+quiet_by : (o : Outset) (s : Scene) (l : DecidedLine) (ls : List DecidedLine) (last before after : Stage) → Calm o s → Follows (Running s) before → IsDecided before l.event l.answer l.moves after → NamesNone l.event l.answer
+    → ((m : Scene) → Calm o m → after ≡ Running m → QuietTo o m ls last) → QuietTo o s (l ∷ ls) last
+quiet_by o s l ls last (NotBegun f) after c h d u more = absurd (let bad = h.same in cc)
+quiet_by o s l ls last (Running m) (NotBegun f) c h d u more = absurd d.step
+quiet_by o s l ls last (Running m) (Running n) c h d u more =
+    let calm = calm_follows o s m h c in
+    quiet_to o s m n l ls l.moves last h d.step.1 d.notes.replays calm (more n (calm_line o m n l.event l.answer l.moves d.step.1 d.notes.replays calm u) refl)
 
-quiet_by : (s : Scene) (e : Event) (a : Answer) (es : List Event) (rest : List Answer) (last mid : Stage) → Stepped (Running s) e a mid → Run mid es rest last → s.files.named ≡ [] → NamesNone e a
-    → ((m : Scene) → Run (Running m) es rest last → m.files.named ≡ [] → QuietTo m rest last) → QuietTo s (a ∷ rest) last
-quiet_by s e a es rest last (NotBegun f) d more n u later = absurd d
-quiet_by s e a es rest last (Running m) d more n u later = quiet_to s m e a rest last d.1 (later m more (names_none s m e a d.1 u n))
+quiet : (o : Outset) (n : ℕ) (s : Scene) (lines : List DecidedLine) → Calm o s → AreAnswered n (Running s) lines → NoneNames lines → QuietTo o s lines (last_stage (Running s) lines)
+quiet o n s [] c u none = quiet_here o s c
+quiet o n s (l ∷ ls) c u none =
+    quiet_by o s l ls (last_stage l.after ls) l.before l.after c u.0.follows u.0.decided none.0
+    (λ m calm at. subst (λ (x : Stage). QuietTo o m ls (last_stage x ls)) (sym at)
+    (quiet o (suc n) m ls calm (subst (λ (x : Stage). AreAnswered (suc n) x ls) at u.2) none.1))
 
-pub quiet : (s : Scene) (es : List Event) (answers : List Answer) (last : Stage) → Run (Running s) es answers last → s.files.named ≡ [] → NoneNames es answers → QuietTo s answers last
-quiet s [] [] last r n u = running_is s last r n
-quiet s [] (a ∷ rest) last r n u = absurd r
-quiet s (e ∷ es) [] last r n u = absurd r
-quiet s (e ∷ es) (a ∷ rest) last r n u = quiet_by s e a es rest last r.0 r.1.0.step r.1.1 n u.0 (λ m more k. quiet m es rest last more k u.1)
+-- ---- the first line
 
-module _ (log : Option (List DeviceCall)) (blocks : List Page) (before after : ℕ) where
-  behind_first : (s : Scene) (answers : List Answer) (last : Stage) → before ≤ s.files.faults → Leaves log blocks after last → QuietTo s answers last → (Rose before after → ⊥) → NoneFails answers
-  behind_first s answers (NotBegun f) l left q calm = absurd q
-  behind_first s answers (Running z) l left q calm =
-      let same = left.faults_are q.none_named in
-      let zero = ap (λ (d : DeviceOf). d.faults) left.no_paging in
-      elim q.fails [
-        | inl none ↦ none
-        | inr (inl r) ↦ absurd (omega (arith, r, zero, q.paging_later))
-        | inr (inr r) ↦ absurd (calm (subst (λ (k : ℕ). Rose before k) same (rose_before before s.files.faults z.files.faults l r)))
-      ]
+first_calm : (o : Outset) (e : Event) (a : Answer) (ms : List Move) (s : Scene) → Begins o e a ms s → Replays ms unstarted s.behind.life → Calm o s
+first_calm o e a ms s b r =
+    let f = b.first in
+    let world = ap (λ (w : World). w.fails_taken) f.world in
+    let pn = ap length f.paging.none_named in
+    let fn = ap length f.files.none_named in
+    record {
+      none = world;
+      paging_named = omega (arith, pn);
+      files_named = omega (arith, fn);
+      paging_later = f.paging.later;
+      files_later = f.files.later;
+      sound = replay_sound ms s.behind.life r;
+      waits_are = λ t. (f.idle t).1 ∙ ap wait_of (sym (f.idle t).0);
+      lost = λ t h. (let bad : false ≡ true = sym (ap is_lost (f.idle t).0) ∙ h in cc);
+    }
 
-  begun : (e : Event) (a : Answer) (es : List Event) (rest : List Answer) (last mid : Stage) → Stepped (NotBegun before) e a mid → Run mid es rest last → Leaves log blocks after last → (Rose before after → ⊥) → NoneNames es rest → NoneFails (a ∷ rest)
-  begun e a es rest last (NotBegun f) d more left calm u = absurd d
-  begun e a es rest last (Running s) d more left calm u = (
-    (λ bad. subst IsFailure d.answered bad),
-    behind_first s rest last d.first.later left (quiet s es rest last more d.first.none_named u) calm,
-  )
+-- ---- the end
 
-  pub faultless : (es : List Event) (answers : List Answer) (last : Stage) → Run (NotBegun before) es answers last → Leaves log blocks after last → (Rose before after → ⊥) → NoneNames es answers → NoneFails answers
-  faultless [] [] last r left calm u = tt
-  faultless [] (a ∷ rest) last r left calm u = absurd r
-  faultless (e ∷ es) [] last r left calm u = tt
-  faultless (e ∷ es) (a ∷ rest) last r left calm u = begun e a es rest last r.0 r.1.0.step r.1.1 left calm u.1
+-- what stands at the end, behind a quiet last stage
+record Ended (o : Outset) (s z : Scene) : Type 0 where
+  pub paging_later : s.paging.faults ≤ z.paging.faults
+  pub files_later : s.files.faults ≤ z.files.faults
+  pub paging_none : z.paging.named ≡ []
+  pub files_none : z.files.named ≡ []
+
+calm_none : (o : Outset) (s : Scene) → Calm o s → (s.paging.named ≡ []) × (s.files.named ≡ [])
+calm_none o s c =
+    let n = c.none in let p = c.paging_named in let f = c.files_named in
+    (none_of s.paging.named (omega arith), none_of s.files.named (omega arith))
+
+ended_same : (o : Outset) (s z : Scene) → Calm o s → z.paging ≡ s.paging → z.files ≡ s.files → Ended o s z
+ended_same o s z c p f =
+    let none = calm_none o s c in
+    let sp = ap (λ (x : DeviceOf). x.faults) p in let sf = ap (λ (x : DeviceOf). x.faults) f in
+    record {
+      paging_later = omega arith;
+      files_later = omega arith;
+      paging_none = ap (λ (x : DeviceOf). x.named) p ∙ none.0;
+      files_none = ap (λ (x : DeviceOf). x.named) f ∙ none.1;
+    }
+
+abbrev EndedAt : Outset → Scene → Stage → Type 0
+EndedAt o s (NotBegun f) = ⊥
+EndedAt o s (Running z) = Ended o s z
+
+follows_end : (o : Outset) (s : Scene) (end : Stage) → Calm o s → Follows (Running s) end → EndedAt o s end
+follows_end o s (NotBegun f) c h = absurd (let bad = h.same in cc)
+follows_end o s (Running z) c h = let same = same_devices s z h in ended_same o s z c same.0 same.1
+
+breaks_end : (o : Outset) (s : Scene) (before end : Stage) → Calm o s → Follows (Running s) before → BreaksAt before end → EndedAt o s end
+breaks_end o s (NotBegun f) end c h b = absurd b
+breaks_end o s (Running m) (NotBegun f) c h b = absurd b
+breaks_end o s (Running m) (Running z) c h b =
+    let same = same_devices s m h in ended_same o s z c (b.paging ∙ same.0) (b.files ∙ same.1)
+
+mutes_end : (o : Outset) (s : Scene) (l : DecidedLine) (before after end : Stage) → Calm o s → Follows (Running s) before → IsDecided before l.event l.answer l.moves after → end ≡ after → NoneNamed end → EndedAt o s end
+mutes_end o s l (NotBegun f) after end c h d q none = absurd (let bad = h.same in cc)
+mutes_end o s l (Running m) (NotBegun f) end c h d q none = absurd d.step
+mutes_end o s l (Running m) (Running z) end c h d q none =
+    let same = same_devices s m h in
+    let sp = ap (λ (x : DeviceOf). x.faults) same.0 in let sf = ap (λ (x : DeviceOf). x.faults) same.1 in
+    let pl = d.step.1.paging_later in let fl = d.step.1.files_later in
+    let named = subst NoneNamed q none in
+    subst (λ (x : Stage). EndedAt o s x) (sym q) (record {
+      paging_later = omega arith;
+      files_later = omega arith;
+      paging_none = named.0;
+      files_none = named.1;
+    })
+
+closes_end : (o : Outset) (s : Scene) (e : Ending) (n : ℕ) (front : Text) (end : Stage) → Calm o s → Closes e n front (Running s) end → (e ≡ ending.MovesFault → NoneNamed end) → EndedAt o s end
+closes_end o s ending.NoMemory n front end c (inl h) none = follows_end o s end c h
+closes_end o s ending.NoMemory n front end c (inr b) none = breaks_end o s b.before end c b.follows b.breaks
+closes_end o s ending.MovesFault n front end c (inl h) none = follows_end o s end c h
+closes_end o s ending.MovesFault n front end c (inr m) none = mutes_end o s m.line m.line.before m.line.after end c m.muted.next.follows m.muted.next.decided m.after (none refl)
+closes_end o s ending.Done n front end c h none = follows_end o s end c h
+closes_end o s ending.Usage n front end c h none = follows_end o s end c h
+closes_end o s (ending.Script l k) n front end c h none = follows_end o s end c h
+closes_end o s ending.ReadFault n front end c h none = follows_end o s end c h
+closes_end o s ending.OutFault n front end c h none = follows_end o s end c h
+closes_end o s ending.SetupFault n front end c h none = follows_end o s end c h
+closes_end o s (ending.TooLong l) n front end c h none = follows_end o s end c h
+closes_end o s ending.Unbuilt n front end c h none = follows_end o s end c h
+
+abbrev outset_in : Outset → Stage → Outset
+outset_in o (NotBegun q) = q
+outset_in o (Running s) = o
+
+module _ (a b : Left) (e : Ending) (n : ℕ) (front : Text) (end : Stage) (leaves : Leaves end b) (calm : SomeRose a b → ⊥) (unnamed : e ≡ ending.MovesFault → NoneNamed end) where
+  rose_at : (q : Outset) (z : Scene) (y : Stage) → q.paging ≡ a.paging.faults → q.files ≡ a.files.faults → Leaves y b → EndedAt q z y → RoseTo q z → SomeRose a b
+  rose_at q z (NotBegun f) p r l h rose = absurd h
+  rose_at q z (Running y) p r l h rose = elim (rose_on q z y h.paging_later h.files_later rose) [
+    | inl up ↦ inl (subst (λ (k : ℕ). Rose k b.paging.faults) p (subst (λ (k : ℕ). Rose q.paging k) (l.1.faults_are h.paging_none) up))
+    | inr up ↦ inr (subst (λ (k : ℕ). Rose k b.files.faults) r (subst (λ (k : ℕ). Rose q.files k) (l.2.faults_are h.files_none) up))
+  ]
+
+  behind_first : (q : Outset) (s : Scene) (ls : List DecidedLine) (last : Stage) → q.paging ≡ a.paging.faults → q.files ≡ a.files.faults → QuietTo q s ls last → Closes e n front last end → NoneFails ls
+  behind_first q s ls (NotBegun f) p r h closes = absurd h
+  behind_first q s ls (Running z) p r h closes = elim h.fails [
+    | inl none ↦ none
+    | inr rose ↦ absurd (calm (rose_at q z end p r leaves (closes_end q z e n front end h.calm closes unnamed) rose))
+  ]
+
+  begun : (l : DecidedLine) (ls : List DecidedLine) (before after : Stage) → Follows (begun_at a) before → IsDecided before l.event l.answer l.moves after → AreAnswered 1 after ls → Closes e n front (last_stage after ls) end → NoneNames ls → NoneFails (l ∷ ls)
+  begun l ls (Running m) after h d u closes none = absurd (let bad = h.same in cc)
+  begun l ls (NotBegun q) (NotBegun f) h d u closes none = absurd d.step
+  begun l ls (NotBegun q) (Running s) h d u closes none =
+      let paging = ap (λ (x : Stage). (outset_in q x).paging) h.same in
+      let files = ap (λ (x : Stage). (outset_in q x).files) h.same in (
+        (λ bad. subst IsFailure d.step.answered bad),
+        behind_first q s ls (last_stage (Running s) ls) paging files (quiet q 1 s ls (first_calm q l.event l.answer l.moves s d.step d.notes.replays) u none) closes,
+      )
+
+  pub faultless : (lines : List DecidedLine) → AreAnswered 0 (begun_at a) lines → Closes e n front (last_stage (begun_at a) lines) end → NoneNames lines → NoneFails lines
+  faultless [] u closes none = tt
+  faultless (l ∷ ls) u closes none = begun l ls l.before l.after u.0.follows u.0.decided u.2 closes none.1

@@ -1,5 +1,5 @@
 -- The first line, and lines behind it.
-use Rattle.std.proofs.Common.{◌≡◌, ◌≢◌, ◌<◌, ◌≤◌, ℕ, zero, suc, ◌+◌, List, [], ◌∷◌, take, drop, length, refl, sym, ap, ◌∙◌, subst, arith}
+use Rattle.std.proofs.Common.{◌≡◌, ◌<◌, ◌≤◌, ℕ, zero, suc, ◌+◌, List, [], ◌∷◌, take, drop, length, refl, sym, ap, ◌∙◌, subst, arith}
 use Rattle.std.specs.Prelude.{Option, Some, None, MatchOption, Result, Ok, Err, Bool, true, false}
 use Rattle.mm_types.specs.Outside.{Appended}
 use Rattle.mm_types.specs.Spelling.{Text}
@@ -10,18 +10,23 @@ use Rattle.mm_script.specs.Grammar.{IsLine as IsLineFor}
 use Rattle.mm_script.specs.Reading.{parse}
 use Rattle.mm_types.specs.declared.events.Event.{Event}
 use Rattle.mm_types.specs.declared.answers.Answer.{Answer}
+use Rattle.mm_types.specs.declared.answers.Answer.TheVariants as answer
+use Rattle.mm_types.specs.declared.events.Event.TheVariants as line
+use Rattle.mm_types.specs.Machine.{MachineOf, limit_of}
+use Rattle.mm_world.specs.Charge.{charge, limit}
+use Rattle.mm_paging.specs.Runs.{Scene, first_move}
+use Rattle.mm_types.specs.declared.moves.Move.{Move}
 use Rattle.mm_run.specs.declared.endings.Ending.{Ending}
 use Rattle.mm_run.specs.declared.endings.Ending.TheVariants as ending
 use Rattle.mm_run.specs.Built.{is_built}
 use Rattle.mm_run.specs.Reading.{reading, read_first, read_later, is_machine, is_machine_word, without_return}
-use Rattle.mm_run.specs.Scenes.{Scene, Stage, NotBegun, Running}
-use Rattle.mm_run.specs.Ends.{SameDevices, StandsAs}
-use Rattle.mm_run.specs.Steps.{IsDecided}
-use Rattle.mm_run.specs.Story.{Went, Came, TornText, outside, stand}
-use Rattle.mm_run.proofs.Stops.{went_to, came_torn}
-
-pub stands_here : (z : Scene) → StandsAs z (Running z)
-stands_here z = record { paging = refl; files = refl; blocks = refl }
+use Rattle.mm_run.specs.Scenes.{Outset, Stage, NotBegun, Running, HasNoted, log_of}
+use Rattle.mm_run.specs.Steps.{IsDecided, IsMade}
+use Rattle.mm_run.specs.Texts.{TornText}
+use Rattle.mm_run.specs.Answered.{DecidedLine, IsNext}
+use Rattle.mm_run.specs.Story.{Went, Came, outside, stand}
+use Rattle.mm_run.proofs.Stories.{follows_here}
+use Rattle.mm_run.proofs.Stops.{is_line, went_to, came_torn, came_muted}
 
 later_is : (b : Bool) (r : Result Event LineFault) (e : Event) → read_later b r ≡ Ok e → is_machine e ≡ false
 later_is b (Err f) e q = cc
@@ -45,18 +50,37 @@ first_is b (Ok x) e q = elim (is_machine x) as (λ m. is_machine x ≡ m → is_
 pub first_machine : (text : Text) (e : Event) → reading 0 text ≡ Ok e → is_machine e ≡ true
 first_machine text e q = first_is (is_machine_word (without_return text)) (parse text) e q
 
--- a decided line was answered, whole or torn
+-- the first line is decided
+pub first_answered : (m : MachineOf) (o : Outset) (s : Scene) → IsMade m o s → charge s.world ≤ limit s.world → (n : ℕ) → n ≡ limit_of m → IsDecided (NotBegun o) (line.Machine m) (answer.Limit n) (first_move m ∷ []) (Running s)
+first_answered m o s made within n e = record {
+  step = record { machine = m; names = refl; answered = ap (λ k. answer.Limit k) e; one = refl; first = made.first };
+  within = within;
+  notes = made.notes;
+  holds = made.holds;
+}
+
+-- a decided line was answered, whole or torn, or was muted
 module _ (held : Text) (len n : ℕ) (h : HasLine held len) (small : n < 1000000) (behind : length held < len + 1 + 4096) where
-  module _ (a t t' : Option Text) (w w' : Stage) (At : Stage → Type 0) (at : At w') (event : Event) (answer : Answer) (p : reading n (take len held) ≡ Ok event) (g : IsLineFor (take len held) event) (q : is_built event ≡ true) (s : IsDecided w event answer w') (held' : Text) (rest : held' ≡ drop (len + 1) held) where
-    pub told_went : Appended t t' (spelling answer) → Went (outside a t) (outside a t') (stand held n w) (stand held' (n + 1) w')
-    told_went u = went_to held len n h small behind a t t' w w' event answer p g q s held' (spelling answer) (spelling answer) rest refl refl u
+  module _ (a t t' : Option Text) (w w' : Stage) (event : Event) (said : Answer) (moves : List Move) (p : reading n (take len held) ≡ Ok event) (g : IsLineFor (take len held) event) (q : is_built event ≡ true) (s : IsDecided w event said moves w') where
+    abbrev one : DecidedLine
+    one = record { text = take len held; event = event; answer = said; moves = moves; before = w; after = w' }
 
-    pub told_came : (e : Ending) → e ≡ ending.OutFault → TornText t t' (spelling answer) → Came (outside a t) (outside a t') (stand held n w) e At
-    told_came e f u =
-        subst (λ (k : Ending). Came (outside a t) (outside a t') (stand held n w) k At) (sym f)
-        (came_torn held len n h small behind a t t' w w' event answer p g q s At u.front u.back at u.whole u.wrote)
+    next : IsNext n w one
+    next = record { follows = follows_here w; says = record { is_line = is_line held len n h small behind; says = p; built = q; grammar = g }; decided = s }
 
-    pub told_either : (r : Option Ending) → MatchOption r (Appended t t' (spelling answer)) (λ e. (e ≡ ending.OutFault) × TornText t t' (spelling answer))
-        → MatchOption r (Went (outside a t) (outside a t') (stand held n w) (stand held' (n + 1) w')) (λ e. Came (outside a t) (outside a t') (stand held n w) e At)
-    told_either None u = told_went u
-    told_either (Some e) u = told_came e u.0 u.1
+    pub told_muted : t' ≡ t → (log_of w').failed ≡ true → Came (outside a t) (outside a t') (stand held n w) ending.MovesFault w'
+    told_muted still failed = came_muted held len n h small behind a t t' w one refl next still failed
+
+    module _ (noted : HasNoted w') (held' : Text) (rest : held' ≡ drop (len + 1) held) where
+      pub told_went : Appended t t' (spelling said) → Went (outside a t) (outside a t') (stand held n w) (stand held' (n + 1) w')
+      told_went u = went_to held len n h small behind a t t' w one refl next held' rest noted u
+
+      pub told_came : (e : Ending) → e ≡ ending.OutFault → TornText t t' (spelling said) → Came (outside a t) (outside a t') (stand held n w) e w'
+      told_came e f u =
+          subst (λ (k : Ending). Came (outside a t) (outside a t') (stand held n w) k w') (sym f)
+          (came_torn held len n h small behind a t t' w one refl next u.front u.back noted u.whole u.wrote)
+
+      pub told_either : (r : Option Ending) → MatchOption r (Appended t t' (spelling said)) (λ e. (e ≡ ending.OutFault) × TornText t t' (spelling said))
+          → MatchOption r (Went (outside a t) (outside a t') (stand held n w) (stand held' (n + 1) w')) (λ e. Came (outside a t) (outside a t') (stand held n w) e w')
+      told_either None u = told_went u
+      told_either (Some e) u = told_came e u.0 u.1

@@ -5,4 +5,10 @@ pub mod Stories
 pub mod Words
 pub mod Failures
 pub mod Firsts
-pub mod Devices
+pub mod Logs
+pub mod Lost
+pub mod Named
+pub mod Unpaged
+pub mod Deciding
+pub mod Closing
+pub mod Starting

@@ -1,7 +1,7 @@
 -- A script comes to one thing.
 use Rattle.std.proofs.Common.{◌≡◌, ◌≢◌, ◌⊎◌, ℕ, ◌+◌, ◌<◌, ◌≤◌, suc, List, [], ◌∷◌, ◌++◌, length, Option, Some, None, refl, sym, ap, ◌∙◌, subst, inl, inr, arith, append_assoc, length-append}
-use Rattle.std.specs.Prelude.{Result, Ok, Err, true, false}
-use Rattle.mm_types.specs.Outside.{Appended}
+use Rattle.std.specs.Prelude.{Result, Ok, Err, true, false, map}
+use Rattle.mm_types.specs.Outside.{Appended, Took}
 use Rattle.mm_types.specs.Spelling.{Text}
 use Rattle.mm_types.specs.AnswerText.{spelled}
 use Rattle.mm_lines.specs.Lines.{NoFeed, IsLine, ended, joined}
@@ -11,9 +11,11 @@ use Rattle.mm_run.specs.declared.endings.Ending.TheVariants as ending
 use Rattle.mm_run.specs.Built.{is_built}
 use Rattle.mm_run.specs.Reading.{reading}
 use Rattle.mm_run.specs.Scenes.{Stage}
+use Rattle.mm_run.specs.Answered.{DecidedLine, AreAnswered, texts_of, answers_of}
 use Rattle.mm_run.specs.Texts.{status_of, last_text}
-use Rattle.mm_run.specs.Story.{Each, Settles, IsBad, IsOpen, IsUnbuilt, Ran, outside}
-use Rattle.mm_run.specs.Script.{IsVerdict, IsScript, IsFault, IsComplete}
+use Rattle.mm_run.specs.Story.{Settles, IsBad, IsOpen, IsUnbuilt}
+use Rattle.mm_run.specs.Ran.{Around, Ran, begun_at}
+use Rattle.mm_run.specs.Script.{Each, IsVerdict, IsScript, IsFault, IsComplete}
 
 -- Bytes without a line feed are no longer than the line in front.
 front_short : (l front r more : Text) → NoFeed front → l ++ 10 ∷ r ≡ front ++ more → length front ≤ length l
@@ -73,6 +75,7 @@ goes_on n l r front more ending.NoMemory event few line p b v s q = v
 goes_on n l r front more ending.Usage event few line p b v s q = v
 goes_on n l r front more ending.ReadFault event few line p b v s q = v
 goes_on n l r front more ending.OutFault event few line p b v s q = v
+goes_on n l r front more ending.MovesFault event few line p b v s q = v
 goes_on n l r front more ending.SetupFault event few line p b v s q = v
 
 bad_and_long : (n : ℕ) (front more front' more' : Text) (column : ℕ) → front ++ more ≡ front' ++ more' → n < 1000000 → IsBad n front column ⊎ IsOpen n front more (Some []) column
@@ -158,11 +161,13 @@ one_ending n x y x' y' ending.NoMemory f q v w s t = absurd v
 one_ending n x y x' y' ending.Usage f q v w s t = absurd v
 one_ending n x y x' y' ending.ReadFault f q v w s t = absurd v
 one_ending n x y x' y' ending.OutFault f q v w s t = absurd v
+one_ending n x y x' y' ending.MovesFault f q v w s t = absurd v
 one_ending n x y x' y' ending.SetupFault f q v w s t = absurd v
 one_ending n x y x' y' e ending.NoMemory q v w s t = absurd w
 one_ending n x y x' y' e ending.Usage q v w s t = absurd w
 one_ending n x y x' y' e ending.ReadFault q v w s t = absurd w
 one_ending n x y x' y' e ending.OutFault q v w s t = absurd w
+one_ending n x y x' y' e ending.MovesFault q v w s t = absurd w
 one_ending n x y x' y' e ending.SetupFault q v w s t = absurd w
 
 -- From n decided lines on there is one reading.
@@ -173,20 +178,20 @@ one_from n [] [] es gs x y x' y' e f q u v a b s r p w =
     (refl, one_ending (n + 0) x y x' y' e f q p w s r)
 one_from n [] (k ∷ ks) es (g ∷ gs) x y x' y' e f q u v a b s r p w =
     let here : n + 0 ≡ n = omega arith in
-    absurd (goes_on n k (joined ks ++ (x' ++ y')) x y e g (omega arith) v.0 v.1 v.2 p (subst (λ (m : ℕ). Settles m x y (Some []) e) here s) (sym (q ∙ append_assoc (ended k) (joined ks) (x' ++ y'))))
+    absurd (goes_on n k (joined ks ++ (x' ++ y')) x y e g (omega arith) v.0.is_line v.0.says v.0.built p (subst (λ (m : ℕ). Settles m x y (Some []) e) here s) (sym (q ∙ append_assoc (ended k) (joined ks) (x' ++ y'))))
 one_from n [] (k ∷ ks) es [] x y x' y' e f q u v a b s r p w = absurd v
 one_from n (l ∷ ls) [] (g ∷ es) gs x y x' y' e f q u v a b s r p w =
     let here : n + 0 ≡ n = omega arith in
-    absurd (goes_on n l (joined ls ++ (x ++ y)) x' y' f g (omega arith) u.0 u.1 u.2 w (subst (λ (m : ℕ). Settles m x' y' (Some []) f) here r) (sym (append_assoc (ended l) (joined ls) (x ++ y)) ∙ q))
+    absurd (goes_on n l (joined ls ++ (x ++ y)) x' y' f g (omega arith) u.0.is_line u.0.says u.0.built w (subst (λ (m : ℕ). Settles m x' y' (Some []) f) here r) (sym (append_assoc (ended l) (joined ls) (x ++ y)) ∙ q))
 one_from n (l ∷ ls) [] [] gs x y x' y' e f q u v a b s r p w = absurd u
 one_from n (l ∷ ls) (k ∷ ks) [] gs x y x' y' e f q u v a b s r p w = absurd u
 one_from n (l ∷ ls) (k ∷ ks) (h ∷ es) [] x y x' y' e f q u v a b s r p w = absurd v
 one_from n (l ∷ ls) (k ∷ ks) (h ∷ es) (g ∷ gs) x y x' y' e f q u v a b s r p w =
-    let split = one_line l k (joined ls ++ (x ++ y)) (joined ks ++ (x' ++ y')) u.0.no_feed v.0.no_feed
+    let split = one_line l k (joined ls ++ (x ++ y)) (joined ks ++ (x' ++ y')) u.0.is_line.no_feed v.0.is_line.no_feed
     (sym (feed_then l (joined ls ++ (x ++ y))) ∙ sym (append_assoc (ended l) (joined ls) (x ++ y)) ∙ q ∙ append_assoc (ended k) (joined ks) (x' ++ y') ∙ feed_then k (joined ks ++ (x' ++ y'))) in
     let i : n + suc (length ls) ≡ suc n + length ls = omega arith in
     let j : n + suc (length ks) ≡ suc n + length ks = omega arith in
-    let rest = one_from (suc n) ls ks es gs x y x' y' e f split.1 u.4 v.4 (omega arith) (omega arith)
+    let rest = one_from (suc n) ls ks es gs x y x' y' e f split.1 u.1 v.1 (omega arith) (omega arith)
     (subst (λ (m : ℕ). Settles m x y (Some []) e) i s) (subst (λ (m : ℕ). Settles m x' y' (Some []) f) j r) p w in
     (ap (λ z. z ∷ ls) split.0 ∙ ap (λ zs. k ∷ zs) rest.0, rest.1)
 
@@ -210,75 +215,105 @@ settles_all n x y rest ending.NoMemory v s = absurd v
 settles_all n x y rest ending.Usage v s = absurd v
 settles_all n x y rest ending.ReadFault v s = absurd v
 settles_all n x y rest ending.OutFault v s = absurd v
+settles_all n x y rest ending.MovesFault v s = absurd v
 settles_all n x y rest ending.SetupFault v s = absurd v
 
+abbrev events_of : List DecidedLine → List Event
+events_of lines = map (λ l. l.event) lines
+
+each_of : (n : ℕ) (old : Stage) (lines : List DecidedLine) → AreAnswered n old lines → Each n (texts_of lines) (events_of lines)
+each_of n old [] u = tt
+each_of n old (l ∷ ls) u = (u.0.says, each_of (suc n) l.after ls u.2)
+
+texts_many : (lines : List DecidedLine) → length (texts_of lines) ≡ length lines
+texts_many [] = refl
+texts_many (l ∷ ls) = ap suc (texts_many ls)
+
+verdict_or : (e : Ending) → e ≢ ending.Usage → IsVerdict e ⊎ IsFault (status_of e)
+verdict_or ending.Done u = inl tt
+verdict_or (ending.Script l c) u = inl tt
+verdict_or (ending.TooLong l) u = inl tt
+verdict_or ending.Unbuilt u = inl tt
+verdict_or ending.NoMemory u = inr (inl refl)
+verdict_or ending.Usage u = absurd (u refl)
+verdict_or ending.ReadFault u = inr (inr (inl refl))
+verdict_or ending.OutFault u = inr (inr (inr (inl refl)))
+verdict_or ending.MovesFault u = inr (inr (inr (inr (inl refl))))
+verdict_or ending.SetupFault u = inr (inr (inr (inr (inr refl))))
+
+usage_only : (e : Ending) → status_of e ≡ 2 → e ≡ ending.Usage
+usage_only ending.Usage q = refl
+usage_only ending.Done q = absurd (omega arith)
+usage_only (ending.Script l c) q = absurd (omega arith)
+usage_only (ending.TooLong l) q = absurd (omega arith)
+usage_only ending.Unbuilt q = absurd (omega arith)
+usage_only ending.NoMemory q = absurd (omega arith)
+usage_only ending.ReadFault q = absurd (omega arith)
+usage_only ending.OutFault q = absurd (omega arith)
+usage_only ending.MovesFault q = absurd (omega arith)
+usage_only ending.SetupFault q = absurd (omega arith)
+
+-- a sink's flush failed
+flushed_fault : (status : ℕ) → (status ≡ 5) ⊎ (status ≡ 6) → IsFault status
+flushed_fault status (inl q) = inr (inr (inl q))
+flushed_fault status (inr q) = inr (inr (inr (inl q)))
+
 -- a run that is a verdict is over the script
-module _ (text : Text) (t t' : Option Text) (begun : Stage) (At : Stage → Type 0) (rose form : Type 0) (status : ℕ) where
-  script_of : (left' : Option Text) (ran : Ran (outside (Some text) t) (outside left' t') begun At rose form status) → IsVerdict ran.e → IsScript text 0 ran.decided.lines ran.e
-  script_of None ran v = absurd ran.decided.read
-  script_of (Some rest) ran v =
-      let d = ran.decided in
+module _ (a b : Around) (form : Type 0) (status : ℕ) (ran : Ran a b form status) where
+  script_of : (text : Text) (left left' : Option Text) → left ≡ Some text → Took left left' ran.taken → Settles (length ran.lines) ran.front ran.more left' ran.e → IsVerdict ran.e → IsScript text 0 (texts_of ran.lines) ran.e
+  script_of text None left' q r s v = cc
+  script_of text (Some x) None q r s v = absurd r
+  script_of text (Some x) (Some rest) q r s v =
+      let same : x ≡ text = cc in
+      let many = texts_many ran.lines in
+      let here : length ran.lines ≡ 0 + length (texts_of ran.lines) = omega (arith, many) in
+      let l = ran.limit in
       record {
-        events = d.events;
-        front = d.front;
-        more = d.more ++ rest;
-        whole = d.read ∙ ap (λ xs. xs ++ rest) d.whole ∙ append_assoc (joined d.lines) (d.front ++ d.more) rest ∙ ap (λ xs. joined d.lines ++ xs) (append_assoc d.front d.more rest);
-        each = d.each;
-        limit = d.limit;
-        settled = settles_all (0 + length d.lines) d.front d.more rest ran.e v d.settled;
+        events = events_of ran.lines;
+        front = ran.front;
+        more = ran.more ++ rest;
+        whole = sym same ∙ r ∙ ap (λ xs. xs ++ rest) ran.whole ∙ append_assoc (joined (texts_of ran.lines)) (ran.front ++ ran.more) rest ∙ ap (λ xs. joined (texts_of ran.lines) ++ xs) (append_assoc ran.front ran.more rest);
+        each = each_of 0 (begun_at a.beside) ran.lines ran.answered;
+        limit = omega (arith, many, l);
+        settled = subst (λ (k : ℕ). Settles k ran.front (ran.more ++ rest) (Some []) ran.e) here (settles_all (length ran.lines) ran.front ran.more rest ran.e v s);
         verdict = v;
       }
 
-  verdict_or : (e : Ending) → e ≢ ending.Usage → IsVerdict e ⊎ IsFault (status_of e)
-  verdict_or ending.Done u = inl tt
-  verdict_or (ending.Script l c) u = inl tt
-  verdict_or (ending.TooLong l) u = inl tt
-  verdict_or ending.Unbuilt u = inl tt
-  verdict_or ending.NoMemory u = inr (inl refl)
-  verdict_or ending.Usage u = absurd (u refl)
-  verdict_or ending.ReadFault u = inr (inr (inl refl))
-  verdict_or ending.OutFault u = inr (inr (inr (inl refl)))
-  verdict_or ending.SetupFault u = inr (inr (inr (inr refl)))
+  complete : (text : Text) (lines : List Text) (e : Ending) → a.left ≡ Some text → IsScript text 0 lines e → status ≡ status_of ran.e → IsVerdict ran.e → Appended a.took b.took (spelled (answers_of ran.lines) ++ last_text ran.e) → IsComplete a b form lines e status
+  complete text lines e told script q v w =
+      let one = one_script text (texts_of ran.lines) lines ran.e e (script_of text a.left b.left told ran.read ran.settled v) script in
+      record {
+        ran = ran;
+        came_to = one.1;
+        all = one.0;
+        status_is = q ∙ ap status_of one.1;
+        wrote = subst (λ (f : Ending). Appended a.took b.took (spelled (answers_of ran.lines) ++ last_text f)) one.1 w;
+      }
 
-  pub exact : (left' : Option Text) → Ran (outside (Some text) t) (outside left' t') begun At rose form status → form → (lines : List Text) (e : Ending) → IsScript text 0 lines e → IsComplete t t' begun rose lines e status ⊎ IsFault status
-  exact left' ran words lines e script = elim ran.ends [
-    | inr torn ↦ inr (inr (inr (inl torn.0)))
-    | inl whole ↦ elim (verdict_or ran.e (ran.is_form words)) [
-      | inr fault ↦ inr (subst IsFault (sym whole.0) fault)
-      | inl verdict ↦ (
-          let one = one_script text ran.decided.lines lines ran.e e (script_of left' ran verdict) script in
-          inl (record {
-            events = ran.decided.events;
-            answers = ran.answers;
-            last = ran.decided.last;
-            status_is = whole.0 ∙ ap status_of one.1;
-            each = subst (λ (ls : List Text). Each 0 ls ran.decided.events) one.0 ran.decided.each;
-            answered = ran.decided.answered;
-            faultless = ran.faultless;
-            wrote = subst (λ (ws : Text). Appended t t' ws) (whole.2 ∙ ap (λ (f : Ending). spelled ran.answers ++ last_text f) one.1) ran.wrote;
-          }))
+  pub exact : (text : Text) (lines : List Text) (e : Ending) → a.left ≡ Some text → form → IsScript text 0 lines e → IsComplete a b form lines e status ⊎ IsFault status
+  exact text lines e told words script = elim ran.ends [
+    | inr torn ↦ inr (flushed_fault status (inl torn.0))
+    | inl whole ↦ elim whole.0 [
+      | inr flush ↦ inr (flushed_fault status flush)
+      | inl own ↦ elim (verdict_or ran.e (ran.is_form words)) [
+        | inr fault ↦ inr (subst IsFault (sym own) fault)
+        | inl verdict ↦ inl (complete text lines e told script own verdict (subst (λ (ws : Text). Appended a.took b.took ws) whole.2 ran.wrote))
+      ]
     ]
   ]
 
-  pub usage : (left left' : Option Text) → Ran (outside left t) (outside left' t') begun At rose form status → (form → ⊥) → (status ≡ 2) ⊎ IsFault status
-  usage left left' ran no_words = elim ran.ends [
-    | inr torn ↦ inr (inr (inr (inl torn.0)))
-    | inl whole ↦ inl (whole.0 ∙ ap status_of (ran.no_form no_words))
+  pub usage : (form → ⊥) → (status ≡ 2) ⊎ IsFault status
+  usage no_words = elim ran.ends [
+    | inr torn ↦ inr (flushed_fault status (inl torn.0))
+    | inl whole ↦ elim whole.0 [ inr flush ↦ inr (flushed_fault status flush) | inl own ↦ inl (own ∙ ap status_of (ran.no_form no_words)) ]
   ]
 
-  usage_only : (e : Ending) → status_of e ≡ 2 → e ≡ ending.Usage
-  usage_only ending.Usage q = refl
-  usage_only ending.Done q = absurd (omega arith)
-  usage_only (ending.Script l c) q = absurd (omega arith)
-  usage_only (ending.TooLong l) q = absurd (omega arith)
-  usage_only ending.Unbuilt q = absurd (omega arith)
-  usage_only ending.NoMemory q = absurd (omega arith)
-  usage_only ending.ReadFault q = absurd (omega arith)
-  usage_only ending.OutFault q = absurd (omega arith)
-  usage_only ending.SetupFault q = absurd (omega arith)
-
-  pub not_usage : (left left' : Option Text) → Ran (outside left t) (outside left' t') begun At rose form status → form → status ≢ 2
-  not_usage left left' ran words two = elim ran.ends [
+  pub not_usage : form → status ≢ 2
+  not_usage words two = elim ran.ends [
     | inr torn ↦ (let five = torn.0 in omega arith)
-    | inl whole ↦ ran.is_form words (usage_only ran.e (sym whole.0 ∙ two))
+    | inl whole ↦ elim whole.0 [
+      | inr (inl five) ↦ omega arith
+      | inr (inr six) ↦ omega arith
+      | inl own ↦ ran.is_form words (usage_only ran.e (sym own ∙ two))
+    ]
   ]

@@ -1,5 +1,5 @@
 -- Lines decided one after another.
-use Rattle.std.proofs.Common.{◌≡◌, ℕ, suc, ◌+◌, List, [], ◌∷◌, ◌++◌, length, Option, refl, sym, ap, ◌∙◌, subst, arith, append_assoc, length-append, add-zero}
+use Rattle.std.proofs.Common.{◌≡◌, ◌≤◌, ℕ, suc, ◌+◌, List, [], ◌∷◌, ◌++◌, length, Option, refl, sym, ap, ◌∙◌, subst, inl, inr, arith, append_assoc, length-append, add-zero}
 use Rattle.std.specs.Prelude.{MatchOption, Some, None}
 use Rattle.mm_types.specs.Outside.{Appended}
 use Rattle.mm_types.specs.Spelling.{Text}
@@ -7,14 +7,15 @@ use Rattle.mm_types.specs.AnswerText.{spelling, spelled}
 use Rattle.mm_types.proofs.Bytes.{append_nil, took_then, took_none, appended_none, appended_then}
 use Rattle.mm_lines.specs.Lines.{ended, joined}
 use Rattle.mm_lines.specs.Filling.{Filled}
-use Rattle.mm_types.specs.declared.events.Event.{Event}
 use Rattle.mm_types.specs.declared.answers.Answer.{Answer}
-use Rattle.mm_run.specs.Scenes.{Stage}
+use Rattle.mm_paging.specs.Runs.{Scene}
 use Rattle.mm_run.specs.declared.endings.Ending.{Ending}
 use Rattle.mm_run.specs.declared.endings.Ending.TheVariants as ending
-use Rattle.mm_run.specs.Steps.{Run}
+use Rattle.mm_run.specs.Scenes.{Outset, Stage, NotBegun, Running, Follows, with_faults, log_of, life_of}
+use Rattle.mm_run.specs.Answered.{DecidedLine, IsNext, AreAnswered, last_stage, texts_of, answers_of}
 use Rattle.mm_run.specs.Texts.{IsTorn, StandsAt, texts, concat}
-use Rattle.mm_run.specs.Story.{Each, Went, Came, Settles, Outside, Stand}
+use Rattle.mm_run.specs.Ends.{Closes, Left}
+use Rattle.mm_run.specs.Story.{Went, Came, Comes, Settles, Outside, Stand, outside, stand}
 
 pub joined-append : (xs ys : List Text) → joined (xs ++ ys) ≡ joined xs ++ joined ys
 joined-append [] ys = refl
@@ -36,19 +37,106 @@ pub concat-texts : (xs : List Answer) → concat (texts xs) ≡ spelled xs
 concat-texts [] = refl
 concat-texts (x ∷ xs) = ap (λ t. spelling x ++ t) (concat-texts xs)
 
-pub each_then : (n : ℕ) (ls ks : List Text) (es fs : List Event) → Each n ls es → Each (n + length ls) ks fs → Each n (ls ++ ks) (es ++ fs)
-each_then n [] ks [] fs u v = subst (λ (m : ℕ). Each m ks fs) (add-zero n) v
-each_then n [] ks (e ∷ es) fs u v = absurd u
-each_then n (l ∷ ls) ks [] fs u v = absurd u
-each_then n (l ∷ ls) ks (e ∷ es) fs u v =
-    let next : n + suc (length ls) ≡ suc n + length ls = omega arith in
-    (u.0, u.1, u.2, u.3, each_then (suc n) ls ks es fs u.4 (subst (λ (m : ℕ). Each m ks fs) next v))
+-- ---- the lists of lines
 
-pub run_then : (es fs : List Event) (xs ys : List Answer) (i j k : Stage) → Run i es xs j → Run j fs ys k → Run i (es ++ fs) (xs ++ ys) k
-run_then [] fs [] ys i j k u v = subst (λ (m : Stage). Run m fs ys k) u v
-run_then [] fs (x ∷ xs) ys i j k u v = absurd u
-run_then (e ∷ es) fs [] ys i j k u v = absurd u
-run_then (e ∷ es) fs (x ∷ xs) ys i j k u v = (u.0, (u.1.0, run_then es fs xs ys u.0 j k u.1.1 v))
+pub line_texts-append : (xs ys : List DecidedLine) → texts_of (xs ++ ys) ≡ texts_of xs ++ texts_of ys
+line_texts-append [] ys = refl
+line_texts-append (x ∷ xs) ys = ap (λ t. x.text ∷ t) (line_texts-append xs ys)
+
+pub line_answers-append : (xs ys : List DecidedLine) → answers_of (xs ++ ys) ≡ answers_of xs ++ answers_of ys
+line_answers-append [] ys = refl
+line_answers-append (x ∷ xs) ys = ap (λ t. x.answer ∷ t) (line_answers-append xs ys)
+
+pub last-append : (old : Stage) (xs ys : List DecidedLine) → last_stage old (xs ++ ys) ≡ last_stage (last_stage old xs) ys
+last-append old [] ys = refl
+last-append old (x ∷ xs) ys = last-append x.after xs ys
+
+pub answered_then : (n : ℕ) (old : Stage) (xs ys : List DecidedLine) → AreAnswered n old xs → AreAnswered (n + length xs) (last_stage old xs) ys → AreAnswered n old (xs ++ ys)
+answered_then n old [] ys u v = subst (λ (m : ℕ). AreAnswered m old ys) (add-zero n) v
+answered_then n old (x ∷ xs) ys u v =
+    let next : n + suc (length xs) ≡ suc n + length xs = omega arith in
+    (u.0, u.1, answered_then (suc n) x.after xs ys u.2 (subst (λ (m : ℕ). AreAnswered m (last_stage x.after xs) ys) next v))
+
+-- ---- nothing changes between two lines
+
+pub follows_here : (s : Stage) → Follows s s
+follows_here (NotBegun o) = record { same = refl; later = omega arith }
+follows_here (Running s) = record { same = refl; later = omega arith }
+
+faults_with : (k : ℕ) (s : Stage) → (log_of (with_faults k s)).faults ≡ k
+faults_with k (NotBegun o) = refl
+faults_with k (Running s) = refl
+
+with_twice : (j k : ℕ) (s : Stage) → with_faults j (with_faults k s) ≡ with_faults j s
+with_twice j k (NotBegun o) = refl
+with_twice j k (Running s) = refl
+
+pub follows_then : (a b c : Stage) → Follows a b → Follows b c → Follows a c
+follows_then a b c u v = record {
+  same = v.same ∙ ap (λ (s : Stage). with_faults (log_of c).faults s) u.same ∙ with_twice (log_of c).faults (log_of b).faults a;
+  later = let i = u.later in let j = v.later in omega arith;
+}
+
+life_with : (k : ℕ) (s : Stage) → life_of (with_faults k s) ≡ life_of s
+life_with k (NotBegun o) = refl
+life_with k (Running s) = refl
+
+bytes_with : (k : ℕ) (s : Stage) → (log_of (with_faults k s)).bytes ≡ (log_of s).bytes
+bytes_with k (NotBegun o) = refl
+bytes_with k (Running s) = refl
+
+failed_with : (k : ℕ) (s : Stage) → (log_of (with_faults k s)).failed ≡ (log_of s).failed
+failed_with k (NotBegun o) = refl
+failed_with k (Running s) = refl
+
+pub life_follows : (a b : Stage) → Follows a b → life_of b ≡ life_of a
+life_follows a b h = ap life_of h.same ∙ life_with (log_of b).faults a
+
+pub bytes_follow : (a b : Stage) → Follows a b → (log_of b).bytes ≡ (log_of a).bytes
+bytes_follow a b h = ap (λ (s : Stage). (log_of s).bytes) h.same ∙ bytes_with (log_of b).faults a
+
+pub failed_follows : (a b : Stage) → Follows a b → (log_of b).failed ≡ (log_of a).failed
+failed_follows a b h = ap (λ (s : Stage). (log_of s).failed) h.same ∙ failed_with (log_of b).faults a
+
+next_from : (n : ℕ) (a b : Stage) (l : DecidedLine) → Follows a b → IsNext n b l → IsNext n a l
+next_from n a b l h u = record { follows = follows_then a b l.before h u.follows; says = u.says; decided = u.decided }
+
+answered_from : (n : ℕ) (a b : Stage) (ys : List DecidedLine) → Follows a b → AreAnswered n b ys → AreAnswered n a ys
+answered_from n a b [] h u = tt
+answered_from n a b (y ∷ ys) h u = (next_from n a b y h u.0, u.1, u.2)
+
+last_from : (a b : Stage) (ys : List DecidedLine) → Follows a b → Follows (last_stage a ys) (last_stage b ys)
+last_from a b [] h = h
+last_from a b (y ∷ ys) h = follows_here (last_stage y.after ys)
+
+closes_from : (e : Ending) (n : ℕ) (front : Text) (a b end : Stage) → Follows a b → Closes e n front b end → Closes e n front a end
+closes_from ending.NoMemory n front a b end h (inl c) = inl (follows_then a b end h c)
+closes_from ending.NoMemory n front a b end h (inr c) = inr (record { before = c.before; follows = follows_then a b c.before h c.follows; breaks = c.breaks })
+closes_from ending.MovesFault n front a b end h (inl c) = inl (follows_then a b end h c)
+closes_from ending.MovesFault n front a b end h (inr c) =
+    inr (record { line = c.line; whole = c.whole; muted = record { next = next_from n a b c.line h c.muted.next; failed = c.muted.failed }; after = c.after })
+closes_from ending.Done n front a b end h c = follows_then a b end h c
+closes_from ending.Usage n front a b end h c = follows_then a b end h c
+closes_from (ending.Script l k) n front a b end h c = follows_then a b end h c
+closes_from ending.ReadFault n front a b end h c = follows_then a b end h c
+closes_from ending.OutFault n front a b end h c = follows_then a b end h c
+closes_from ending.SetupFault n front a b end h c = follows_then a b end h c
+closes_from (ending.TooLong l) n front a b end h c = follows_then a b end h c
+closes_from ending.Unbuilt n front a b end h c = follows_then a b end h c
+
+-- the second lines begin at a number that is equal, and at a stage that follows
+answered_at : (n m : ℕ) (old mid : Stage) (xs ys : List DecidedLine) → AreAnswered n old xs → m ≡ n + length xs → Follows (last_stage old xs) mid → AreAnswered m mid ys → AreAnswered n old (xs ++ ys)
+answered_at n m old mid xs ys u p q v =
+    answered_then n old xs ys u (subst (λ (k : ℕ). AreAnswered k (last_stage old xs) ys) p (answered_from m (last_stage old xs) mid ys q v))
+
+last_at : (old mid : Stage) (xs ys : List DecidedLine) → Follows (last_stage old xs) mid → Follows (last_stage old (xs ++ ys)) (last_stage mid ys)
+last_at old mid xs ys q =
+    subst (λ (s : Stage). Follows s (last_stage mid ys)) (sym (last-append old xs ys)) (last_from (last_stage old xs) mid ys q)
+
+spelled_lines : (xs ys : List DecidedLine) → spelled (answers_of (xs ++ ys)) ≡ spelled (answers_of xs) ++ spelled (answers_of ys)
+spelled_lines xs ys = ap spelled (line_answers-append xs ys) ∙ spelled-append (answers_of xs) (answers_of ys)
+
+-- ---- what stands on the sink
 
 -- Whole pieces before a torn text.
 pub torn_more : (ps qs : List Text) (written : Text) → IsTorn qs written → IsTorn (ps ++ qs) (concat ps ++ written)
@@ -66,65 +154,64 @@ whole_more : (xs ys : List Answer) (written : Text) → written ≡ spelled ys �
 whole_more xs ys written e = ap (λ t. spelled xs ++ t) e ∙ sym (spelled-append xs ys)
 
 stands_more : (e : Ending) (xs ys : List Answer) (written : Text) → StandsAt e ys written → StandsAt e (xs ++ ys) (spelled xs ++ written)
-stands_more ending.OutFault xs ys written s =
-    subst (λ (ps : List Text). IsTorn ps (spelled xs ++ written)) (sym (texts-append xs ys))
-    (subst (λ (front : Text). IsTorn (texts xs ++ texts ys) (front ++ written)) (concat-texts xs) (torn_more (texts xs) (texts ys) written s))
+stands_more ending.OutFault xs ys written (inr w) = inr (whole_more xs ys written w)
+stands_more ending.OutFault xs ys written (inl s) =
+    inl (subst (λ (ps : List Text). IsTorn ps (spelled xs ++ written)) (sym (texts-append xs ys))
+    (subst (λ (front : Text). IsTorn (texts xs ++ texts ys) (front ++ written)) (concat-texts xs) (torn_more (texts xs) (texts ys) written s)))
 stands_more ending.Done xs ys written s = whole_more xs ys written s
 stands_more ending.NoMemory xs ys written s = whole_more xs ys written s
 stands_more ending.Usage xs ys written s = whole_more xs ys written s
 stands_more (ending.Script l c) xs ys written s = whole_more xs ys written s
 stands_more ending.ReadFault xs ys written s = whole_more xs ys written s
 stands_more (ending.TooLong l) xs ys written s = whole_more xs ys written s
+stands_more ending.MovesFault xs ys written s = whole_more xs ys written s
 stands_more ending.SetupFault xs ys written s = whole_more xs ys written s
 stands_more ending.Unbuilt xs ys written s = whole_more xs ys written s
 
 -- the text of some lines, and then of others
-chain : (x t u y z : Text) (ls ks : List Text) → x ++ t ≡ joined ls ++ y → y ++ u ≡ joined ks ++ z → x ++ (t ++ u) ≡ joined (ls ++ ks) ++ z
+chain : (x t u y z : Text) (ls ks : List DecidedLine) → x ++ t ≡ joined (texts_of ls) ++ y → y ++ u ≡ joined (texts_of ks) ++ z → x ++ (t ++ u) ≡ joined (texts_of (ls ++ ks)) ++ z
 chain x t u y z ls ks e f =
-    sym (append_assoc x t u) ∙ ap (λ xs. xs ++ u) e ∙ append_assoc (joined ls) y u ∙ ap (λ xs. joined ls ++ xs) f
-    ∙ sym (append_assoc (joined ls) (joined ks) z) ∙ ap (λ xs. xs ++ z) (sym (joined-append ls ks))
+    sym (append_assoc x t u) ∙ ap (λ xs. xs ++ u) e ∙ append_assoc (joined (texts_of ls)) y u ∙ ap (λ xs. joined (texts_of ls) ++ xs) f
+    ∙ sym (append_assoc (joined (texts_of ls)) (joined (texts_of ks)) z)
+    ∙ ap (λ xs. xs ++ z) (sym (ap joined (line_texts-append ls ks) ∙ joined-append (texts_of ls) (texts_of ks)))
 
 module _ (a b c : Outside) (x y z : Stand) where
   pub went_then : Went a b x y → Went b c y z → Went a c x z
   went_then g h = record {
     lines = g.lines ++ h.lines;
-    events = g.events ++ h.events;
-    answers = g.answers ++ h.answers;
     taken = g.taken ++ h.taken;
     read = took_then a.left b.left c.left _ _ g.read h.read;
     whole = chain x.held g.taken h.taken y.held z.held g.lines h.lines g.whole h.whole;
-    each = each_then x.n g.lines h.lines g.events h.events g.each (subst (λ (m : ℕ). Each m h.lines h.events) g.count h.each);
-    answered = run_then g.events h.events g.answers h.answers x.stage y.stage z.stage g.answered h.answered;
+    answered = answered_at x.n y.n x.stage y.stage g.lines h.lines g.answered g.count g.stage h.answered;
+    stage = follows_then (last_stage x.stage (g.lines ++ h.lines)) (last_stage y.stage h.lines) z.stage (last_at x.stage y.stage g.lines h.lines g.stage) h.stage;
     count = let i = g.count in let j = h.count in omega (arith, length-append g.lines h.lines);
-    wrote = subst (λ xs. Appended a.took c.took xs) (sym (spelled-append g.answers h.answers)) (appended_then a.took b.took c.took _ _ g.wrote h.wrote);
+    wrote = subst (λ xs. Appended a.took c.took xs) (sym (spelled_lines g.lines h.lines)) (appended_then a.took b.took c.took _ _ g.wrote h.wrote);
   }
 
-module _ (a b c : Outside) (x y : Stand) (At : Stage → Type 0) where
-  pub went_came : (e : Ending) → Went a b x y → Came b c y e At → Came a c x e At
+module _ (a b c : Outside) (x y : Stand) (end : Stage) where
+  pub went_came : (e : Ending) → Went a b x y → Came b c y e end → Came a c x e end
   went_came e g h =
       let d = h.decided in
       let i : x.n + length (g.lines ++ d.lines) ≡ y.n + length d.lines = let j = g.count in omega (arith, length-append g.lines d.lines) in
       record {
-        answers = g.answers ++ h.answers;
-        written = spelled g.answers ++ h.written;
         decided = record {
           lines = g.lines ++ d.lines;
-          events = g.events ++ d.events;
-          last = d.last;
           taken = g.taken ++ d.taken;
           front = d.front;
           more = d.more;
           read = took_then a.left b.left c.left _ _ g.read d.read;
           whole = chain x.held g.taken d.taken y.held (d.front ++ d.more) g.lines d.lines g.whole d.whole;
-          each = each_then x.n g.lines d.lines g.events d.events g.each (subst (λ (m : ℕ). Each m d.lines d.events) g.count d.each);
-          answered = run_then g.events d.events g.answers h.answers x.stage y.stage d.last g.answered d.answered;
+          answered = answered_at x.n y.n x.stage y.stage g.lines d.lines g.answered g.count g.stage d.answered;
           limit = let l = d.limit in omega arith;
           settled = subst (λ (k : ℕ). Settles k d.front d.more c.left e) (sym i) d.settled;
           few = d.few;
-          at = d.at;
+          closes = subst (λ (k : ℕ). Closes e k d.front (last_stage x.stage (g.lines ++ d.lines)) end) (sym i)
+              (closes_from e (y.n + length d.lines) d.front (last_stage x.stage (g.lines ++ d.lines)) (last_stage y.stage d.lines) end (last_at x.stage y.stage g.lines d.lines g.stage) d.closes);
         };
+        written = spelled (answers_of g.lines) ++ h.written;
         wrote = appended_then a.took b.took c.took _ _ g.wrote h.wrote;
-        stands = stands_more e g.answers h.answers h.written h.stands;
+        stands = subst (λ (as_are : List Answer). StandsAt e as_are (spelled (answers_of g.lines) ++ h.written)) (sym (line_answers-append g.lines d.lines))
+            (stands_more e (answers_of g.lines) (answers_of d.lines) h.written h.stands);
       }
 
 -- More was read first.
@@ -135,85 +222,90 @@ module _ (a b : Outside) (x y : Stand) (left : Option Text) (held : Text) (f : F
   pub filled_went : Went a b x y → Went (record a { left = left }) b (record x { held = held }) y
   filled_went g = record {
     lines = g.lines;
-    events = g.events;
-    answers = g.answers;
     taken = f.taken ++ g.taken;
     read = took_then left a.left b.left _ _ f.took g.read;
     whole = regroup g.taken _ g.whole;
-    each = g.each;
     answered = g.answered;
+    stage = g.stage;
     count = g.count;
     wrote = g.wrote;
   }
 
-  pub filled_came : (At : Stage → Type 0) (e : Ending) → Came a b x e At → Came (record a { left = left }) b (record x { held = held }) e At
-  filled_came At e h =
+  pub filled_came : (end : Stage) (e : Ending) → Came a b x e end → Came (record a { left = left }) b (record x { held = held }) e end
+  filled_came end e h =
       let d = h.decided in
       record {
-        answers = h.answers;
-        written = h.written;
         decided = record {
           lines = d.lines;
-          events = d.events;
-          last = d.last;
           taken = f.taken ++ d.taken;
           front = d.front;
           more = d.more;
           read = took_then left a.left b.left _ _ f.took d.read;
           whole = regroup d.taken _ d.whole;
-          each = d.each;
           answered = d.answered;
           limit = d.limit;
           settled = d.settled;
           few = d.few;
-          at = d.at;
+          closes = d.closes;
         };
+        written = h.written;
         wrote = h.wrote;
         stands = h.stands;
       }
 
-  pub filled_either : (At : Stage → Type 0) (r : Option Ending) → MatchOption r (Went a b x y) (λ e. Came a b x e At)
-      → MatchOption r (Went (record a { left = left }) b (record x { held = held }) y) (λ e. Came (record a { left = left }) b (record x { held = held }) e At)
-  filled_either At None h = filled_went h
-  filled_either At (Some e) h = filled_came At e h
+  pub filled_either : (end : Stage) (r : Option Ending) → MatchOption r (Went a b x y) (λ e. Came a b x e end)
+      → MatchOption r (Went (record a { left = left }) b (record x { held = held }) y) (λ e. Came (record a { left = left }) b (record x { held = held }) e end)
+  filled_either end None h = filled_went h
+  filled_either end (Some e) h = filled_came end e h
+
+  pub filled_comes : (x_left : Left) (e : Ending) → Comes a b x e x_left → Comes (record a { left = left }) b (record x { held = held }) e x_left
+  filled_comes x_left e h = record { end = h.end; came = filled_came h.end e h.came; leaves = h.leaves }
 
 pub went_none : (a : Outside) (x y : Stand) → y ≡ x → Went a a x y
 went_none a x y e = subst (λ (z : Stand). Went a a x z) (sym e) (record {
   lines = [];
-  events = [];
-  answers = [];
   taken = [];
   read = took_none a.left;
   whole = append_nil x.held;
-  each = tt;
-  answered = refl;
+  answered = tt;
+  stage = follows_here x.stage;
   count = sym (add-zero x.n);
   wrote = appended_none a.took;
 })
 
--- Where a run stands by what holds of it.
-pub came_at : (a b : Outside) (x : Stand) (e : Ending) (At Bt : Stage → Type 0) → ((s : Stage) → At s → Bt s) → Came a b x e At → Came a b x e Bt
-came_at a b x e At Bt f h =
-    let d = h.decided in
-    record {
-      answers = h.answers;
-      written = h.written;
-      decided = record {
-        lines = d.lines;
-        events = d.events;
-        last = d.last;
-        taken = d.taken;
-        front = d.front;
-        more = d.more;
-        read = d.read;
-        whole = d.whole;
-        each = d.each;
-        answered = d.answered;
-        limit = d.limit;
-        settled = d.settled;
-        few = d.few;
-        at = f d.last d.at;
-      };
-      wrote = h.wrote;
-      stands = h.stands;
-    }
+-- nothing was decided, and nothing was noted
+pub comes_here : (a b : Outside) (x : Stand) (e : Ending) (o : Outset) (left : Left) → o.log.bytes ≡ left.moves → Came a b x e (NotBegun o) → Comes a b x e left
+comes_here a b x e o left q h = record { end = NotBegun o; came = h; leaves = q }
+
+-- no line more, at a stage that follows
+pub went_on : (a : Outside) (held : Text) (n : ℕ) (s z : Stage) → Follows s z → Went a a (stand held n s) (stand held n z)
+went_on a held n s z h = record {
+  lines = [];
+  taken = [];
+  read = took_none a.left;
+  whole = append_nil held;
+  answered = tt;
+  stage = h;
+  count = sym (add-zero n);
+  wrote = appended_none a.took;
+}
+
+pub scene_follows : (s z : Scene) → z.world ≡ s.world → z.report ≡ s.report → z.paging ≡ s.paging → z.files ≡ s.files → z.blocks ≡ s.blocks
+    → z.behind ≡ record (s.behind) { log = record (s.behind.log) { faults = z.behind.log.faults } } → s.behind.log.faults ≤ z.behind.log.faults → Follows (Running s) (Running z)
+scene_follows s z w r p f b h l = record {
+  same = λ i. Running (record { world = w i; report = r i; paging = p i; files = f i; blocks = b i; behind = h i });
+  later = l;
+}
+
+-- sinks were flushed first
+module _ (left t t' : Option Text) (same : t' ≡ t) (held : Text) (n : ℕ) (s z : Stage) (h : Follows s z) (b : Outside) where
+  flushed : Went (outside left t) (outside left t') (stand held n s) (stand held n z)
+  flushed = subst (λ (k : Option Text). Went (outside left t) (outside left k) (stand held n s) (stand held n z)) (sym same) (went_on (outside left t) held n s z h)
+
+  pub flushed_came : (e : Ending) (end : Stage) → Came (outside left t') b (stand held n z) e end → Came (outside left t) b (stand held n s) e end
+  flushed_came e end c = went_came (outside left t) (outside left t') b (stand held n s) (stand held n z) end e flushed c
+
+  pub flushed_either : (y : Stand) (end : Stage) (r : Option Ending) → MatchOption r (Went (outside left t') b (stand held n z) y) (λ e. Came (outside left t') b (stand held n z) e end)
+      → MatchOption r (Went (outside left t) b (stand held n s) y) (λ e. Came (outside left t) b (stand held n s) e end)
+  flushed_either y end None g = went_then (outside left t) (outside left t') b (stand held n s) (stand held n z) y flushed g
+  flushed_either y end (Some e) c = flushed_came e end c

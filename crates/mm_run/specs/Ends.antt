@@ -1,28 +1,72 @@
--- The file device as a run leaves it.
-use Rattle.std.specs.Prelude.{◌≡◌, ℕ, List, [], Option}
-use Rattle.mm_blocks.specs.declared.device_calls.DeviceCall.{DeviceCall}
+-- How the end of a run stands to its last answered line, and what is left then on devices and in the log of moves.
+use Rattle.std.specs.Prelude.{◌≡◌, ◌⊎◌, ℕ, List, [], Option}
+use Rattle.mm_types.specs.Spelling.{Text}
+use Rattle.mm_lines.specs.Lines.{ended}
 use Rattle.mm_world.specs.World.{Page}
-use Rattle.mm_blocks.specs.Devices.{no_device}
-use Rattle.mm_run.specs.Scenes.{Scene, Stage, NotBegun, Running}
+use Rattle.mm_blocks.specs.declared.device_calls.DeviceCall.{DeviceCall}
+use Rattle.mm_blocks.specs.declared.device_calls.NamedCalls.{NamedCalls}
+use Rattle.mm_blocks.specs.Devices.{DeviceOf}
+use Rattle.mm_blocks.specs.Traffic.{told_by}
+use Rattle.mm_run.specs.declared.endings.Ending.{Ending}
+use Rattle.mm_run.specs.declared.endings.Ending.TheVariants as ending
+use Rattle.mm_run.specs.Scenes.{Stage, NotBegun, Running, Follows}
+use Rattle.mm_run.specs.Steps.{Breaks}
+use Rattle.mm_run.specs.Answered.{DecidedLine, IsMuted}
 
--- Its log, where told, and its blocks are those of the last scene; while no call of it was named, so is its count of faults. The unpaged
--- store calls no paging device.
-pub record IsLeft (s : Scene) (log : Option (List DeviceCall)) (blocks : List Page) (faults : ℕ) : Type 0 where
-  pub log_is : s.files.log ≡ log
-  pub blocks_are : s.blocks ≡ blocks
-  pub faults_are : s.files.named ≡ [] → s.files.faults ≡ faults
-  pub no_paging : s.paging ≡ no_device
+-- ---- between the last answer and the end
 
-abbrev pub Leaves : Option (List DeviceCall) → List Page → ℕ → Stage → Type 0
-Leaves log blocks faults (NotBegun before) = Unit {0}
-Leaves log blocks faults (Running s) = IsLeft s log blocks faults
+-- The line behind these was decided and not answered; its feed is the last byte of `front`.
+pub record Mutes (n : ℕ) (front : Text) (last end : Stage) : Type 0 where
+  pub line : DecidedLine
+  pub whole : front ≡ ended line.text
+  pub muted : IsMuted n last line
+  pub after : end ≡ line.after
 
--- the devices of a stage are those of a scene
-pub record SameDevices (s z : Scene) : Type 0 where
-  pub paging : s.paging ≡ z.paging
-  pub files : s.files ≡ z.files
-  pub blocks : s.blocks ≡ z.blocks
+-- The line behind these wanted memory.
+abbrev pub BreaksAt : Stage → Stage → Type 0
+BreaksAt (NotBegun o) end = ⊥
+BreaksAt (Running s) (NotBegun o) = ⊥
+BreaksAt (Running s) (Running z) = Breaks s z
 
-abbrev pub StandsAs : Scene → Stage → Type 0
-StandsAs z (NotBegun before) = ⊥
-StandsAs z (Running s) = SameDevices s z
+pub record BreaksOff (last end : Stage) : Type 0 where
+  pub before : Stage
+  pub follows : Follows last before
+  pub breaks : BreaksAt before end
+
+-- Nothing happened, but that a line wanted memory, or could not note all its moves.
+abbrev pub Closes : Ending → ℕ → Text → Stage → Stage → Type 0
+Closes ending.NoMemory n front last end = Follows last end ⊎ BreaksOff last end
+Closes ending.MovesFault n front last end = Follows last end ⊎ Mutes n front last end
+Closes _ n front last end = Follows last end
+
+-- ---- what is left
+
+-- A device as it is left: the log of its calls, where told, what it holds, and its count of faults.
+pub record DeviceLeft : Type 0 where
+  pub log : Option (List DeviceCall)
+  pub blocks : List Page
+  pub faults : ℕ
+
+abbrev pub device_left : List NamedCalls → Option (List DeviceCall) → List Page → ℕ → DeviceLeft
+device_left named log blocks faults = record { log = told_by named log; blocks = blocks; faults = faults }
+
+-- Its log, where told, and what it holds are those of the stage; while no call of it was named, so is its count of faults.
+pub record IsLeft (d : DeviceOf) (blocks : List Page) (x : DeviceLeft) : Type 0 where
+  pub log_is : d.log ≡ x.log
+  pub blocks_are : blocks ≡ x.blocks
+  pub faults_are : d.named ≡ [] → d.faults ≡ x.faults
+
+-- What a run leaves: the bytes that the sink of moves took, where told, its count of faults, and both devices.
+pub record Left : Type 0 where
+  pub moves : Option Text
+  pub moves_faults : ℕ
+  pub paging : DeviceLeft
+  pub files : DeviceLeft
+
+abbrev pub left_with : Option Text → ℕ → DeviceLeft → DeviceLeft → Left
+left_with moves faults paging files = record { moves = moves; moves_faults = faults; paging = paging; files = files }
+
+-- Before the first line was decided nothing was noted; devices may have been opened.
+abbrev pub Leaves : Stage → Left → Type 0
+Leaves (NotBegun o) x = o.log.bytes ≡ x.moves
+Leaves (Running s) x = (s.behind.log.bytes ≡ x.moves) × IsLeft s.paging s.behind.slots x.paging × IsLeft s.files s.blocks x.files

@@ -2,7 +2,9 @@ pub mod Built
 pub mod Reading
 pub mod Scenes
 pub mod Steps
+pub mod Answered
 pub mod Texts
-pub mod Story
 pub mod Ends
+pub mod Story
+pub mod Ran
 pub mod Script

@@ -1,17 +1,23 @@
 -- What a script is, and what it comes to by itself.
-use Rattle.std.specs.Prelude.{◌≡◌, ◌⊎◌, ℕ, ◌+◌, ◌≤◌, List, [], ◌++◌, length, Option, Some, None}
+use Rattle.std.specs.Prelude.{◌≡◌, ◌⊎◌, ℕ, suc, ◌+◌, ◌≤◌, List, [], ◌∷◌, ◌++◌, length, Some}
 use Rattle.mm_types.specs.Outside.{Appended}
 use Rattle.mm_types.specs.Spelling.{Text}
 use Rattle.mm_types.specs.AnswerText.{spelled}
 use Rattle.mm_lines.specs.Lines.{joined}
 use Rattle.mm_types.specs.declared.events.Event.{Event}
-use Rattle.mm_types.specs.declared.answers.Answer.{Answer}
 use Rattle.mm_run.specs.declared.endings.Ending.{Ending}
 use Rattle.mm_run.specs.declared.endings.Ending.TheVariants as ending
-use Rattle.mm_run.specs.Scenes.{Stage}
-use Rattle.mm_run.specs.Steps.{Run, NoneNames, NoneFails}
+use Rattle.mm_run.specs.Answered.{Says, texts_of, answers_of}
 use Rattle.mm_run.specs.Texts.{status_of, last_text}
-use Rattle.mm_run.specs.Story.{Each, Settles, most_lines}
+use Rattle.mm_run.specs.Story.{Settles, most_lines}
+use Rattle.mm_run.specs.Ran.{Around, Ran}
+
+-- Behind n lines, each line is in the grammar, says this event, and its form is built.
+abbrev pub Each : ℕ → List Text → List Event → Type 0
+Each n [] [] = Unit {0}
+Each n [] (e ∷ es) = ⊥
+Each n (l ∷ ls) [] = ⊥
+Each n (l ∷ ls) (e ∷ es) = Says n l e × Each (suc n) ls es
 
 -- What the script alone can make a run come to.
 abbrev pub IsVerdict : Ending → Type 0
@@ -35,16 +41,12 @@ pub record IsScript (text : Text) (n : ℕ) (lines : List Text) (e : Ending) : T
 
 -- Memory or the outside failed.
 abbrev pub IsFault : ℕ → Type 0
-IsFault status = (status ≡ 1) ⊎ ((status ≡ 4) ⊎ ((status ≡ 5) ⊎ (status ≡ 7)))
+IsFault status = (status ≡ 1) ⊎ ((status ≡ 4) ⊎ ((status ≡ 5) ⊎ ((status ≡ 6) ⊎ (status ≡ 7))))
 
--- All these lines were decided and answered, from this stage on, and the last text stands. If no `fail` line was answered `ok`, an
--- answer tells of a failure only where this rose.
-pub record IsComplete (took took' : Option Text) (begun : Stage) (rose : Type 0) (lines : List Text) (e : Ending) (status : ℕ) : Type 0 where
-  pub events : List Event
-  pub answers : List Answer
-  pub last : Stage
+-- A run that answered all these lines, came to this with its status, and wrote its whole text.
+pub record IsComplete (a b : Around) (form : Type 0) (lines : List Text) (e : Ending) (status : ℕ) : Type 0 where
+  pub ran : Ran a b form status
+  pub came_to : ran.e ≡ e
+  pub all : texts_of ran.lines ≡ lines
   pub status_is : status ≡ status_of e
-  pub each : Each 0 lines events
-  pub answered : Run begun events answers last
-  pub faultless : (rose → ⊥) → NoneNames events answers → NoneFails answers
-  pub wrote : Appended took took' (spelled answers ++ last_text e)
+  pub wrote : Appended a.took b.took (spelled (answers_of ran.lines) ++ last_text e)

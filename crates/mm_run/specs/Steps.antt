@@ -1,88 +1,149 @@
--- What lines do, one after another.
-use Rattle.std.specs.Prelude.{◌≡◌, ◌≢◌, ◌≤◌, ℕ, Bool, true, false, List, [], ◌∷◌, replicate}
+-- What one line does.
+use Rattle.std.specs.Prelude.{◌≡◌, ◌⊎◌, ◌≤◌, ◌+◌, ℕ, Bool, true, false, List, [], ◌∷◌, length, replicate}
 use Rattle.mm_types.specs.Machine.{MachineOf, limit_of}
-use Rattle.mm_types.specs.declared.events.Event.{Event}
-use Rattle.mm_types.specs.declared.events.Event.TheVariants as line
 use Rattle.mm_types.specs.declared.answers.Answer.{Answer}
 use Rattle.mm_types.specs.declared.answers.Answer.TheVariants as answer
+use Rattle.mm_types.specs.declared.answers.Wait.TheVariants as wait
+use Rattle.mm_types.specs.declared.events.Event.{Event}
+use Rattle.mm_types.specs.declared.events.Event.TheVariants as line
+use Rattle.mm_types.specs.declared.moves.LineKind.{LineKind}
+use Rattle.mm_types.specs.declared.moves.Move.{Move}
+use Rattle.mm_types.specs.declared.moves.Move.TheVariants as move
+use Rattle.mm_life.specs.Logs.{Grew}
+use Rattle.mm_life.specs.MoveText.{AreMoves, spelled_moves}
+use Rattle.mm_life.specs.Replay.{Replays}
 use Rattle.mm_world.specs.Charge.{charge, limit}
 use Rattle.mm_world.specs.Contents.{tables_of}
-use Rattle.mm_world.specs.Step.{step, unpaged, first_world}
+use Rattle.mm_world.specs.Report.{Report, failed_calls}
+use Rattle.mm_world.specs.Step.{step, unpaged, first_world, is_told, is_failed_extension}
 use Rattle.mm_blocks.specs.Traffic.{NoneLogged, empty_block}
+use Rattle.mm_blocks.specs.Devices.{DeviceOf}
 use Rattle.mm_tables.specs.References.{IsTidy}
+use Rattle.mm_walks.specs.Waits.{Idle}
+use Rattle.mm_paging.specs.Lines.{Line}
+use Rattle.mm_paging.specs.Runs.{Scene, DevicesHold, first_move}
 use Rattle.mm_core.specs.Stepping.{asks_frames}
-use Rattle.mm_core.specs.Serving.{AskedFiles, Named, IsFailure, OneRose, Flushed, is_fail}
+use Rattle.mm_core.specs.Serving.{AskedFiles, AskedPaging, Named, IsFailure, FailedBefore, OneRose, Flushed, is_fail, is_grow}
+use Rattle.mm_core.specs.Forgetting.{EndsWaits}
 use Rattle.mm_run.specs.Reading.{is_machine}
-use Rattle.mm_run.specs.Scenes.{Scene, Stage, NotBegun, Running}
+use Rattle.mm_run.specs.Scenes.{Outset, Stage, NotBegun, Running, life_of, log_of}
 
--- A machine has begun: its world is the first, its file device holds blocks of zeros, and was not asked for one yet.
-pub record IsFirst (m : MachineOf) (faults : ℕ) (s : Scene) : Type 0 where
+-- ---- the first line
+
+-- a device that was opened and not called yet, with at least so many faults
+pub record IsUnused (faults : ℕ) (d : DeviceOf) : Type 0 where
+  pub none_logged : NoneLogged d.log
+  pub none_named : d.named ≡ []
+  pub later : faults ≤ d.faults
+
+-- A machine has begun: its world is the first, its devices hold zeros and were not asked for one yet, and no thread waits.
+pub record IsFirst (m : MachineOf) (o : Outset) (s : Scene) : Type 0 where
   pub world : s.world ≡ first_world m
+  pub slots : s.behind.slots ≡ replicate m.slots empty_block
   pub blocks : s.blocks ≡ replicate m.blocks empty_block
-  pub none_logged : NoneLogged s.files.log
-  pub none_named : s.files.named ≡ []
-  pub later : faults ≤ s.files.faults
+  pub paging : IsUnused o.paging s.paging
+  pub files : IsUnused o.files s.files
+  pub idle : (tid : ℕ) → (s.behind.waits tid ≡ Idle) × (s.report.wait tid ≡ wait.None)
 
--- One line of an unpaged machine.
-pub record Decides (s : Scene) (e : Event) (a : Answer) (z : Scene) : Type 0 where
+-- The first line, which names the machine.
+pub record Begins (o : Outset) (e : Event) (a : Answer) (moves : List Move) (s : Scene) : Type 0 where
+  pub machine : MachineOf
+  pub names : e ≡ line.Machine machine
+  pub answered : a ≡ answer.Limit (limit_of machine)
+  pub one : moves ≡ first_move machine ∷ []
+  pub first : IsFirst machine o s
+
+-- ---- a later line
+
+-- lines whose answers tell of paging even where no device call fails: of requests, of frames, of what a thread waits for
+abbrev pub tells_paging : Event → Bool
+tells_paging (line.Begin tid pid what) = true
+tells_paging (line.Resume tid) = true
+tells_paging (line.Io i) = true
+tells_paging line.Counts = true
+tells_paging _ = false
+
+-- no device call of the line failed
+pub record NoneFailed (after : Report) : Type 0 where
+  pub calls : failed_calls after ≡ 0
+  pub extended : is_failed_extension after.extended ≡ false
+
+pub record Decides (s : Scene) (e : Event) (a : Answer) (moves : List Move) (z : Scene) : Type 0 where
   -- the answer and the new world are those of the definitions' step, by the reports before and after
   pub answered : step s.world e s.report z.report ≡ record { answer = a; world = z.world }
-  -- those of unpaged address spaces, but where a device failed or the line asks for requests or frames
-  pub unpaged : asks_frames e ≡ false → a ≢ answer.Fault → unpaged s.world e ≡ record { answer = a; world = z.world }
+  -- those of unpaged address spaces, of a call and a plain access, where no device call of the line failed
+  pub plain : tells_paging e ≡ false → NoneFailed z.report → unpaged s.world e ≡ record { answer = a; world = z.world }
+  -- and of any line but `io` and `counts`, where the answer is no failed access, no pending one and no `fault`
+  pub unpaged : asks_frames e ≡ false → is_told a ≡ false → unpaged s.world e ≡ record { answer = a; world = z.world }
   -- sections and names live while something refers to them
   pub lives : IsTidy (tables_of z.world)
-  -- the calls of the file device in this line are those of its log and of the report
-  pub asked : is_fail e ≡ false → AskedFiles s.files z.files z.report
-  pub named : Named true e a s.paging z.paging s.files z.files
-  pub failed : IsFailure a → OneRose s.paging z.paging s.files z.files
+  -- the calls of a device in this line are those of its log and of the report
+  pub asked_paging : is_fail e ≡ false → is_grow e ≡ false → AskedPaging s.paging z.paging z.report
+  pub asked_files : is_fail e ≡ false → AskedFiles s.files z.files z.report
+  pub named : Named false e a s.paging z.paging s.files z.files
+  -- no more calls of a device are named than `fail` lines were answered `ok`
+  pub few_paging : length z.paging.named ≤ z.world.fails_taken
+  pub few_files : length z.files.named ≤ z.world.fails_taken
+  -- a failure is a device's in this line, or, of a `resume`, that of the read that its thread waited for
+  pub failed : IsFailure a → FailedBefore e s.report ⊎ OneRose s.paging z.paging s.files z.files
   pub paging_later : s.paging.faults ≤ z.paging.faults
   pub files_later : s.files.faults ≤ z.files.faults
   -- after a `flush` answered `ok` the blocks hold the bytes of their pages
   pub flushed : Flushed z.world z.blocks e a
+  -- threads whose access or whose process ends wait no more
+  pub waits : EndsWaits s.world e a z.report
+  -- the line's moves are one `at` with its number and kind, and what its form allows
+  pub line : Line s.world s.report s.behind s.paging s.files e a moves z.world z.report z.behind z.paging z.files
 
--- The first line, which names the machine.
-pub record Begins (faults : ℕ) (e : Event) (a : Answer) (s : Scene) : Type 0 where
-  pub machine : MachineOf
-  pub names : e ≡ line.Machine machine
-  pub answered : a ≡ answer.Limit (limit_of machine)
-  pub first : IsFirst machine faults s
+-- ---- any line
 
 -- The first line makes the world; each later line is answered by it, and leaves the next.
-abbrev pub Stepped : Stage → Event → Answer → Stage → Type 0
-Stepped (NotBegun faults) e a (NotBegun after) = ⊥
-Stepped (NotBegun faults) e a (Running s) = Begins faults e a s
-Stepped (Running s) e a (NotBegun faults) = ⊥
-Stepped (Running s) e a (Running z) = (is_machine e ≡ false) × Decides s e a z
+abbrev pub Stepped : Stage → Event → Answer → List Move → Stage → Type 0
+Stepped (NotBegun o) e a moves (NotBegun after) = ⊥
+Stepped (NotBegun o) e a moves (Running s) = Begins o e a moves s
+Stepped (Running s) e a moves (NotBegun o) = ⊥
+Stepped (Running s) e a moves (Running z) = (is_machine e ≡ false) × Decides s e a moves z
 
 -- The commit charge is at most the commit limit.
 abbrev pub IsWithinLimit : Stage → Type 0
-IsWithinLimit (NotBegun faults) = Unit {0}
+IsWithinLimit (NotBegun o) = Unit {0}
 IsWithinLimit (Running s) = charge s.world ≤ limit s.world
 
--- A line is decided: its answer and the new world are the definition's, and the charge stays within the limit.
-pub record IsDecided (old : Stage) (e : Event) (a : Answer) (new : Stage) : Type 0 where
-  pub step : Stepped old e a new
+-- Each key that the replay shows unchanged, with a slot or a block, has its bytes there.
+abbrev pub HoldsUnchanged : Stage → Type 0
+HoldsUnchanged (NotBegun o) = Unit {0}
+HoldsUnchanged (Running s) = DevicesHold s.world s.behind.life s.behind.slots s.blocks
+
+-- Moves that are legal one after another, and by whose text the log grew; where the sink fails in it, by a front of it.
+pub record Notes (old : Stage) (moves : List Move) (new : Stage) : Type 0 where
+  pub in_range : AreMoves moves
+  pub grew : Grew (log_of old) (log_of new) (spelled_moves moves)
+  pub replays : Replays moves (life_of old) (life_of new)
+
+-- A line is decided: its answer and the new world are the definition's, the charge stays within the limit, and its moves are noted.
+pub record IsDecided (old : Stage) (e : Event) (a : Answer) (moves : List Move) (new : Stage) : Type 0 where
+  pub step : Stepped old e a moves new
   pub within : IsWithinLimit new
+  pub notes : Notes old moves new
+  pub holds : HoldsUnchanged new
 
--- These events are answered so, one after another, and lead there.
-abbrev pub Run : Stage → List Event → List Answer → Stage → Type 0
-Run old [] [] new = new ≡ old
-Run old [] (a ∷ rest) new = ⊥
-Run old (e ∷ es) [] new = ⊥
-Run old (e ∷ es) (a ∷ rest) new = (mid : Stage) × (IsDecided old e a mid × Run mid es rest new)
+-- A machine has begun at this scene, with its first line noted.
+pub record IsMade (m : MachineOf) (o : Outset) (s : Scene) : Type 0 where
+  pub first : IsFirst m o s
+  pub notes : Notes (NotBegun o) (first_move m ∷ []) (Running s)
+  pub holds : HoldsUnchanged (Running s)
 
--- ---- failures
+-- A line is decided, with some moves.
+pub record Moved (old : Stage) (e : Event) (a : Answer) (new : Stage) : Type 0 where
+  pub moves : List Move
+  pub decided : IsDecided old e a moves new
 
--- no line that names device calls was answered `ok`
-abbrev pub NamesNone : Event → Answer → Type 0
-NamesNone (line.Fail device direction k n) answer.Ok = ⊥
-NamesNone _ _ = Unit {0}
-
-abbrev pub NoneNames : List Event → List Answer → Type 0
-NoneNames (e ∷ es) (a ∷ rest) = NamesNone e a × NoneNames es rest
-NoneNames _ _ = Unit {0}
-
--- no answer is `fault` or the status of a failed access
-abbrev pub NoneFails : List Answer → Type 0
-NoneFails [] = Unit {0}
-NoneFails (a ∷ rest) = (IsFailure a → ⊥) × NoneFails rest
+-- A line wanted memory: it noted its `at` alone or nothing, and world and devices are as before.
+pub record Breaks (s z : Scene) : Type 0 where
+  pub moves : List Move
+  pub at_most : (moves ≡ []) ⊎ ((k : LineKind) × (moves ≡ move.At (s.behind.life.line + 1) k ∷ []))
+  pub notes : Notes (Running s) moves (Running z)
+  pub world : z.world ≡ s.world
+  pub paging : z.paging ≡ s.paging
+  pub files : z.files ≡ s.files
+  pub blocks : z.blocks ≡ s.blocks

@@ -1,7 +1,8 @@
 -- The statuses of a run, and its text.
-use Rattle.std.specs.Prelude.{◌≡◌, ℕ, List, [], ◌∷◌, ◌++◌, map, codes}
+use Rattle.std.specs.Prelude.{◌≡◌, ◌≢◌, ◌⊎◌, ℕ, Bool, true, false, List, [], ◌∷◌, ◌++◌, map, codes, Option}
 use Rattle.std.specs.List.{flat_map}
 use Rattle.mm_types.specs.declared.answers.Answer.{Answer}
+use Rattle.mm_types.specs.Outside.{Appended}
 use Rattle.mm_types.specs.Spelling.{Text, decimal}
 use Rattle.mm_types.specs.AnswerText.{spelling, spelled}
 use Rattle.mm_run.specs.declared.endings.Ending.{Ending}
@@ -15,9 +16,14 @@ status_of ending.Usage = 2
 status_of (ending.Script line column) = 3
 status_of ending.ReadFault = 4
 status_of ending.OutFault = 5
+status_of ending.MovesFault = 6
 status_of ending.SetupFault = 7
 status_of (ending.TooLong line) = 8
 status_of ending.Unbuilt = 9
+
+-- the ending's own; or that of a sink whose flush failed at the end
+abbrev pub IsOrFlush : ℕ → Ending → Type 0
+IsOrFlush status e = (status ≡ status_of e) ⊎ ((status ≡ 5) ⊎ (status ≡ 6))
 
 -- the text behind the answers
 abbrev pub last_text : Ending → Text
@@ -27,6 +33,7 @@ last_text ending.Usage = codes "usage: mmsim run\n"
 last_text (ending.Script line column) = codes "bad line " ++ (decimal line ++ (codes " column " ++ (decimal column ++ 10 ∷ [])))
 last_text ending.ReadFault = []
 last_text ending.OutFault = []
+last_text ending.MovesFault = []
 last_text ending.SetupFault = []
 last_text (ending.TooLong line) = codes "too long line " ++ (decimal line ++ 10 ∷ [])
 last_text ending.Unbuilt = []
@@ -48,8 +55,26 @@ pub record IsTorn (pieces : List Text) (written : Text) : Type 0 where
 abbrev pub texts : List Answer → List Text
 texts answers = map spelling answers
 
--- What stands on the sink once a run has come to this, before the last text: all answers, or where the
--- sink failed, all but the last one whole.
+-- What stands on the sink once a run has come to this, before the last text: all answers, or where a write of the sink failed, all but
+-- the last one whole.
 abbrev pub StandsAt : Ending → List Answer → Text → Type 0
-StandsAt ending.OutFault answers written = IsTorn (texts answers) written
+StandsAt ending.OutFault answers written = IsTorn (texts answers) written ⊎ (written ≡ spelled answers)
 StandsAt _ answers written = written ≡ spelled answers
+
+-- The answers' texts and the last text stand whole, also where a flush failed at the end; or, with status 5, the last of these texts is torn.
+abbrev pub Ends : ℕ → Ending → List Answer → Text → Type 0
+Ends status e answers written =
+    (IsOrFlush status e × (e ≢ ending.OutFault) × (written ≡ spelled answers ++ last_text e))
+    ⊎ ((status ≡ 5) × (StandsAt ending.OutFault answers written ⊎ IsTorn (texts answers ++ last_text e ∷ []) written))
+
+-- Of a text a front was written.
+pub record TornText (took took' : Option Text) (text : Text) : Type 0 where
+  pub front : Text
+  pub back : Text
+  pub whole : text ≡ front ++ back
+  pub wrote : Appended took took' front
+
+-- How the writing of the last text went: whole, or torn where the sink failed.
+abbrev pub WroteLast : Option Text → Option Text → Ending → Bool → Type 0
+WroteLast took took' e false = Appended took took' (last_text e)
+WroteLast took took' e true = TornText took took' (last_text e)

@@ -1,21 +1,27 @@
-ghost use Rattle.std.specs.Prelude.{◌≡◌, ◌≢◌, ◌<◌, ◌≤◌, ◌+◌, ℕ, true, false, List, Option, Some, None, length, drop, MatchOption, IfNone, IfSome};
-ghost use Rattle.mm_types.specs.Outside.{Appended, Rose};
+ghost use Rattle.std.specs.Prelude.{◌≡◌, ◌≢◌, ◌<◌, ◌≤◌, ◌+◌, ◌⊎◌, ℕ, true, false, List, Option, Some, None, length, drop, take, Ok, MatchOption, IfNone, IfSome, IfOk, OnOk, OnErr};
+ghost use Rattle.mm_types.specs.Outside.{Appended, Rose, HasCause};
 ghost use Rattle.mm_types.specs.AnswerText.{spelling};
 ghost use Rattle.mm_lines.specs.Looking.{HasLine};
-ghost use Rattle.mm_core.specs.Shown.{line_of, loans};
-ghost use Rattle.mm_run.specs.Scenes.{Scene, Running, scene};
-ghost use Rattle.mm_run.specs.Ends.{StandsAs};
-ghost use Rattle.mm_run.specs.Story.{Went, Came, IsBlamed, EndsAt, TornText, outside, stand};
+ghost use Rattle.mm_script.specs.Grammar.{IsLine as IsLineFor};
+ghost use Rattle.mm_script.specs.Printed.{IsWellFormed};
+ghost use Rattle.mm_core.specs.Shown.{line_of, loans, behind};
+ghost use Rattle.mm_paging.specs.Runs.{Scene};
+ghost use Rattle.mm_run.specs.Built.{is_built};
+ghost use Rattle.mm_run.specs.Reading.{reading, is_machine};
+ghost use Rattle.mm_run.specs.Scenes.{Running, Follows, scene};
+ghost use Rattle.mm_run.specs.Steps.{IsDecided, Moved, Breaks};
+ghost use Rattle.mm_run.specs.Texts.{TornText};
+ghost use Rattle.mm_run.specs.Story.{Went, Came, IsBlamed, EndsAt, outside, stand, counts_with};
 
 use crate::endings::Ending;
 use crate::readings::{is_built, read_event};
 use mm_answer::spell;
 use mm_core::World;
+use mm_flushing::FlushesMoves;
 use mm_io::{Sink, Source, write_all};
 use mm_lines::{Found, Held};
-use mm_pages::Pages;
 use mm_text::LineBuf;
-use mm_types::Answer;
+use mm_types::{Answer, Event, Failed, NoMemory};
 use std::alloc::Global;
 
 /// The lines that a script may have.
@@ -43,8 +49,86 @@ pub(crate) fn tell<O: Sink>(
     }
 }
 
+/// Decides a line of a world over a store that pages, which is not the first: it is told whole.
+fn decide<G: FlushesMoves>(
+    alloc: Global,
+    n: u32,
+    event: &Event,
+    world: &mut World<G>,
+) -> Result<Answer, NoMemory>
+    requires well_formed { IsWellFormed event.now }
+    requires built { is_built event.now ≡ true }
+    requires not_first { is_machine event.now ≡ false }
+    requires next { n ≡ line_of world.old + 1 }
+    requires few { n ≤ 1000000 }
+    requires ready { world.old.spent ≡ false }
+    requires paged { G.unpaged ≡ false }
+    requires noted { (behind world.old).log.failed ≡ false }
+    ensures decided { IfOk result (λ a. Moved (Running (scene world.old)) event.now a (Running (scene world.new))) }
+    ensures breaks { OnErr result (Breaks (scene world.old) (scene world.new)) }
+    ensures blame { OnOk result ((behind world.new).log.failed ≡ true → Rose (behind world.old).log.faults (behind world.new).log.faults) }
+    ensures later { (behind world.old).log.faults ≤ (behind world.new).log.faults }
+    ensures line { OnOk result (line_of world.new ≡ n) }
+    ensures ready { OnOk result (world.new.spent ≡ false) }
+    ensures loans { loans world.new ≡ loans world.old }
+{
+    match world.step(alloc, n, event) {
+        Ok(answer) => {
+            world.pages.sound();
+            Ok(answer)
+        }
+        Err(NoMemory) => Err(NoMemory),
+    }
+}
+
+/// Decides a line of a form that is built, which is not the first, and answers it once its moves are written.
+fn answer_event<G: FlushesMoves, O: Sink>(
+    alloc: Global,
+    held: &mut Held,
+    len: usize,
+    n: u32,
+    event: &Event,
+    world: &mut World<G>,
+    out: &mut O,
+) -> Option<Ending>
+    requires some { 0 < n }
+    requires few { n < 1000000 }
+    requires line { HasLine held.old len }
+    requires behind { length held.old < len + 1 + 4096 }
+    requires says { reading n (take len held.old) ≡ Ok event.now }
+    requires grammar { IsLineFor (take len held.old) event.now }
+    requires well_formed { IsWellFormed event.now }
+    requires built { is_built event.now ≡ true }
+    requires count { line_of world.old ≡ n }
+    requires ready { world.old.spent ≡ false }
+    requires paged { G.unpaged ≡ false }
+    requires noted { (behind world.old).log.failed ≡ false }
+    ensures went { (left : Option (List ℕ)) → MatchOption result
+        (Went (outside left (O.taken out.old)) (outside left (O.taken out.new)) (stand held.old n (Running (scene world.old))) (stand held.new (n + 1) (Running (scene world.new))))
+        (λ e. Came (outside left (O.taken out.old)) (outside left (O.taken out.new)) (stand held.old n (Running (scene world.old))) e (Running (scene world.new))) }
+    ensures few { IfNone result (length held.new < 4096) }
+    ensures count { IfNone result (line_of world.new ≡ n + 1) }
+    ensures ready { IfNone result (world.new.spent ≡ false) }
+    ensures noted { IfNone result ((behind world.new).log.failed ≡ false) }
+    ensures blame { IfSome result (λ e. (s : ℕ) → IsBlamed e ⊥ (counts_with s (O.faults out.old) (behind world.old).log.faults) (counts_with s (O.faults out.new) (behind world.new).log.faults)) }
+    ensures later { O.faults out.old ≤ O.faults out.new }
+    ensures moves_later { (behind world.old).log.faults ≤ (behind world.new).log.faults }
+    ensures form { result ≢ Some Ending.Usage }
+    ensures loans { loans world.new ≡ loans world.old }
+{
+    match decide(alloc, n + 1, event, world) {
+        Ok(answer) => {
+            if world.pages.moves_failed() {
+                return Some(Ending::MovesFault);
+            }
+            tell(held, len, &answer, out)
+        }
+        Err(_) => Some(Ending::NoMemory),
+    }
+}
+
 /// Decides and answers the line in front, which is not the first.
-fn answer_line<G: Pages, O: Sink>(
+fn answer_line<G: FlushesMoves, O: Sink>(
     alloc: Global,
     held: &mut Held,
     len: usize,
@@ -58,15 +142,18 @@ fn answer_line<G: Pages, O: Sink>(
     requires behind { length held.old < len + 1 + 4096 }
     requires count { line_of world.old ≡ n }
     requires ready { world.old.spent ≡ false }
-    requires unpaged { G.unpaged ≡ true }
+    requires paged { G.unpaged ≡ false }
+    requires noted { (behind world.old).log.failed ≡ false }
     ensures went { (left : Option (List ℕ)) → MatchOption result
         (Went (outside left (O.taken out.old)) (outside left (O.taken out.new)) (stand held.old n (Running (scene world.old))) (stand held.new (n + 1) (Running (scene world.new))))
-        (λ e. Came (outside left (O.taken out.old)) (outside left (O.taken out.new)) (stand held.old n (Running (scene world.old))) e (StandsAs (scene world.new))) }
+        (λ e. Came (outside left (O.taken out.old)) (outside left (O.taken out.new)) (stand held.old n (Running (scene world.old))) e (Running (scene world.new))) }
     ensures few { IfNone result (length held.new < 4096) }
     ensures count { IfNone result (line_of world.new ≡ n + 1) }
     ensures ready { IfNone result (world.new.spent ≡ false) }
-    ensures blame { IfSome result (λ e. (s : ℕ) → IsBlamed e ⊥ s s (O.faults out.old) (O.faults out.new)) }
+    ensures noted { IfNone result ((behind world.new).log.failed ≡ false) }
+    ensures blame { IfSome result (λ e. (s : ℕ) → IsBlamed e ⊥ (counts_with s (O.faults out.old) (behind world.old).log.faults) (counts_with s (O.faults out.new) (behind world.new).log.faults)) }
     ensures later { O.faults out.old ≤ O.faults out.new }
+    ensures moves_later { (behind world.old).log.faults ≤ (behind world.new).log.faults }
     ensures form { result ≢ Some Ending.Usage }
     ensures loans { loans world.new ≡ loans world.old }
 {
@@ -77,10 +164,7 @@ fn answer_line<G: Pages, O: Sink>(
     if !is_built(&event) {
         return Some(Ending::Unbuilt);
     }
-    match world.step(alloc, n + 1, &event) {
-        Ok(answer) => tell(held, len, &answer, out),
-        Err(_) => Some(Ending::NoMemory),
-    }
+    answer_event(alloc, held, len, n, &event, world, out)
 }
 
 /// What a run comes to at the input's end, behind n lines and so many bytes.
@@ -96,8 +180,8 @@ pub(crate) fn at_end(n: u32, len: usize) -> Ending
     }
 }
 
-/// Reads, decides and answers one line, which is not the first.
-fn decide_line<G: Pages, S: Source, O: Sink>(
+/// Reads, decides and answers one line, which is not the first, with nothing held back that was written before.
+fn read_line<G: FlushesMoves, S: Source, O: Sink>(
     alloc: Global,
     held: &mut Held,
     n: u32,
@@ -110,17 +194,20 @@ fn decide_line<G: Pages, S: Source, O: Sink>(
     requires held { length held.old < 4096 }
     requires count { line_of world.old ≡ n }
     requires ready { world.old.spent ≡ false }
-    requires unpaged { G.unpaged ≡ true }
+    requires paged { G.unpaged ≡ false }
+    requires noted { (behind world.old).log.failed ≡ false }
     ensures went { MatchOption result
         (Went (outside (S.left source.old) (O.taken out.old)) (outside (S.left source.new) (O.taken out.new)) (stand held.old n (Running (scene world.old))) (stand held.new (n + 1) (Running (scene world.new))))
-        (λ e. Came (outside (S.left source.old) (O.taken out.old)) (outside (S.left source.new) (O.taken out.new)) (stand held.old n (Running (scene world.old))) e (StandsAs (scene world.new))) }
+        (λ e. Came (outside (S.left source.old) (O.taken out.old)) (outside (S.left source.new) (O.taken out.new)) (stand held.old n (Running (scene world.old))) e (Running (scene world.new))) }
     ensures few { IfNone result (length held.new < 4096) }
     ensures count { IfNone result (line_of world.new ≡ n + 1) }
     ensures ready { IfNone result (world.new.spent ≡ false) }
-    ensures blame { IfSome result (λ e. IsBlamed e ⊥ (S.faults source.old) (S.faults source.new) (O.faults out.old) (O.faults out.new)) }
+    ensures noted { IfNone result ((behind world.new).log.failed ≡ false) }
+    ensures blame { IfSome result (λ e. IsBlamed e ⊥ (counts_with (S.faults source.old) (O.faults out.old) (behind world.old).log.faults) (counts_with (S.faults source.new) (O.faults out.new) (behind world.new).log.faults)) }
     ensures idle { MatchOption result (S.idle source.new ≤ S.idle source.old) (λ _. S.idle source.new ≤ S.idle source.old + 1) }
     ensures source_later { S.faults source.old ≤ S.faults source.new }
     ensures out_later { O.faults out.old ≤ O.faults out.new }
+    ensures moves_later { (behind world.old).log.faults ≤ (behind world.new).log.faults }
     ensures form { result ≢ Some Ending.Usage }
     ensures loans { loans world.new ≡ loans world.old }
 {
@@ -132,11 +219,112 @@ fn decide_line<G: Pages, S: Source, O: Sink>(
     }
 }
 
+/// Gives on the moves that were noted.
+fn flush_moves<G: FlushesMoves>(world: &mut World<G>) -> Result<(), Failed>
+    ensures follows { Follows (Running (scene world.old)) (Running (scene world.new)) }
+    ensures cause { HasCause (behind world.old).log.faults (behind world.new).log.faults result }
+    ensures noted { (behind world.new).log.failed ≡ (behind world.old).log.failed }
+    ensures count { line_of world.new ≡ line_of world.old }
+    ensures ready { world.new.spent ≡ world.old.spent }
+    ensures loans { loans world.new ≡ loans world.old }
+{
+    world.flush_moves()
+}
+
+/// Gives on the moves and then the answers that were written.
+fn flush<G: FlushesMoves, O: Sink>(world: &mut World<G>, out: &mut O) -> Option<Ending>
+    ensures follows { Follows (Running (scene world.old)) (Running (scene world.new)) }
+    ensures taken { O.taken out.new ≡ O.taken out.old }
+    ensures ends { IfSome result (λ e. (e ≡ Ending.MovesFault) ⊎ (e ≡ Ending.OutFault)) }
+    ensures blame { IfSome result (λ e. (s : ℕ) → IsBlamed e ⊥ (counts_with s (O.faults out.old) (behind world.old).log.faults) (counts_with s (O.faults out.new) (behind world.new).log.faults)) }
+    ensures later { O.faults out.old ≤ O.faults out.new }
+    ensures moves_later { (behind world.old).log.faults ≤ (behind world.new).log.faults }
+    ensures noted { (behind world.new).log.failed ≡ (behind world.old).log.failed }
+    ensures count { line_of world.new ≡ line_of world.old }
+    ensures ready { world.new.spent ≡ world.old.spent }
+    ensures loans { loans world.new ≡ loans world.old }
+{
+    match flush_moves(world) {
+        Ok(()) => {}
+        Err(_) => return Some(Ending::MovesFault),
+    }
+    match out.flush() {
+        Ok(()) => None,
+        Err(_) => Some(Ending::OutFault),
+    }
+}
+
+/// Whether a whole line is among the bytes, so that none need be read before it.
+fn has_line(bytes: &[u8]) -> bool {
+    bytes.iter().any(|byte| *byte == b'\n')
+}
+
+/// Flushes both sinks where more has to be read.
+fn flush_before_read<G: FlushesMoves, O: Sink>(
+    held: &Held,
+    world: &mut World<G>,
+    out: &mut O,
+) -> Option<Ending>
+    ensures follows { Follows (Running (scene world.old)) (Running (scene world.new)) }
+    ensures taken { O.taken out.new ≡ O.taken out.old }
+    ensures ends { IfSome result (λ e. (e ≡ Ending.MovesFault) ⊎ (e ≡ Ending.OutFault)) }
+    ensures blame { IfSome result (λ e. (s : ℕ) → IsBlamed e ⊥ (counts_with s (O.faults out.old) (behind world.old).log.faults) (counts_with s (O.faults out.new) (behind world.new).log.faults)) }
+    ensures later { O.faults out.old ≤ O.faults out.new }
+    ensures moves_later { (behind world.old).log.faults ≤ (behind world.new).log.faults }
+    ensures noted { (behind world.new).log.failed ≡ (behind world.old).log.failed }
+    ensures count { line_of world.new ≡ line_of world.old }
+    ensures ready { world.new.spent ≡ world.old.spent }
+    ensures loans { loans world.new ≡ loans world.old }
+{
+    if has_line(held.bytes()) {
+        None
+    } else {
+        flush(world, out)
+    }
+}
+
+/// Reads, decides and answers one line, which is not the first.
+fn decide_line<G: FlushesMoves, S: Source, O: Sink>(
+    alloc: Global,
+    held: &mut Held,
+    n: u32,
+    world: &mut World<G>,
+    source: &mut S,
+    out: &mut O,
+) -> Option<Ending>
+    requires some { 0 < n }
+    requires few { n < 1000000 }
+    requires held { length held.old < 4096 }
+    requires count { line_of world.old ≡ n }
+    requires ready { world.old.spent ≡ false }
+    requires paged { G.unpaged ≡ false }
+    requires noted { (behind world.old).log.failed ≡ false }
+    ensures went { MatchOption result
+        (Went (outside (S.left source.old) (O.taken out.old)) (outside (S.left source.new) (O.taken out.new)) (stand held.old n (Running (scene world.old))) (stand held.new (n + 1) (Running (scene world.new))))
+        (λ e. Came (outside (S.left source.old) (O.taken out.old)) (outside (S.left source.new) (O.taken out.new)) (stand held.old n (Running (scene world.old))) e (Running (scene world.new))) }
+    ensures few { IfNone result (length held.new < 4096) }
+    ensures count { IfNone result (line_of world.new ≡ n + 1) }
+    ensures ready { IfNone result (world.new.spent ≡ false) }
+    ensures noted { IfNone result ((behind world.new).log.failed ≡ false) }
+    ensures blame { IfSome result (λ e. IsBlamed e ⊥ (counts_with (S.faults source.old) (O.faults out.old) (behind world.old).log.faults) (counts_with (S.faults source.new) (O.faults out.new) (behind world.new).log.faults)) }
+    ensures idle { MatchOption result (S.idle source.new ≤ S.idle source.old) (λ _. S.idle source.new ≤ S.idle source.old + 1) }
+    ensures source_later { S.faults source.old ≤ S.faults source.new }
+    ensures out_later { O.faults out.old ≤ O.faults out.new }
+    ensures moves_later { (behind world.old).log.faults ≤ (behind world.new).log.faults }
+    ensures form { result ≢ Some Ending.Usage }
+    ensures loans { loans world.new ≡ loans world.old }
+{
+    match flush_before_read(held, world, out) {
+        Some(ending) => Some(ending),
+        None => read_line(alloc, held, n, world, source, out),
+    }
+}
+
 /// What a run comes to behind the last line that it may have.
 fn behind_last<S: Source>(held: &mut Held, source: &mut S) -> Ending
     requires given { length held.old < 4096 }
-    ensures came { (z : Scene) (took : Option (List ℕ)) → Came (outside (S.left source.old) took) (outside (S.left source.new) took) (stand held.old LINES (Running z)) result (StandsAs z) }
-    ensures blame { (o : ℕ) → IsBlamed result ⊥ (S.faults source.old) (S.faults source.new) o o }
+    ensures came { (z : Scene) (took : Option (List ℕ)) → Came (outside (S.left source.old) took) (outside (S.left source.new) took) (stand held.old LINES (Running z)) result (Running z) }
+    ensures blame { (o m : ℕ) → IsBlamed result ⊥ (counts_with (S.faults source.old) o m) (counts_with (S.faults source.new) o m) }
     ensures idle { S.idle source.new ≤ S.idle source.old + 1 }
     ensures source_later { S.faults source.old ≤ S.faults source.new }
     ensures form { result ≢ Ending.Usage }
@@ -149,7 +337,7 @@ fn behind_last<S: Source>(held: &mut Held, source: &mut S) -> Ending
 }
 
 /// Decides the lines of a source behind the first one, and writes the answers.
-pub(crate) fn decide_rest<G: Pages, S: Source, O: Sink>(
+pub(crate) fn decide_rest<G: FlushesMoves, S: Source, O: Sink>(
     alloc: Global,
     held: &mut Held,
     world: &mut World<G>,
@@ -159,12 +347,14 @@ pub(crate) fn decide_rest<G: Pages, S: Source, O: Sink>(
     requires held { length held.old < 4096 }
     requires count { line_of world.old ≡ 1 }
     requires ready { world.old.spent ≡ false }
-    requires unpaged { G.unpaged ≡ true }
-    ensures came { Came (outside (S.left source.old) (O.taken out.old)) (outside (S.left source.new) (O.taken out.new)) (stand held.old 1 (Running (scene world.old))) result (StandsAs (scene world.new)) }
-    ensures blame { IsBlamed result ⊥ (S.faults source.old) (S.faults source.new) (O.faults out.old) (O.faults out.new) }
+    requires paged { G.unpaged ≡ false }
+    requires noted { (behind world.old).log.failed ≡ false }
+    ensures came { Came (outside (S.left source.old) (O.taken out.old)) (outside (S.left source.new) (O.taken out.new)) (stand held.old 1 (Running (scene world.old))) result (Running (scene world.new)) }
+    ensures blame { IsBlamed result ⊥ (counts_with (S.faults source.old) (O.faults out.old) (behind world.old).log.faults) (counts_with (S.faults source.new) (O.faults out.new) (behind world.new).log.faults) }
     ensures idle { S.idle source.new ≤ S.idle source.old + 1 }
     ensures source_later { S.faults source.old ≤ S.faults source.new }
     ensures out_later { O.faults out.old ≤ O.faults out.new }
+    ensures moves_later { (behind world.old).log.faults ≤ (behind world.new).log.faults }
     ensures form { result ≢ Ending.Usage }
     ensures loans { loans world.new ≡ loans world.old }
 {
@@ -174,5 +364,8 @@ pub(crate) fn decide_rest<G: Pages, S: Source, O: Sink>(
             None => {}
         }
     }
-    behind_last(held, source)
+    match flush_before_read(held, world, out) {
+        Some(ending) => ending,
+        None => behind_last(held, source),
+    }
 }

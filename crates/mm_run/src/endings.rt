@@ -16,6 +16,8 @@ pub enum Ending {
     ReadFault,
     /// The sink of the answers failed.
     OutFault,
+    /// The sink of the moves failed.
+    MovesFault,
     /// A device failed where it was opened.
     SetupFault,
     /// A line has more than 256 bytes, or is one too many: its number, from 1.
@@ -36,6 +38,7 @@ impl Ending {
             Ending::Script(..) => 3,
             Ending::ReadFault => 4,
             Ending::OutFault => 5,
+            Ending::MovesFault => 6,
             Ending::SetupFault => 7,
             Ending::TooLong(_) => 8,
             Ending::Unbuilt => 9,

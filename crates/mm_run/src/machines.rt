@@ -1,26 +1,28 @@
-ghost use Rattle.std.specs.Prelude.{◌≡◌, ◌≢◌, ◌⊎◌, ◌<◌, ◌≤◌, ◌+◌, ℕ, true, false, Ok, [], length, take, IfErr, OnOk, replicate};
+ghost use Rattle.std.specs.Prelude.{◌≡◌, ◌≢◌, ◌⊎◌, ◌<◌, ◌≤◌, ◌+◌, ℕ, false, Ok, [], length, take, IfErr, OnOk, replicate};
 ghost use Rattle.mm_types.specs.Outside.{Rose};
 ghost use Rattle.mm_lines.specs.Looking.{HasLine};
-ghost use Rattle.mm_blocks.specs.Traffic.{NoneLogged, empty_block, told_by};
+ghost use Rattle.mm_blocks.specs.Traffic.{NoneLogged, empty_block};
 ghost use Rattle.mm_types.specs.declared.events.Event.TheVariants as event;
 ghost use Rattle.mm_world.specs.Charge.{charge, limit};
 ghost use Rattle.mm_script.specs.Grammar.{IsLine as IsLineFor};
-ghost use Rattle.mm_core.specs.Shown.{line_of, loans};
+ghost use Rattle.mm_core.specs.Shown.{line_of, loans, behind};
 ghost use Rattle.mm_run.specs.Reading.{reading};
-ghost use Rattle.mm_run.specs.Scenes.{NotBegun, scene};
-ghost use Rattle.mm_run.specs.Steps.{IsFirst};
-ghost use Rattle.mm_run.specs.Ends.{Leaves, StandsAs};
-ghost use Rattle.mm_run.specs.Story.{Came, IsBlamed, outside, stand};
+ghost use Rattle.mm_run.specs.Scenes.{Outset, NotBegun, Running, outset, scene};
+ghost use Rattle.mm_run.specs.Steps.{IsMade};
+ghost use Rattle.mm_run.specs.Ends.{left_with, device_left};
+ghost use Rattle.mm_run.specs.Story.{Came, Comes, IsBlamed, outside, stand, counts_with};
 
 use crate::decisions::{at_end, decide_rest, tell};
 use crate::endings::Ending;
 use crate::readings::read_event;
 use mm_blocks::{Blocks, Injected};
 use mm_core::World;
+use mm_flushing::FlushesMoves;
 use mm_io::{Sink, Source};
 use mm_lines::{Found, Held};
-use mm_pages::Pages;
-use mm_plain::Plain;
+use mm_moves::Recorder;
+use mm_paged::Paged;
+use mm_state::State;
 use mm_types::{Answer, Event, Machine, OpenFault};
 use std::alloc::Global;
 
@@ -41,9 +43,12 @@ fn open_devices<P: Blocks, F: Blocks>(
     paging: &mut P,
     files: &mut F,
 ) -> Result<(), Ending>
+    ensures slots { OnOk result (P.blocks paging.new ≡ replicate machine.slots empty_block) }
     ensures blocks { OnOk result (F.blocks files.new ≡ replicate machine.blocks empty_block) }
-    ensures logged { OnOk result (NoneLogged (F.log files.new)) }
-    ensures named { F.named files.new ≡ F.named files.old }
+    ensures paging_logged { OnOk result (NoneLogged (P.log paging.new)) }
+    ensures files_logged { OnOk result (NoneLogged (F.log files.new)) }
+    ensures paging_named { P.named paging.new ≡ P.named paging.old }
+    ensures files_named { F.named files.new ≡ F.named files.old }
     ensures ends { IfErr result (λ e. (e ≡ Ending.NoMemory) ⊎ (e ≡ Ending.SetupFault)) }
     ensures blame { IfErr result (λ e. e ≡ Ending.SetupFault → Rose (P.faults paging.old) (P.faults paging.new) ⊎ Rose (F.faults files.old) (F.faults files.new)) }
     ensures paging_later { P.faults paging.old ≤ P.faults paging.new }
@@ -59,8 +64,8 @@ fn open_devices<P: Blocks, F: Blocks>(
     }
 }
 
-/// Answers the first line, and decides the others.
-fn answer_all<G: Pages, S: Source, O: Sink>(
+/// Answers the first line, once its move is written, and decides the others.
+fn answer_all<G: FlushesMoves, S: Source, O: Sink>(
     alloc: Global,
     held: &mut Held,
     len: usize,
@@ -76,63 +81,34 @@ fn answer_all<G: Pages, S: Source, O: Sink>(
     requires count { line_of world.old ≡ 1 }
     requires ready { world.old.spent ≡ false }
     requires within { charge (scene world.old).world ≤ limit (scene world.old).world }
-    requires unpaged { G.unpaged ≡ true }
-    ensures came { (faults : ℕ) → IsFirst machine faults (scene world.old) → Came (outside (S.left source.old) (O.taken out.old)) (outside (S.left source.new) (O.taken out.new)) (stand held.old 0 (NotBegun faults)) result (StandsAs (scene world.new)) }
-    ensures blame { IsBlamed result ⊥ (S.faults source.old) (S.faults source.new) (O.faults out.old) (O.faults out.new) }
+    requires paged { G.unpaged ≡ false }
+    ensures came { (o : Outset) → IsMade machine o (scene world.old) → Came (outside (S.left source.old) (O.taken out.old)) (outside (S.left source.new) (O.taken out.new)) (stand held.old 0 (NotBegun o)) result (Running (scene world.new)) }
+    ensures blame { (o : Outset) → IsMade machine o (scene world.old) → o.log.failed ≡ false → IsBlamed result ⊥ (counts_with (S.faults source.old) (O.faults out.old) o.log.faults) (counts_with (S.faults source.new) (O.faults out.new) (behind world.new).log.faults) }
     ensures idle { S.idle source.new ≤ S.idle source.old + 1 }
     ensures source_later { S.faults source.old ≤ S.faults source.new }
     ensures out_later { O.faults out.old ≤ O.faults out.new }
     ensures form { result ≢ Ending.Usage }
+    ensures moves_later { (behind world.old).log.faults ≤ (behind world.new).log.faults }
     ensures loans { loans world.new ≡ loans world.old }
 {
+    if world.pages.moves_failed() {
+        return Ending::MovesFault;
+    }
     match tell(held, len, &Answer::Limit(machine.limit()), out) {
         Some(ending) => ending,
         None => decide_rest(alloc, held, world, source, out),
     }
 }
 
-/// Runs a machine over a file device that was opened for it.
-fn run_machine<S: Source, O: Sink, F: Blocks>(
+/// Runs a machine over devices that were opened for it.
+fn run_machine<S: Source, O: Sink, M: Sink, P: Blocks, F: Blocks>(
     alloc: Global,
     held: &mut Held,
     len: usize,
     machine: Machine,
     source: &mut S,
     out: &mut O,
-    files: &mut F,
-) -> Ending
-    requires line { HasLine held.old len }
-    requires behind { length held.old < len + 1 + 4096 }
-    requires says { reading 0 (take len held.old) ≡ Ok (event.Machine machine) }
-    requires grammar { IsLineFor (take len held.old) (event.Machine machine) }
-    requires blocks { F.blocks files.old ≡ replicate machine.blocks empty_block }
-    requires logged { NoneLogged (F.log files.old) }
-    requires named { F.named files.old ≡ [] }
-    ensures came { (faults : ℕ) → faults ≤ F.faults files.old → Came (outside (S.left source.old) (O.taken out.old)) (outside (S.left source.new) (O.taken out.new)) (stand held.old 0 (NotBegun faults)) result (Leaves (told_by (F.named files.new) (F.log files.new)) (F.blocks files.new) (F.faults files.new)) }
-    ensures blame { IsBlamed result ⊥ (S.faults source.old) (S.faults source.new) (O.faults out.old) (O.faults out.new) }
-    ensures idle { S.idle source.new ≤ S.idle source.old + 1 }
-    ensures source_later { S.faults source.old ≤ S.faults source.new }
-    ensures out_later { O.faults out.old ≤ O.faults out.new }
-    ensures form { result ≢ Ending.Usage }
-{
-    let pages = match Plain::new(alloc, machine, Injected::new(files)) {
-        Ok(pages) => pages,
-        Err(_) => return Ending::NoMemory,
-    };
-    let mut world = World::new(alloc, machine, pages);
-    let ending = answer_all(alloc, held, len, machine, &mut world, source, out);
-    let _ = world.finish().finish().finish();
-    ending
-}
-
-/// Opens the devices of a machine, and runs it.
-fn start_machine<S: Source, O: Sink, P: Blocks, F: Blocks>(
-    alloc: Global,
-    held: &mut Held,
-    len: usize,
-    machine: Machine,
-    source: &mut S,
-    out: &mut O,
+    moves: &mut M,
     paging: &mut P,
     files: &mut F,
 ) -> Ending
@@ -140,38 +116,99 @@ fn start_machine<S: Source, O: Sink, P: Blocks, F: Blocks>(
     requires behind { length held.old < len + 1 + 4096 }
     requires says { reading 0 (take len held.old) ≡ Ok (event.Machine machine) }
     requires grammar { IsLineFor (take len held.old) (event.Machine machine) }
-    requires named { F.named files.old ≡ [] }
-    ensures came { Came (outside (S.left source.old) (O.taken out.old)) (outside (S.left source.new) (O.taken out.new)) (stand held.old 0 (NotBegun (F.faults files.old))) result (Leaves (told_by (F.named files.new) (F.log files.new)) (F.blocks files.new) (F.faults files.new)) }
-    ensures blame { IsBlamed result (Rose (P.faults paging.old) (P.faults paging.new) ⊎ Rose (F.faults files.old) (F.faults files.new)) (S.faults source.old) (S.faults source.new) (O.faults out.old) (O.faults out.new) }
+    requires slots { P.blocks paging.old ≡ replicate machine.slots empty_block }
+    requires blocks { F.blocks files.old ≡ replicate machine.blocks empty_block }
+    requires paging_logged { NoneLogged (P.log paging.old) }
+    requires files_logged { NoneLogged (F.log files.old) }
+    requires paging_named { P.named paging.old ≡ [] }
+    requires files_named { F.named files.old ≡ [] }
+    ensures came { (p f : ℕ) → p ≤ P.faults paging.old → f ≤ F.faults files.old → Comes (outside (S.left source.old) (O.taken out.old)) (outside (S.left source.new) (O.taken out.new)) (stand held.old 0 (NotBegun (outset p f (M.taken moves.old) (M.faults moves.old)))) result (left_with (M.taken moves.new) (M.faults moves.new) (device_left (P.named paging.new) (P.log paging.new) (P.blocks paging.new) (P.faults paging.new)) (device_left (F.named files.new) (F.log files.new) (F.blocks files.new) (F.faults files.new))) }
+    ensures blame { IsBlamed result ⊥ (counts_with (S.faults source.old) (O.faults out.old) (M.faults moves.old)) (counts_with (S.faults source.new) (O.faults out.new) (M.faults moves.new)) }
     ensures idle { S.idle source.new ≤ S.idle source.old + 1 }
     ensures source_later { S.faults source.old ≤ S.faults source.new }
     ensures out_later { O.faults out.old ≤ O.faults out.new }
+    ensures moves_later { M.faults moves.old ≤ M.faults moves.new }
+    ensures form { result ≢ Ending.Usage }
+{
+    let made = State::new(
+        alloc,
+        machine,
+        Injected::new(paging),
+        Injected::new(files),
+        Recorder::new(moves),
+    );
+    let state = match made {
+        Ok(state) => state,
+        Err(unmade) => {
+            let (paging, files, moves) = unmade.back;
+            let _ = paging.finish();
+            let _ = files.finish();
+            let _ = moves.finish();
+            return Ending::NoMemory;
+        }
+    };
+    let mut world = World::new(alloc, machine, Paged::over(state));
+    let ending = answer_all(alloc, held, len, machine, &mut world, source, out);
+    let (paging, files, moves) = world.finish().finish().finish();
+    let _ = paging.finish();
+    let _ = files.finish();
+    let _ = moves.finish();
+    ending
+}
+
+/// Opens the devices of a machine, and runs it.
+fn start_machine<S: Source, O: Sink, M: Sink, P: Blocks, F: Blocks>(
+    alloc: Global,
+    held: &mut Held,
+    len: usize,
+    machine: Machine,
+    source: &mut S,
+    out: &mut O,
+    moves: &mut M,
+    paging: &mut P,
+    files: &mut F,
+) -> Ending
+    requires line { HasLine held.old len }
+    requires behind { length held.old < len + 1 + 4096 }
+    requires says { reading 0 (take len held.old) ≡ Ok (event.Machine machine) }
+    requires grammar { IsLineFor (take len held.old) (event.Machine machine) }
+    requires paging_named { P.named paging.old ≡ [] }
+    requires files_named { F.named files.old ≡ [] }
+    ensures came { Comes (outside (S.left source.old) (O.taken out.old)) (outside (S.left source.new) (O.taken out.new)) (stand held.old 0 (NotBegun (outset (P.faults paging.old) (F.faults files.old) (M.taken moves.old) (M.faults moves.old)))) result (left_with (M.taken moves.new) (M.faults moves.new) (device_left (P.named paging.new) (P.log paging.new) (P.blocks paging.new) (P.faults paging.new)) (device_left (F.named files.new) (F.log files.new) (F.blocks files.new) (F.faults files.new))) }
+    ensures blame { IsBlamed result (Rose (P.faults paging.old) (P.faults paging.new) ⊎ Rose (F.faults files.old) (F.faults files.new)) (counts_with (S.faults source.old) (O.faults out.old) (M.faults moves.old)) (counts_with (S.faults source.new) (O.faults out.new) (M.faults moves.new)) }
+    ensures idle { S.idle source.new ≤ S.idle source.old + 1 }
+    ensures source_later { S.faults source.old ≤ S.faults source.new }
+    ensures out_later { O.faults out.old ≤ O.faults out.new }
+    ensures moves_later { M.faults moves.old ≤ M.faults moves.new }
     ensures form { result ≢ Ending.Usage }
 {
     match open_devices(machine, paging, files) {
-        Ok(()) => run_machine(alloc, held, len, machine, source, out, files),
+        Ok(()) => { run_machine(alloc, held, len, machine, source, out, moves, paging, files) }
         Err(ending) => ending,
     }
 }
 
 /// Decides the first line, and all that follow.
-fn decide_first<S: Source, O: Sink, P: Blocks, F: Blocks>(
+fn decide_first<S: Source, O: Sink, M: Sink, P: Blocks, F: Blocks>(
     alloc: Global,
     held: &mut Held,
     len: usize,
     source: &mut S,
     out: &mut O,
+    moves: &mut M,
     paging: &mut P,
     files: &mut F,
 ) -> Ending
     requires line { HasLine held.old len }
     requires behind { length held.old < len + 1 + 4096 }
-    requires named { F.named files.old ≡ [] }
-    ensures came { Came (outside (S.left source.old) (O.taken out.old)) (outside (S.left source.new) (O.taken out.new)) (stand held.old 0 (NotBegun (F.faults files.old))) result (Leaves (told_by (F.named files.new) (F.log files.new)) (F.blocks files.new) (F.faults files.new)) }
-    ensures blame { IsBlamed result (Rose (P.faults paging.old) (P.faults paging.new) ⊎ Rose (F.faults files.old) (F.faults files.new)) (S.faults source.old) (S.faults source.new) (O.faults out.old) (O.faults out.new) }
+    requires paging_named { P.named paging.old ≡ [] }
+    requires files_named { F.named files.old ≡ [] }
+    ensures came { Comes (outside (S.left source.old) (O.taken out.old)) (outside (S.left source.new) (O.taken out.new)) (stand held.old 0 (NotBegun (outset (P.faults paging.old) (F.faults files.old) (M.taken moves.old) (M.faults moves.old)))) result (left_with (M.taken moves.new) (M.faults moves.new) (device_left (P.named paging.new) (P.log paging.new) (P.blocks paging.new) (P.faults paging.new)) (device_left (F.named files.new) (F.log files.new) (F.blocks files.new) (F.faults files.new))) }
+    ensures blame { IsBlamed result (Rose (P.faults paging.old) (P.faults paging.new) ⊎ Rose (F.faults files.old) (F.faults files.new)) (counts_with (S.faults source.old) (O.faults out.old) (M.faults moves.old)) (counts_with (S.faults source.new) (O.faults out.new) (M.faults moves.new)) }
     ensures idle { S.idle source.new ≤ S.idle source.old + 1 }
     ensures source_later { S.faults source.old ≤ S.faults source.new }
     ensures out_later { O.faults out.old ≤ O.faults out.new }
+    ensures moves_later { M.faults moves.old ≤ M.faults moves.new }
     ensures form { result ≢ Ending.Usage }
 {
     let event = match read_event(&held.bytes()[..len], 0) {
@@ -180,31 +217,38 @@ fn decide_first<S: Source, O: Sink, P: Blocks, F: Blocks>(
     };
     match &event {
         Event::Machine(machine) => {
-            start_machine(alloc, held, len, *machine, source, out, paging, files)
+            start_machine(
+                alloc, held, len, *machine, source, out, moves, paging, files,
+            )
         }
         _ => unreachable!(),
     }
 }
 
 /// Decides the lines of a source, and writes the answers.
-pub(crate) fn decide_all<S: Source, O: Sink, P: Blocks, F: Blocks>(
+pub(crate) fn decide_all<S: Source, O: Sink, M: Sink, P: Blocks, F: Blocks>(
     alloc: Global,
     source: &mut S,
     out: &mut O,
+    moves: &mut M,
     paging: &mut P,
     files: &mut F,
 ) -> Ending
-    requires named { F.named files.old ≡ [] }
-    ensures came { Came (outside (S.left source.old) (O.taken out.old)) (outside (S.left source.new) (O.taken out.new)) (stand [] 0 (NotBegun (F.faults files.old))) result (Leaves (told_by (F.named files.new) (F.log files.new)) (F.blocks files.new) (F.faults files.new)) }
-    ensures blame { IsBlamed result (Rose (P.faults paging.old) (P.faults paging.new) ⊎ Rose (F.faults files.old) (F.faults files.new)) (S.faults source.old) (S.faults source.new) (O.faults out.old) (O.faults out.new) }
+    requires paging_named { P.named paging.old ≡ [] }
+    requires files_named { F.named files.old ≡ [] }
+    ensures came { Comes (outside (S.left source.old) (O.taken out.old)) (outside (S.left source.new) (O.taken out.new)) (stand [] 0 (NotBegun (outset (P.faults paging.old) (F.faults files.old) (M.taken moves.old) (M.faults moves.old)))) result (left_with (M.taken moves.new) (M.faults moves.new) (device_left (P.named paging.new) (P.log paging.new) (P.blocks paging.new) (P.faults paging.new)) (device_left (F.named files.new) (F.log files.new) (F.blocks files.new) (F.faults files.new))) }
+    ensures blame { IsBlamed result (Rose (P.faults paging.old) (P.faults paging.new) ⊎ Rose (F.faults files.old) (F.faults files.new)) (counts_with (S.faults source.old) (O.faults out.old) (M.faults moves.old)) (counts_with (S.faults source.new) (O.faults out.new) (M.faults moves.new)) }
     ensures idle { S.idle source.new ≤ S.idle source.old + 1 }
     ensures source_later { S.faults source.old ≤ S.faults source.new }
     ensures out_later { O.faults out.old ≤ O.faults out.new }
+    ensures moves_later { M.faults moves.old ≤ M.faults moves.new }
     ensures form { result ≢ Ending.Usage }
 {
     let mut held = Held::new();
     match held.next(source) {
-        Ok(Found::Line(len)) => { decide_first(alloc, &mut held, len, source, out, paging, files) }
+        Ok(Found::Line(len)) => {
+            decide_first(alloc, &mut held, len, source, out, moves, paging, files)
+        }
         Ok(Found::Long) => Ending::TooLong(1),
         Ok(Found::End) => at_end(0, held.bytes().len()),
         Err(_) => Ending::ReadFault,

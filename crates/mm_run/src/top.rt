@@ -2,11 +2,11 @@ ghost use Rattle.std.specs.Prelude.{◌≡◌, ◌≢◌, ◌↔◌, ◌≤◌, 
 ghost use Rattle.mm_types.specs.Spelling.{decimal};
 ghost use Rattle.mm_types.specs.Outside.{Rose, HasCause};
 ghost use Rattle.mm_run.specs.Script.{IsScript, IsComplete, IsFault};
-ghost use Rattle.mm_run.specs.Story.{Came, IsBlamed, IsForm, Ran, WroteLast, outside, stand};
-ghost use Rattle.mm_blocks.specs.Traffic.{told_by};
-ghost use Rattle.mm_run.specs.Scenes.{NotBegun};
-ghost use Rattle.mm_run.specs.Ends.{Leaves};
-ghost use Rattle.mm_run.specs.Texts.{last_text};
+ghost use Rattle.mm_run.specs.Story.{Comes, IsBlamed, IsForm, outside, stand, counts_with};
+ghost use Rattle.mm_run.specs.Scenes.{NotBegun, outset};
+ghost use Rattle.mm_run.specs.Ends.{left_with, device_left};
+ghost use Rattle.mm_run.specs.Ran.{Ran, around};
+ghost use Rattle.mm_run.specs.Texts.{last_text, WroteLast};
 
 use crate::endings::Ending;
 use crate::machines::decide_all;
@@ -69,60 +69,114 @@ fn write_last<O: Sink>(out: &mut O, ending: Ending) -> Result<(), Failed>
 }
 
 /// What a run comes to, with its answers written.
-fn come_to<S: Source, O: Sink, P: Blocks, F: Blocks>(
+fn come_to<S: Source, O: Sink, M: Sink, P: Blocks, F: Blocks>(
     alloc: Global,
     words: &[String],
     source: &mut S,
     out: &mut O,
+    moves: &mut M,
     paging: &mut P,
     files: &mut F,
 ) -> Ending
-    requires named { F.named files.old ≡ [] }
-    ensures came { Came (outside (S.left source.old) (O.taken out.old)) (outside (S.left source.new) (O.taken out.new)) (stand [] 0 (NotBegun (F.faults files.old))) result (Leaves (told_by (F.named files.new) (F.log files.new)) (F.blocks files.new) (F.faults files.new)) }
+    requires paging_named { P.named paging.old ≡ [] }
+    requires files_named { F.named files.old ≡ [] }
+    ensures came { Comes (outside (S.left source.old) (O.taken out.old)) (outside (S.left source.new) (O.taken out.new)) (stand [] 0 (NotBegun (outset (P.faults paging.old) (F.faults files.old) (M.taken moves.old) (M.faults moves.old)))) result (left_with (M.taken moves.new) (M.faults moves.new) (device_left (P.named paging.new) (P.log paging.new) (P.blocks paging.new) (P.faults paging.new)) (device_left (F.named files.new) (F.log files.new) (F.blocks files.new) (F.faults files.new))) }
     ensures is_form { IsForm words.now → result ≢ Ending.Usage }
     ensures no_form { (IsForm words.now → ⊥) → result ≡ Ending.Usage }
-    ensures blame { IsBlamed result (Rose (P.faults paging.old) (P.faults paging.new) ⊎ Rose (F.faults files.old) (F.faults files.new)) (S.faults source.old) (S.faults source.new) (O.faults out.old) (O.faults out.new) }
+    ensures blame { IsBlamed result (Rose (P.faults paging.old) (P.faults paging.new) ⊎ Rose (F.faults files.old) (F.faults files.new)) (counts_with (S.faults source.old) (O.faults out.old) (M.faults moves.old)) (counts_with (S.faults source.new) (O.faults out.new) (M.faults moves.new)) }
     ensures idle { S.idle source.new ≤ S.idle source.old + 1 }
     ensures source_later { S.faults source.old ≤ S.faults source.new }
     ensures out_later { O.faults out.old ≤ O.faults out.new }
+    ensures moves_later { M.faults moves.old ≤ M.faults moves.new }
 {
     if is_run(words) {
-        decide_all(alloc, source, out, paging, files)
+        decide_all(alloc, source, out, moves, paging, files)
     } else {
         Ending::Usage
     }
 }
 
+/// Gives on what both sinks hold, at the end of a run with this status, and says with which status it ends then.
+fn give_on<O: Sink, M: Sink>(moves: &mut M, out: &mut O, status: u8) -> u8
+    ensures taken { O.taken out.new ≡ O.taken out.old }
+    ensures moves_taken { M.taken moves.new ≡ M.taken moves.old }
+    ensures status { (result ≡ status) ⊎ ((result ≡ 5) ⊎ (result ≡ 6)) }
+    ensures out_fault { result ≡ 5 → (status ≡ 5) ⊎ Rose (O.faults out.old) (O.faults out.new) }
+    ensures moves_fault { result ≡ 6 → (status ≡ 6) ⊎ Rose (M.faults moves.old) (M.faults moves.new) }
+    ensures first { status ≡ 5 → result ≡ 5 }
+    ensures out_later { O.faults out.old ≤ O.faults out.new }
+    ensures moves_later { M.faults moves.old ≤ M.faults moves.new }
+{
+    let noted = moves.flush();
+    let told = out.flush();
+    if status == 5 || status == 6 {
+        return status;
+    }
+    match (noted, told) {
+        (Err(_), _) => 6,
+        (Ok(()), Err(_)) => 5,
+        (Ok(()), Ok(())) => status,
+    }
+}
+
 /// Writes the last text too.
-fn end<S: Source, O: Sink, P: Blocks, F: Blocks>(
+fn finish<S: Source, O: Sink, M: Sink, P: Blocks, F: Blocks>(
     alloc: Global,
     words: &[String],
     source: &mut S,
     out: &mut O,
+    moves: &mut M,
     paging: &mut P,
     files: &mut F,
 ) -> u8
-    requires named { F.named files.old ≡ [] }
-    ensures ran { Ran (outside (S.left source.old) (O.taken out.old)) (outside (S.left source.new) (O.taken out.new)) (NotBegun (F.faults files.old)) (Leaves (told_by (F.named files.new) (F.log files.new)) (F.blocks files.new) (F.faults files.new)) (Rose (F.faults files.old) (F.faults files.new)) (IsForm words.now) result }
+    requires paging_named { P.named paging.old ≡ [] }
+    requires files_named { F.named files.old ≡ [] }
+    ensures ran { Ran (around (S.left source.old) (O.taken out.old) (left_with (M.taken moves.old) (M.faults moves.old) (device_left (P.named paging.old) (P.log paging.old) (P.blocks paging.old) (P.faults paging.old)) (device_left (F.named files.old) (F.log files.old) (F.blocks files.old) (F.faults files.old)))) (around (S.left source.new) (O.taken out.new) (left_with (M.taken moves.new) (M.faults moves.new) (device_left (P.named paging.new) (P.log paging.new) (P.blocks paging.new) (P.faults paging.new)) (device_left (F.named files.new) (F.log files.new) (F.blocks files.new) (F.faults files.new)))) (IsForm words.now) result }
     ensures read_fault { result ≡ 4 → Rose (S.faults source.old) (S.faults source.new) }
     ensures out_fault { result ≡ 5 → Rose (O.faults out.old) (O.faults out.new) }
+    ensures moves_fault { result ≡ 6 → Rose (M.faults moves.old) (M.faults moves.new) }
     ensures setup_fault { result ≡ 7 → Rose (P.faults paging.old) (P.faults paging.new) ⊎ Rose (F.faults files.old) (F.faults files.new) }
     ensures idle { S.idle source.new ≤ S.idle source.old + 1 }
+    ensures out_later { O.faults out.old ≤ O.faults out.new }
+    ensures moves_later { M.faults moves.old ≤ M.faults moves.new }
 {
-    let ending = come_to(alloc, words, source, out, paging, files);
+    let ending = come_to(alloc, words, source, out, moves, paging, files);
     match write_last(out, ending) {
         Ok(()) => ending.status(),
         Err(_) => 5,
     }
 }
 
+/// Flushes both sinks at last.
+fn end<S: Source, O: Sink, M: Sink, P: Blocks, F: Blocks>(
+    alloc: Global,
+    words: &[String],
+    source: &mut S,
+    out: &mut O,
+    moves: &mut M,
+    paging: &mut P,
+    files: &mut F,
+) -> u8
+    requires paging_named { P.named paging.old ≡ [] }
+    requires files_named { F.named files.old ≡ [] }
+    ensures ran { Ran (around (S.left source.old) (O.taken out.old) (left_with (M.taken moves.old) (M.faults moves.old) (device_left (P.named paging.old) (P.log paging.old) (P.blocks paging.old) (P.faults paging.old)) (device_left (F.named files.old) (F.log files.old) (F.blocks files.old) (F.faults files.old)))) (around (S.left source.new) (O.taken out.new) (left_with (M.taken moves.new) (M.faults moves.new) (device_left (P.named paging.new) (P.log paging.new) (P.blocks paging.new) (P.faults paging.new)) (device_left (F.named files.new) (F.log files.new) (F.blocks files.new) (F.faults files.new)))) (IsForm words.now) result }
+    ensures read_fault { result ≡ 4 → Rose (S.faults source.old) (S.faults source.new) }
+    ensures out_fault { result ≡ 5 → Rose (O.faults out.old) (O.faults out.new) }
+    ensures moves_fault { result ≡ 6 → Rose (M.faults moves.old) (M.faults moves.new) }
+    ensures setup_fault { result ≡ 7 → Rose (P.faults paging.old) (P.faults paging.new) ⊎ Rose (F.faults files.old) (F.faults files.new) }
+    ensures idle { S.idle source.new ≤ S.idle source.old + 1 }
+{
+    let status = finish(alloc, words, source, out, moves, paging, files);
+    give_on(moves, out, status)
+}
+
 /// Runs a script from the bytes of its source to the bytes of its answers, and says how it ended: 0 where every
 /// line was decided, 1 where memory was refused, 2 where the words are no form, 3 at a line that is not in the
-/// grammar, 4 where the source failed, 5 where `out` failed, 7 where a device failed as it was opened, 8 at a line that is
-/// too long, 9 at a line whose form is not built yet.
+/// grammar, 4 where the source failed, 5 where `out` failed, 6 where `moves` failed, 7 where a device failed as it was opened, 8 at a
+/// line that is too long, 9 at a line whose form is not built yet.
 ///
 /// At the first line, `machine`, it opens `paging` with the slots and then `files` with the blocks; neither names calls to fail by itself.
-/// `paging` is only opened, and nothing is written to `moves`: pages stand in the unpaged store.
+/// Each line's moves are written to `moves` before its answer to `out`.
 pub fn run<S: Source, O: Sink, M: Sink, P: Blocks, F: Blocks>(
     alloc: Global,
     words: &[String],
@@ -132,14 +186,15 @@ pub fn run<S: Source, O: Sink, M: Sink, P: Blocks, F: Blocks>(
     paging: &mut P,
     files: &mut F,
 ) -> u8
-    requires plain { F.named files.old ≡ [] }
-    // Which lines were decided, with which answers, what the run then came to, what was written, and what the file device holds.
-    ensures ran { Ran (outside (S.left source.old) (O.taken out.old)) (outside (S.left source.new) (O.taken out.new)) (NotBegun (F.faults files.old)) (Leaves (told_by (F.named files.new) (F.log files.new)) (F.blocks files.new) (F.faults files.new)) (Rose (F.faults files.old) (F.faults files.new)) (IsForm words.now) result }
+    requires paging_plain { P.named paging.old ≡ [] }
+    requires files_plain { F.named files.old ≡ [] }
+    // Which lines were decided, with which answers and moves, what the run then came to, what was written, and what is left on devices.
+    ensures ran { Ran (around (S.left source.old) (O.taken out.old) (left_with (M.taken moves.old) (M.faults moves.old) (device_left (P.named paging.old) (P.log paging.old) (P.blocks paging.old) (P.faults paging.old)) (device_left (F.named files.old) (F.log files.old) (F.blocks files.old) (F.faults files.old)))) (around (S.left source.new) (O.taken out.new) (left_with (M.taken moves.new) (M.faults moves.new) (device_left (P.named paging.new) (P.log paging.new) (P.blocks paging.new) (P.faults paging.new)) (device_left (F.named files.new) (F.log files.new) (F.blocks files.new) (F.faults files.new)))) (IsForm words.now) result }
 
     // A script that comes to something by itself ends with that status and its whole text, unless memory or the
     // outside fails.
     ensures exact { (text : List ℕ) (lines : List (List ℕ)) (e : Ending) → S.left source.old ≡ Some text → IsForm words.now → IsScript text 0 lines e
-        → IsComplete (O.taken out.old) (O.taken out.new) (NotBegun (F.faults files.old)) (Rose (F.faults files.old) (F.faults files.new)) lines e result ⊎ IsFault result }
+        → IsComplete (around (S.left source.old) (O.taken out.old) (left_with (M.taken moves.old) (M.faults moves.old) (device_left (P.named paging.old) (P.log paging.old) (P.blocks paging.old) (P.faults paging.old)) (device_left (F.named files.old) (F.log files.old) (F.blocks files.old) (F.faults files.old)))) (around (S.left source.new) (O.taken out.new) (left_with (M.taken moves.new) (M.faults moves.new) (device_left (P.named paging.new) (P.log paging.new) (P.blocks paging.new) (P.faults paging.new)) (device_left (F.named files.new) (F.log files.new) (F.blocks files.new) (F.faults files.new)))) (IsForm words.now) lines e result ⊎ IsFault result }
     ensures usage { (IsForm words.now → ⊥) → (result ≡ 2) ⊎ IsFault result }
     ensures form { IsForm words.now → result ≢ 2 }
 
@@ -147,9 +202,8 @@ pub fn run<S: Source, O: Sink, M: Sink, P: Blocks, F: Blocks>(
     ensures idle { S.idle source.new ≤ S.idle source.old + 1 }
     ensures read_fault { result ≡ 4 → Rose (S.faults source.old) (S.faults source.new) }
     ensures out_fault { result ≡ 5 → Rose (O.faults out.old) (O.faults out.new) }
+    ensures moves_fault { result ≡ 6 → Rose (M.faults moves.old) (M.faults moves.new) }
     ensures setup_fault { result ≡ 7 → Rose (P.faults paging.old) (P.faults paging.new) ⊎ Rose (F.faults files.old) (F.faults files.new) }
-    ensures moves { M.taken moves.new ≡ M.taken moves.old }
 {
-    let _ = moves;
-    end(alloc, words, source, out, paging, files)
+    end(alloc, words, source, out, moves, paging, files)
 }

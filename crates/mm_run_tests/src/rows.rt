@@ -96,16 +96,16 @@ const EXECUTION: (&[u8], &[u8]) = (
     b"ok 12\nok 1\nok 0x00010000\nraise 0xC0000005\nok 0x00010000\nok\nraise 0xC0000005\nraise 0xC0000005\nraise 0xC0000005\nok\nraise 0xC0000005\n",
 );
 
-// An unpaged store has no request: each `begin` is answered at once, and there is nothing to resume or to end.
+// A plain access ends the read that a thread waits for, so there is nothing left for `io` to end.
 const THREADS: (&[u8], &[u8]) = (
     b"machine 8 8 1 1\nfile d 1 9\nprocess 0 4\ncreatefile 1 d 0x02 -\nmap 1 4 4 0 0 0\nbegin 0 1 read 0x10000 1\nread 1 0x10000 1\nio 1\nresume 0\nbegin 3 1 write 0x10000 AA\nbegin 3 2 read 0x10000 1\nalloc 1 0 1 0x3000 0x04\nbegin 255 1 write 0x20000 AB\nread 1 0x20000 1\n",
-    b"ok 12\nok\nok 1\nok 4 0\nok 0x00010000\nok 09\nok 09\nnone\nnone\nraise 0xC0000005\nerror 6\nok 0x00020000\nok\nok AB\n",
+    b"ok 12\nok\nok 1\nok 4 0\nok 0x00010000\npending read\nok 09\nnone\nok 09\nraise 0xC0000005\nerror 6\nok 0x00020000\nok\nok AB\n",
 );
 
-// An unpaged store has no frames to clear, write or count.
+// The write-out of the trimmed page is in flight when the frames are counted, and one free frame was cleared.
 const HOUSEKEEPING: (&[u8], &[u8]) = (
     b"machine 8 8 1 0\nprocess 0 8\nalloc 1 0 1 0x3000 0x04\nwrite 1 0x10000 AB\nage 1\ntrim 1 8\nwriter 1\nzeroer 1\ncounts\nread 1 0x10000 1\nexit 1\ncharge\n",
-    b"ok 12\nok 1\nok 0x00010000\nok\nok\nok\nok\nok\nok 0 0 0 0 0 0 0 0\nok AB\nok\nok 0 12\n",
+    b"ok 12\nok 1\nok 0x00010000\nok\nok\nok\nok\nok\nok 1 6 0 0 0 1 7 1\nok AB\nok\nok 0 12\n",
 );
 
 const HUNDRED_PAGES: (&[u8], &[u8]) = (

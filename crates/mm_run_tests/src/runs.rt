@@ -15,6 +15,7 @@ const SMALLEST_ANSWERS: &[u8] = b"ok 2\nok 1\nok 0x00010000\nerror 1455\nok\nok 
 struct Failing<'a> {
     reads: &'a [u32],
     writes: &'a [u32],
+    moves: &'a [u32],
     paging: &'a [u32],
     files: &'a [u32],
 }
@@ -22,6 +23,7 @@ struct Failing<'a> {
 const NOTHING: Failing<'static> = Failing {
     reads: &[],
     writes: &[],
+    moves: &[],
     paging: &[],
     files: &[],
 };
@@ -56,7 +58,7 @@ fn outcome(
         Vec::from_slice(alloc, failing.reads)?,
     );
     let mut out = sink(alloc, room, failing.writes)?;
-    let mut moves = sink(alloc, 0, &[])?;
+    let mut moves = sink(alloc, 65536, failing.moves)?;
     let mut paging = device(alloc, failing.paging)?;
     let mut files = device(alloc, failing.files)?;
     let status = run(
@@ -185,6 +187,21 @@ fn failing_source_and_sink(rt: HostRuntime) -> Result<(), Fail> {
     Ok(())
 }
 
+// The fourth note is the first page of the third line.
+#[test]
+fn failing_moves(rt: HostRuntime) -> Result<(), Fail> {
+    for (call, answers) in [(1, b"".as_slice()), (4, b"ok 2\nok 1\n".as_slice())] {
+        let moves = Failing {
+            moves: &[call],
+            ..NOTHING
+        };
+        let (status, text) = outcome(rt.alloc(), "run", SMALLEST, 4096, moves)?;
+        assert_eq!(rt; status, 6);
+        assert_eq!(rt; text.as_slice(), answers);
+    }
+    Ok(())
+}
+
 #[test]
 fn processes(rt: HostRuntime) -> Result<(), Fail> {
     let alloc = rt.alloc();
@@ -222,6 +239,9 @@ const FLUSHED: &[u8] = b"ok 12\nok\nok 1\nok 4 0\nok 0x00010000\nok\nok\nok\nok 
 const NOT_MADE: &[u8] =
     b"ok 12\nfault\nok 1\nerror 2\nerror 6\nraise 0xC0000005\nerror 487\nerror 487\nraise 0xC0000005\n";
 
+const NOT_READ: &[u8] =
+    b"ok 12\nok\nok 1\nok 4 0\nok 0x00010000\nraise 0xC0000006\nok\nok\nok 0101\n";
+
 const FLUSHED_LATER: &[u8] = b"ok 12\nok\nok 1\nok 4 0\nok 0x00010000\nok\nfault\nok\nok FF01\n";
 
 #[test]
@@ -241,12 +261,13 @@ fn failing_devices(rt: HostRuntime) -> Result<(), Fail> {
     let (status, text) = outcome(alloc, "run", FLUSHING, 4096, files)?;
     assert_eq!(rt; status, 7);
     assert_eq!(rt; text.is_empty(), true);
-    // The first call opens the device, two write the file, one flushes its first page.
+    // The first call opens the device, two write the file, one reads its first page, one flushes it.
     for (call, answers) in [
         (2, NOT_MADE),
         (3, NOT_MADE),
-        (4, FLUSHED_LATER),
-        (5, FLUSHED),
+        (4, NOT_READ),
+        (5, FLUSHED_LATER),
+        (6, FLUSHED),
     ] {
         let files = Failing {
             files: &[call],
@@ -265,7 +286,7 @@ fn blocks_after_flushing(rt: HostRuntime) -> Result<(), Fail> {
     let words = vec![in alloc; String::from_str(alloc, "run")?]?;
     let mut source = MemSource::new(Vec::from_slice(alloc, FLUSHING)?, Vec::new(alloc));
     let mut out = sink(alloc, 4096, &[])?;
-    let mut moves = sink(alloc, 0, &[])?;
+    let mut moves = sink(alloc, 65536, &[])?;
     let mut paging = device(alloc, &[])?;
     let mut files = device(alloc, &[])?;
     let status = run(

@@ -1,4 +1,5 @@
-//! Simulates the memory manager of 32-bit Windows: a script on standard input, its answers on standard output.
+//! Simulates the memory manager of 32-bit Windows: a script on standard input, its answers on standard output, the moves of its page
+//! frames on standard error.
 #![tactic(auto)]
 
 use mm_blocks::MemBlocks;
@@ -6,6 +7,7 @@ use mm_io::{StdSink, StdSource};
 use mm_run::run;
 use mm_types::NoMemory;
 use std::alloc::{AllocError, Global};
+use std::io::{BufWriter, Write};
 use std::process::ExitCode;
 use std::rt::Env;
 use std::{env, io};
@@ -38,14 +40,22 @@ fn device(alloc: Global) -> Result<MemBlocks, NoMemory> {
     MemBlocks::new(alloc, Vec::new(alloc), 0)
 }
 
-/// Runs the words on standard input and output; nothing is written to standard error yet.
+/// A buffer in front of a standard stream.
+fn buffered<W: Write + Drop>(alloc: Global, stream: W) -> Result<BufWriter<W>, NoMemory> {
+    match BufWriter::new(alloc, stream) {
+        Ok(writer) => Ok(writer),
+        Err(_) => Err(NoMemory),
+    }
+}
+
+/// Runs the words on standard input and output; the moves are written to standard error.
 fn simulate(rt: &HostRuntime, words: &[String]) -> Result<u8, NoMemory> {
     let alloc: Global = rt.alloc();
     let mut paging = device(alloc)?;
     let mut files = device(alloc)?;
     let mut source = StdSource::new(rt.reader());
-    let mut out = StdSink::new(io::writer(rt));
-    let mut moves = StdSink::new(rt.stderr());
+    let mut out = StdSink::new(buffered(alloc, io::writer(rt))?);
+    let mut moves = StdSink::new(buffered(alloc, rt.stderr())?);
     Ok(run(
         alloc,
         words,

@@ -1,5 +1,5 @@
-use Rattle.std.proofs.Common.{◌≡◌, ◌<◌, ◌≤◌, false, [], length}
-use Rattle.mm_core.specs.Shown.{line_of, loans}
+use Rattle.std.proofs.Common.{◌≡◌, ◌<◌, ◌≤◌, false, length}
+use Rattle.mm_core.specs.Shown.{line_of, loans, behind}
 use Rattle.mm_run.specs.Story.{Went, outside, stand}
 use Rattle.mm_run.specs.Scenes.{Running, scene}
 use Rattle.mm_run.proofs.decisions.decide_rest.Given as goal
@@ -10,8 +10,10 @@ invariant-loop-n g l = record {
   few : length l.held < 4096;
   count : line_of l.world ≡ l.n;
   ready : l.world.spent ≡ false;
+  noted : (behind l.world).log.failed ≡ false;
   same : loans l.world ≡ loans l.fn.world;
   idle : g.S.Source.idle l.source ≤ g.S.Source.idle l.fn.source;
   source_later : g.S.Source.faults l.fn.source ≤ g.S.Source.faults l.source;
   out_later : g.O.Sink.faults l.fn.out ≤ g.O.Sink.faults l.out;
+  moves_later : (behind l.fn.world).log.faults ≤ (behind l.world).log.faults;
 }

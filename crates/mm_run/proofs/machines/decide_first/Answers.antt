@@ -1,7 +1,8 @@
-use Rattle.std.proofs.Common.{◌≡◌, ◌<◌, take, sym, ap, ◌∙◌, subst, List, ℕ, arith}
+use Rattle.std.proofs.Common.{◌≡◌, ◌<◌, take, refl, sym, ap, ◌∙◌, subst, List, ℕ, arith}
 use Rattle.std.specs.Prelude.{Err}
 use Rattle.mm_script.specs.Grammar.{IsLine as IsLineFor}
 use Rattle.mm_run.specs.Reading.{reading}
+use Rattle.mm_run.proofs.Stories.{comes_here}
 use Rattle.mm_run.proofs.Stops.{came_bad}
 use Rattle.mm_run.proofs.machines.decide_first.Goals as goal
 
@@ -10,4 +11,5 @@ returns-in-Err-clause-came g c =
     let small : 0 < 1000000 = omega arith in
     let bad : reading 0 (take c.args.len c.args.held.now) ≡ Err c.in-Err.column =
     ap (λ xs. reading 0 (take c.args.len xs)) (sym c.bytes.ensures) ∙ sym c.read_event.ensures.reads ∙ c.in-Err.is in
-    came_bad _ _ 0 c.requires.line small c.requires.behind _ _ _ _ _ tt bad (λ e s. c.in-Err.ensures.refused e (subst (λ (xs : List ℕ). IsLineFor (take c.args.len xs) e) (sym c.bytes.ensures) s))
+    comes_here _ _ _ _ _ _ refl
+    (came_bad _ _ 0 c.requires.line small c.requires.behind _ _ _ _ bad (λ e s. c.in-Err.ensures.refused e (subst (λ (xs : List ℕ). IsLineFor (take c.args.len xs) e) (sym c.bytes.ensures) s)))

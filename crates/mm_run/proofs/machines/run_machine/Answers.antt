@@ -1,35 +1,112 @@
-use Rattle.std.specs.Prelude.{Option}
-use Rattle.mm_blocks.specs.declared.device_calls.DeviceCall.{DeviceCall}
-use Rattle.std.proofs.Common.{◌≡◌, ◌≤◌, ◌+◌, ℕ, List, [], subst, refl, sym, ap, ◌∙◌, arith}
+use Rattle.std.proofs.Common.{◌≡◌, ◌≤◌, ◌<◌, ◌+◌, refl, sym, ap, ◌∙◌, subst, inl, arith, rules}
+use Rattle.mm_types.specs.Machine.{IsMachine}
 use Rattle.mm_blocks.specs.Traffic.{NoneLogged, told_by}
-use Rattle.mm_run.specs.Scenes.{scene}
-use Rattle.mm_run.specs.Ends.{Leaves}
-use Rattle.mm_run.proofs.Stories.{came_at}
-use Rattle.mm_run.proofs.Devices.{none_logged, one_name, leaves}
+use Rattle.mm_core.specs.Shown.{world}
+use Rattle.mm_moving.specs.Shown.{StateOf}
+use Rattle.mm_paged.specs.Store as paged
+use Rattle.mm_run.specs.Scenes.{NotBegun, Running, outset, scene}
+use Rattle.mm_run.specs.Story.{IsBlamed, counts_with}
+use Rattle.mm_run.proofs.Starting.{opened_of, is_new, is_made, first_legal, three_names}
+use Rattle.mm_run.proofs.Stories.{comes_here, follows_here}
+use Rattle.mm_run.proofs.Stops.{came_memory}
 use Rattle.mm_run.proofs.machines.run_machine.Goals as goal
 
+pub returns-in-Err-clause-came : goal.returns-in-Err-clause-came
+returns-in-Err-clause-came g c = λ p f later later'.
+    let small : 0 < 1000000 = omega arith in
+    let o = outset p f (g.M.Sink.taken c.args.moves.now) (g.M.Sink.faults c.args.moves.now) in
+    let err = c.in-Err.ensures.err in
+    let end = c.moves-1.given.1 (sym c.new-3.ensures.same_reference ∙ sym (ap (λ x. x.2.sink.ghost_name) err) ∙ sym c.finish-in-Err-2.ensures.same_reference) in
+    comes_here _ _ _ _ o _ (sym (ap g.M.Sink.taken (end ∙ c.finish-in-Err-2.ensures.sink ∙ ap (λ x. x.2.sink.now) err ∙ c.new-3.ensures.sink)))
+    (came_memory c.args.held.now c.args.len 0 c.requires.line small c.requires.behind _ _ (NotBegun o) (NotBegun o) (inl (follows_here (NotBegun o))))
+
+pub over-requires-clause-unused : goal.over-requires-clause-unused
+over-requires-clause-unused g c = λ b. ap (λ (z : StateOf). z.life.added b) c.in-Ok.ensures.starts.shows
+
+pub new-world-requires : goal.new-world-requires
+new-world-requires g c =
+    let bp = g.P.Blocks in
+    let bf = g.F.Blocks in
+    let pd = c.new.ensures.device in
+    let fd = c.new-2.ensures.device in
+    let o = outset (bp.faults c.new.result.device.now) (bf.faults c.new-2.result.device.now) (g.M.Sink.taken c.args.moves.now) (g.M.Sink.faults c.args.moves.now) in
+    let opened = opened_of c.args.machine o (bp.named c.new.result.device.now) (bf.named c.new-2.result.device.now) c.new.result.plan.named c.new-2.result.plan.named (bp.log c.new.result.device.now) (bf.log c.new-2.result.device.now) (bp.faults c.new.result.device.now) c.new.result.plan.faults (bf.faults c.new-2.result.device.now) c.new-2.result.plan.faults (bp.blocks c.new.result.device.now) (bf.blocks c.new-2.result.device.now)
+    (ap bp.blocks pd ∙ c.requires.slots) (ap bf.blocks fd ∙ c.requires.blocks)
+    (subst (λ d. NoneLogged (bp.log d)) (sym pd) c.requires.paging_logged) (subst (λ d. NoneLogged (bf.log d)) (sym fd) c.requires.files_logged)
+    c.new.ensures.plain c.new-2.ensures.plain c.new.ensures.named c.new-2.ensures.named (omega arith) (omega arith) in
+    record { new = is_new c.args.machine o _ _ _ _ opened _ _ c.in-Ok.ensures.starts _ _ c.over.ensures.contents c.over.ensures.store }
+
 pub returns-clause-came : goal.returns-clause-came
-returns-clause-came g c = λ faults later.
-    let b = g.F.Blocks in
+returns-clause-came g c = λ p f later later'.
+    let bp = g.P.Blocks in
+    let bf = g.F.Blocks in
+    let bm = g.M.Sink in
+    let m = c.args.machine in
+    let whole : IsMachine m = search rules in
+    let pd = c.new.ensures.device in
+    let fd = c.new-2.ensures.device in
+    let o = outset p f (bm.taken c.args.moves.now) (bm.faults c.args.moves.now) in
+    let opened = opened_of m o (bp.named c.new.result.device.now) (bf.named c.new-2.result.device.now) c.new.result.plan.named c.new-2.result.plan.named (bp.log c.new.result.device.now) (bf.log c.new-2.result.device.now) (bp.faults c.new.result.device.now) c.new.result.plan.faults (bf.faults c.new-2.result.device.now) c.new-2.result.plan.faults (bp.blocks c.new.result.device.now) (bf.blocks c.new-2.result.device.now)
+    (ap bp.blocks pd ∙ c.requires.slots) (ap bf.blocks fd ∙ c.requires.blocks)
+    (subst (λ d. NoneLogged (bp.log d)) (sym pd) c.requires.paging_logged) (subst (λ d. NoneLogged (bf.log d)) (sym fd) c.requires.files_logged)
+    c.new.ensures.plain c.new-2.ensures.plain c.new.ensures.named c.new-2.ensures.named (subst (λ d. p ≤ bp.faults d) (sym pd) later) (subst (λ d. f ≤ bf.faults d) (sym fd) later') in
+    let log : _ ≡ o.log = λ i. record { bytes = bm.taken (c.new-3.ensures.sink i); failed = c.new-3.ensures.fresh i; faults = bm.faults (c.new-3.ensures.sink i) } in
     let first = c.new-world.result in
     let last = c.answer_all-ending.new.world in
-    let given = c.args.files.now in
-    let same : first.pages.files ≡ c.new.result = ap (λ p. p.files) c.new-world.ensures.pages ∙ c.in-Ok.ensures.device in
-    let device : first.pages.files.device.now ≡ given = ap (λ f. f.device.now) same ∙ c.new.ensures.device in
-    let named : first.pages.files.plan.named ≡ [] = ap (λ f. f.plan.named) same ∙ c.new.ensures.named in
-    let none : first.pages.files.plan.faults ≡ 0 = ap (λ f. f.plan.faults) same ∙ c.new.ensures.faults in
-    let back : c.finish-2.result ≡ last.pages.files = c.finish-2.ensures ∙ ap (λ p. p.files) c.finish.ensures in
-    let end : c.finish-3.result.now ≡ last.pages.files.device.now = c.finish-3.ensures.device ∙ ap (λ f. f.device.now) back in
-    let name : last.pages.files.device.ghost_name ≡ first.pages.files.device.ghost_name = one_name _ _ c.answer_all-ending.ensures.loans in
-    let final = c.files-2-1.given.1 (sym c.new.ensures.same_reference ∙ sym (ap (λ f. f.device.ghost_name) same) ∙ sym name ∙ sym (ap (λ f. f.device.ghost_name) back) ∙ sym c.finish-3.ensures.same_reference) in
-    let left = sym (final ∙ end) in
-    came_at _ _ _ _ _ _ (leaves _ _ _ (scene last) (ap (λ d. told_by (b.named d) (b.log d)) left) (ap b.blocks left)
-    (λ e. sym (c.finish-3.ensures.faults (ap (λ f. f.plan.named) back ∙ e)
-    ∙ ap (λ f. b.faults f.device.now + f.plan.faults) back) ∙ ap b.faults (sym final)) refl)
-    (c.answer_all-ending.ensures.came faults (record {
-      world = c.new-world.ensures.world;
-      blocks = ap b.blocks device ∙ c.requires.blocks;
-      none_logged = none_logged (b.named first.pages.files.device.now) (b.log first.pages.files.device.now) (ap b.named device ∙ c.requires.named) (subst (λ (l : Option (List DeviceCall)). NoneLogged l) (sym (ap b.log device)) c.requires.logged);
-      none_named = named;
-      later = (let same_faults = ap b.faults device in omega (arith, same_faults, none, later));
-    }))
+    let made = is_made m o _ _ _ _ opened _ _ log c.in-Ok.ensures.starts (first_legal m whole) (world first) (paged.store first.pages) (paged.behind first.pages) c.new-world.ensures.world
+    (ap (λ x. paged.store x) c.new-world.ensures.pages ∙ c.over.ensures.store) (ap (λ x. paged.behind x) c.new-world.ensures.pages ∙ c.over.ensures.behind) in
+    let names = three_names last.pages.state.paging.device.ghost_name last.pages.state.files.device.ghost_name last.pages.state.moves.sink.ghost_name c.new.result.device.ghost_name c.new-2.result.device.ghost_name c.new-3.result.sink.ghost_name
+    (c.answer_all-ending.ensures.loans ∙ ap (λ x. paged.loans x) c.new-world.ensures.pages ∙ c.over.ensures.loans ∙ c.in-Ok.ensures.loans) in
+    let paging : c.finish-paging.result.0 ≡ last.pages.state.paging = ap (λ x. x.0) c.finish-paging.ensures ∙ ap (λ x. x.paging) c.finish-3.ensures.state ∙ ap (λ x. x.state.paging) c.finish-2.ensures in
+    let files : c.finish-paging.result.1 ≡ last.pages.state.files = ap (λ x. x.1) c.finish-paging.ensures ∙ ap (λ x. x.files) c.finish-3.ensures.state ∙ ap (λ x. x.state.files) c.finish-2.ensures in
+    let moves : c.finish-paging.result.2 ≡ last.pages.state.moves = ap (λ x. x.2) c.finish-paging.ensures ∙ ap (λ x. x.moves) c.finish-3.ensures.state ∙ ap (λ x. x.state.moves) c.finish-2.ensures in
+    let end_p = c.paging-2-1.given.1 (sym c.new.ensures.same_reference ∙ sym names.0 ∙ sym (ap (λ x. x.device.ghost_name) paging) ∙ sym c.finish-4.ensures.same_reference) in
+    let end_f = c.files-2-1.given.1 (sym c.new-2.ensures.same_reference ∙ sym names.1 ∙ sym (ap (λ x. x.device.ghost_name) files) ∙ sym c.finish-5.ensures.same_reference) in
+    let end_m = c.moves-2-1.given.1 (sym c.new-3.ensures.same_reference ∙ sym names.2 ∙ sym (ap (λ x. x.sink.ghost_name) moves) ∙ sym c.finish-6.ensures.same_reference) in
+    let left_p = sym (end_p ∙ c.finish-4.ensures.device ∙ ap (λ x. x.device.now) paging) in
+    let left_f = sym (end_f ∙ c.finish-5.ensures.device ∙ ap (λ x. x.device.now) files) in
+    let left_m = sym (end_m ∙ c.finish-6.ensures.sink ∙ ap (λ x. x.sink.now) moves) in
+    record {
+      end = Running (scene last);
+      came = c.answer_all-ending.ensures.came o made;
+      leaves = (
+        ap bm.taken left_m,
+        record {
+          log_is = ap (λ d. told_by (bp.named d) (bp.log d)) left_p;
+          blocks_are = ap bp.blocks left_p;
+          faults_are = λ e. sym (c.finish-4.ensures.faults (ap (λ x. x.plan.named) paging ∙ e) ∙ ap (λ x. bp.faults x.device.now + x.plan.faults) paging) ∙ ap bp.faults (sym end_p);
+        },
+        record {
+          log_is = ap (λ d. told_by (bf.named d) (bf.log d)) left_f;
+          blocks_are = ap bf.blocks left_f;
+          faults_are = λ e. sym (c.finish-5.ensures.faults (ap (λ x. x.plan.named) files ∙ e) ∙ ap (λ x. bf.faults x.device.now + x.plan.faults) files) ∙ ap bf.faults (sym end_f);
+        },
+      );
+    }
+
+pub returns-clause-blame : goal.returns-clause-blame
+returns-clause-blame g c =
+    let bp = g.P.Blocks in
+    let bf = g.F.Blocks in
+    let bm = g.M.Sink in
+    let m = c.args.machine in
+    let whole : IsMachine m = search rules in
+    let pd = c.new.ensures.device in
+    let fd = c.new-2.ensures.device in
+    let o = outset (bp.faults c.new.result.device.now) (bf.faults c.new-2.result.device.now) (bm.taken c.args.moves.now) (bm.faults c.args.moves.now) in
+    let opened = opened_of m o (bp.named c.new.result.device.now) (bf.named c.new-2.result.device.now) c.new.result.plan.named c.new-2.result.plan.named (bp.log c.new.result.device.now) (bf.log c.new-2.result.device.now) (bp.faults c.new.result.device.now) c.new.result.plan.faults (bf.faults c.new-2.result.device.now) c.new-2.result.plan.faults (bp.blocks c.new.result.device.now) (bf.blocks c.new-2.result.device.now)
+    (ap bp.blocks pd ∙ c.requires.slots) (ap bf.blocks fd ∙ c.requires.blocks)
+    (subst (λ d. NoneLogged (bp.log d)) (sym pd) c.requires.paging_logged) (subst (λ d. NoneLogged (bf.log d)) (sym fd) c.requires.files_logged)
+    c.new.ensures.plain c.new-2.ensures.plain c.new.ensures.named c.new-2.ensures.named (omega arith) (omega arith) in
+    let log : _ ≡ o.log = λ i. record { bytes = bm.taken (c.new-3.ensures.sink i); failed = c.new-3.ensures.fresh i; faults = bm.faults (c.new-3.ensures.sink i) } in
+    let first = c.new-world.result in
+    let last = c.answer_all-ending.new.world in
+    let made = is_made m o _ _ _ _ opened _ _ log c.in-Ok.ensures.starts (first_legal m whole) (world first) (paged.store first.pages) (paged.behind first.pages) c.new-world.ensures.world
+    (ap (λ x. paged.store x) c.new-world.ensures.pages ∙ c.over.ensures.store) (ap (λ x. paged.behind x) c.new-world.ensures.pages ∙ c.over.ensures.behind) in
+    let names = three_names last.pages.state.paging.device.ghost_name last.pages.state.files.device.ghost_name last.pages.state.moves.sink.ghost_name c.new.result.device.ghost_name c.new-2.result.device.ghost_name c.new-3.result.sink.ghost_name
+    (c.answer_all-ending.ensures.loans ∙ ap (λ x. paged.loans x) c.new-world.ensures.pages ∙ c.over.ensures.loans ∙ c.in-Ok.ensures.loans) in
+    let moves : c.finish-paging.result.2 ≡ last.pages.state.moves = ap (λ x. x.2) c.finish-paging.ensures ∙ ap (λ x. x.moves) c.finish-3.ensures.state ∙ ap (λ x. x.state.moves) c.finish-2.ensures in
+    let end_m = c.moves-2-1.given.1 (sym c.new-3.ensures.same_reference ∙ sym names.2 ∙ sym (ap (λ x. x.sink.ghost_name) moves) ∙ sym c.finish-6.ensures.same_reference) in
+    let left_m = sym (end_m ∙ c.finish-6.ensures.sink ∙ ap (λ x. x.sink.now) moves) in
+    subst (λ d. IsBlamed c.answer_all-ending.result ⊥ (counts_with (g.S.Source.faults c.args.source.now) (g.O.Sink.faults c.args.out.now) (bm.faults c.args.moves.now)) (counts_with (g.S.Source.faults c.answer_all-ending.new.source) (g.O.Sink.faults c.answer_all-ending.new.out) (bm.faults d))) left_m
+    (c.answer_all-ending.ensures.blame o made refl)

@@ -1,0 +1,29 @@
+-- A line of a world over a store that pages is decided as a run tells it.
+use Rattle.std.proofs.Common.{◌≡◌, Bool, true, false, Option, Some, None, refl, sym, ap, ◌∙◌}
+use Rattle.std.specs.Prelude.{is_some, unwrap_or}
+use Rattle.mm_types.specs.declared.numbers.Key.{Key}
+use Rattle.mm_life.specs.Life.{is_live}
+use Rattle.mm_world.specs.World.{Page, filled}
+use Rattle.mm_world.specs.Keys.{content_of}
+use Rattle.mm_world.specs.Contents.{Tables, world_with}
+use Rattle.mm_world.proofs.Across.{holds_bytes}
+use Rattle.mm_pages.specs.Store.{StoreOf}
+use Rattle.mm_pages.specs.Behind.{Behind}
+use Rattle.mm_pages.specs.Standing.{Stands, StandsIn}
+use Rattle.mm_paging.specs.Runs.{DevicesHold}
+use Rattle.mm_tables.specs.Fits.{bytes_of}
+
+pub stands : (u : Bool) (c : Key → Option Page) (s : StoreOf) (b : Behind) → u ≡ false → StandsIn u c s b → Stands c s b
+stands true c s b e h = cc
+stands false c s b e h = h
+
+one_content : (o p : Option Page) → is_some p ≡ is_some o → ((x : Page) → o ≡ Some x → x ≡ unwrap_or p (filled 0)) → o ≡ p
+one_content None None e h = refl
+one_content None (Some y) e h = cc
+one_content (Some x) None e h = cc
+one_content (Some x) (Some y) e h = ap Some (h x refl)
+
+-- what a store keeps at all times of its devices, it keeps of the world over it
+pub devices_hold : (t : Tables) (c : Key → Option Page) (s : StoreOf) (b : Behind) → Stands c s b → ((k : Key) → is_live b.life k ≡ is_some (content_of (world_with t (bytes_of c)) k)) → DevicesHold (world_with t (bytes_of c)) b.life b.slots s.file_blocks
+devices_hold t c s b h keys = λ k on.
+    one_content (content_of (world_with t (bytes_of c)) k) (c k) (sym (h.live k) ∙ keys k) (holds_bytes (bytes_of c) t k) ∙ h.stored k on

@@ -1,0 +1,172 @@
+-- What the sink of moves took in a run, and what its devices hold at the end.
+use Rattle.std.proofs.Common.{◌≡◌, ◌≢◌, ℕ, suc, List, [], ◌∷◌, ◌++◌, Option, Some, None, refl, sym, ap, ◌∙◌, subst, inl, inr, append_assoc}
+use Rattle.std.specs.Prelude.{Bool, false}
+use Rattle.mm_types.specs.Outside.{Appended}
+use Rattle.mm_types.specs.Spelling.{Text}
+use Rattle.mm_types.specs.declared.moves.Move.{Move}
+use Rattle.mm_types.proofs.Bytes.{append_nil, appended_none, appended_then}
+use Rattle.mm_life.specs.Life.{FrameLife, unstarted}
+use Rattle.mm_life.specs.Logs.{Told}
+use Rattle.mm_life.specs.MoveText.{AreMoves, spelled_moves}
+use Rattle.mm_life.specs.Replay.{Replays}
+use Rattle.mm_life.proofs.Replays.{replays_then, spelled-append, moves-append}
+use Rattle.mm_world.specs.World.{Page}
+use Rattle.mm_paging.specs.Runs.{DevicesHold}
+use Rattle.mm_run.specs.declared.endings.Ending.{Ending}
+use Rattle.mm_run.specs.declared.endings.Ending.TheVariants as ending
+use Rattle.mm_run.specs.Scenes.{Stage, NotBegun, Running, Follows, HasNoted, with_faults, log_of, life_of}
+use Rattle.mm_run.specs.Steps.{Notes, HoldsUnchanged}
+use Rattle.mm_run.specs.Answered.{DecidedLine, AreAnswered, last_stage, moves_of}
+use Rattle.mm_run.specs.Texts.{TornText}
+use Rattle.mm_run.specs.Ends.{Closes, BreaksAt, Left, Leaves}
+use Rattle.mm_run.specs.Ran.{LogRan, EndsHolding}
+use Rattle.mm_run.proofs.Stories.{life_follows, bytes_follow}
+
+-- ---- one piece
+
+front_of : (a b : Option (List ℕ)) (text : List ℕ) (p q : Bool) → Told a b text p q → TornText a b text
+front_of None None text p q t = record { front = text; back = []; whole = sym (append_nil text); wrote = tt }
+front_of None (Some b) text p q t = absurd t
+front_of (Some a) None text p q t = absurd t
+front_of (Some a) (Some b) text p q t = record { front = t.front; back = t.behind; whole = t.whole; wrote = t.written }
+
+all_of : (a b : Option (List ℕ)) (text : List ℕ) (p q : Bool) → q ≡ false → Told a b text p q → Appended a b text
+all_of None None text p q e t = tt
+all_of None (Some b) text p q e t = absurd t
+all_of (Some a) None text p q e t = absurd t
+all_of (Some a) (Some b) text p q e t =
+    t.written ∙ ap (λ xs. a ++ xs) (sym (t.whole ∙ ap (λ xs. t.front ++ xs) (t.all e) ∙ append_nil t.front))
+
+-- ---- the answered lines
+
+pub record Logged (old : Stage) (moves : List Move) (last : Stage) : Type 0 where
+  pub in_range : AreMoves moves
+  pub replays : Replays moves (life_of old) (life_of last)
+  pub wrote : Appended (log_of old).bytes (log_of last).bytes (spelled_moves moves)
+
+logged_here : (old : Stage) → Logged old [] old
+logged_here old = record { in_range = tt; replays = refl; wrote = appended_none (log_of old).bytes }
+
+one_logged : (old new : Stage) (moves : List Move) → Notes old moves new → HasNoted new → Logged old moves new
+one_logged old new moves n h = record {
+  in_range = n.in_range;
+  replays = n.replays;
+  wrote = all_of (log_of old).bytes (log_of new).bytes (spelled_moves moves) (log_of old).failed (log_of new).failed h n.grew.told;
+}
+
+-- at a stage that another one follows
+logged_from : (a b c : Stage) (moves : List Move) → Follows a b → Logged b moves c → Logged a moves c
+logged_from a b c moves h l = record {
+  in_range = l.in_range;
+  replays = subst (λ (f : FrameLife). Replays moves f (life_of c)) (life_follows a b h) l.replays;
+  wrote = subst (λ (x : Option Text). Appended x (log_of c).bytes (spelled_moves moves)) (bytes_follow a b h) l.wrote;
+}
+
+logged_then : (a b c : Stage) (xs ys : List Move) → Logged a xs b → Logged b ys c → Logged a (xs ++ ys) c
+logged_then a b c xs ys u v = record {
+  in_range = moves-append xs ys u.in_range v.in_range;
+  replays = replays_then xs ys (life_of a) (life_of b) (life_of c) u.replays v.replays;
+  wrote = subst (λ (x : Text). Appended (log_of a).bytes (log_of c).bytes x) (sym (spelled-append xs ys))
+      (appended_then (log_of a).bytes (log_of b).bytes (log_of c).bytes (spelled_moves xs) (spelled_moves ys) u.wrote v.wrote);
+}
+
+pub all_logged : (n : ℕ) (old : Stage) (lines : List DecidedLine) → AreAnswered n old lines → Logged old (moves_of lines) (last_stage old lines)
+all_logged n old [] u = logged_here old
+all_logged n old (l ∷ ls) u =
+    logged_then old l.after (last_stage l.after ls) l.moves (moves_of ls)
+    (logged_from old l.before l.after l.moves u.0.follows (one_logged l.before l.after l.moves u.0.decided.notes u.1))
+    (all_logged (suc n) l.after ls u.2)
+
+-- ---- the end
+
+bytes_left : (end : Stage) (x : Left) → Leaves end x → (log_of end).bytes ≡ x.moves
+bytes_left (NotBegun o) x h = h
+bytes_left (Running s) x h = h.0
+
+module _ (old last : Stage) (moves : List Move) (l : Logged old moves last) (start : life_of old ≡ unstarted) where
+  from_start : Replays moves unstarted (life_of last)
+  from_start = subst (λ (f : FrameLife). Replays moves f (life_of last)) start l.replays
+
+  -- nothing more was noted
+  log_whole : (e : Ending) (end : Stage) → Follows last end → LogRan (log_of old).bytes (log_of end).bytes moves e last end
+  log_whole e end h = record {
+    more = [];
+    in_range = moves-append moves [] l.in_range tt;
+    replays = from_start;
+    replays_more = life_follows last end h;
+    wrote = record {
+      front = spelled_moves (moves ++ []);
+      back = [];
+      whole = sym (append_nil (spelled_moves (moves ++ [])));
+      wrote = subst (λ (x : Option Text). Appended (log_of old).bytes x (spelled_moves (moves ++ []))) (sym (bytes_follow last end h))
+          (subst (λ (ms : List Move). Appended (log_of old).bytes (log_of last).bytes (spelled_moves ms)) (sym (append_nil moves)) l.wrote);
+    };
+    none = λ a b. refl;
+    whole = λ a b. refl;
+  }
+
+  -- a line more was noted, as far as the sink took it
+  log_more : (e : Ending) (mid end : Stage) (more : List Move) → Follows last mid → Notes mid more end → ((e ≢ ending.NoMemory) → (e ≢ ending.MovesFault) → ⊥) → LogRan (log_of old).bytes (log_of end).bytes moves e last end
+  log_more e mid end more h n never =
+      let t = front_of (log_of mid).bytes (log_of end).bytes (spelled_moves more) (log_of mid).failed (log_of end).failed n.grew.told in
+      record {
+        more = more;
+        in_range = moves-append moves more l.in_range n.in_range;
+        replays = from_start;
+        replays_more = subst (λ (f : FrameLife). Replays more f (life_of end)) (life_follows last mid h) n.replays;
+        wrote = record {
+          front = spelled_moves moves ++ t.front;
+          back = t.back;
+          whole = spelled-append moves more ∙ ap (λ xs. spelled_moves moves ++ xs) t.whole ∙ sym (append_assoc (spelled_moves moves) t.front t.back);
+          wrote = appended_then (log_of old).bytes (log_of mid).bytes (log_of end).bytes (spelled_moves moves) t.front
+              (subst (λ (x : Option Text). Appended (log_of old).bytes x (spelled_moves moves)) (sym (bytes_follow last mid h)) l.wrote) t.wrote;
+        };
+        none = λ a b. absurd (never a b);
+        whole = λ a b. absurd (never a b);
+      }
+
+  break_notes : (e : Ending) (mid end : Stage) → e ≡ ending.NoMemory → Follows last mid → BreaksAt mid end → LogRan (log_of old).bytes (log_of end).bytes moves e last end
+  break_notes e (NotBegun o) end q h b = absurd b
+  break_notes e (Running s) (NotBegun o) q h b = absurd b
+  break_notes e (Running s) (Running z) q h b = log_more e (Running s) (Running z) b.moves h b.notes (λ n m. n q)
+
+  pub log_ran : (e : Ending) (n : ℕ) (front : Text) (end : Stage) → Closes e n front last end → LogRan (log_of old).bytes (log_of end).bytes moves e last end
+  log_ran ending.NoMemory n front end (inl h) = log_whole ending.NoMemory end h
+  log_ran ending.NoMemory n front end (inr b) = break_notes ending.NoMemory b.before end refl b.follows b.breaks
+  log_ran ending.MovesFault n front end (inl h) = log_whole ending.MovesFault end h
+  log_ran ending.MovesFault n front end (inr m) =
+      subst (λ (z : Stage). LogRan (log_of old).bytes (log_of z).bytes moves ending.MovesFault last z) (sym m.after)
+      (log_more ending.MovesFault m.line.before m.line.after m.line.moves m.muted.next.follows m.muted.next.decided.notes (λ a b. b refl))
+  log_ran ending.Done n front end h = log_whole ending.Done end h
+  log_ran ending.Usage n front end h = log_whole ending.Usage end h
+  log_ran (ending.Script l c) n front end h = log_whole (ending.Script l c) end h
+  log_ran ending.ReadFault n front end h = log_whole ending.ReadFault end h
+  log_ran ending.OutFault n front end h = log_whole ending.OutFault end h
+  log_ran ending.SetupFault n front end h = log_whole ending.SetupFault end h
+  log_ran (ending.TooLong l) n front end h = log_whole (ending.TooLong l) end h
+  log_ran ending.Unbuilt n front end h = log_whole ending.Unbuilt end h
+
+-- ---- what stands on devices
+
+pub holds_last : (n : ℕ) (old : Stage) (lines : List DecidedLine) → HoldsUnchanged old → AreAnswered n old lines → HoldsUnchanged (last_stage old lines)
+holds_last n old [] h u = h
+holds_last n old (l ∷ ls) h u = holds_last (suc n) l.after ls u.0.decided.holds u.2
+
+holds_with : (k : ℕ) (s : Stage) → HoldsUnchanged s → HoldsUnchanged (with_faults k s)
+holds_with k (NotBegun o) h = h
+holds_with k (Running s) h = h
+
+holds_follows : (a b : Stage) → Follows a b → HoldsUnchanged a → HoldsUnchanged b
+holds_follows a b f h = subst HoldsUnchanged (sym f.same) (holds_with (log_of b).faults a h)
+
+ends_holding : (end : Stage) (x : Left) → Leaves end x → HoldsUnchanged end → EndsHolding end x.paging.blocks x.files.blocks
+ends_holding (NotBegun o) x l h = tt
+ends_holding (Running s) x l h =
+    subst (λ (b : List Page). DevicesHold s.world s.behind.life x.paging.blocks b) l.2.blocks_are
+    (subst (λ (b : List Page). DevicesHold s.world s.behind.life b s.blocks) l.1.blocks_are h)
+
+pub holds_at_end : (n : ℕ) (old : Stage) (lines : List DecidedLine) (end : Stage) (x : Left) → HoldsUnchanged old → AreAnswered n old lines → Follows (last_stage old lines) end → Leaves end x → EndsHolding end x.paging.blocks x.files.blocks
+holds_at_end n old lines end x h u f l = ends_holding end x l (holds_follows (last_stage old lines) end f (holds_last n old lines h u))
+
+pub log_left : (took : Option Text) (moves : List Move) (e : Ending) (last end : Stage) (x : Left) → Leaves end x → LogRan took (log_of end).bytes moves e last end → LogRan took x.moves moves e last end
+log_left took moves e last end x h r = subst (λ (b : Option Text). LogRan took b moves e last end) (bytes_left end x h) r

@@ -1,0 +1,210 @@
+-- A read that a thread waits for fails only where a device did.
+use Rattle.std.proofs.Common.{◌≡◌, ◌⊎◌, ℕ, ◌≤◌, Bool, true, false, List, [], ◌∷◌, ◌++◌, Option, Some, None, refl, sym, ap, ◌∙◌, inl, inr, arith}
+use Rattle.std.specs.Prelude.{map, if◌then◌else◌, is_some, ◌&&◌, ◌||◌, ◌==◌, not, unwrap_or, option_map}
+use Rattle.mm_types.specs.Outside.{Rose}
+use Rattle.mm_types.proofs.Bytes.{rose_then, rose_later}
+use Rattle.mm_types.specs.declared.answers.Answer.{Answer}
+use Rattle.mm_types.specs.declared.events.Event.{Event}
+use Rattle.mm_types.specs.declared.events.Event.TheVariants as line
+use Rattle.mm_types.specs.declared.devices.Direction.TheVariants as way
+use Rattle.mm_types.specs.declared.frames.Backing.{Backing}
+use Rattle.mm_types.specs.declared.frames.Backing.TheVariants as backing
+use Rattle.mm_types.specs.declared.frames.Record.{Record}
+use Rattle.mm_types.specs.declared.frames.Request.{Request}
+use Rattle.mm_types.specs.declared.frames.Request.TheVariants as request
+use Rattle.mm_types.specs.declared.moves.Move.{Move}
+use Rattle.mm_types.specs.declared.moves.Move.TheVariants as move
+use Rattle.mm_life.specs.Frames.{record_at, is_read, has_request}
+use Rattle.mm_life.specs.Life.{FrameLife}
+use Rattle.mm_life.specs.Legal.{is_io, is_access}
+use Rattle.mm_life.specs.Effect.{after_move}
+use Rattle.mm_life.specs.Replay.{Replays}
+use Rattle.mm_laws.specs.Fits.{Fit, is_backed}
+use Rattle.mm_laws.specs.Sound.{Sound}
+use Rattle.mm_laws.proofs.Kept.{keeps}
+use Rattle.mm_world.specs.Failure.{wait_failed}
+use Rattle.mm_blocks.specs.declared.device_calls.DeviceCall.{DeviceCall}
+use Rattle.mm_blocks.specs.Devices.{DeviceOf, Call, AllServed, logged_call}
+use Rattle.mm_walks.specs.Waits.{Waiting, Idle, ForFrame, Ended, wait_of, ended_by, waits_after}
+use Rattle.mm_walks.specs.Walks.{waits_through}
+use Rattle.mm_pages.specs.Told.{in_slot, in_block, call_of, calls_of, paging_traffic, file_traffic}
+use Rattle.mm_pages.specs.Housekeeping.{AllTurn, Makes}
+use Rattle.mm_pages.specs.Behind.{Behind}
+use Rattle.mm_pages.specs.Accesses.{Aim}
+use Rattle.mm_world.specs.World.{World}
+use Rattle.mm_world.specs.Report.{Report}
+use Rattle.mm_world.specs.Step.{kept_by}
+use Rattle.mm_paging.specs.Kinds.{aim_of}
+use Rattle.mm_paging.specs.Lines.{Line, Does, awaited, is_pending_read, keeps_for, wait_of_begin, waits_of_line, asks_beside}
+use Rattle.mm_core.specs.Serving.{OneRose}
+
+-- ---- the read of a thread has failed
+
+abbrev pub is_lost : Waiting → Bool
+is_lost w = wait_failed (wait_of w)
+
+abbrev pub is_bad : Move → Bool
+is_bad (move.Bad f) = true
+is_bad _ = false
+
+abbrev pub has_bad : List Move → Bool
+has_bad [] = false
+has_bad (m ∷ ms) = is_bad m || has_bad ms
+
+either_end : (b : Bool) (ok : Bool) (g : ℕ) → ok ≡ true → is_lost (if b then Ended ok else ForFrame g) ≡ true → ⊥
+either_end true true g e h = let no_way : false ≡ true = h in cc
+either_end true false g e h = cc
+either_end false ok g e h = let no_way : false ≡ true = h in cc
+
+ended_well : (f : ℕ) (w : Waiting) → is_lost (ended_by f true w) ≡ true → is_lost w ≡ true
+ended_well f Idle h = h
+ended_well f (ForFrame g) h = absurd (either_end (g == f) true g refl h)
+ended_well f (Ended b) h = h
+
+lost_by : (m : Move) (waits : ℕ → Waiting) (t : ℕ) → is_lost (waits_after m waits t) ≡ true → (is_lost (waits t) ≡ true) ⊎ (is_bad m ≡ true)
+lost_by (move.Got f) waits t h = inl (ended_well f.0 (waits t) h)
+lost_by (move.Bad f) waits t h = inr refl
+lost_by m waits t h = inl h
+
+or_left : (a b : Bool) → a ≡ true → (a || b) ≡ true
+or_left true b e = refl
+or_left false b e = cc
+
+or_right : (a b : Bool) → b ≡ true → (a || b) ≡ true
+or_right true b e = refl
+or_right false b e = e
+
+pub lost_through : (ms : List Move) (waits : ℕ → Waiting) (t : ℕ) → is_lost (waits_through ms waits t) ≡ true → (is_lost (waits t) ≡ true) ⊎ (has_bad ms ≡ true)
+lost_through [] waits t h = inl h
+lost_through (m ∷ ms) waits t h = elim (lost_through ms (waits_after m waits) t h) [
+  | inr bad ↦ inr (or_right (is_bad m) (has_bad ms) bad)
+  | inl was ↦ elim (lost_by m waits t was) [ inl w ↦ inl w | inr bad ↦ inr (or_left (is_bad m) (has_bad ms) bad) ]
+]
+
+-- ---- a failed read of a frame is a failed call of a device
+
+abbrev pub any_failed : List DeviceCall → Bool
+any_failed [] = false
+any_failed (c ∷ cs) = not c.succeeded || any_failed cs
+
+later_failed : (xs ys : List DeviceCall) → any_failed ys ≡ true → any_failed (xs ++ ys) ≡ true
+later_failed [] ys h = h
+later_failed (x ∷ xs) ys h = or_right (not x.succeeded) (any_failed (xs ++ ys)) (later_failed xs ys h)
+
+and_first : (a b : Bool) → (a && b) ≡ true → a ≡ true
+and_first true b e = refl
+and_first false b e = e
+
+read_has : (r : Request) → is_read r ≡ true → has_request r ≡ true
+read_has request.Read e = refl
+read_has request.None e = cc
+read_has request.Write e = refl
+read_has request.WriteAgain e = refl
+
+backed_read : (r : Record) → Fit r → is_read r.request ≡ true → is_backed r.backing ≡ true
+backed_read r fit read = fit.clean (or_right (is_some r.owner) (has_request r.request) (read_has r.request read)) (fit.reading read).1
+
+-- one of both devices failed in these moves
+abbrev pub OneFailed : FrameLife → List Move → Type 0
+OneFailed l ms = (any_failed (paging_traffic l ms) ≡ true) ⊎ (any_failed (file_traffic l ms) ≡ true)
+
+bad_calls : (b : Backing) (ps fs : List DeviceCall) → is_backed b ≡ true → (any_failed (in_slot way.Read false b ++ ps) ≡ true) ⊎ (any_failed (in_block way.Read false b ++ fs) ≡ true)
+bad_calls backing.None ps fs e = cc
+bad_calls (backing.Slot s) ps fs e = inl refl
+bad_calls (backing.Block b) ps fs e = inr refl
+
+further : (m : Move) (l : FrameLife) (ms : List Move) → OneFailed (after_move l m) ms → OneFailed l (m ∷ ms)
+further m l ms h = elim h [
+  | inl p ↦ inl (later_failed (call_of in_slot l m) (calls_of in_slot (after_move l m) ms) p)
+  | inr f ↦ inr (later_failed (call_of in_block l m) (calls_of in_block (after_move l m) ms) f)
+]
+
+bad_traffic : (ms : List Move) (l m : FrameLife) → Sound l → Replays ms l m → has_bad ms ≡ true → OneFailed l ms
+bad_traffic [] l m s r h = cc
+bad_traffic (move.Bad f ∷ ms) l m s r h =
+    bad_calls (record_at l.frames f.0).backing (calls_of in_slot (after_move l (move.Bad f)) ms) (calls_of in_block (after_move l (move.Bad f)) ms)
+    (backed_read (record_at l.frames f.0) (s.standing f.0).fit (and_first (is_read (record_at l.frames f.0).request) (is_io l.kind || is_access l.kind) r.0))
+bad_traffic (x ∷ ms) l m s r h = further x l ms (bad_traffic ms (after_move l x) m (keeps x l s r.0) r.1 h)
+
+served_later : (cs : List Call) (d z : DeviceOf) → AllServed cs d z → d.faults ≤ z.faults
+served_later [] d z h = let same = ap (λ (x : DeviceOf). x.faults) h in omega arith
+served_later (c ∷ cs) d z h = let i = h.1.0.later in let j = served_later cs h.0 z h.1.1 in omega arith
+
+one_rose : (ok : Bool) (d m z : DeviceOf) (rest : Bool) → d.faults ≤ m.faults → m.faults ≤ z.faults → (ok ≡ false → Rose d.faults m.faults) → (rest ≡ true → Rose m.faults z.faults) → (not ok || rest) ≡ true → Rose d.faults z.faults
+one_rose false d m z rest l k cause more q = rose_then d.faults m.faults z.faults (cause refl) k
+one_rose true d m z rest l k cause more q = rose_later d.faults m.faults z.faults l (more q)
+
+failed_rose : (cs : List Call) (d z : DeviceOf) → AllServed cs d z → any_failed (map logged_call cs) ≡ true → Rose d.faults z.faults
+failed_rose [] d z h q = cc
+failed_rose (c ∷ cs) d z h q =
+    one_rose c.succeeded d h.0 z (any_failed (map logged_call cs)) h.1.0.later (served_later cs h.0 z h.1.1) h.1.0.cause (failed_rose cs h.0 z h.1.1) q
+
+makes_no_bad : (ms : List Move) → AllTurn Makes ms → has_bad ms ≡ false
+makes_no_bad [] u = refl
+makes_no_bad (move.Add k b ∷ ms) u = makes_no_bad ms u.1
+makes_no_bad (m ∷ ms) u = (let no_way : false ≡ true = u.0 in cc)
+
+-- ---- a line
+
+frame_waits : (o : Option ℕ) → is_lost (unwrap_or (option_map ForFrame o) Idle) ≡ true → ⊥
+frame_waits None h = let no_way : false ≡ true = h in cc
+frame_waits (Some f) h = let no_way : false ≡ true = h in cc
+
+awaited_waits : (o : Option Aim) (l : FrameLife) → is_lost (awaited o l) ≡ true → ⊥
+awaited_waits None l h = let no_way : false ≡ true = h in cc
+awaited_waits (Some a) l h = frame_waits _ h
+
+pending_waits : (b : Bool) (w : Waiting) → (is_lost w ≡ true → ⊥) → is_lost (if b then w else Idle) ≡ true → ⊥
+pending_waits true w n h = n h
+pending_waits false w n h = let no_way : false ≡ true = h in cc
+
+one_waits : (b : Bool) (w y : Waiting) → (is_lost w ≡ true → ⊥) → is_lost (if b then w else y) ≡ true → is_lost y ≡ true
+one_waits true w y n h = absurd (n h)
+one_waits false w y n h = h
+
+left_waits : (b : Bool) (y : Waiting) → is_lost (if b then Idle else y) ≡ true → is_lost y ≡ true
+left_waits true y h = let no_way : false ≡ true = h in cc
+left_waits false y h = h
+
+begin_waits : (o : Option Aim) (tid : ℕ) (a : Answer) (waits : ℕ → Waiting) (l : FrameLife) (t : ℕ) → is_lost (wait_of_begin o tid a waits l t) ≡ true → is_lost (waits t) ≡ true
+begin_waits None tid a waits l t h = h
+begin_waits (Some aim) tid a waits l t h =
+    one_waits (t == tid) (if is_pending_read a then awaited (Some aim) l else Idle) (waits t)
+    (pending_waits (is_pending_read a) (awaited (Some aim) l) (awaited_waits (Some aim) l)) h
+
+line_waits : (w : World) (e : Event) (a : Answer) (b : Behind) (waits : ℕ → Waiting) (l : FrameLife) (t : ℕ) → is_lost (waits_of_line w e a b waits l t) ≡ true → is_lost (waits t) ≡ true
+line_waits w (line.Begin tid pid what) a b waits l t h = begin_waits (aim_of w b.life (line.Begin tid pid what)) tid.0 a waits l t h
+line_waits w (line.Resume tid) a b waits l t h =
+    one_waits (t == tid.0) (if is_pending_read a then awaited (aim_of w b.life (line.Resume tid)) l else Idle) (waits t)
+    (pending_waits (is_pending_read a) (awaited (aim_of w b.life (line.Resume tid)) l) (awaited_waits (aim_of w b.life (line.Resume tid)) l)) h
+line_waits w (line.Exit pid) a b waits l t h = left_waits (keeps_for (kept_by w t) pid) (waits t) h
+line_waits w e a b waits l t h = h
+
+beside_no_bad : (w : World) (e : Event) (a : Answer) (v : World) (r : Report) (b : Behind) (ms : List Move) (c : Behind) → asks_beside e ≡ true → Does w e a v r b ms c → has_bad ms ≡ false
+beside_no_bad w (line.File name pages byte) a v r b ms c q d = makes_no_bad ms d
+beside_no_bad w (line.Grow n) a v r b ms c q d = ap has_bad d
+beside_no_bad w (line.Fail device direction k n) a v r b ms c q d = ap has_bad d
+beside_no_bad w e a v r b ms c q d = (let no_way : false ≡ true = q in cc)
+
+module _ (w : World) (before : Report) (b : Behind) (paging files : DeviceOf) (e : Event) (a : Answer) (piece : List Move) (v : World) (after : Report) (c : Behind) (paging' files' : DeviceOf) (l : Line w before b paging files e a piece v after c paging' files') (sound : Sound b.life) (replays : Replays piece b.life c.life) where
+  bad_rose : has_bad l.moves ≡ true → OneRose paging paging' files files'
+  bad_rose h = by_traffic (asks_beside e) refl
+    where
+      whole : has_bad piece ≡ true
+      whole = ap has_bad l.begins ∙ h
+
+      by_traffic : (x : Bool) → asks_beside e ≡ x → OneRose paging paging' files files'
+      by_traffic true q = let clash : false ≡ true = sym (beside_no_bad w e a v after _ l.moves c q l.does) ∙ h in cc
+      by_traffic false q =
+          let t = l.traffic q in
+          elim (bad_traffic piece b.life c.life sound replays whole) [
+            | inl p ↦ inl (failed_rose t.paging_calls paging paging' t.paging_served (ap any_failed t.paging_are ∙ p))
+            | inr f ↦ inr (failed_rose t.file_calls files files' t.files_served (ap any_failed t.files_are ∙ f))
+          ]
+
+  pub lost_line : (t : ℕ) → is_lost (c.waits t) ≡ true → (is_lost (b.waits t) ≡ true) ⊎ OneRose paging paging' files files'
+  lost_line t h =
+      elim (lost_through l.moves b.waits t (line_waits w e a b (waits_through l.moves b.waits) c.life t (sym (ap (λ (f : ℕ → Waiting). is_lost (f t)) l.waits) ∙ h))) [
+        | inl was ↦ inl was
+        | inr bad ↦ inr (bad_rose bad)
+      ]

@@ -1,0 +1,150 @@
+-- A machine begins over a new store of pages, as a run tells it.
+use Rattle.std.proofs.Common.{◌≡◌, ◌≤◌, ℕ, zero, suc, List, [], ◌∷◌, Option, None, true, false, length, replicate, slice_get, refl, sym, ap, ◌∙◌, subst, arith}
+use Rattle.std.specs.Prelude.{Bool, ◌&&◌, ◌+◌, ◌*◌, nat_le}
+use Rattle.std.proofs.lemmas.Bool.{le-leb}
+use Rattle.mm_types.specs.Machine.{MachineOf, IsMachine}
+use Rattle.mm_life.specs.Legal.{IsLegal}
+use Rattle.mm_types.specs.declared.numbers.Key.{Key}
+use Rattle.mm_life.specs.Life.{unstarted}
+use Rattle.mm_life.specs.Logs.{Log, Grew}
+use Rattle.mm_life.specs.MoveText.{AreMoves, spelled_moves}
+use Rattle.std.specs.Borrow.{GName}
+use Rattle.mm_types.specs.Outside.{Loan, Both}
+use Rattle.mm_blocks.specs.declared.device_calls.DeviceCall.{DeviceCall}
+use Rattle.mm_blocks.specs.declared.device_calls.NamedCalls.{NamedCalls}
+use Rattle.mm_blocks.specs.Devices.{DeviceOf}
+use Rattle.mm_blocks.specs.Traffic.{NoneLogged, empty_block, told_by}
+use Rattle.mm_world.specs.World.{Page, World}
+use Rattle.mm_world.specs.Step.{first_world}
+use Rattle.mm_walks.specs.Waits.{Idle, wait_of}
+use Rattle.mm_flight.specs.declared.flights.Waiting.TheVariants as waiting
+use Rattle.mm_parts.specs.Reading.{walked_or}
+use Rattle.mm_parts.specs.Start.{started}
+use Rattle.mm_pages.specs.Store.{StoreOf}
+use Rattle.mm_pages.specs.Behind.{Behind}
+use Rattle.mm_pages.specs.Told.{none_told}
+use Rattle.mm_pages.specs.Conditions.{IsNew}
+use Rattle.mm_moving.specs.Shown.{StateOf}
+use Rattle.mm_state.specs.Shown.{Starts, state_of, device_with}
+use Rattle.mm_paged.specs.Shown.{OwnOf, own_of, store_of, behind_of}
+use Rattle.mm_paging.specs.Runs.{Scene, first_move}
+use Rattle.mm_run.specs.Scenes.{Outset}
+use Rattle.mm_run.specs.Steps.{IsMade}
+
+nobody_waits : (n t : ℕ) → walked_or (slice_get (replicate n waiting.Nothing) t) ≡ Idle
+nobody_waits zero t = refl
+nobody_waits (suc n) zero = refl
+nobody_waits (suc n) (suc t) = nobody_waits n t
+
+both : (a b : Bool) → a ≡ true → b ≡ true → (a && b) ≡ true
+both true true e f = refl
+both true false e f = f
+both false b e f = e
+
+-- the first line is legal
+pub first_legal : (m : MachineOf) → IsMachine m → IsLegal (first_move m) unstarted
+first_legal m h =
+    both _ (nat_le (2 * m.depth + 4) m.frames)
+    (both _ (nat_le m.blocks 65536)
+    (both _ (nat_le m.depth 64)
+    (both _ (nat_le 1 m.depth)
+    (both _ (nat_le m.slots 262144)
+    (both (nat_le 6 m.frames) (nat_le m.frames 262144) (le-leb 6 m.frames h.least_frames) (le-leb m.frames 262144 h.most_frames))
+    (le-leb m.slots 262144 h.most_slots))
+    (le-leb 1 m.depth h.least_depth))
+    (le-leb m.depth 64 h.most_depth))
+    (le-leb m.blocks 65536 h.most_blocks))
+    (le-leb (2 * m.depth + 4) m.frames h.enough_frames)
+
+abbrev own : OwnOf
+own = own_of None None 0
+
+as_many : (n : ℕ) → length (replicate n empty_block) ≡ n
+as_many zero = refl
+as_many (suc n) = ap suc (as_many n)
+
+-- what must hold of two devices that were opened
+pub record Opened (m : MachineOf) (o : Outset) (paging files : DeviceOf) (slots blocks : List Page) : Type 0 where
+  pub slots_are : slots ≡ replicate m.slots empty_block
+  pub blocks_are : blocks ≡ replicate m.blocks empty_block
+  pub paging_logged : NoneLogged paging.log
+  pub files_logged : NoneLogged files.log
+  pub paging_named : paging.named ≡ []
+  pub files_named : files.named ≡ []
+  pub paging_later : o.paging ≤ paging.faults
+  pub files_later : o.files ≤ files.faults
+
+module _ (m : MachineOf) (o : Outset) (paging files : DeviceOf) (slots blocks : List Page) (opened : Opened m o paging files slots blocks) where
+  abbrev begun : Log → StateOf
+  begun l = record (state_of (started m) l none_told paging files slots blocks) { contents = λ _. None }
+
+  new_at : (l : Log) → IsNew m (begun l).contents (store_of (begun l) own)
+  new_at l = record {
+    empty = λ k. refl;
+    machine = refl;
+    closed = λ pid. refl;
+    no_area = λ area. refl;
+    unbound = λ place. refl;
+    no_name = λ place. refl;
+    not_paging = λ k. refl;
+    no_keys = refl;
+    no_block = λ k. refl;
+    unused = refl;
+    stored = ap (λ (xs : List Page). length xs) opened.blocks_are ∙ as_many m.blocks;
+    line = refl;
+    kind = refl;
+    no_pid = refl;
+    not_ready = refl;
+    begun = record { no_failed_read = refl; no_failed_write = refl };
+    none_named_paging = opened.paging_named;
+    none_named_file = opened.files_named;
+  }
+
+  pub is_new : (log : Log) (z : StateOf) → Starts m log paging files slots blocks z → (c : Key → Option Page) (s : StoreOf) → c ≡ z.contents → s ≡ store_of z own → IsNew m c s
+  is_new log z h c s ec es =
+      let here : IsNew m z.contents (store_of z own) = subst (λ (x : StateOf). IsNew m x.contents (store_of x own)) (sym h.shows) (new_at z.log) in
+      subst (λ (x : StoreOf). IsNew m c x) (sym es) (subst (λ (x : Key → Option Page). IsNew m x (store_of z own)) (sym ec) here)
+
+  abbrev scene_of : World → StoreOf → Behind → Scene
+  scene_of w s b = record { world = w; report = s.report; paging = s.paging_device; files = s.file_device; blocks = s.file_blocks; behind = b }
+
+  made_at : (l : Log) → AreMoves (first_move m ∷ []) → Grew o.log l (spelled_moves (first_move m ∷ [])) → IsLegal (first_move m) unstarted → IsMade m o (scene_of (first_world m) (store_of (begun l) own) (behind_of (begun l)))
+  made_at l range grew legal = record {
+    first = record {
+      world = refl;
+      slots = opened.slots_are;
+      blocks = opened.blocks_are;
+      paging = record { none_logged = opened.paging_logged; none_named = opened.paging_named; later = opened.paging_later };
+      files = record { none_logged = opened.files_logged; none_named = opened.files_named; later = opened.files_later };
+      idle = λ tid. (nobody_waits 256 tid, ap wait_of (nobody_waits 256 tid));
+    };
+    notes = record { in_range = range; grew = grew; replays = (legal, refl) };
+    holds = λ k on. (let no_way : false ≡ true = on in cc);
+  }
+
+  pub is_made : (log : Log) (z : StateOf) → log ≡ o.log → Starts m log paging files slots blocks z → IsLegal (first_move m) unstarted → (w : World) (s : StoreOf) (b : Behind) → w ≡ first_world m → s ≡ store_of z own → b ≡ behind_of z → IsMade m o (scene_of w s b)
+  is_made log z same h legal w s b ew es eb =
+      let here : IsMade m o (scene_of (first_world m) (store_of z own) (behind_of z)) =
+      subst (λ (x : StateOf). IsMade m o (scene_of (first_world m) (store_of x own) (behind_of x))) (sym h.shows) (made_at z.log h.in_range (subst (λ (l : Log). Grew l z.log (spelled_moves (first_move m ∷ []))) same h.grew) legal) in
+      subst (λ (x : World). IsMade m o (scene_of x s b)) (sym ew)
+      (subst (λ (x : StoreOf). IsMade m o (scene_of (first_world m) x b)) (sym es)
+      (subst (λ (x : Behind). IsMade m o (scene_of (first_world m) (store_of z own) x)) (sym eb) here))
+
+-- two devices under injections that name nothing
+pub opened_of : (m : MachineOf) (o : Outset) (pn fn pp fp : List NamedCalls) (pl fl : Option (List DeviceCall)) (pf pk ff fk : ℕ) (slots blocks : List Page)
+    → slots ≡ replicate m.slots empty_block → blocks ≡ replicate m.blocks empty_block → NoneLogged pl → NoneLogged fl → pn ≡ [] → fn ≡ [] → pp ≡ [] → fp ≡ [] → o.paging ≤ pf → o.files ≤ ff
+    → Opened m o (device_with (told_by pn pl) pp (pf + pk)) (device_with (told_by fn fl) fp (ff + fk)) slots blocks
+opened_of m o pn fn pp fp pl fl pf pk ff fk slots blocks s b lp lf np nf ep ef kp kf = record {
+  slots_are = s;
+  blocks_are = b;
+  paging_logged = subst (λ (ns : List NamedCalls). NoneLogged (told_by ns pl)) (sym np) lp;
+  files_logged = subst (λ (ns : List NamedCalls). NoneLogged (told_by ns fl)) (sym nf) lf;
+  paging_named = ep;
+  files_named = ef;
+  paging_later = omega (arith, kp);
+  files_later = omega (arith, kf);
+}
+
+-- three loans of references
+pub three_names : (a b c x y z : GName) → Both (Both (Loan a) (Loan b)) (Loan c) ≡ Both (Both (Loan x) (Loan y)) (Loan z) → (a ≡ x) × (b ≡ y) × (c ≡ z)
+three_names a b c x y z e = (let first : a ≡ x = cc in first, let second : b ≡ y = cc in second, let third : c ≡ z = cc in third)

@@ -1,0 +1,74 @@
+use Rattle.std.proofs.Common.{◌≡◌, ◌∙◌, sym, inl, inr, true, false, subst}
+use Rattle.std.specs.Prelude.{Bool}
+use Rattle.mm_core.specs.Serving.{Named}
+use Rattle.mm_core.specs.Shown.{world, report, paging_device, file_device}
+use Rattle.mm_run.proofs.Deciding.{stands, devices_hold}
+use Rattle.mm_run.proofs.Unpaged.{unpaged_answer, plain_answer}
+use Rattle.mm_run.proofs.decisions.decide.Goals as goal
+
+pub returns-in-Ok-clause-decided : goal.returns-in-Ok-clause-decided
+returns-in-Ok-clause-decided g c =
+    let d = c.in-Ok.ensures in
+    let e = c.args.event.now in
+    let a = c.in-Ok.answer in
+    let old = c.args.world.now in
+    let new = c.step.new.self in
+    let pages = g.G.Pages in
+    let kept = stands pages.unpaged (pages.contents new.pages) (pages.store new.pages) (pages.behind new.pages) c.requires.paged c.sound.ensures.stands in
+    let p = d.paged c.requires.paged in
+    let fits = new.fits d.ready in
+    record {
+      moves = p.piece;
+      decided = record {
+        step = (
+          c.requires.not_first,
+          record {
+            answered = d.step;
+            unpaged = unpaged_answer (world old) (world new) e a (report old) (report new) d.step;
+            plain = λ q none. plain_answer (world old) (report old) (report new) none kept.search kept.read (world new) e a d.step q;
+            lives = d.lives;
+            asked_paging = d.asked_paging;
+            asked_files = d.asked_files;
+            named = subst (λ (u : Bool). Named u e a (paging_device old) (paging_device new) (file_device old) (file_device new)) c.requires.paged d.named;
+            few_paging = fits.named_paging;
+            few_files = fits.named_file;
+            failed = d.failed;
+            paging_later = d.paging_later;
+            files_later = d.files_later;
+            flushed = d.flushed;
+            waits = d.waits;
+            line = p.line;
+          },
+        );
+        within = d.within;
+        notes = record { in_range = p.in_range; grew = p.grew; replays = p.replays };
+        holds = devices_hold new.tables (pages.contents new.pages) (pages.store new.pages) (pages.behind new.pages) kept p.line.agrees.keys;
+      };
+    }
+
+pub returns-in-Ok-clause-blame : goal.returns-in-Ok-clause-blame
+returns-in-Ok-clause-blame g c = λ bad.
+    elim ((c.in-Ok.ensures.paged c.requires.paged).grew.cause bad) [
+      | inl was ↦ (let clash : true ≡ false = sym was ∙ c.requires.noted in cc)
+      | inr rose ↦ rose
+    ]
+
+pub returns-in-Ok-clause-later : goal.returns-in-Ok-clause-later
+returns-in-Ok-clause-later g c = (c.in-Ok.ensures.paged c.requires.paged).grew.later
+
+pub returns-in-Err-clause-breaks : goal.returns-in-Err-clause-breaks
+returns-in-Err-clause-breaks g c =
+    let d = c.in-Err.ensures in
+    let b = d.broken c.requires.paged in
+    record {
+      moves = b.piece;
+      at_most = b.at_most;
+      notes = record { in_range = b.in_range; grew = b.grew; replays = b.replays };
+      world = d.err;
+      paging = d.idle.0;
+      files = d.idle.1;
+      blocks = d.idle.2;
+    }
+
+pub returns-in-Err-clause-later : goal.returns-in-Err-clause-later
+returns-in-Err-clause-later g c = (c.in-Err.ensures.broken c.requires.paged).grew.later

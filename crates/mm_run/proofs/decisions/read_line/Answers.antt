@@ -1,0 +1,24 @@
+use Rattle.std.proofs.Common.{List, ℕ, subst, length, arith}
+use Rattle.mm_run.specs.Story.{EndsAt}
+use Rattle.mm_run.proofs.Stories.{filled_either}
+use Rattle.mm_run.specs.Scenes.{Running, scene}
+use Rattle.mm_run.proofs.Stops.{came_end, came_long, came_read}
+use Rattle.mm_run.proofs.decisions.read_line.Goals as goal
+
+pub returns-in-Ok-Line-clause-went : goal.returns-in-Ok-Line-clause-went
+returns-in-Ok-Line-clause-went g c =
+    filled_either _ _ _ _ _ _ c.next.ensures.filled _ c.answer_line.result (c.answer_line.ensures.went (g.S.Source.left c.next.new.source))
+
+pub returns-in-Ok-Long-clause-went : goal.returns-in-Ok-Long-clause-went
+returns-in-Ok-Long-clause-went g c =
+    let found = rw c.in-Ok-Long.field-0-is at c.in-Ok-Long.ensures.finds in
+    came_long _ _ _ _ _ _ (Running (scene c.args.world.now)) c.next.ensures.filled c.requires.few found.0 found.1
+
+pub returns-in-Ok-End-clause-went : goal.returns-in-Ok-End-clause-went
+returns-in-Ok-End-clause-went g c =
+    let found = rw c.in-Ok-End.field-0-is at c.in-Ok-End.ensures.finds in
+    came_end _ _ _ _ _ _ (Running (scene c.args.world.now)) c.next.ensures.filled _ c.requires.few found.0 found.1
+    (subst (λ (xs : List ℕ). EndsAt c.args.n (length xs) c.at_end.result) c.bytes.ensures c.at_end.ensures)
+
+pub returns-in-Err-clause-went : goal.returns-in-Err-clause-went
+returns-in-Err-clause-went g c = came_read _ _ _ _ _ _ (Running (scene c.args.world.now)) c.next.ensures.filled (omega arith) c.in-Err.ensures.finds

@@ -1,0 +1,93 @@
+-- What a run did: the promise of `run`, on one page.
+--
+-- It speaks of what stands around a run, before it and after it: the bytes left in the source, those that both sinks took, and both
+-- devices. What is not told of these has no bytes (`None`), and nothing is said of it.
+use Rattle.std.specs.Prelude.{◌≡◌, ◌≢◌, ◌⊎◌, ℕ, ◌<◌, ◌≤◌, List, ◌++◌, [], length, Option}
+use Rattle.mm_types.specs.Outside.{Took, Appended, Rose}
+use Rattle.mm_types.specs.Spelling.{Text}
+use Rattle.mm_types.specs.declared.moves.Move.{Move}
+use Rattle.mm_life.specs.Life.{unstarted}
+use Rattle.mm_life.specs.MoveText.{AreMoves, spelled_moves}
+use Rattle.mm_life.specs.Replay.{Replays}
+use Rattle.mm_lines.specs.Lines.{joined}
+use Rattle.mm_world.specs.World.{Page}
+use Rattle.mm_paging.specs.Runs.{DevicesHold}
+use Rattle.mm_run.specs.declared.endings.Ending.{Ending}
+use Rattle.mm_run.specs.declared.endings.Ending.TheVariants as ending
+use Rattle.mm_run.specs.Scenes.{Stage, NotBegun, Running, outset, life_of}
+use Rattle.mm_run.specs.Answered.{DecidedLine, AreAnswered, last_stage, texts_of, answers_of, moves_of, NoneNames, NoneFails}
+use Rattle.mm_run.specs.Texts.{Ends, TornText}
+use Rattle.mm_run.specs.Story.{Settles, most_lines}
+use Rattle.mm_run.specs.Ends.{Left, Leaves, Closes}
+
+-- What stands around a run.
+pub record Around : Type 0 where
+  pub left : Option Text  -- the bytes left in the source
+  pub took : Option Text  -- those that the sink of answers took
+  pub beside : Left  -- those that the sink of moves took, and both devices
+
+abbrev pub around : Option Text → Option Text → Left → Around
+around left took beside = record { left = left; took = took; beside = beside }
+
+-- Before its first line.
+abbrev pub begun_at : Left → Stage
+begun_at x = NotBegun (outset x.paging.faults x.files.faults x.moves x.moves_faults)
+
+-- The count of faults of a device rose.
+abbrev pub SomeRose : Left → Left → Type 0
+SomeRose x y = Rose x.paging.faults y.paging.faults ⊎ Rose x.files.faults y.files.faults
+
+-- What the sink of moves took is the text of the moves of the answered lines, one behind another, and of `more`: nothing, but the `at` of a
+-- line that wanted memory, or the moves of a line that was decided and could not note them all. Of all these together, which are legal
+-- one after another, a front was written: all of it, but in these two cases.
+pub record LogRan (took took' : Option Text) (moves : List Move) (e : Ending) (last end : Stage) : Type 0 where
+  pub more : List Move
+  pub in_range : AreMoves (moves ++ more)
+  pub replays : Replays moves unstarted (life_of last)
+  pub replays_more : Replays more (life_of last) (life_of end)
+  pub wrote : TornText took took' (spelled_moves (moves ++ more))
+  pub none : e ≢ ending.NoMemory → e ≢ ending.MovesFault → more ≡ []
+  pub whole : e ≢ ending.NoMemory → e ≢ ending.MovesFault → wrote.back ≡ []
+
+-- Each key that the replay shows unchanged, with a slot or a block, has its bytes there.
+abbrev pub EndsHolding : Stage → List Page → List Page → Type 0
+EndsHolding (NotBegun o) slots blocks = Unit {0}
+EndsHolding (Running s) slots blocks = DevicesHold s.world s.behind.life slots blocks
+
+-- No call of a device is named.
+abbrev pub NoneNamed : Stage → Type 0
+NoneNamed (NotBegun o) = Unit {0}
+NoneNamed (Running s) = (s.paging.named ≡ []) × (s.files.named ≡ [])
+
+pub record Ran (a b : Around) (form : Type 0) (status : ℕ) : Type 0 where
+  -- The lines that were decided and answered, one after another: each with its text, event, answer and moves, and what stands after it.
+  -- Each is in the grammar (`Says`), and decided from what the one before it left (`IsDecided`): its answer and the new world are the
+  -- definitions' step by the reports before and after it; its charge is within the limit; its moves are its piece of the log, noted before its
+  -- answer was written.
+  pub lines : List DecidedLine
+  pub answered : AreAnswered 0 (begun_at a.beside) lines
+  pub limit : length lines ≤ most_lines
+  -- What the run then came to, by the bytes behind these lines up to the one that decided it (`front`); fewer than 4,096 more were taken.
+  pub e : Ending
+  pub taken : Text
+  pub front : Text
+  pub more : Text
+  pub read : Took a.left b.left taken
+  pub whole : taken ≡ joined (texts_of lines) ++ (front ++ more)
+  pub settled : Settles (length lines) front more b.left e
+  pub few : length more < 4096
+  pub is_form : form → e ≢ ending.Usage
+  pub no_form : (form → ⊥) → e ≡ ending.Usage
+  -- What the sink of answers took: their texts and the last text of the status.
+  pub written : Text
+  pub wrote : Appended a.took b.took written
+  pub ends : Ends status e (answers_of lines) written
+  -- What happened behind the last answer, and what the end leaves: the log of moves, the devices.
+  pub end : Stage
+  pub closes : Closes e (length lines) front (last_stage (begun_at a.beside) lines) end
+  pub leaves : Leaves end b.beside
+  pub log : LogRan a.beside.moves b.beside.moves (moves_of lines) e (last_stage (begun_at a.beside) lines) end
+  pub holds : e ≡ ending.Done → EndsHolding end b.beside.paging.blocks b.beside.files.blocks
+  -- If no `fail` line was answered `ok`, nor named calls as the line without an answer, an answer tells of a failure only where a
+  -- device's count of faults rose.
+  pub faultless : (SomeRose a.beside b.beside → ⊥) → NoneNames lines → (e ≡ ending.MovesFault → NoneNamed end) → NoneFails lines
