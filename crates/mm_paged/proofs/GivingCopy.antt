@@ -1,19 +1,27 @@
 -- A copy comes to be beside the tables, and gets a frame.
-use Rattle.std.proofs.Common.{◌≡◌, ℕ, false, List, [], ◌∷◌, Some, None, refl, sym, ap, ◌∙◌, subst, inl}
-use Rattle.std.specs.Prelude.{length}
+use Rattle.std.proofs.Common.{◌≡◌, ℕ, ◌+◌, Bool, true, false, List, [], ◌∷◌, Option, Some, None, refl, sym, ap, ◌∙◌, subst, arith, inl, inr}
+use Rattle.std.specs.Prelude.{length, is_some, option_map, unwrap_or, ◌<◌}
+use Rattle.mm_types.specs.Machine.{limit_of}
 use Rattle.mm_types.specs.declared.moves.Move.TheVariants as move
+use Rattle.mm_types.specs.declared.numbers.Frame.{Frame}
 use Rattle.mm_types.specs.declared.numbers.Key.{Key}
 use Rattle.mm_types.specs.declared.numbers.Place.{Place}
-use Rattle.mm_life.specs.Life.{FrameLife}
+use Rattle.mm_life.specs.Frames.{is_empty, record_at}
+use Rattle.mm_life.specs.Life.{FrameLife, changed, same_key, is_live, is_shared, key_of_place}
+use Rattle.mm_life.specs.Legal.{IsLegal, touches, shows_shared, owner_is}
 use Rattle.mm_life.specs.Effect.{after_move}
 use Rattle.mm_pages.specs.Accesses.{Aim, AccessMove}
 use Rattle.mm_pages.specs.Conditions.{touch}
 use Rattle.mm_walks.specs.Walks.{Walk, Through, walked_all}
-use Rattle.mm_moving.specs.Shown.{StateOf, Made}
-use Rattle.mm_moving.proofs.Doing.{does_one, does_then}
+use Rattle.mm_moving.specs.Shown.{StateOf, Made, moved}
+use Rattle.mm_moving.specs.Holds.{Holds}
+use Rattle.mm_moving.proofs.Doing.{does_one, does_two, does_then}
+use Rattle.mm_parts.specs.Moves.{front}
 use Rattle.mm_paged.specs.Pieces.{Took, IsFor, LifeKept, walk_at}
-use Rattle.mm_paged.specs.Copies.{KeyAdded}
-use Rattle.mm_paged.proofs.Keeping.{kept_all}
+use Rattle.mm_paged.specs.Copies.{KeyAdded, Readies, Zeroed, Cleared, Taken}
+use Rattle.mm_paged.proofs.HeldCopy.{room_then}
+use Rattle.mm_paged.proofs.Keeping.{kept_all, kept_same}
+use Rattle.mm_paged.proofs.Taking.{went_give, cleared_first, stolen_first}
 
 -- ---- it is taken a frame
 
@@ -29,6 +37,35 @@ took_after_add a k s y z m c w = record {
   where
     there : (t : List ℕ) → record { life = after_move s.life (move.Add k None); ages = s.ages; tried = t } ≡ walk_at t y
     there t = ap (λ (l : FrameLife). record { life = l; ages = s.ages; tried = t }) (sym m.life) ∙ ap (λ (g : Place → ℕ). record { life = y.life; ages = g; tried = t }) (sym m.ages)
+
+-- a frame is zeroed first
+pub took_ready : (a : Aim) (k : Key) (f : Frame) (s x y z : StateOf) → Readies s x → Made (move.Add k None) x y → a.need.copy ≡ Some k → f ≡ front y.life.frames.zeroed → Made (move.Give f k) y z → Took a 0 s z
+took_ready a k f s x y z (Zeroed e) m c q g = subst (λ (w : StateOf). Took a 0 w z) e (took_after_add a k x y z m c (went_give a f k y z g (inr c)))
+took_ready a k f s x y z (Cleared none p) m c q g =
+    let first = front s.life.frames.free in
+    let taken : f ≡ first = q ∙ ap (λ (l : FrameLife). front l.frames.zeroed) m.life ∙ cleared_first s.life x.life first p.life none in
+    record {
+      moves = move.Clear first ∷ move.Add k None ∷ move.Give f k ∷ [];
+      does = does_then (move.Clear first ∷ []) (move.Add k None ∷ move.Give f k ∷ []) s x z (does_one (move.Clear first) s x p) (does_two (move.Add k None) (move.Give f k) x y z m g);
+      each = λ t. (inl taken, (c, (inr c, tt)));
+      fresh = λ t. refl;
+      few_reads = omega arith;
+      paid = omega arith;
+    }
+took_ready a k f s x y z (Taken u none none_free st p) m c q g =
+    let d = front s.life.frames.standby in
+    let first = front u.life.frames.free in
+    let taken : f ≡ first =
+    q ∙ ap (λ (l : FrameLife). front l.frames.zeroed) m.life ∙ cleared_first u.life x.life first p.life (ap (λ (l : FrameLife). is_empty l.frames.zeroed) st.life ∙ none) in
+    record {
+      moves = move.Steal d ∷ move.Clear first ∷ move.Add k None ∷ move.Give f k ∷ [];
+      does = does_then (move.Steal d ∷ []) (move.Clear first ∷ move.Add k None ∷ move.Give f k ∷ []) s u z (does_one (move.Steal d) s u st)
+          (does_then (move.Clear first ∷ []) (move.Add k None ∷ move.Give f k ∷ []) u x z (does_one (move.Clear first) u x p) (does_two (move.Add k None) (move.Give f k) x y z m g));
+      each = λ t. (inl (taken ∙ stolen_first s.life u.life d st.life none_free), (inl taken, (c, (inr c, tt))));
+      fresh = λ t. refl;
+      few_reads = omega arith;
+      paid = omega arith;
+    }
 
 -- ---- what changes
 
@@ -51,3 +88,63 @@ given_life k s y z m h =
       pids = w.pids ∙ ap (λ (l : FrameLife). length l.sets) e;
       added = w.added ∙ ap (λ (l : FrameLife). l.added) e;
     }
+
+ready_kept : (s x : StateOf) → Readies s x → LifeKept s.life x.life
+ready_kept s x (Zeroed e) = subst (λ (w : StateOf). LifeKept s.life w.life) (sym e) (kept_same s.life)
+ready_kept s x (Cleared none p) = subst (λ (l : FrameLife). LifeKept s.life l) (sym p.life) (record { machine = refl; line = refl; kind = refl; paging = refl; keys = refl; pids = refl; added = refl })
+ready_kept s x (Taken u none none_free st p) = record {
+  machine = ap (λ (l : FrameLife). l.machine) p.life ∙ ap (λ (l : FrameLife). l.machine) st.life;
+  line = ap (λ (l : FrameLife). l.line) p.life ∙ ap (λ (l : FrameLife). l.line) st.life;
+  kind = ap (λ (l : FrameLife). l.kind) p.life ∙ ap (λ (l : FrameLife). l.kind) st.life;
+  paging = ap (λ (l : FrameLife). l.paging) p.life ∙ ap (λ (l : FrameLife). l.paging) st.life;
+  keys = ap (λ (l : FrameLife). l.paging_keys) p.life ∙ ap (λ (l : FrameLife). l.paging_keys) st.life;
+  pids = ap (λ (l : FrameLife). length l.sets) p.life ∙ ap (λ (l : FrameLife). length l.sets) st.life;
+  added = ap (λ (l : FrameLife). l.added) p.life ∙ ap (λ (l : FrameLife). l.added) st.life;
+}
+
+ready_valid : (s x : StateOf) → Readies s x → x.life.valid ≡ s.life.valid
+ready_valid s x (Zeroed e) = ap (λ (w : StateOf). w.life.valid) e
+ready_valid s x (Cleared none p) = ap (λ (l : FrameLife). l.valid) p.life
+ready_valid s x (Taken u none none_free st p) = ap (λ (l : FrameLife). l.valid) p.life ∙ ap (λ (l : FrameLife). l.valid) st.life
+
+pub copy_life : (k : Key) (s x y z : StateOf) → Readies s x → Made (move.Add k None) x y → ((a : Aim) → IsFor a k → Took a 0 y z) → KeyAdded k s.life z.life
+copy_life k s x y z r m h =
+    let w = given_life k x y z m h in
+    let e = ready_kept s x r in
+    record {
+      machine = w.machine ∙ e.machine;
+      line = w.line ∙ e.line;
+      kind = w.kind ∙ e.kind;
+      paging = w.paging ∙ ap (λ (p : Key → Bool). changed same_key p k true) e.paging;
+      keys = w.keys ∙ ap (λ (n : ℕ). n + 1) e.keys;
+      pids = w.pids ∙ e.pids;
+      added = w.added ∙ e.added;
+    }
+
+-- ---- the own page may come to be still
+
+ready_shows : (place : Place) (s x : StateOf) → Holds s → Holds x → Readies s x → x.names ≡ s.names → shows_shared s.life place ≡ true → shows_shared x.life place ≡ true
+ready_shows place s x h g r n e = at (s.life.valid place) refl
+  where
+    at : (o : Option Frame) → s.life.valid place ≡ o → shows_shared x.life place ≡ true
+    at None v = let bad : false ≡ true = sym (ap (λ (o : Option Frame). unwrap_or (option_map (λ f. owner_is is_shared (record_at s.life.frames f.0)) o) false) v) ∙ e in cc
+    at (Some f) v =
+        let there : x.life.valid place ≡ Some f = ap (λ (p : Place → Option Frame). p place) (ready_valid s x r) ∙ v in
+        let owner : (record_at x.life.frames f.0).owner ≡ (record_at s.life.frames f.0).owner =
+        g.named place f there ∙ ap (λ (p : Place → Option Key). p place) n ∙ sym (h.named place f v) in
+        ap (λ (o : Option Frame). unwrap_or (option_map (λ f. owner_is is_shared (record_at x.life.frames f.0)) o) false) there
+        ∙ ap (λ (o : Option Key). unwrap_or (option_map is_shared o) false) owner
+        ∙ sym (ap (λ (o : Option Frame). unwrap_or (option_map (λ f. owner_is is_shared (record_at s.life.frames f.0)) o) false) v) ∙ e
+
+add_legal : (place : Place) (l : FrameLife) → is_live l (key_of_place place) ≡ false → l.paging_keys < limit_of l.machine → touches place.pid.0 l.kind ≡ true → shows_shared l place ≡ true → IsLegal (move.Add (key_of_place place) None) l
+add_legal place l dead room touch shows = grind (arith, dead, room, touch, shows)
+
+pub copy_legal : (place : Place) (s x : StateOf) → Holds s → Holds x → Readies s x → x ≡ moved s x → s.contents (key_of_place place) ≡ None → s.life.paging_keys < limit_of s.life.machine → touches place.pid.0 s.life.kind ≡ true → shows_shared s.life place ≡ true
+    → IsLegal (move.Add (key_of_place place) None) x.life
+copy_legal place s x h g r e dead room touch shows =
+    let k = ready_kept s x r in
+    add_legal place x.life
+    (g.live (key_of_place place) ∙ ap (λ (w : StateOf). is_some (w.contents (key_of_place place))) e ∙ ap is_some dead)
+    (room_then s.life x.life k room)
+    (ap (touches place.pid.0) k.kind ∙ touch)
+    (ready_shows place s x h g r (ap (λ (w : StateOf). w.names) e) shows)

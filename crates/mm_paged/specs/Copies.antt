@@ -2,15 +2,18 @@
 use Rattle.std.specs.Prelude.{◌≡◌, ◌≤◌, ◌+◌, ◌⊎◌, ℕ, true, false, length, Option, Some, None, is_some}
 use Rattle.mm_types.specs.declared.faults.PageFault.{PageFault}
 use Rattle.mm_types.specs.declared.faults.PageFault.TheVariants as fault
+use Rattle.mm_types.specs.declared.moves.Move.TheVariants as move
 use Rattle.mm_types.specs.declared.numbers.Frame.{Frame}
 use Rattle.mm_types.specs.declared.numbers.Key.{Key}
 use Rattle.mm_types.specs.declared.numbers.Place.{Place}
+use Rattle.mm_life.specs.Frames.{is_empty}
 use Rattle.mm_life.specs.Life.{FrameLife, changed, same_key, same_place, is_live, key_of_place}
 use Rattle.mm_life.specs.Legal.{is_short}
 use Rattle.mm_pages.specs.Accesses.{Aim}
 use Rattle.mm_pages.specs.Reports.{no_calls}
 use Rattle.mm_pages.specs.Shortage.{is_framed}
-use Rattle.mm_moving.specs.Shown.{StateOf, called, SomeFault}
+use Rattle.mm_parts.specs.Moves.{front}
+use Rattle.mm_moving.specs.Shown.{StateOf, Made, called, SomeFault}
 use Rattle.mm_moving.specs.Doing.{IsFlightOf}
 use Rattle.mm_paged.specs.Pieces.{Went, Calm, LifeKept}
 
@@ -97,3 +100,10 @@ pub record FailsToCopy (why : PageFault) (k : Key) (s z : StateOf) : Type 0 wher
   pub failed : why ≡ fault.NoFrame → 1 ≤ z.told.search_writes.failed
   pub none : why ≡ fault.NoFrame → s.told.search_writes ≡ no_calls → z.told.search_writes.succeeded ≡ 0
   pub fault : SomeFault s z
+
+-- a frame is zeroed now, where one could be taken: it was before, or the first free one is cleared, or the first on standby is taken and cleared
+pub data Readies (s z : StateOf) : Type 0 where
+  Zeroed : z ≡ s → Readies s z
+  Cleared : is_empty s.life.frames.zeroed ≡ true → Made (move.Clear (front s.life.frames.free)) s z → Readies s z
+  Taken : (x : StateOf) → is_empty s.life.frames.zeroed ≡ true → is_empty s.life.frames.free ≡ true → Made (move.Steal (front s.life.frames.standby)) s x
+      → Made (move.Clear (front x.life.frames.free)) x z → Readies s z

@@ -3,9 +3,9 @@ ghost use Rattle.mm_types.specs.Machine.{limit_of};
 ghost use Rattle.mm_types.specs.declared.faults.PageFault.TheVariants as fault;
 ghost use Rattle.mm_types.specs.declared.moves.LineKind.TheVariants as kind;
 ghost use Rattle.mm_types.specs.declared.numbers.Frame.{Frame};
-ghost use Rattle.mm_life.specs.Frames.{record_at};
+ghost use Rattle.mm_life.specs.Frames.{is_empty, record_at};
 ghost use Rattle.mm_life.specs.Life.{is_live, is_shared, key_of_place, changed as changed_at, same_place as same_place_at, same_key as same_key_at};
-ghost use Rattle.mm_life.specs.Legal.{is_access, touches, shows_shared, is_short};
+ghost use Rattle.mm_life.specs.Legal.{is_access, is_touch, touches, shows_shared, is_short};
 ghost use Rattle.mm_life.specs.Located.{zero_page};
 ghost use Rattle.mm_located.specs.Carried.{IsSoiled};
 ghost use Rattle.mm_world.specs.Failure.{same_key};
@@ -14,11 +14,11 @@ ghost use Rattle.mm_pages.specs.Conditions.{IsAt, MayAccess, IsReady, touch, cop
 ghost use Rattle.mm_pages.specs.Passing.{PassesIn};
 ghost use Rattle.mm_pages.specs.Reports.{fetched, Served, SomeRose, Ends, IsBegun};
 ghost use Rattle.mm_pages.specs.Store.{changed, same_place, own_key};
-ghost use Rattle.mm_moving.specs.Shown.{called};
+ghost use Rattle.mm_moving.specs.Shown.{called, moved};
 ghost use Rattle.mm_paged.specs.Pieces.{Went, Stuck, Sought, Took, Fails, InFrame, LifeKept};
-ghost use Rattle.mm_paged.specs.Copies.{Reaches, CopiesFrom, HeldAt, Readied, Pins, Spares, Lacks, KeyAdded, Copied, FailsToCopy, most_reads};
+ghost use Rattle.mm_paged.specs.Copies.{Reaches, CopiesFrom, HeldAt, Readied, Pins, Spares, Lacks, KeyAdded, Copied, FailsToCopy, Readies, most_reads};
 
-use crate::faults::{fault, give};
+use crate::faults::{fault, give_zeroed};
 use crate::paged::{Paged, Wanted};
 use mm_moving::Moving;
 use mm_pages::Need;
@@ -93,7 +93,42 @@ fn find_pinned<T: Moving>(state: &mut T, pinned: Frame) -> Result<(), PageFault>
     Ok(())
 }
 
-/// The place's own page comes to be beside the tables, and gets a frame.
+/// The first frame on standby is taken and cleared.
+fn ready_standby<T: Moving>(state: &mut T)
+    requires touch { is_touch (T.shown state.old).life.kind ≡ true }
+    requires none { is_empty (T.shown state.old).life.frames.zeroed ≡ true }
+    requires none_free { is_empty (T.shown state.old).life.frames.free ≡ true }
+    requires some { is_empty (T.shown state.old).life.frames.standby ≡ false }
+    ensures readies { Readies (T.shown state.old) (T.shown state.new) }
+    ensures zeroed { is_empty (T.shown state.new).life.frames.zeroed ≡ false }
+    ensures same { (T.shown state.new) ≡ moved (T.shown state.old) (T.shown state.new) }
+    ensures loans { T.loans state.new ≡ T.loans state.old }
+{
+    state.sound();
+    state.steal();
+    state.clear();
+}
+
+/// Sees that a frame is zeroed: the first free one is cleared, or without one the first on standby is taken and cleared.
+fn ready_frame<T: Moving>(state: &mut T)
+    requires touch { is_touch (T.shown state.old).life.kind ≡ true }
+    requires some { is_short (T.shown state.old).life ≡ false }
+    ensures readies { Readies (T.shown state.old) (T.shown state.new) }
+    ensures zeroed { is_empty (T.shown state.new).life.frames.zeroed ≡ false }
+    ensures same { (T.shown state.new) ≡ moved (T.shown state.old) (T.shown state.new) }
+    ensures loans { T.loans state.new ≡ T.loans state.old }
+{
+    if !state.no_zeroed() {
+        return;
+    }
+    if !state.no_free() {
+        state.clear();
+        return;
+    }
+    ready_standby(state);
+}
+
+/// A frame is zeroed, then the place's own page comes to be beside the tables and gets it.
 fn give_copy<T: Moving>(state: &mut T, place: Place) -> Frame
     requires touch { touches place.pid.0 (T.shown state.old).life.kind ≡ true }
     requires bound { (T.shown state.old).bound place ≡ true }
@@ -117,9 +152,11 @@ fn give_copy<T: Moving>(state: &mut T, place: Place) -> Frame
 {
     let own = Key::Private(place.pid, place.vpn);
     state.sound();
+    ready_frame(state);
+    state.sound();
     state.add_zero(own);
     state.sound();
-    let f = give(state, own);
+    let f = give_zeroed(state, own);
     state.sound();
     f
 }

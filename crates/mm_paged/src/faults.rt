@@ -11,7 +11,7 @@ ghost use Rattle.mm_moving.specs.Doing.{IsFlightOf};
 ghost use Rattle.mm_types.specs.declared.numbers.Place.{Place};
 ghost use Rattle.mm_located.specs.Carried.{IsSoiled};
 ghost use Rattle.mm_parts.specs.Holds.{HasSet};
-ghost use Rattle.mm_parts.specs.Moves.{front_for_read};
+ghost use Rattle.mm_parts.specs.Moves.{front, front_for_read};
 ghost use Rattle.mm_types.specs.declared.moves.Move.TheVariants as move;
 ghost use Rattle.mm_types.specs.declared.moves.LineKind.TheVariants as kind;
 ghost use Rattle.mm_types.specs.declared.faults.PageFault.TheVariants as fault;
@@ -22,10 +22,11 @@ use mm_reclaim::{NoFrame, find_frame};
 use mm_types::{Frame, Held, Key, PageFault, Place, Record, Request};
 
 /// A demand-zero page gets the first zeroed frame.
-fn give_zeroed<T: Moving>(state: &mut T, key: Key) -> Frame
+pub(crate) fn give_zeroed<T: Moving>(state: &mut T, key: Key) -> Frame
     requires touch { is_touch (T.shown state.old).life.kind ≡ true }
     requires zero { is_zero ((T.shown state.old).life.stands key) ≡ true }
     requires some { is_empty (T.shown state.old).life.frames.zeroed ≡ false }
+    ensures made { (result ≡ front (T.shown state.old).life.frames.zeroed) × Made (move.Give result key) (T.shown state.old) (T.shown state.new) }
     ensures went { (a : Aim) → IsFor a key → Took a 0 (T.shown state.old) (T.shown state.new) }
     ensures keeps { Keeps (T.shown state.old) (T.shown state.new) }
     ensures stored { ((T.shown state.new).slots ≡ (T.shown state.old).slots) × ((T.shown state.new).blocks ≡ (T.shown state.old).blocks) }
