@@ -57,7 +57,7 @@ module _ (a b : Around) (took : Option Text) (e : Ending) (form : Type 0) (yes_f
         log = log_left a.beside.moves (moves_of d.lines) e (last_stage (begun_at a.beside) d.lines) h.end b.beside h.leaves
             (log_ran (begun_at a.beside) (last_stage (begun_at a.beside) d.lines) (moves_of d.lines) (all_logged 0 (begun_at a.beside) d.lines d.answered) refl e (length d.lines) d.front h.end closes);
         holds = λ q. holds_at_end 0 (begun_at a.beside) d.lines h.end b.beside tt d.answered (follows_done e (length d.lines) d.front (last_stage (begun_at a.beside) d.lines) h.end q closes) h.leaves;
-        faultless = λ calm none unnamed. faultless a.beside b.beside e (length d.lines) d.front h.end h.leaves calm unnamed d.lines d.answered closes none;
+        faultless = λ calm none unnamed. faultless a.beside b.beside e h.end h.leaves calm unnamed (length d.lines) d.front d.lines d.answered closes none;
       }
 
   pub ran_whole : (status : ℕ) → IsOrFlush status e → (e ≡ ending.OutFault → status ≡ 5) → Appended took b.took (last_text e) → Ran a b form status

@@ -26,6 +26,8 @@ use Rattle.mm_run.specs.Steps.{Begins, Decides, IsDecided}
 use Rattle.mm_run.specs.Answered.{DecidedLine, AreAnswered, last_stage, NamesNone, NoneNames, NoneFails}
 use Rattle.mm_run.specs.Ends.{Left, Leaves, Closes, BreaksAt}
 use Rattle.mm_run.specs.Ran.{SomeRose, NoneNamed, begun_at}
+use Rattle.mm_run.specs.Bulk.{AreDecided, ClosesEvents}
+use Rattle.mm_run.proofs.Events.{decided_of, closed_of}
 use Rattle.mm_run.proofs.Named.{count_stays}
 use Rattle.mm_run.proofs.Lost.{is_lost, lost_line}
 
@@ -179,12 +181,12 @@ quiet_by o s l ls last (Running m) (Running n) c h d u more =
     let calm = calm_follows o s m h c in
     quiet_to o s m n l ls l.moves last h d.step.1 d.notes.replays calm (more n (calm_line o m n l.event l.answer l.moves d.step.1 d.notes.replays calm u) refl)
 
-quiet : (o : Outset) (n : ℕ) (s : Scene) (lines : List DecidedLine) → Calm o s → AreAnswered n (Running s) lines → NoneNames lines → QuietTo o s lines (last_stage (Running s) lines)
-quiet o n s [] c u none = quiet_here o s c
-quiet o n s (l ∷ ls) c u none =
+quiet : (o : Outset) (s : Scene) (lines : List DecidedLine) → Calm o s → AreDecided (Running s) lines → NoneNames lines → QuietTo o s lines (last_stage (Running s) lines)
+quiet o s [] c u none = quiet_here o s c
+quiet o s (l ∷ ls) c u none =
     quiet_by o s l ls (last_stage l.after ls) l.before l.after c u.0.follows u.0.decided none.0
     (λ m calm at. subst (λ (x : Stage). QuietTo o m ls (last_stage x ls)) (sym at)
-    (quiet o (suc n) m ls calm (subst (λ (x : Stage). AreAnswered (suc n) x ls) at u.2) none.1))
+      (quiet o m ls calm (subst (λ (x : Stage). AreDecided x ls) at u.2) none.1))
 
 -- ---- the first line
 
@@ -259,25 +261,25 @@ mutes_end o s l (Running m) (Running z) end c h d q none =
       files_none = named.1;
     })
 
-closes_end : (o : Outset) (s : Scene) (e : Ending) (n : ℕ) (front : Text) (end : Stage) → Calm o s → Closes e n front (Running s) end → (e ≡ ending.MovesFault → NoneNamed end) → EndedAt o s end
-closes_end o s ending.NoMemory n front end c (inl h) none = follows_end o s end c h
-closes_end o s ending.NoMemory n front end c (inr b) none = breaks_end o s b.before end c b.follows b.breaks
-closes_end o s ending.MovesFault n front end c (inl h) none = follows_end o s end c h
-closes_end o s ending.MovesFault n front end c (inr m) none = mutes_end o s m.line m.line.before m.line.after end c m.muted.next.follows m.muted.next.decided m.after (none refl)
-closes_end o s ending.Done n front end c h none = follows_end o s end c h
-closes_end o s ending.Usage n front end c h none = follows_end o s end c h
-closes_end o s (ending.Script l k) n front end c h none = follows_end o s end c h
-closes_end o s ending.ReadFault n front end c h none = follows_end o s end c h
-closes_end o s ending.OutFault n front end c h none = follows_end o s end c h
-closes_end o s ending.SetupFault n front end c h none = follows_end o s end c h
-closes_end o s (ending.TooLong l) n front end c h none = follows_end o s end c h
-closes_end o s ending.Unbuilt n front end c h none = follows_end o s end c h
+closes_end : (o : Outset) (s : Scene) (e : Ending) (end : Stage) → Calm o s → ClosesEvents e (Running s) end → (e ≡ ending.MovesFault → NoneNamed end) → EndedAt o s end
+closes_end o s ending.NoMemory end c (inl h) none = follows_end o s end c h
+closes_end o s ending.NoMemory end c (inr b) none = breaks_end o s b.before end c b.follows b.breaks
+closes_end o s ending.MovesFault end c (inl h) none = follows_end o s end c h
+closes_end o s ending.MovesFault end c (inr m) none = mutes_end o s m.line m.line.before m.line.after end c m.next.follows m.next.decided m.after (none refl)
+closes_end o s ending.Done end c h none = follows_end o s end c h
+closes_end o s ending.Usage end c h none = follows_end o s end c h
+closes_end o s (ending.Script l k) end c h none = follows_end o s end c h
+closes_end o s ending.ReadFault end c h none = follows_end o s end c h
+closes_end o s ending.OutFault end c h none = follows_end o s end c h
+closes_end o s ending.SetupFault end c h none = follows_end o s end c h
+closes_end o s (ending.TooLong l) end c h none = follows_end o s end c h
+closes_end o s ending.Unbuilt end c h none = follows_end o s end c h
 
 abbrev outset_in : Outset → Stage → Outset
 outset_in o (NotBegun q) = q
 outset_in o (Running s) = o
 
-module _ (a b : Left) (e : Ending) (n : ℕ) (front : Text) (end : Stage) (leaves : Leaves end b) (calm : SomeRose a b → ⊥) (unnamed : e ≡ ending.MovesFault → NoneNamed end) where
+module _ (a b : Left) (e : Ending) (end : Stage) (leaves : Leaves end b) (calm : SomeRose a b → ⊥) (unnamed : e ≡ ending.MovesFault → NoneNamed end) where
   rose_at : (q : Outset) (z : Scene) (y : Stage) → q.paging ≡ a.paging.faults → q.files ≡ a.files.faults → Leaves y b → EndedAt q z y → RoseTo q z → SomeRose a b
   rose_at q z (NotBegun f) p r l h rose = absurd h
   rose_at q z (Running y) p r l h rose = elim (rose_on q z y h.paging_later h.files_later rose) [
@@ -285,23 +287,26 @@ module _ (a b : Left) (e : Ending) (n : ℕ) (front : Text) (end : Stage) (leave
     | inr up ↦ inr (subst (λ (k : ℕ). Rose k b.files.faults) r (subst (λ (k : ℕ). Rose q.files k) (l.2.faults_are h.files_none) up))
   ]
 
-  behind_first : (q : Outset) (s : Scene) (ls : List DecidedLine) (last : Stage) → q.paging ≡ a.paging.faults → q.files ≡ a.files.faults → QuietTo q s ls last → Closes e n front last end → NoneFails ls
+  behind_first : (q : Outset) (s : Scene) (ls : List DecidedLine) (last : Stage) → q.paging ≡ a.paging.faults → q.files ≡ a.files.faults → QuietTo q s ls last → ClosesEvents e last end → NoneFails ls
   behind_first q s ls (NotBegun f) p r h closes = absurd h
   behind_first q s ls (Running z) p r h closes = elim h.fails [
     | inl none ↦ none
-    | inr rose ↦ absurd (calm (rose_at q z end p r leaves (closes_end q z e n front end h.calm closes unnamed) rose))
+    | inr rose ↦ absurd (calm (rose_at q z end p r leaves (closes_end q z e end h.calm closes unnamed) rose))
   ]
 
-  begun : (l : DecidedLine) (ls : List DecidedLine) (before after : Stage) → Follows (begun_at a) before → IsDecided before l.event l.answer l.moves after → AreAnswered 1 after ls → Closes e n front (last_stage after ls) end → NoneNames ls → NoneFails (l ∷ ls)
+  begun : (l : DecidedLine) (ls : List DecidedLine) (before after : Stage) → Follows (begun_at a) before → IsDecided before l.event l.answer l.moves after → AreDecided after ls → ClosesEvents e (last_stage after ls) end → NoneNames ls → NoneFails (l ∷ ls)
   begun l ls (Running m) after h d u closes none = absurd (let bad = h.same in cc)
   begun l ls (NotBegun q) (NotBegun f) h d u closes none = absurd d.step
   begun l ls (NotBegun q) (Running s) h d u closes none =
       let paging = ap (λ (x : Stage). (outset_in q x).paging) h.same in
       let files = ap (λ (x : Stage). (outset_in q x).files) h.same in (
         (λ bad. subst IsFailure d.step.answered bad),
-        behind_first q s ls (last_stage (Running s) ls) paging files (quiet q 1 s ls (first_calm q l.event l.answer l.moves s d.step d.notes.replays) u none) closes,
+        behind_first q s ls (last_stage (Running s) ls) paging files (quiet q s ls (first_calm q l.event l.answer l.moves s d.step d.notes.replays) u none) closes,
       )
 
-  pub faultless : (lines : List DecidedLine) → AreAnswered 0 (begun_at a) lines → Closes e n front (last_stage (begun_at a) lines) end → NoneNames lines → NoneFails lines
-  faultless [] u closes none = tt
-  faultless (l ∷ ls) u closes none = begun l ls l.before l.after u.0.follows u.0.decided u.2 closes none.1
+  pub events_faultless : (lines : List DecidedLine) → AreDecided (begun_at a) lines → ClosesEvents e (last_stage (begun_at a) lines) end → NoneNames lines → NoneFails lines
+  events_faultless [] u closes none = tt
+  events_faultless (l ∷ ls) u closes none = begun l ls l.before l.after u.0.follows u.0.decided u.2 closes none.1
+
+  pub faultless : (n : ℕ) (front : Text) (lines : List DecidedLine) → AreAnswered 0 (begun_at a) lines → Closes e n front (last_stage (begun_at a) lines) end → NoneNames lines → NoneFails lines
+  faultless n front lines u closes none = events_faultless lines (decided_of 0 (begun_at a) lines u) (closed_of e n front (last_stage (begun_at a) lines) end closes) none

@@ -12,3 +12,9 @@ pub mod Unpaged
 pub mod Deciding
 pub mod Closing
 pub mod Starting
+pub mod Numbers
+pub mod Batches
+pub mod Drawn
+pub mod Events
+pub mod Tallies
+pub mod ThreeWords

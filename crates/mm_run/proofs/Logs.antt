@@ -20,7 +20,9 @@ use Rattle.mm_run.specs.Answered.{DecidedLine, AreAnswered, last_stage, moves_of
 use Rattle.mm_run.specs.Texts.{TornText}
 use Rattle.mm_run.specs.Ends.{Closes, BreaksAt, Left, Leaves}
 use Rattle.mm_run.specs.Ran.{LogRan, EndsHolding}
+use Rattle.mm_run.specs.Bulk.{AreDecided, ClosesEvents}
 use Rattle.mm_run.proofs.Stories.{life_follows, bytes_follow}
+use Rattle.mm_run.proofs.Events.{decided_of, closed_of}
 
 -- ---- one piece
 
@@ -70,12 +72,15 @@ logged_then a b c xs ys u v = record {
       (appended_then (log_of a).bytes (log_of b).bytes (log_of c).bytes (spelled_moves xs) (spelled_moves ys) u.wrote v.wrote);
 }
 
-pub all_logged : (n : ℕ) (old : Stage) (lines : List DecidedLine) → AreAnswered n old lines → Logged old (moves_of lines) (last_stage old lines)
-all_logged n old [] u = logged_here old
-all_logged n old (l ∷ ls) u =
+pub events_logged : (old : Stage) (lines : List DecidedLine) → AreDecided old lines → Logged old (moves_of lines) (last_stage old lines)
+events_logged old [] u = logged_here old
+events_logged old (l ∷ ls) u =
     logged_then old l.after (last_stage l.after ls) l.moves (moves_of ls)
     (logged_from old l.before l.after l.moves u.0.follows (one_logged l.before l.after l.moves u.0.decided.notes u.1))
-    (all_logged (suc n) l.after ls u.2)
+    (events_logged l.after ls u.2)
+
+pub all_logged : (n : ℕ) (old : Stage) (lines : List DecidedLine) → AreAnswered n old lines → Logged old (moves_of lines) (last_stage old lines)
+all_logged n old lines u = events_logged old lines (decided_of n old lines u)
 
 -- ---- the end
 
@@ -130,27 +135,30 @@ module _ (old last : Stage) (moves : List Move) (l : Logged old moves last) (sta
   break_notes e (Running s) (NotBegun o) q h b = absurd b
   break_notes e (Running s) (Running z) q h b = log_more e (Running s) (Running z) b.moves h b.notes (λ n m. n q)
 
-  pub log_ran : (e : Ending) (n : ℕ) (front : Text) (end : Stage) → Closes e n front last end → LogRan (log_of old).bytes (log_of end).bytes moves e last end
-  log_ran ending.NoMemory n front end (inl h) = log_whole ending.NoMemory end h
-  log_ran ending.NoMemory n front end (inr b) = break_notes ending.NoMemory b.before end refl b.follows b.breaks
-  log_ran ending.MovesFault n front end (inl h) = log_whole ending.MovesFault end h
-  log_ran ending.MovesFault n front end (inr m) =
+  pub log_closed : (e : Ending) (end : Stage) → ClosesEvents e last end → LogRan (log_of old).bytes (log_of end).bytes moves e last end
+  log_closed ending.NoMemory end (inl h) = log_whole ending.NoMemory end h
+  log_closed ending.NoMemory end (inr b) = break_notes ending.NoMemory b.before end refl b.follows b.breaks
+  log_closed ending.MovesFault end (inl h) = log_whole ending.MovesFault end h
+  log_closed ending.MovesFault end (inr m) =
       subst (λ (z : Stage). LogRan (log_of old).bytes (log_of z).bytes moves ending.MovesFault last z) (sym m.after)
-      (log_more ending.MovesFault m.line.before m.line.after m.line.moves m.muted.next.follows m.muted.next.decided.notes (λ a b. b refl))
-  log_ran ending.Done n front end h = log_whole ending.Done end h
-  log_ran ending.Usage n front end h = log_whole ending.Usage end h
-  log_ran (ending.Script l c) n front end h = log_whole (ending.Script l c) end h
-  log_ran ending.ReadFault n front end h = log_whole ending.ReadFault end h
-  log_ran ending.OutFault n front end h = log_whole ending.OutFault end h
-  log_ran ending.SetupFault n front end h = log_whole ending.SetupFault end h
-  log_ran (ending.TooLong l) n front end h = log_whole (ending.TooLong l) end h
-  log_ran ending.Unbuilt n front end h = log_whole ending.Unbuilt end h
+      (log_more ending.MovesFault m.line.before m.line.after m.line.moves m.next.follows m.next.decided.notes (λ a b. b refl))
+  log_closed ending.Done end h = log_whole ending.Done end h
+  log_closed ending.Usage end h = log_whole ending.Usage end h
+  log_closed (ending.Script l c) end h = log_whole (ending.Script l c) end h
+  log_closed ending.ReadFault end h = log_whole ending.ReadFault end h
+  log_closed ending.OutFault end h = log_whole ending.OutFault end h
+  log_closed ending.SetupFault end h = log_whole ending.SetupFault end h
+  log_closed (ending.TooLong l) end h = log_whole (ending.TooLong l) end h
+  log_closed ending.Unbuilt end h = log_whole ending.Unbuilt end h
+
+  pub log_ran : (e : Ending) (n : ℕ) (front : Text) (end : Stage) → Closes e n front last end → LogRan (log_of old).bytes (log_of end).bytes moves e last end
+  log_ran e n front end h = log_closed e end (closed_of e n front last end h)
 
 -- ---- what stands on devices
 
-pub holds_last : (n : ℕ) (old : Stage) (lines : List DecidedLine) → HoldsUnchanged old → AreAnswered n old lines → HoldsUnchanged (last_stage old lines)
-holds_last n old [] h u = h
-holds_last n old (l ∷ ls) h u = holds_last (suc n) l.after ls u.0.decided.holds u.2
+holds_last : (old : Stage) (lines : List DecidedLine) → HoldsUnchanged old → AreDecided old lines → HoldsUnchanged (last_stage old lines)
+holds_last old [] h u = h
+holds_last old (l ∷ ls) h u = holds_last l.after ls u.0.decided.holds u.2
 
 holds_with : (k : ℕ) (s : Stage) → HoldsUnchanged s → HoldsUnchanged (with_faults k s)
 holds_with k (NotBegun o) h = h
@@ -165,8 +173,11 @@ ends_holding (Running s) x l h =
     subst (λ (b : List Page). DevicesHold s.world s.behind.life x.paging.blocks b) l.2.blocks_are
     (subst (λ (b : List Page). DevicesHold s.world s.behind.life b s.blocks) l.1.blocks_are h)
 
+pub events_hold : (old : Stage) (lines : List DecidedLine) (end : Stage) (x : Left) → HoldsUnchanged old → AreDecided old lines → Follows (last_stage old lines) end → Leaves end x → EndsHolding end x.paging.blocks x.files.blocks
+events_hold old lines end x h u f l = ends_holding end x l (holds_follows (last_stage old lines) end f (holds_last old lines h u))
+
 pub holds_at_end : (n : ℕ) (old : Stage) (lines : List DecidedLine) (end : Stage) (x : Left) → HoldsUnchanged old → AreAnswered n old lines → Follows (last_stage old lines) end → Leaves end x → EndsHolding end x.paging.blocks x.files.blocks
-holds_at_end n old lines end x h u f l = ends_holding end x l (holds_follows (last_stage old lines) end f (holds_last n old lines h u))
+holds_at_end n old lines end x h u f l = events_hold old lines end x h (decided_of n old lines u) f l
 
 pub log_left : (took : Option Text) (moves : List Move) (e : Ending) (last end : Stage) (x : Left) → Leaves end x → LogRan took (log_of end).bytes moves e last end → LogRan took x.moves moves e last end
 log_left took moves e last end x h r = subst (λ (b : Option Text). LogRan took b moves e last end) (bytes_left end x h) r

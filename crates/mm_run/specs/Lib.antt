@@ -8,3 +8,5 @@ pub mod Ends
 pub mod Story
 pub mod Ran
 pub mod Script
+pub mod Bulk
+pub mod Batch

@@ -29,7 +29,7 @@ IsOrFlush status e = (status ≡ status_of e) ⊎ ((status ≡ 5) ⊎ (status �
 abbrev pub last_text : Ending → Text
 last_text ending.Done = []
 last_text ending.NoMemory = []
-last_text ending.Usage = codes "usage: mmsim run\n"
+last_text ending.Usage = codes "usage: mmsim run | mmsim bulk SEED COUNT\n"
 last_text (ending.Script line column) = codes "bad line " ++ (decimal line ++ (codes " column " ++ (decimal column ++ 10 ∷ [])))
 last_text ending.ReadFault = []
 last_text ending.OutFault = []

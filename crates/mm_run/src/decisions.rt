@@ -50,7 +50,7 @@ pub(crate) fn tell<O: Sink>(
 }
 
 /// Decides a line of a world over a store that pages, which is not the first: it is told whole.
-fn decide<G: FlushesMoves>(
+pub(crate) fn decide<G: FlushesMoves>(
     alloc: Global,
     n: u32,
     event: &Event,

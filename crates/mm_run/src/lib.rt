@@ -1,11 +1,13 @@
 //! The top call: a script in, answers out, from bytes to bytes.
 #![tactic(auto)]
 
+mod bulk;
 mod decisions;
 mod endings;
 mod machines;
 mod readings;
 mod top;
+mod forms;
 
 pub use endings::Ending;
 pub use top::run;

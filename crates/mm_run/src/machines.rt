@@ -38,7 +38,7 @@ fn not_opened(fault: OpenFault) -> Ending
 }
 
 /// Opens both devices of a machine, the paging device first.
-fn open_devices<P: Blocks, F: Blocks>(
+pub(crate) fn open_devices<P: Blocks, F: Blocks>(
     machine: Machine,
     paging: &mut P,
     files: &mut F,

@@ -7,9 +7,13 @@ ghost use Rattle.mm_run.specs.Scenes.{NotBegun, outset};
 ghost use Rattle.mm_run.specs.Ends.{left_with, device_left};
 ghost use Rattle.mm_run.specs.Ran.{Ran, around};
 ghost use Rattle.mm_run.specs.Texts.{last_text, WroteLast};
+ghost use Rattle.mm_make.specs.Generated.{script_of};
+ghost use Rattle.mm_run.specs.Bulk.{IsBulk, IsNoBulk, BulkRan};
 
+use crate::bulk::bulk;
 use crate::endings::Ending;
 use crate::machines::decide_all;
+use crate::forms::bulk_words;
 use mm_blocks::Blocks;
 use mm_io::{Sink, Source, write_all};
 use mm_text::{LineBuf, put_decimal};
@@ -27,7 +31,7 @@ fn is_run(words: &[String]) -> bool
 }
 
 /// Writes a number in decimal.
-fn put_number(out: &mut LineBuf, n: u32)
+pub(crate) fn put_number(out: &mut LineBuf, n: u32)
     requires given { length out.old ≤ 200 }
     ensures number { out.new ≡ out.old ++ decimal n }
     ensures few { length out.new ≤ length out.old + 10 }
@@ -41,7 +45,7 @@ fn spell_last(ending: Ending) -> LineBuf
 {
     let mut text = LineBuf::new();
     match ending {
-        Ending::Usage => text.push_slice(b"usage: mmsim run\n"),
+        Ending::Usage => text.push_slice(b"usage: mmsim run | mmsim bulk SEED COUNT\n"),
         Ending::Script(line, column) => {
             text.push_slice(b"bad line ");
             put_number(&mut text, line);
@@ -175,6 +179,9 @@ fn end<S: Source, O: Sink, M: Sink, P: Blocks, F: Blocks>(
 /// grammar, 4 where the source failed, 5 where `out` failed, 6 where `moves` failed, 7 where a device failed as it was opened, 8 at a
 /// line that is too long, 9 at a line whose form is not built yet.
 ///
+/// Where the words are `bulk SEED COUNT` the lines are the events of `mm_make`'s script of these two numbers, and nothing is read; their answers are
+/// not written, but how many there are, how many of them begin with `ok`, how many are `none`, and the charge at the end with its limit.
+///
 /// At the first line, `machine`, it opens `paging` with the slots and then `files` with the blocks; neither names calls to fail by itself.
 /// Each line's moves are written to `moves` before its answer to `out`.
 pub fn run<S: Source, O: Sink, M: Sink, P: Blocks, F: Blocks>(
@@ -189,13 +196,16 @@ pub fn run<S: Source, O: Sink, M: Sink, P: Blocks, F: Blocks>(
     requires paging_plain { P.named paging.old ≡ [] }
     requires files_plain { F.named files.old ≡ [] }
     // Which lines were decided, with which answers and moves, what the run then came to, what was written, and what is left on devices.
-    ensures ran { Ran (around (S.left source.old) (O.taken out.old) (left_with (M.taken moves.old) (M.faults moves.old) (device_left (P.named paging.old) (P.log paging.old) (P.blocks paging.old) (P.faults paging.old)) (device_left (F.named files.old) (F.log files.old) (F.blocks files.old) (F.faults files.old)))) (around (S.left source.new) (O.taken out.new) (left_with (M.taken moves.new) (M.faults moves.new) (device_left (P.named paging.new) (P.log paging.new) (P.blocks paging.new) (P.faults paging.new)) (device_left (F.named files.new) (F.log files.new) (F.blocks files.new) (F.faults files.new)))) (IsForm words.now) result }
+    ensures ran { IsNoBulk words.now → Ran (around (S.left source.old) (O.taken out.old) (left_with (M.taken moves.old) (M.faults moves.old) (device_left (P.named paging.old) (P.log paging.old) (P.blocks paging.old) (P.faults paging.old)) (device_left (F.named files.old) (F.log files.old) (F.blocks files.old) (F.faults files.old)))) (around (S.left source.new) (O.taken out.new) (left_with (M.taken moves.new) (M.faults moves.new) (device_left (P.named paging.new) (P.log paging.new) (P.blocks paging.new) (P.faults paging.new)) (device_left (F.named files.new) (F.log files.new) (F.blocks files.new) (F.faults files.new)))) (IsForm words.now) result }
+    // Of a generated script, the same of its events.
+    ensures bulk { (seed count : ℕ) → IsBulk words.now seed count → BulkRan (around (S.left source.old) (O.taken out.old) (left_with (M.taken moves.old) (M.faults moves.old) (device_left (P.named paging.old) (P.log paging.old) (P.blocks paging.old) (P.faults paging.old)) (device_left (F.named files.old) (F.log files.old) (F.blocks files.old) (F.faults files.old)))) (around (S.left source.new) (O.taken out.new) (left_with (M.taken moves.new) (M.faults moves.new) (device_left (P.named paging.new) (P.log paging.new) (P.blocks paging.new) (P.faults paging.new)) (device_left (F.named files.new) (F.log files.new) (F.blocks files.new) (F.faults files.new)))) (script_of seed count) result }
+    ensures unread { (seed count : ℕ) → IsBulk words.now seed count → source.new ≡ source.old }
 
     // A script that comes to something by itself ends with that status and its whole text, unless memory or the
     // outside fails.
     ensures exact { (text : List ℕ) (lines : List (List ℕ)) (e : Ending) → S.left source.old ≡ Some text → IsForm words.now → IsScript text 0 lines e
         → IsComplete (around (S.left source.old) (O.taken out.old) (left_with (M.taken moves.old) (M.faults moves.old) (device_left (P.named paging.old) (P.log paging.old) (P.blocks paging.old) (P.faults paging.old)) (device_left (F.named files.old) (F.log files.old) (F.blocks files.old) (F.faults files.old)))) (around (S.left source.new) (O.taken out.new) (left_with (M.taken moves.new) (M.faults moves.new) (device_left (P.named paging.new) (P.log paging.new) (P.blocks paging.new) (P.faults paging.new)) (device_left (F.named files.new) (F.log files.new) (F.blocks files.new) (F.faults files.new)))) (IsForm words.now) lines e result ⊎ IsFault result }
-    ensures usage { (IsForm words.now → ⊥) → (result ≡ 2) ⊎ IsFault result }
+    ensures usage { (IsForm words.now → ⊥) → IsNoBulk words.now → (result ≡ 2) ⊎ IsFault result }
     ensures form { IsForm words.now → result ≢ 2 }
 
     // Each read but the last took a byte.
@@ -205,5 +215,8 @@ pub fn run<S: Source, O: Sink, M: Sink, P: Blocks, F: Blocks>(
     ensures moves_fault { result ≡ 6 → Rose (M.faults moves.old) (M.faults moves.new) }
     ensures setup_fault { result ≡ 7 → Rose (P.faults paging.old) (P.faults paging.new) ⊎ Rose (F.faults files.old) (F.faults files.new) }
 {
-    end(alloc, words, source, out, moves, paging, files)
+    match bulk_words(words) {
+        Some((seed, count)) => bulk(alloc, seed, count, out, moves, paging, files),
+        None => end(alloc, words, source, out, moves, paging, files),
+    }
 }

@@ -1,12 +1,41 @@
+use Rattle.std.proofs.Common.{ℕ, ◌≡◌, ◌≢◌, refl, sym, ap, ◌∙◌, subst, arith}
+use Rattle.mm_make.specs.Generated.{script_of}
+use Rattle.mm_run.specs.Bulk.{BulkRan}
+use Rattle.mm_run.specs.Ran.{around}
 use Rattle.mm_run.specs.Story.{IsForm}
 use Rattle.mm_run.proofs.Scripts.{exact, usage, not_usage}
+use Rattle.mm_run.proofs.ThreeWords.{one_bulk, no_run}
 use Rattle.mm_run.proofs.top.run.Goals as goal
 
-pub returns-clause-exact : goal.returns-clause-exact
-returns-clause-exact g c = λ text lines e told words script. exact _ _ (IsForm c.args.words.now) c.end.result c.end.ensures.ran text lines e told words script
+pub returns-in-None-clause-exact : goal.returns-in-None-clause-exact
+returns-in-None-clause-exact g c = λ text lines e told words script. exact _ _ (IsForm c.args.words.now) c.end.result c.end.ensures.ran text lines e told words script
 
-pub returns-clause-usage : goal.returns-clause-usage
-returns-clause-usage g c = usage _ _ (IsForm c.args.words.now) c.end.result c.end.ensures.ran
+pub returns-in-None-clause-usage : goal.returns-in-None-clause-usage
+returns-in-None-clause-usage g c = λ no other. usage _ _ (IsForm c.args.words.now) c.end.result c.end.ensures.ran no
 
-pub returns-clause-form : goal.returns-clause-form
-returns-clause-form g c = not_usage _ _ (IsForm c.args.words.now) c.end.result c.end.ensures.ran
+pub returns-in-None-clause-form : goal.returns-in-None-clause-form
+returns-in-None-clause-form g c = not_usage _ _ (IsForm c.args.words.now) c.end.result c.end.ensures.ran
+
+pub returns-in-None-clause-bulk : goal.returns-in-None-clause-bulk
+returns-in-None-clause-bulk g c = λ s n is. absurd (c.in-None.ensures s n is)
+
+pub returns-in-None-clause-unread : goal.returns-in-None-clause-unread
+returns-in-None-clause-unread g c = λ s n is. absurd (c.in-None.ensures s n is)
+
+pub returns-in-Some-clause-ran : goal.returns-in-Some-clause-ran
+returns-in-Some-clause-ran g c = λ no. absurd (no c.in-Some.seed c.in-Some.count c.in-Some.ensures)
+
+pub returns-in-Some-clause-bulk : goal.returns-in-Some-clause-bulk
+returns-in-Some-clause-bulk g c = λ s n is.
+    let one = one_bulk c.args.words.now c.in-Some.seed c.in-Some.count s n c.in-Some.ensures is in
+    subst (λ (k : ℕ). BulkRan _ _ (script_of k n) c.bulk.result) one.0
+    (subst (λ (k : ℕ). BulkRan _ _ (script_of c.in-Some.seed k) c.bulk.result) one.1 (c.bulk.ensures.ran (g.S.Source.left c.args.source.now)))
+
+pub returns-in-Some-clause-usage : goal.returns-in-Some-clause-usage
+returns-in-Some-clause-usage g c = λ no other. absurd (other c.in-Some.seed c.in-Some.count c.in-Some.ensures)
+
+pub returns-in-Some-clause-form : goal.returns-in-Some-clause-form
+returns-in-Some-clause-form g c = λ form. absurd (no_run c.args.words.now form c.in-Some.seed c.in-Some.count c.in-Some.ensures)
+
+pub returns-in-Some-clause-exact : goal.returns-in-Some-clause-exact
+returns-in-Some-clause-exact g c = λ text lines e told form script. absurd (no_run c.args.words.now form c.in-Some.seed c.in-Some.count c.in-Some.ensures)

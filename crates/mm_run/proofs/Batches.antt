@@ -1,0 +1,210 @@
+-- Events decided one after another.
+use Rattle.std.proofs.Common.{◌≡◌, ◌⊎◌, ℕ, zero, suc, ◌+◌, ◌-◌, take, drop, get_or, length-drop, ◌<◌, ◌≤◌, Bool, true, false, cond, List, [], ◌∷◌, ◌++◌, length, refl, sym, ap, ◌∙◌, subst, inl, inr, arith, append_assoc, length-append}
+use Rattle.std.specs.Prelude.{count_by, Result, Ok, Err, IfErr}
+use Rattle.std.proofs.lemmas.List.{take_more, take-append-drop, take_all}
+use Rattle.std.proofs.lemmas.List.Sums.{sum_by_push, sum_by-cons, count_by-le-length}
+use Rattle.mm_types.specs.Outside.{Rose}
+use Rattle.mm_types.proofs.Bytes.{rose_later}
+use Rattle.mm_types.specs.Machine.{MachineOf, limit_of}
+use Rattle.mm_types.specs.declared.answers.Answer.{Answer}
+use Rattle.mm_types.specs.declared.answers.Answer.TheVariants as answer
+use Rattle.mm_types.specs.declared.events.Event.{Event}
+use Rattle.mm_types.specs.declared.events.Event.TheVariants as line
+use Rattle.mm_types.specs.declared.moves.Move.{Move}
+use Rattle.mm_world.specs.Charge.{charge, limit}
+use Rattle.mm_paging.specs.Runs.{Scene, first_move}
+use Rattle.mm_run.specs.declared.endings.Ending.{Ending}
+use Rattle.mm_run.specs.declared.endings.Ending.TheVariants as ending
+use Rattle.mm_run.specs.Scenes.{Outset, Stage, NotBegun, Running, Follows, HasNoted, log_of}
+use Rattle.mm_run.specs.Steps.{IsDecided, IsMade, Moved, Breaks}
+use Rattle.mm_run.specs.Answered.{DecidedLine, last_stage, answers_of}
+use Rattle.mm_run.specs.Ends.{BreaksOff}
+use Rattle.mm_run.specs.Bulk.{AreDecided, IsEventNext, MutesEvent, ClosesEvents, Stops, events_of, begins_ok, is_none}
+use Rattle.mm_run.specs.Story.{IsBlamed, counts_with}
+use Rattle.mm_run.specs.Batch.{Handled, Stopped, IsLater, AreLater}
+use Rattle.mm_run.proofs.Stories.{follows_here, last-append, line_answers-append}
+use Rattle.mm_run.proofs.Firsts.{first_answered}
+use Rattle.mm_run.proofs.Ends.{blamed_beside}
+
+pub events-append : (xs ys : List DecidedLine) → events_of (xs ++ ys) ≡ events_of xs ++ events_of ys
+events-append [] ys = refl
+events-append (x ∷ xs) ys = ap (λ t. x.event ∷ t) (events-append xs ys)
+
+pub decided_then : (old : Stage) (xs ys : List DecidedLine) → AreDecided old xs → AreDecided (last_stage old xs) ys → AreDecided old (xs ++ ys)
+decided_then old [] ys u v = v
+decided_then old (x ∷ xs) ys u v = (u.0, u.1, decided_then x.after xs ys u.2 v)
+
+pub answers_many : (lines : List DecidedLine) → length (answers_of lines) ≡ length lines
+answers_many [] = refl
+answers_many (l ∷ ls) = let more = answers_many ls in omega arith
+
+pub events_many : (lines : List DecidedLine) → length (events_of lines) ≡ length lines
+events_many [] = refl
+events_many (l ∷ ls) = let more = events_many ls in omega arith
+
+-- an event has no text
+abbrev pub decided_event : Event → Answer → List Move → Stage → Stage → DecidedLine
+decided_event e a moves before after = record { text = []; event = e; answer = a; moves = moves; before = before; after = after }
+
+pub handled_none : (s : Stage) → Handled s [] 0 0 s
+handled_none s = record { lines = []; events_are = refl; decided = tt; ok_is = refl; none_is = refl; end_is = refl }
+
+counted_more : (p : Answer → Bool) (xs : List DecidedLine) (l : DecidedLine) (k : ℕ) → k ≡ count_by p (answers_of xs) → k + cond (p l.answer) 1 0 ≡ count_by p (answers_of (xs ++ l ∷ []))
+counted_more p xs l k e =
+    ap (λ n. n + cond (p l.answer) 1 0) e ∙ sym (sum_by_push (λ x. cond (p x) 1 0) (answers_of xs) l.answer) ∙ ap (count_by p) (sym (line_answers-append xs (l ∷ [])))
+
+-- one event more
+pub handled_more : (s z end : Stage) (es : List Event) (ok none : ℕ) (e : Event) (a : Answer) → Handled s es ok none z → Moved z e a end → HasNoted end → Handled s (es ++ e ∷ []) (ok + cond (begins_ok a) 1 0) (none + cond (is_none a) 1 0) end
+handled_more s z end es ok none e a h m noted =
+    let l = decided_event e a m.moves z end in
+    record {
+      lines = h.lines ++ l ∷ [];
+      events_are = events-append h.lines (l ∷ []) ∙ ap (λ xs. xs ++ e ∷ []) h.events_are;
+      decided = decided_then s h.lines (l ∷ []) h.decided
+        (record { follows = subst (λ (x : Stage). Follows x z) h.end_is (follows_here z); decided = m.decided }, noted, tt);
+      ok_is = counted_more begins_ok h.lines l ok h.ok_is;
+      none_is = counted_more is_none h.lines l none h.none_is;
+      end_is = sym (last-append s h.lines (l ∷ []));
+    }
+
+-- so many are counted at most
+pub handled_few : (s z : Stage) (es : List Event) (ok none : ℕ) → Handled s es ok none z → (ok ≤ length es) × (none ≤ length es)
+handled_few s z es ok none h =
+    let many = events_many h.lines in
+    let answers = answers_many h.lines in
+    let are = ap length h.events_are in
+    let o = h.ok_is in let n = h.none_is in
+    (
+      omega (arith, count_by-le-length begins_ok (answers_of h.lines)),
+      omega (arith, count_by-le-length is_none (answers_of h.lines)),
+    )
+
+some_left : (e : Ending) (left : List Event) → (e ≡ ending.NoMemory) ⊎ ((e ≡ ending.MovesFault) ⊎ (e ≡ ending.SetupFault)) → 0 < length left → Stops e left
+some_left e left (inl q) some = subst (λ (k : Ending). Stops k left) (sym q) some
+some_left e left (inr (inl q)) some = subst (λ (k : Ending). Stops k left) (sym q) some
+some_left e left (inr (inr q)) some = subst (λ (k : Ending). Stops k left) (sym q) some
+
+-- the next event is not decided, or not noted
+module _ (s z : Stage) (es left : List Event) (ok none : ℕ) (h : Handled s es ok none z) (some : 0 < length left) where
+  stopped_by : (e : Ending) (end : Stage) → (e ≡ ending.NoMemory) ⊎ ((e ≡ ending.MovesFault) ⊎ (e ≡ ending.SetupFault)) → ClosesEvents e z end → Stopped s (es ++ left) e end
+  stopped_by e end which closes = record {
+    lines = h.lines;
+    left = left;
+    events_are = ap (λ xs. xs ++ left) (sym h.events_are);
+    decided = h.decided;
+    stops = some_left e left which some;
+    some = some;
+    closes = subst (λ (x : Stage). ClosesEvents e x end) h.end_is closes;
+  }
+
+  pub stopped_memory : (end : Stage) → Follows z end ⊎ BreaksOff z end → Stopped s (es ++ left) ending.NoMemory end
+  stopped_memory end closes = stopped_by ending.NoMemory end (inl refl) closes
+
+  pub stopped_moves : (end : Stage) (e : Event) (a : Answer) → Moved z e a end → (log_of end).failed ≡ true → Stopped s (es ++ left) ending.MovesFault end
+  stopped_moves end e a m failed =
+      stopped_by ending.MovesFault end (inr (inl refl))
+      (inr (record { line = decided_event e a m.moves z end; next = record { follows = follows_here z; decided = m.decided }; failed = failed; after = refl }))
+
+-- nothing was decided
+pub stopped_here : (s : Stage) (es : List Event) (e : Ending) → (e ≡ ending.NoMemory) ⊎ (e ≡ ending.SetupFault) → 0 < length es → Stopped s es e s
+stopped_here s es e (inl q) some = subst (λ (k : Ending). Stopped s es k s) (sym q) (stopped_by s s [] es 0 0 (handled_none s) some ending.NoMemory s (inl refl) (inl (follows_here s)))
+stopped_here s es e (inr q) some = subst (λ (k : Ending). Stopped s es k s) (sym q) (stopped_by s s [] es 0 0 (handled_none s) some ending.SetupFault s (inr (inr refl)) (follows_here s))
+
+-- how an event that was not noted stops the rest
+pub stopped_next : (s : Stage) (z y : Scene) (es left : List Event) (ok none : ℕ) (event : Event) (e : Ending) (failed : Type 0) → Handled s es ok none (Running z) → 0 < length left
+    → ((e ≡ ending.NoMemory) × Breaks z y) ⊎ ((e ≡ ending.MovesFault) × ((a : Answer) × Moved (Running z) event a (Running y)) × (y.behind.log.failed ≡ true) × failed) → Stopped s (es ++ left) e (Running y)
+stopped_next s z y es left ok none event e failed h some (inl b) =
+    subst (λ (k : Ending). Stopped s (es ++ left) k (Running y)) (sym b.0)
+    (stopped_memory s (Running z) es left ok none h some (Running y) (inr (record { before = Running z; follows = follows_here (Running z); breaks = b.1 })))
+stopped_next s z y es left ok none event e failed h some (inr m) =
+    subst (λ (k : Ending). Stopped s (es ++ left) k (Running y)) (sym m.0)
+    (stopped_moves s (Running z) es left ok none h some (Running y) event m.1.0 m.1.1 m.2)
+
+-- ---- the first event
+
+limit_ok : (n : ℕ) → begins_ok (answer.Limit n) ≡ true
+limit_ok n = refl
+
+module _ (m : MachineOf) (o : Outset) (s : Scene) (made : IsMade m o s) (within : charge s.world ≤ limit s.world) where
+  abbrev first_line : DecidedLine
+  first_line = decided_event (line.Machine m) (answer.Limit (limit_of m)) (first_move m ∷ []) (NotBegun o) (Running s)
+
+  first_next : IsEventNext (NotBegun o) first_line
+  first_next = record { follows = follows_here (NotBegun o); decided = first_answered m o s made within (limit_of m) refl }
+
+  counted_first : (p : Answer → Bool) (ls : List DecidedLine) → count_by p (answers_of (first_line ∷ ls)) ≡ cond (p (answer.Limit (limit_of m))) 1 0 + count_by p (answers_of ls)
+  counted_first p ls = sum_by-cons (λ x. cond (p x) 1 0) (answer.Limit (limit_of m)) (answers_of ls)
+
+  module _ (noted : HasNoted (Running s)) (es : List Event) (end : Stage) where
+    pub first_handled : (ok none : ℕ) → Handled (Running s) es ok none end → Handled (NotBegun o) (line.Machine m ∷ es) (ok + 1) none end
+    first_handled ok none h =
+        let a = h.ok_is in let b = h.none_is in
+        record {
+          lines = first_line ∷ h.lines;
+          events_are = ap (λ xs. line.Machine m ∷ xs) h.events_are;
+          decided = (first_next, noted, h.decided);
+          ok_is = omega (arith, counted_first begins_ok h.lines);
+          none_is = omega (arith, counted_first is_none h.lines);
+          end_is = h.end_is;
+        }
+
+    pub first_stopped : (e : Ending) → Stopped (Running s) es e end → Stopped (NotBegun o) (line.Machine m ∷ es) e end
+    first_stopped e h = record {
+      lines = first_line ∷ h.lines;
+      left = h.left;
+      events_are = ap (λ xs. line.Machine m ∷ xs) h.events_are;
+      decided = (first_next, noted, h.decided);
+      stops = h.stops;
+      some = h.some;
+      closes = h.closes;
+    }
+
+  pub first_muted : (es : List Event) → s.behind.log.failed ≡ true → Stopped (NotBegun o) (line.Machine m ∷ es) ending.MovesFault (Running s)
+  first_muted es failed = record {
+    lines = [];
+    left = line.Machine m ∷ es;
+    events_are = refl;
+    decided = tt;
+    stops = omega arith;
+    some = omega arith;
+    closes = inr (record { line = first_line; next = first_next; failed = failed; after = refl });
+  }
+
+-- ---- the events of a list, from the first on
+
+-- so many events of a list were decided, and the next
+pub handled_on : (s z end : Stage) (events : List Event) (i ok none x y : ℕ) (e : Event) (a : Answer) → i < length events → e ≡ get_or events i e → Handled s (take i events) ok none z → Moved z e a end → HasNoted end
+    → x ≡ cond (begins_ok a) 1 0 → y ≡ cond (is_none a) 1 0 → Handled s (take (i + 1) events) (ok + x) (none + y) end
+handled_on s z end events i ok none x y e a within at h m noted p q =
+    let more : take i events ++ e ∷ [] ≡ take (i + 1) events = ap (λ d. take i events ++ d ∷ []) at ∙ sym (take_more events i e within) in
+    subst (λ (es : List Event). Handled s es (ok + x) (none + y) end) more
+    (subst (λ (k : ℕ). Handled s (take i events ++ e ∷ []) (ok + k) (none + y) end) (sym p)
+    (subst (λ (k : ℕ). Handled s (take i events ++ e ∷ []) (ok + cond (begins_ok a) 1 0) (none + k) end) (sym q)
+    (handled_more s z end (take i events) ok none e a h m noted)))
+
+-- so many events of a list were decided, and the next was not
+pub stopped_on : (s : Stage) (z y : Scene) (events : List Event) (i ok none : ℕ) (event : Event) (e : Ending) (failed : Type 0) → i < length events → Handled s (take i events) ok none (Running z)
+    → ((e ≡ ending.NoMemory) × Breaks z y) ⊎ ((e ≡ ending.MovesFault) × ((a : Answer) × Moved (Running z) event a (Running y)) × (y.behind.log.failed ≡ true) × failed) → Stopped s events e (Running y)
+stopped_on s z y events i ok none event e failed within h why =
+    subst (λ (es : List Event). Stopped s es e (Running y)) (take-append-drop i events)
+    (stopped_next s z y (take i events) (drop i events) ok none event e failed h (omega (arith, length-drop i events)) why)
+
+pub handled_all : (s z : Stage) (events : List Event) (i ok none : ℕ) → length events ≤ i → Handled s (take i events) ok none z → Handled s events ok none z
+handled_all s z events i ok none all h = subst (λ (es : List Event). Handled s es ok none z) (take_all i events all) h
+
+pub later_at : (events : List Event) (i : ℕ) (e : Event) → AreLater events → i < length events → IsLater (get_or events i e)
+later_at [] i e h within = absurd (omega arith)
+later_at (x ∷ xs) zero e h within = h.0
+later_at (x ∷ xs) (suc i) e h within = later_at xs i e h.1 (omega arith)
+
+pub blamed_next : (z y : Scene) (event : Event) (e : Ending) (s o : ℕ) (opening : Type 0)
+    → ((e ≡ ending.NoMemory) × Breaks z y) ⊎ ((e ≡ ending.MovesFault) × ((a : Answer) × Moved (Running z) event a (Running y)) × (y.behind.log.failed ≡ true) × Rose z.behind.log.faults y.behind.log.faults)
+    → (k : ℕ) → k ≤ z.behind.log.faults → IsBlamed e opening (counts_with s o k) (counts_with s o y.behind.log.faults)
+blamed_next z y event e s o opening (inl b) k low = subst (λ (f : Ending). IsBlamed f opening (counts_with s o k) (counts_with s o y.behind.log.faults)) (sym b.0) tt
+blamed_next z y event e s o opening (inr m) k low =
+    subst (λ (f : Ending). IsBlamed f opening (counts_with s o k) (counts_with s o y.behind.log.faults)) (sym m.0) (rose_later k z.behind.log.faults y.behind.log.faults low m.3)
+
+-- with devices that were opened beside
+pub blamed_opened : {A : Type 0} (r : Result A Ending) (opening : Type 0) (m n : ℕ) → IfErr r (λ e. (s o : ℕ) → IsBlamed e ⊥ (counts_with s o m) (counts_with s o n)) → IfErr r (λ e. (s o : ℕ) → IsBlamed e opening (counts_with s o m) (counts_with s o n))
+blamed_opened (Ok x) opening m n h = h
+blamed_opened (Err e) opening m n h = λ s o. blamed_beside e opening (counts_with s o m) (counts_with s o n) (h s o)

@@ -1,0 +1,165 @@
+-- The events of a generated script: a machine first, and then built lines alone.
+use Rattle.std.proofs.Common.{◌≡◌, ℕ, zero, suc, ◌+◌, ◌*◌, ◌%◌, ◌-◌, ◌<◌, ◌≤◌, ◌^◌, Bool, true, false, List, [], ◌∷◌, ◌++◌, length, take, drop, get_or, length-drop, Some, None, codes, refl, sym, ap, ◌∙◌, subst, arith, length-append}
+use Rattle.std.specs.Prelude.{if◌then◌else◌, IsTrue, nat_le, nat_lt, ◌==◌}
+use Rattle.std.specs.List.{AllByRecursion}
+use Rattle.std.proofs.lemmas.Nat.{mod_below}
+use Rattle.std.proofs.lemmas.Bool.{le-leb}
+use Rattle.std.proofs.lemmas.List.{take_all}
+use Rattle.mm_types.specs.Machine.{MachineOf}
+use Rattle.mm_types.specs.declared.events.Event.{Event}
+use Rattle.mm_types.specs.declared.events.Event.TheVariants as line
+use Rattle.mm_script.specs.Printed.{IsWellFormed, IsInRange}
+use Rattle.mm_script.specs.Grammar.{fields_of, are_joined}
+use Rattle.mm_make.specs.Outputs.{outputs, seeded, behind}
+use Rattle.mm_make.specs.Generated.{Drawn, drawn, drawn_events, drawn_of_kind, drawn_by, write_drawn, read_drawn, address_drawn, fixed_events, script_of}
+use Rattle.mm_run.specs.Built.{is_built}
+use Rattle.mm_run.specs.Reading.{is_machine}
+use Rattle.mm_run.specs.Batch.{IsLater, AreLater}
+
+abbrev small_machine : MachineOf
+small_machine = record { frames = 64; slots = 256; depth = 4; blocks = 32 }
+
+abbrev fixed_later : List Event
+fixed_later =
+    line.Process 8 48
+    ∷ line.Process 8 48
+    ∷ line.File (codes "data") 32 1
+    ∷ line.Alloc (record { 0 = 1 }) 0x0 0x80000 0x3000 0x4
+    ∷ line.Create (record { 0 = 1 }) 0x20000 0x4 (Some (codes "pool"))
+    ∷ line.Open (record { 0 = 2 }) (codes "pool")
+    ∷ line.Map (record { 0 = 1 }) 4 0x2 0x0 0x0 0x0
+    ∷ line.Map (record { 0 = 2 }) 4 0x2 0x0 0x0 0x0
+    ∷ line.CreateFile (record { 0 = 2 }) (codes "data") 0x4 None
+    ∷ line.Map (record { 0 = 2 }) 8 0x1 0x0 0x0 0x0 ∷ []
+
+-- the events behind the first one
+abbrev pub later_events : ℕ → ℕ → List Event
+later_events seed count = fixed_later ++ drawn_events count (outputs (seeded seed))
+
+pub script_begins : (seed count : ℕ) → script_of seed count ≡ line.Machine small_machine ∷ later_events seed count
+script_begins seed count = refl
+
+later_of : (e : Event) → AllByRecursion IsInRange (fields_of e) → IsTrue (are_joined e) → is_built e ≡ true → is_machine e ≡ false → IsLater e
+later_of e fields joined built later = record { well_formed = record { fields = fields; joined = joined }; built = built; later = later }
+
+-- ---- the fixed ones
+
+process_later : IsLater (line.Process 8 48)
+process_later = later_of (line.Process 8 48) (tt, ((omega arith, omega arith), ((omega arith, omega arith), tt))) refl refl refl
+
+file_later : IsLater (line.File (codes "data") 32 1)
+file_later = later_of (line.File (codes "data") 32 1) (tt, (refl, ((omega arith, omega arith), ((omega arith, omega arith), tt)))) refl refl refl
+
+alloc_later : IsLater (line.Alloc (record { 0 = 1 }) 0x0 0x80000 0x3000 0x4)
+alloc_later = later_of (line.Alloc (record { 0 = 1 }) 0x0 0x80000 0x3000 0x4) (tt, ((omega arith, omega arith), (omega arith, (omega arith, (omega arith, (omega arith, tt)))))) refl refl refl
+
+create_later : IsLater (line.Create (record { 0 = 1 }) 0x20000 0x4 (Some (codes "pool")))
+create_later = later_of (line.Create (record { 0 = 1 }) 0x20000 0x4 (Some (codes "pool"))) (tt, ((omega arith, omega arith), (omega arith, (omega arith, (refl, tt))))) refl refl refl
+
+open_later : IsLater (line.Open (record { 0 = 2 }) (codes "pool"))
+open_later = later_of (line.Open (record { 0 = 2 }) (codes "pool")) (tt, ((omega arith, omega arith), (refl, tt))) refl refl refl
+
+map_later : (pid handle access : ℕ) → pid ≤ 255 → handle ≤ 0xFFFFFFFF → access < 2 ^ 32 → IsLater (line.Map (record { 0 = pid }) handle access 0x0 0x0 0x0)
+map_later pid handle access p h a = later_of (line.Map (record { 0 = pid }) handle access 0x0 0x0 0x0) (tt, ((omega arith, p), ((omega arith, h), (a, (omega arith, (omega arith, (omega arith, tt))))))) refl refl refl
+
+create_file_later : IsLater (line.CreateFile (record { 0 = 2 }) (codes "data") 0x4 None)
+create_file_later = later_of (line.CreateFile (record { 0 = 2 }) (codes "data") 0x4 None) (tt, ((omega arith, omega arith), (refl, (omega arith, (tt, tt))))) refl refl refl
+
+-- ---- the drawn ones
+
+address_low : (word pages : ℕ) → 0 < pages → pages ≤ 160 → address_drawn word pages < 2 ^ 32
+address_low word pages some few = omega (arith, mod_below word pages some)
+
+address_whole : (addr : ℕ) → nat_le (addr % 4096 + 1) 4096 ≡ true
+address_whole addr = le-leb (addr % 4096 + 1) 4096 (let low = mod_below addr 4096 (omega arith) in omega (arith, low))
+
+write_later : (pid pages page byte : ℕ) → pid ≤ 255 → 0 < pages → pages ≤ 160 → IsLater (write_drawn pid pages page byte)
+write_later pid pages page byte p some few =
+    later_of (write_drawn pid pages page byte)
+    (tt, ((omega arith, p), (address_low page pages some few, (((omega arith), (omega arith), (mod_below byte 256 (omega arith), tt)), tt))))
+    (address_whole (address_drawn page pages)) refl refl
+
+read_later : (pid pages page : ℕ) → pid ≤ 255 → 0 < pages → pages ≤ 160 → IsLater (read_drawn pid pages page)
+read_later pid pages page p some few =
+    later_of (read_drawn pid pages page)
+    (tt, ((omega arith, p), (address_low page pages some few, ((omega arith, omega arith), tt))))
+    (address_whole (address_drawn page pages)) refl refl
+
+trim_later : (word : ℕ) → IsLater (line.Trim (record { 0 = 1 + word % 2 }) 8)
+trim_later word =
+    later_of (line.Trim (record { 0 = 1 + word % 2 }) 8) (tt, ((omega arith, (let low = mod_below word 2 (omega arith) in omega (arith, low))), ((omega arith, omega arith), tt))) refl refl refl
+
+writer_later : IsLater (line.Writer 4)
+writer_later = later_of (line.Writer 4) (tt, ((omega arith, omega arith), tt)) refl refl refl
+
+io_later : IsLater (line.Io 1)
+io_later = later_of (line.Io 1) (tt, ((omega arith, omega arith), tt)) refl refl refl
+
+later_if : (b : Bool) (x y : Drawn) → IsLater x.event → IsLater y.event → IsLater (if b then x else y).event
+later_if true x y p q = p
+later_if false x y p q = q
+
+of_kind_later : (kind : ℕ) (words : ℕ → ℕ) → IsLater (drawn_of_kind kind words).event
+of_kind_later kind words =
+    later_if (nat_le kind 1) _ _ (write_later 1 160 (words 1) (words 2) (omega arith) (omega arith) (omega arith))
+    (later_if (kind == 2) _ _ (read_later 1 160 (words 1) (omega arith) (omega arith) (omega arith))
+    (later_if (kind == 3) _ _ (write_later 2 64 (words 1) (words 2) (omega arith) (omega arith) (omega arith))
+    (later_if (kind == 4) _ _ (read_later 2 64 (words 1) (omega arith) (omega arith) (omega arith))
+    (later_if (kind == 5) _ _ (trim_later (words 1))
+    (later_if (kind == 6) _ _ writer_later io_later)))))
+
+all_drawn_later : (n : ℕ) (words : ℕ → ℕ) → AreLater (drawn_events n words)
+unfolding drawn_events
+all_drawn_later zero words = tt
+all_drawn_later (suc n) words = (of_kind_later (words 0 % 8) words, all_drawn_later n (behind (drawn words).taken words))
+
+pub are_later : (seed count : ℕ) → AreLater (later_events seed count)
+are_later seed count =
+    (process_later, (process_later, (file_later, (alloc_later, (create_later, (open_later, (map_later 1 4 0x2 (omega arith) (omega arith) (omega arith), (map_later 2 4 0x2 (omega arith) (omega arith) (omega arith), (create_file_later, (map_later 2 8 0x1 (omega arith) (omega arith) (omega arith), all_drawn_later count (outputs (seeded seed))))))))))))
+
+drawn_many : (n : ℕ) (words : ℕ → ℕ) → length (drawn_events n words) ≡ n
+unfolding drawn_events
+drawn_many zero words = refl
+drawn_many (suc n) words = ap suc (drawn_many n (behind (drawn words).taken words))
+
+pub later_many : (seed count : ℕ) → length (later_events seed count) ≡ 10 + count
+later_many seed count = let many = drawn_many count (outputs (seeded seed)) in omega (arith, many)
+
+-- ---- the list of a script
+
+tail_of : {X : Type 0} (xs : List X) (x : X) (ys : List X) → xs ≡ x ∷ ys → drop 1 xs ≡ ys
+tail_of xs x ys q = ap (drop 1) q
+
+head_of : {X : Type 0} (xs : List X) (x d : X) (ys : List X) → xs ≡ x ∷ ys → get_or xs 0 d ≡ x
+head_of xs x d ys q = ap (λ zs. get_or zs 0 d) q
+
+module _ (seed count : ℕ) (events : List Event) (are : events ≡ script_of seed count) where
+  pub script_first : (d : Event) → get_or events 0 d ≡ line.Machine small_machine
+  script_first d = head_of events (line.Machine small_machine) d (later_events seed count) are
+
+  pub script_rest : drop 1 events ≡ later_events seed count
+  script_rest = tail_of events (line.Machine small_machine) (later_events seed count) are
+
+  pub script_many : length events ≡ 11 + count
+  script_many = let many = later_many seed count in omega (arith, ap length are, many)
+
+  pub rest_later : AreLater (drop 1 events)
+  rest_later = subst AreLater (sym script_rest) (are_later seed count)
+
+  -- its first event and the others
+  pub script_whole : (m : MachineOf) (e : Event) → e ≡ get_or events 0 e → e ≡ line.Machine m → line.Machine m ∷ drop 1 events ≡ script_of seed count
+  script_whole m e at is =
+      let first : line.Machine m ≡ line.Machine small_machine = sym is ∙ at ∙ script_first e in
+      (λ i. first i ∷ script_rest i)
+
+  slice_is : take (length events - 1) (drop 1 events) ≡ drop 1 events
+  slice_is = take_all (length events - 1) (drop 1 events) (omega (arith, length-drop 1 events))
+
+  pub slice_later : AreLater (take (length events - 1) (drop 1 events))
+  slice_later = subst AreLater (sym slice_is) rest_later
+
+  pub slice_few : count ≤ 100000 → length (take (length events - 1) (drop 1 events)) < 1000000
+  slice_few few = omega (arith, ap length slice_is, length-drop 1 events, script_many)
+
+  pub slice_whole : (m : MachineOf) (e : Event) → e ≡ get_or events 0 e → e ≡ line.Machine m → line.Machine m ∷ take (length events - 1) (drop 1 events) ≡ script_of seed count
+  slice_whole m e at is = ap (λ xs. line.Machine m ∷ xs) slice_is ∙ script_whole m e at is

@@ -1,0 +1,43 @@
+use Rattle.std.proofs.Common.{◌≡◌, ◌≤◌, ◌+◌, length, refl, sym, ap, ◌∙◌, subst, cond, arith}
+use Rattle.mm_run.specs.Scenes.{Running, scene}
+
+use Rattle.mm_run.proofs.Batches.{handled_none, handled_on, handled_all, stopped_on, later_at, blamed_next}
+use Rattle.mm_run.proofs.bulk.decide_later.Goals as goal
+
+pub loop-event-init : goal.loop-event-init
+loop-event-init g c = record {
+  handled = handled_none (Running (scene c.args.world.now));
+  next = refl;
+  ok_few = omega arith;
+  none_few = omega arith;
+  count = c.requires.count;
+  ready = c.requires.ready;
+  noted = c.requires.noted;
+  same = refl;
+  later = omega arith;
+}
+
+pub loop-event-preserved : goal.loop-event-preserved
+loop-event-preserved g c =
+    let l = c.loop-event in
+    let i = l.invariant in
+    let d = c.in-Ok.ensures in
+    let ok_most = c.one_if-ok.ensures.most in
+    let none_most = c.one_if-none.ensures.most in
+    record {
+      handled = handled_on (Running (scene c.args.world.now)) (Running (scene l.world)) (Running (scene c.decide_event.new.world)) c.args.events.now l.event-index l.ok l.none c.one_if-ok.result c.one_if-none.result c.event-item.result c.in-Ok.answer (omega arith) c.event-item.is i.handled d.decided d.noted
+        (c.one_if-ok.ensures.value ∙ ap (λ b. cond b 1 0) c.begins_ok.ensures) (c.one_if-none.ensures.value ∙ ap (λ b. cond b 1 0) c.is_none.ensures);
+      next = omega (arith, i.next);
+      ok_few = omega (arith, i.ok_few, ok_most);
+      none_few = omega (arith, i.none_few, none_most);
+      count = d.line;
+      ready = d.ready;
+      noted = d.noted;
+      same = c.decide_event.ensures.loans ∙ i.same;
+      later = omega (arith, i.later, c.decide_event.ensures.later);
+    }
+
+pub returns-in-Err-clause-came : goal.returns-in-Err-clause-came
+returns-in-Err-clause-came g c =
+    let l = c.loop-event in
+    stopped_on (Running (scene c.args.world.now)) (scene l.world) (scene c.decide_event.new.world) c.args.events.now l.event-index l.ok l.none c.event-item.result c.in-Err.ending _ (omega arith) l.invariant.handled c.in-Err.ensures.ends

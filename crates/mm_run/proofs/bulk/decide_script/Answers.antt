@@ -1,0 +1,23 @@
+use Rattle.std.proofs.Common.{◌≡◌, ◌∷◌, List, drop, refl, sym, ap, ◌∙◌, subst, inl, arith}
+use Rattle.mm_types.specs.declared.events.Event.{Event}
+use Rattle.mm_run.specs.declared.endings.Ending.TheVariants as ending
+use Rattle.mm_make.specs.Generated.{script_of}
+use Rattle.mm_run.specs.Scenes.{NotBegun, outset}
+use Rattle.mm_run.proofs.Batches.{stopped_here}
+use Rattle.mm_run.proofs.Drawn.{slice_later, slice_few, slice_whole}
+use Rattle.mm_run.proofs.bulk.decide_script.Goals as goal
+
+pub returns-in-Err-clause-came : goal.returns-in-Err-clause-came
+returns-in-Err-clause-came g c =
+    let o = outset (g.P.Blocks.faults c.args.paging.now) (g.F.Blocks.faults c.args.files.now) (g.M.Sink.taken c.args.moves.now) (g.M.Sink.faults c.args.moves.now) in
+    record {
+      end = NotBegun o;
+      finished = stopped_here (NotBegun o) (script_of c.args.seed c.args.count) ending.NoMemory (inl refl) (omega arith);
+      leaves = refl;
+    }
+
+pub start_events-requires-clause-later : goal.start_events-requires-clause-later
+start_events-requires-clause-later g c = slice_later c.args.seed c.args.count c.as_slice-events.result.now (c.as_slice-events.ensures.value ∙ c.in-Ok.ensures)
+
+pub start_events-requires-clause-few : goal.start_events-requires-clause-few
+start_events-requires-clause-few g c = slice_few c.args.seed c.args.count c.as_slice-events.result.now (c.as_slice-events.ensures.value ∙ c.in-Ok.ensures) c.requires.few

@@ -1,0 +1,22 @@
+use Rattle.std.proofs.Common.{◌≡◌, ◌∷◌, refl, arith}
+use Rattle.mm_types.specs.declared.events.Event.TheVariants as line
+use Rattle.mm_run.specs.Scenes.{NotBegun, outset}
+use Rattle.mm_run.proofs.Batches.{stopped_here, blamed_opened}
+use Rattle.mm_run.proofs.bulk.start_events.Goals as goal
+
+pub returns-in-Ok-clause-came : goal.returns-in-Ok-clause-came
+returns-in-Ok-clause-came g c =
+    let d = c.open_devices.ensures in
+    c.run_events.ensures.came (g.P.Blocks.faults c.args.paging.now) (g.F.Blocks.faults c.args.files.now) d.paging_later d.files_later
+
+pub returns-in-Err-clause-came : goal.returns-in-Err-clause-came
+returns-in-Err-clause-came g c =
+    let o = outset (g.P.Blocks.faults c.args.paging.now) (g.F.Blocks.faults c.args.files.now) (g.M.Sink.taken c.args.moves.now) (g.M.Sink.faults c.args.moves.now) in
+    record {
+      end = NotBegun o;
+      finished = stopped_here (NotBegun o) (line.Machine c.args.machine ∷ c.args.events.now) c.in-Err.ending c.in-Err.ensures.ends (omega arith);
+      leaves = refl;
+    }
+
+pub returns-in-Ok-clause-blame : goal.returns-in-Ok-clause-blame
+returns-in-Ok-clause-blame g c = blamed_opened c.run_events.result _ (g.M.Sink.faults c.args.moves.now) (g.M.Sink.faults c.run_events.new.moves) c.run_events.ensures.blame

@@ -1,0 +1,58 @@
+-- Where a run of a generated script stands, between its events.
+use Rattle.std.specs.Prelude.{◌≡◌, ◌<◌, ℕ, Bool, true, false, List, [], ◌∷◌, ◌++◌, length, count_by, Result, Ok, Err}
+use Rattle.std.specs.List.{AllByRecursion}
+use Rattle.mm_types.specs.declared.events.Event.{Event}
+use Rattle.mm_script.specs.Printed.{IsWellFormed}
+use Rattle.mm_run.specs.declared.bulk.Tally.{Tally}
+use Rattle.mm_run.specs.declared.endings.Ending.{Ending}
+use Rattle.mm_run.specs.Built.{is_built}
+use Rattle.mm_run.specs.Reading.{is_machine}
+use Rattle.mm_run.specs.Scenes.{Stage}
+use Rattle.mm_run.specs.Answered.{DecidedLine, last_stage, answers_of}
+use Rattle.mm_run.specs.Ends.{Left, Leaves}
+use Rattle.mm_run.specs.Bulk.{AreDecided, ClosesEvents, Stops, events_of, begins_ok, is_none, charge_at, limit_at}
+
+-- An event of a form that is built, which does not make a machine.
+pub record IsLater (event : Event) : Type 0 where
+  pub well_formed : IsWellFormed event
+  pub built : is_built event ≡ true
+  pub later : is_machine event ≡ false
+
+abbrev pub AreLater : List Event → Type 0
+AreLater events = AllByRecursion IsLater events
+
+-- These events were decided, and so many of their answers begin with `ok`, so many are `none`.
+pub record Handled (old : Stage) (events : List Event) (ok none : ℕ) (end : Stage) : Type 0 where
+  pub lines : List DecidedLine
+  pub events_are : events_of lines ≡ events
+  pub decided : AreDecided old lines
+  pub ok_is : ok ≡ count_by begins_ok (answers_of lines)
+  pub none_is : none ≡ count_by is_none (answers_of lines)
+  pub end_is : end ≡ last_stage old lines
+
+-- Some of these events were decided, and the next was not.
+pub record Stopped (old : Stage) (events : List Event) (e : Ending) (end : Stage) : Type 0 where
+  pub lines : List DecidedLine
+  pub left : List Event
+  pub events_are : events ≡ events_of lines ++ left
+  pub decided : AreDecided old lines
+  pub stops : Stops e left
+  pub some : 0 < length left
+  pub closes : ClosesEvents e (last_stage old lines) end
+
+-- All events were decided, and these are the four lines' numbers.
+pub record Tallied (old : Stage) (events : List Event) (t : Tally) (end : Stage) : Type 0 where
+  pub handled : Handled old events t.ok t.none end
+  pub lines : t.lines ≡ length events
+  pub charge : t.charge ≡ charge_at end
+  pub limit : t.limit ≡ limit_at end
+
+abbrev pub Finished : Stage → List Event → Result Tally Ending → Stage → Type 0
+Finished old events (Ok t) end = Tallied old events t end
+Finished old events (Err e) end = Stopped old events e end
+
+-- The same, with what is left on devices and in the log of moves.
+pub record BatchRan (old : Stage) (events : List Event) (r : Result Tally Ending) (left : Left) : Type 0 where
+  pub end : Stage
+  pub finished : Finished old events r end
+  pub leaves : Leaves end left

@@ -1,0 +1,142 @@
+-- `bulk SEED COUNT`: what a run of a generated script did, on one page.
+--
+-- Its events are those of mm_make. Each is decided as a line of a script would be, the first of them as line 1; none has a text, so what a decided
+-- line has as its text says nothing here, and the source is not asked. No answer is printed: four lines are, over all of them.
+use Rattle.std.specs.Prelude.{◌≡◌, ◌≢◌, ◌⊎◌, ℕ, ◌<◌, ◌≤◌, ◌^◌, Bool, true, false, List, [], ◌∷◌, ◌++◌, length, map, take, codes, bytes_eq, count_by, Option, Some, None, option_and_then, nat_lt, if◌then◌else◌, String, string_bytes}
+use Rattle.std.specs.declared.alloc.Global.{Global}
+use Rattle.mm_types.specs.Outside.{Appended}
+use Rattle.mm_types.specs.Spelling.{Text, decimal}
+use Rattle.mm_types.specs.AnswerText.{answer_text}
+use Rattle.mm_types.specs.declared.answers.Answer.{Answer}
+use Rattle.mm_types.specs.declared.answers.Answer.TheVariants as answer
+use Rattle.mm_types.specs.declared.events.Event.{Event}
+use Rattle.mm_text.specs.Field.{digits_in}
+use Rattle.mm_world.specs.Charge.{charge, limit}
+use Rattle.mm_run.specs.declared.endings.Ending.{Ending}
+use Rattle.mm_run.specs.declared.endings.Ending.TheVariants as ending
+use Rattle.mm_run.specs.Scenes.{Stage, NotBegun, Running, Follows, HasNoted, log_of}
+use Rattle.mm_run.specs.Steps.{IsDecided}
+use Rattle.mm_run.specs.Answered.{DecidedLine, last_stage, answers_of, moves_of, NoneNames, NoneFails}
+use Rattle.mm_run.specs.Texts.{status_of}
+use Rattle.mm_run.specs.Ends.{BreaksOff, Leaves}
+use Rattle.mm_run.specs.Ran.{Around, LogRan, EndsHolding, NoneNamed, SomeRose, begun_at}
+
+-- ---- the words
+
+abbrev pub below_64 : ℕ → Option ℕ
+below_64 n = if nat_lt n (2 ^ 64) then Some n else None
+
+-- the number below 2 ^ 64 that a word is, of 1 to `most` decimal digits
+abbrev pub word_value : ℕ → Text → Option ℕ
+word_value most word = option_and_then below_64 (digits_in 10 most word)
+
+-- The words are the form `bulk` with this seed, of 1 to 20 decimal digits, and this count, of 1 to 6.
+pub record IsBulk (words : List (String Global)) (seed count : ℕ) : Type 0 where
+  pub first : Text
+  pub second : Text
+  pub words_are : map string_bytes words ≡ codes "bulk" ∷ first ∷ second ∷ []
+  pub seed_is : word_value 20 first ≡ Some seed
+  pub count_is : word_value 6 second ≡ Some count
+  pub count_fits : count ≤ 100000
+
+abbrev pub IsNoBulk : List (String Global) → Type 0
+IsNoBulk words = (seed count : ℕ) → IsBulk words seed count → ⊥
+
+-- ---- the events
+
+abbrev pub events_of : List DecidedLine → List Event
+events_of lines = map (λ l. l.event) lines
+
+-- An event is decided at this stage as a line would be.
+pub record IsEventNext (old : Stage) (l : DecidedLine) : Type 0 where
+  pub follows : Follows old l.before
+  pub decided : IsDecided l.before l.event l.answer l.moves l.after
+
+-- Each is decided from what the one before it left, and its moves were all written.
+abbrev pub AreDecided : Stage → List DecidedLine → Type 0
+AreDecided old [] = Unit {0}
+AreDecided old (l ∷ ls) = IsEventNext old l × HasNoted l.after × AreDecided l.after ls
+
+-- The event behind these was decided, and its moves could not all be written.
+pub record MutesEvent (last end : Stage) : Type 0 where
+  pub line : DecidedLine
+  pub next : IsEventNext last line
+  pub failed : (log_of end).failed ≡ true
+  pub after : end ≡ line.after
+
+-- Behind the last event nothing happened, but that one wanted memory, or could not note all its moves.
+abbrev pub ClosesEvents : Ending → Stage → Stage → Type 0
+ClosesEvents ending.NoMemory last end = Follows last end ⊎ BreaksOff last end
+ClosesEvents ending.MovesFault last end = Follows last end ⊎ MutesEvent last end
+ClosesEvents _ last end = Follows last end
+
+-- All events were decided; or some are left, for want of memory, or since the moves were not all written or a device was not opened.
+abbrev pub Stops : Ending → List Event → Type 0
+Stops ending.Done left = left ≡ []
+Stops ending.NoMemory left = 0 < length left
+Stops ending.MovesFault left = 0 < length left
+Stops ending.SetupFault left = 0 < length left
+Stops _ left = ⊥
+
+-- ---- the four lines
+
+-- the text of an answer begins with `ok`
+abbrev pub begins_ok : Answer → Bool
+begins_ok a = bytes_eq (take 2 (answer_text a)) (codes "ok")
+
+abbrev pub is_none : Answer → Bool
+is_none answer.Nothing = true
+is_none _ = false
+
+abbrev pub charge_at : Stage → ℕ
+charge_at (NotBegun o) = 0
+charge_at (Running s) = charge s.world
+
+abbrev pub limit_at : Stage → ℕ
+limit_at (NotBegun o) = 0
+limit_at (Running s) = limit s.world
+
+abbrev pub four_lines : ℕ → ℕ → ℕ → ℕ → ℕ → Text
+four_lines lines ok none charge limit =
+    codes "lines " ++ (decimal lines ++ (codes "\nok " ++ (decimal ok ++ (codes "\nnone " ++ (decimal none ++ (codes "\ncharge " ++ (decimal charge ++ (codes " " ++ (decimal limit ++ 10 ∷ [])))))))))
+
+-- over some answers, and the world that they leave
+abbrev pub bulk_text : List Answer → Stage → Text
+bulk_text answers end = four_lines (length answers) (count_by begins_ok answers) (count_by is_none answers) (charge_at end) (limit_at end)
+
+-- these bytes are a front of a text
+pub record IsFront (front text : Text) : Type 0 where
+  pub back : Text
+  pub whole : text ≡ front ++ back
+
+-- Where all events were decided the four lines stand whole, with status 0, or a front of them, with status 5, or the moves could not be given on: status 6.
+-- Else nothing stands.
+abbrev pub BulkEnds : ℕ → Ending → Text → Text → Type 0
+BulkEnds status e text written =
+    ((status ≡ 0) × (e ≡ ending.Done) × (written ≡ text))
+    ⊎ (((status ≡ 5) × (e ≡ ending.Done) × IsFront written text)
+    ⊎ (((status ≡ 6) ⊎ ((status ≡ status_of e) × (e ≢ ending.Done))) × (written ≡ [])))
+
+-- ---- the run
+
+pub record BulkRan (a b : Around) (events : List Event) (status : ℕ) : Type 0 where
+  -- The events that were decided, one after another, and those that are left.
+  pub lines : List DecidedLine
+  pub left : List Event
+  pub events_are : events ≡ events_of lines ++ left
+  pub decided : AreDecided (begun_at a.beside) lines
+
+  -- What it came to, and what was written.
+  pub e : Ending
+  pub stops : Stops e left
+  pub end : Stage
+  pub written : Text
+  pub wrote : Appended a.took b.took written
+  pub ends : BulkEnds status e (bulk_text (answers_of lines) end) written
+
+  -- What happened behind the last event, and what the end leaves, as `Ran` has it.
+  pub closes : ClosesEvents e (last_stage (begun_at a.beside) lines) end
+  pub leaves : Leaves end b.beside
+  pub log : LogRan a.beside.moves b.beside.moves (moves_of lines) e (last_stage (begun_at a.beside) lines) end
+  pub holds : e ≡ ending.Done → EndsHolding end b.beside.paging.blocks b.beside.files.blocks
+  pub faultless : (SomeRose a.beside b.beside → ⊥) → NoneNames lines → (e ≡ ending.MovesFault → NoneNamed end) → NoneFails lines

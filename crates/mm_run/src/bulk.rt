@@ -1,0 +1,351 @@
+ghost use Rattle.std.specs.Prelude.{◌≡◌, ◌≢◌, ◌<◌, ◌≤◌, ◌+◌, ◌*◌, ◌⊎◌, ℕ, true, false, [], ◌∷◌, ◌++◌, List, Option, length, replicate, Ok, Err, IfOk, IfErr, OnOk, OnErr, MatchOption, MatchResult, cond};
+ghost use Rattle.mm_types.specs.Outside.{Appended, Rose, HasCause};
+ghost use Rattle.mm_types.specs.declared.events.Event.TheVariants as event;
+ghost use Rattle.mm_blocks.specs.Traffic.{NoneLogged, empty_block};
+ghost use Rattle.mm_world.specs.Charge.{charge, limit};
+ghost use Rattle.mm_make.specs.Generated.{script_of};
+ghost use Rattle.mm_core.specs.Shown.{line_of, loans, behind};
+ghost use Rattle.mm_run.specs.Scenes.{Outset, NotBegun, Running, outset, scene};
+ghost use Rattle.mm_run.specs.Steps.{IsMade, Moved, Breaks};
+ghost use Rattle.mm_run.specs.Texts.{TornText};
+ghost use Rattle.mm_run.specs.Ends.{left_with, device_left};
+ghost use Rattle.mm_run.specs.Ran.{around};
+ghost use Rattle.mm_run.specs.Story.{IsBlamed, counts_with};
+ghost use Rattle.mm_run.specs.Bulk.{BulkRan, begins_ok, is_none, four_lines};
+ghost use Rattle.mm_run.specs.Batch.{IsLater, AreLater, Handled, Stopped, Finished, BatchRan};
+
+use crate::decisions::decide;
+use crate::endings::Ending;
+use crate::machines::open_devices;
+use crate::top::put_number;
+use mm_blocks::{Blocks, Injected};
+use mm_core::World;
+use mm_flushing::FlushesMoves;
+use mm_io::{Sink, write_all};
+use mm_make::script;
+use mm_moves::Recorder;
+use mm_paged::Paged;
+use mm_state::State;
+use mm_text::LineBuf;
+use mm_types::{Answer, Event, Failed, Machine};
+use std::alloc::Global;
+
+/// What the four lines at the end of a generated script tell.
+#[derive(Clone, Copy)]
+pub(crate) struct Tally {
+    /// The events.
+    lines: u32,
+    /// The answers that begin with `ok`.
+    ok: u32,
+    /// The answers `none`.
+    none: u32,
+    /// The commit charge in pages.
+    charge: u32,
+    /// The commit limit in pages.
+    limit: u32,
+}
+
+/// Whether the text of an answer begins with `ok`.
+fn begins_ok(answer: &Answer) -> bool
+    ensures { result ≡ begins_ok answer.now }
+{
+    match answer {
+        Answer::Error(_)
+        | Answer::Raised(_)
+        | Answer::Pending(_)
+        | Answer::Nothing
+        | Answer::Busy
+        | Answer::Full
+        | Answer::Fault => false,
+        _ => true,
+    }
+}
+
+/// Whether an answer is `none`.
+fn is_none(answer: &Answer) -> bool
+    ensures { result ≡ is_none answer.now }
+{
+    matches!(answer, Answer::Nothing)
+}
+
+/// 1 where a test holds.
+fn one_if(test: bool) -> u32
+    ensures value { result ≡ cond test 1 0 }
+    ensures most { result ≤ 1 }
+{
+    if test {
+        1
+    } else {
+        0
+    }
+}
+
+/// Decides an event, which is not the first, with all its moves written.
+fn decide_event<G: FlushesMoves>(
+    alloc: Global,
+    n: u32,
+    event: &Event,
+    world: &mut World<G>,
+) -> Result<Answer, Ending>
+    requires later { IsLater event.now }
+    requires next { n ≡ line_of world.old + 1 }
+    requires few { n ≤ 1000000 }
+    requires ready { world.old.spent ≡ false }
+    requires paged { G.unpaged ≡ false }
+    requires noted { (behind world.old).log.failed ≡ false }
+    ensures decided { IfOk result (λ a. Moved (Running (scene world.old)) event.now a (Running (scene world.new))) }
+    ensures ends { IfErr result (λ e. ((e ≡ Ending.NoMemory) × Breaks (scene world.old) (scene world.new))
+        ⊎ ((e ≡ Ending.MovesFault) × ((a : Answer) × Moved (Running (scene world.old)) event.now a (Running (scene world.new))) × ((behind world.new).log.failed ≡ true) × Rose (behind world.old).log.faults (behind world.new).log.faults)) }
+    ensures noted { OnOk result ((behind world.new).log.failed ≡ false) }
+    ensures later { (behind world.old).log.faults ≤ (behind world.new).log.faults }
+    ensures line { OnOk result (line_of world.new ≡ n) }
+    ensures ready { OnOk result (world.new.spent ≡ false) }
+    ensures loans { loans world.new ≡ loans world.old }
+{
+    match decide(alloc, n, event, world) {
+        Ok(answer) => {
+            if world.pages.moves_failed() {
+                return Err(Ending::MovesFault);
+            }
+            Ok(answer)
+        }
+        Err(_) => Err(Ending::NoMemory),
+    }
+}
+
+/// Decides the events behind the first one. It gives how many answers begin with `ok`, and how many are `none`.
+fn decide_later<G: FlushesMoves>(
+    alloc: Global,
+    events: &[Event],
+    world: &mut World<G>,
+) -> Result<(u32, u32), Ending>
+    requires later { AreLater events.now }
+    requires few { length events.now < 1000000 }
+    requires count { line_of world.old ≡ 1 }
+    requires ready { world.old.spent ≡ false }
+    requires paged { G.unpaged ≡ false }
+    requires noted { (behind world.old).log.failed ≡ false }
+    ensures came { MatchResult result
+        (λ r. Handled (Running (scene world.old)) events.now r.0 r.1 (Running (scene world.new)))
+        (λ e. Stopped (Running (scene world.old)) events.now e (Running (scene world.new))) }
+    ensures few { IfOk result (λ r. (r.0 ≤ length events.now) × (r.1 ≤ length events.now)) }
+    ensures blame { IfErr result (λ e. (s o : ℕ) → IsBlamed e ⊥ (counts_with s o (behind world.old).log.faults) (counts_with s o (behind world.new).log.faults)) }
+    ensures later { (behind world.old).log.faults ≤ (behind world.new).log.faults }
+    ensures loans { loans world.new ≡ loans world.old }
+{
+    let mut n = 1u32;
+    let mut ok = 0u32;
+    let mut none = 0u32;
+    for event in events {
+        n += 1;
+        match decide_event(alloc, n, event, world) {
+            Ok(answer) => {
+                ok += one_if(begins_ok(&answer));
+                none += one_if(is_none(&answer));
+            }
+            Err(ending) => return Err(ending),
+        }
+    }
+    Ok((ok, none))
+}
+
+/// Decides all events over the world that the first one made, once its move is written.
+fn decide_events<G: FlushesMoves>(
+    alloc: Global,
+    machine: Machine,
+    events: &[Event],
+    world: &mut World<G>,
+) -> Result<Tally, Ending>
+    requires later { AreLater events.now }
+    requires few { length events.now < 1000000 }
+    requires count { line_of world.old ≡ 1 }
+    requires ready { world.old.spent ≡ false }
+    requires within { charge (scene world.old).world ≤ limit (scene world.old).world }
+    requires paged { G.unpaged ≡ false }
+    ensures came { (o : Outset) → IsMade machine o (scene world.old) → Finished (NotBegun o) (event.Machine machine ∷ events.now) result (Running (scene world.new)) }
+    ensures blame { (o : Outset) → IsMade machine o (scene world.old) → o.log.failed ≡ false → IfErr result (λ e. (s k : ℕ) → IsBlamed e ⊥ (counts_with s k o.log.faults) (counts_with s k (behind world.new).log.faults)) }
+    ensures later { (behind world.old).log.faults ≤ (behind world.new).log.faults }
+    ensures loans { loans world.new ≡ loans world.old }
+{
+    if world.pages.moves_failed() {
+        return Err(Ending::MovesFault);
+    }
+    match decide_later(alloc, events, world) {
+        Ok((ok, none)) => {
+            let (charge, limit) = world.charge();
+            Ok(Tally {
+                lines: events.len() as u32 + 1,
+                ok: ok + 1,
+                none,
+                charge,
+                limit,
+            })
+        }
+        Err(ending) => Err(ending),
+    }
+}
+
+/// Decides all events over devices that were opened for their machine.
+fn run_events<M: Sink, P: Blocks, F: Blocks>(
+    alloc: Global,
+    machine: Machine,
+    events: &[Event],
+    moves: &mut M,
+    paging: &mut P,
+    files: &mut F,
+) -> Result<Tally, Ending>
+    requires later { AreLater events.now }
+    requires few { length events.now < 1000000 }
+    requires slots { P.blocks paging.old ≡ replicate machine.slots empty_block }
+    requires blocks { F.blocks files.old ≡ replicate machine.blocks empty_block }
+    requires paging_logged { NoneLogged (P.log paging.old) }
+    requires files_logged { NoneLogged (F.log files.old) }
+    requires paging_named { P.named paging.old ≡ [] }
+    requires files_named { F.named files.old ≡ [] }
+    ensures came { (p f : ℕ) → p ≤ P.faults paging.old → f ≤ F.faults files.old → BatchRan (NotBegun (outset p f (M.taken moves.old) (M.faults moves.old))) (event.Machine machine ∷ events.now) result (left_with (M.taken moves.new) (M.faults moves.new) (device_left (P.named paging.new) (P.log paging.new) (P.blocks paging.new) (P.faults paging.new)) (device_left (F.named files.new) (F.log files.new) (F.blocks files.new) (F.faults files.new))) }
+    ensures blame { IfErr result (λ e. (s o : ℕ) → IsBlamed e ⊥ (counts_with s o (M.faults moves.old)) (counts_with s o (M.faults moves.new))) }
+    ensures moves_later { M.faults moves.old ≤ M.faults moves.new }
+{
+    let made = State::new(
+        alloc,
+        machine,
+        Injected::new(paging),
+        Injected::new(files),
+        Recorder::new(moves),
+    );
+    let state = match made {
+        Ok(state) => state,
+        Err(unmade) => {
+            let (paging, files, moves) = unmade.back;
+            let _ = paging.finish();
+            let _ = files.finish();
+            let _ = moves.finish();
+            return Err(Ending::NoMemory);
+        }
+    };
+    let mut world = World::new(alloc, machine, Paged::over(state));
+    let decided = decide_events(alloc, machine, events, &mut world);
+    let (paging, files, moves) = world.finish().finish().finish();
+    let _ = paging.finish();
+    let _ = files.finish();
+    let _ = moves.finish();
+    decided
+}
+
+/// Opens the devices of a machine, and decides all events over them.
+fn start_events<M: Sink, P: Blocks, F: Blocks>(
+    alloc: Global,
+    machine: Machine,
+    events: &[Event],
+    moves: &mut M,
+    paging: &mut P,
+    files: &mut F,
+) -> Result<Tally, Ending>
+    requires later { AreLater events.now }
+    requires few { length events.now < 1000000 }
+    requires paging_named { P.named paging.old ≡ [] }
+    requires files_named { F.named files.old ≡ [] }
+    ensures came { BatchRan (NotBegun (outset (P.faults paging.old) (F.faults files.old) (M.taken moves.old) (M.faults moves.old))) (event.Machine machine ∷ events.now) result (left_with (M.taken moves.new) (M.faults moves.new) (device_left (P.named paging.new) (P.log paging.new) (P.blocks paging.new) (P.faults paging.new)) (device_left (F.named files.new) (F.log files.new) (F.blocks files.new) (F.faults files.new))) }
+    ensures blame { IfErr result (λ e. (s o : ℕ) → IsBlamed e (Rose (P.faults paging.old) (P.faults paging.new) ⊎ Rose (F.faults files.old) (F.faults files.new)) (counts_with s o (M.faults moves.old)) (counts_with s o (M.faults moves.new))) }
+    ensures moves_later { M.faults moves.old ≤ M.faults moves.new }
+{
+    match open_devices(machine, paging, files) {
+        Ok(()) => run_events(alloc, machine, events, moves, paging, files),
+        Err(ending) => Err(ending),
+    }
+}
+
+/// Decides the events of a generated script.
+fn decide_script<M: Sink, P: Blocks, F: Blocks>(
+    alloc: Global,
+    seed: u64,
+    count: u32,
+    moves: &mut M,
+    paging: &mut P,
+    files: &mut F,
+) -> Result<Tally, Ending>
+    requires few { count ≤ 100000 }
+    requires paging_named { P.named paging.old ≡ [] }
+    requires files_named { F.named files.old ≡ [] }
+    ensures came { BatchRan (NotBegun (outset (P.faults paging.old) (F.faults files.old) (M.taken moves.old) (M.faults moves.old))) (script_of seed count) result (left_with (M.taken moves.new) (M.faults moves.new) (device_left (P.named paging.new) (P.log paging.new) (P.blocks paging.new) (P.faults paging.new)) (device_left (F.named files.new) (F.log files.new) (F.blocks files.new) (F.faults files.new))) }
+    ensures blame { IfErr result (λ e. (s o : ℕ) → IsBlamed e (Rose (P.faults paging.old) (P.faults paging.new) ⊎ Rose (F.faults files.old) (F.faults files.new)) (counts_with s o (M.faults moves.old)) (counts_with s o (M.faults moves.new))) }
+    ensures moves_later { M.faults moves.old ≤ M.faults moves.new }
+{
+    let events = match script(alloc, seed, count) {
+        Ok(events) => events,
+        Err(_) => return Err(Ending::NoMemory),
+    };
+    let events = events.as_slice();
+    match &events[0] {
+        Event::Machine(machine) => {
+            start_events(alloc, *machine, &events[1..], moves, paging, files)
+        }
+        _ => unreachable!(),
+    }
+}
+
+/// The four lines of a tally.
+fn spell_tally(tally: Tally) -> LineBuf
+    ensures { result ≡ four_lines tally.lines tally.ok tally.none tally.charge tally.limit }
+{
+    let mut text = LineBuf::new();
+    text.push_slice(b"lines ");
+    put_number(&mut text, tally.lines);
+    text.push_slice(b"\nok ");
+    put_number(&mut text, tally.ok);
+    text.push_slice(b"\nnone ");
+    put_number(&mut text, tally.none);
+    text.push_slice(b"\ncharge ");
+    put_number(&mut text, tally.charge);
+    text.push_slice(b" ");
+    put_number(&mut text, tally.limit);
+    text.push(b'\n');
+    text
+}
+
+/// Writes the four lines of a tally and gives them on, and says with which status the run ends.
+fn tell_tally<O: Sink>(out: &mut O, tally: Tally) -> u8
+    ensures told { ((result ≡ 0) × Appended (O.taken out.old) (O.taken out.new) (four_lines tally.lines tally.ok tally.none tally.charge tally.limit))
+        ⊎ ((result ≡ 5) × TornText (O.taken out.old) (O.taken out.new) (four_lines tally.lines tally.ok tally.none tally.charge tally.limit)) }
+    ensures out_fault { result ≡ 5 → Rose (O.faults out.old) (O.faults out.new) }
+{
+    let text = spell_tally(tally);
+    match write_all(out, text.as_slice()) {
+        Ok(()) => {}
+        Err(_) => return 5,
+    }
+    match out.flush() {
+        Ok(()) => 0,
+        Err(_) => 5,
+    }
+}
+
+/// Runs a generated script: decides its events, gives on their moves, and then writes the four lines.
+pub(crate) fn bulk<O: Sink, M: Sink, P: Blocks, F: Blocks>(
+    alloc: Global,
+    seed: u64,
+    count: u32,
+    out: &mut O,
+    moves: &mut M,
+    paging: &mut P,
+    files: &mut F,
+) -> u8
+    requires few { count ≤ 100000 }
+    requires paging_named { P.named paging.old ≡ [] }
+    requires files_named { F.named files.old ≡ [] }
+    ensures ran { (left : Option (List ℕ)) → BulkRan (around left (O.taken out.old) (left_with (M.taken moves.old) (M.faults moves.old) (device_left (P.named paging.old) (P.log paging.old) (P.blocks paging.old) (P.faults paging.old)) (device_left (F.named files.old) (F.log files.old) (F.blocks files.old) (F.faults files.old)))) (around left (O.taken out.new) (left_with (M.taken moves.new) (M.faults moves.new) (device_left (P.named paging.new) (P.log paging.new) (P.blocks paging.new) (P.faults paging.new)) (device_left (F.named files.new) (F.log files.new) (F.blocks files.new) (F.faults files.new)))) (script_of seed count) result }
+    ensures read_fault { result ≢ 4 }
+    ensures out_fault { result ≡ 5 → Rose (O.faults out.old) (O.faults out.new) }
+    ensures moves_fault { result ≡ 6 → Rose (M.faults moves.old) (M.faults moves.new) }
+    ensures setup_fault { result ≡ 7 → Rose (P.faults paging.old) (P.faults paging.new) ⊎ Rose (F.faults files.old) (F.faults files.new) }
+{
+    let decided = decide_script(alloc, seed, count, moves, paging, files);
+    match moves.flush() {
+        Ok(()) => {}
+        Err(_) => return 6,
+    }
+    match decided {
+        Ok(tally) => tell_tally(out, tally),
+        Err(ending) => ending.status(),
+    }
+}
