@@ -1,5 +1,5 @@
 -- Events decided one after another.
-use Rattle.std.proofs.Common.{◌≡◌, ◌⊎◌, ℕ, zero, suc, ◌+◌, ◌-◌, take, drop, get_or, length-drop, ◌<◌, ◌≤◌, Bool, true, false, cond, List, [], ◌∷◌, ◌++◌, length, refl, sym, ap, ◌∙◌, subst, inl, inr, arith, append_assoc, length-append}
+use Rattle.std.proofs.Common.{◌≡◌, ◌⊎◌, ℕ, zero, suc, ◌+◌, take, drop, get_or, length-drop, ◌<◌, ◌≤◌, Bool, true, cond, List, [], ◌∷◌, ◌++◌, length, refl, sym, ap, ◌∙◌, subst, inl, inr, arith}
 use Rattle.std.specs.Prelude.{count_by, Result, Ok, Err, IfErr}
 use Rattle.std.proofs.lemmas.List.{take_more, take-append-drop, take_all}
 use Rattle.std.proofs.lemmas.List.Sums.{sum_by_push, sum_by-cons, count_by-le-length}
@@ -16,10 +16,10 @@ use Rattle.mm_paging.specs.Runs.{Scene, first_move}
 use Rattle.mm_run.specs.declared.endings.Ending.{Ending}
 use Rattle.mm_run.specs.declared.endings.Ending.TheVariants as ending
 use Rattle.mm_run.specs.Scenes.{Outset, Stage, NotBegun, Running, Follows, HasNoted, log_of}
-use Rattle.mm_run.specs.Steps.{IsDecided, IsMade, Moved, Breaks}
+use Rattle.mm_run.specs.Steps.{IsMade, Moved, Breaks}
 use Rattle.mm_run.specs.Answered.{DecidedLine, last_stage, answers_of}
 use Rattle.mm_run.specs.Ends.{BreaksOff}
-use Rattle.mm_run.specs.Bulk.{AreDecided, IsEventNext, MutesEvent, ClosesEvents, Stops, events_of, begins_ok, is_none}
+use Rattle.mm_run.specs.Bulk.{AreDecided, IsEventNext, ClosesEvents, Stops, events_of, begins_ok, is_none}
 use Rattle.mm_run.specs.Story.{IsBlamed, counts_with}
 use Rattle.mm_run.specs.Batch.{Handled, Stopped, IsLater, AreLater}
 use Rattle.mm_run.proofs.Stories.{follows_here, last-append, line_answers-append}
@@ -61,7 +61,7 @@ handled_more s z end es ok none e a h m noted =
       lines = h.lines ++ l ∷ [];
       events_are = events-append h.lines (l ∷ []) ∙ ap (λ xs. xs ++ e ∷ []) h.events_are;
       decided = decided_then s h.lines (l ∷ []) h.decided
-        (record { follows = subst (λ (x : Stage). Follows x z) h.end_is (follows_here z); decided = m.decided }, noted, tt);
+          (record { follows = subst (λ (x : Stage). Follows x z) h.end_is (follows_here z); decided = m.decided }, noted, tt);
       ok_is = counted_more begins_ok h.lines l ok h.ok_is;
       none_is = counted_more is_none h.lines l none h.none_is;
       end_is = sym (last-append s h.lines (l ∷ []));
@@ -73,8 +73,7 @@ handled_few s z es ok none h =
     let many = events_many h.lines in
     let answers = answers_many h.lines in
     let are = ap length h.events_are in
-    let o = h.ok_is in let n = h.none_is in
-    (
+    let o = h.ok_is in let n = h.none_is in (
       omega (arith, count_by-le-length begins_ok (answers_of h.lines)),
       omega (arith, count_by-le-length is_none (answers_of h.lines)),
     )

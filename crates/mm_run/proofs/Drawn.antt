@@ -1,6 +1,6 @@
 -- The events of a generated script: a machine first, and then built lines alone.
-use Rattle.std.proofs.Common.{◌≡◌, ℕ, zero, suc, ◌+◌, ◌*◌, ◌%◌, ◌-◌, ◌<◌, ◌≤◌, ◌^◌, Bool, true, false, List, [], ◌∷◌, ◌++◌, length, take, drop, get_or, length-drop, Some, None, codes, refl, sym, ap, ◌∙◌, subst, arith, length-append}
-use Rattle.std.specs.Prelude.{if◌then◌else◌, IsTrue, nat_le, nat_lt, ◌==◌}
+use Rattle.std.proofs.Common.{◌≡◌, ℕ, zero, suc, ◌+◌, ◌%◌, ◌-◌, ◌<◌, ◌≤◌, ◌^◌, Bool, true, false, List, [], ◌∷◌, ◌++◌, length, take, drop, get_or, length-drop, Some, None, codes, refl, sym, ap, ◌∙◌, subst, arith}
+use Rattle.std.specs.Prelude.{if◌then◌else◌, IsTrue, nat_le, ◌==◌}
 use Rattle.std.specs.List.{AllByRecursion}
 use Rattle.std.proofs.lemmas.Nat.{mod_below}
 use Rattle.std.proofs.lemmas.Bool.{le-leb}
@@ -8,10 +8,10 @@ use Rattle.std.proofs.lemmas.List.{take_all}
 use Rattle.mm_types.specs.Machine.{MachineOf}
 use Rattle.mm_types.specs.declared.events.Event.{Event}
 use Rattle.mm_types.specs.declared.events.Event.TheVariants as line
-use Rattle.mm_script.specs.Printed.{IsWellFormed, IsInRange}
+use Rattle.mm_script.specs.Printed.{IsInRange}
 use Rattle.mm_script.specs.Grammar.{fields_of, are_joined}
 use Rattle.mm_make.specs.Outputs.{outputs, seeded, behind}
-use Rattle.mm_make.specs.Generated.{Drawn, drawn, drawn_events, drawn_of_kind, drawn_by, write_drawn, read_drawn, address_drawn, fixed_events, script_of}
+use Rattle.mm_make.specs.Generated.{Drawn, drawn, drawn_events, drawn_of_kind, write_drawn, read_drawn, address_drawn, script_of}
 use Rattle.mm_run.specs.Built.{is_built}
 use Rattle.mm_run.specs.Reading.{is_machine}
 use Rattle.mm_run.specs.Batch.{IsLater, AreLater}

@@ -1,5 +1,5 @@
 -- Lines that were answered were decided, each from what the one before it left.
-use Rattle.std.proofs.Common.{ℕ, suc, List, [], ◌∷◌, inl, inr, sym, ap, ◌∙◌}
+use Rattle.std.proofs.Common.{ℕ, suc, List, [], ◌∷◌, inl, inr, ap, ◌∙◌}
 use Rattle.mm_types.specs.Spelling.{Text}
 use Rattle.mm_run.specs.declared.endings.Ending.{Ending}
 use Rattle.mm_run.specs.declared.endings.Ending.TheVariants as ending

@@ -1,5 +1,5 @@
 -- Where no `fail` line was answered `ok`, an answer tells of a failure only where a count of faults rose.
-use Rattle.std.proofs.Common.{◌≡◌, ◌≢◌, ◌⊎◌, ◌≤◌, ℕ, suc, true, false, List, [], ◌∷◌, Option, Some, None, length, refl, sym, ap, ◌∙◌, subst, inl, inr, arith}
+use Rattle.std.proofs.Common.{◌≡◌, ◌≢◌, ◌⊎◌, ◌≤◌, ℕ, true, false, List, [], ◌∷◌, Option, Some, None, length, refl, sym, ap, ◌∙◌, subst, inl, inr, arith}
 use Rattle.mm_types.specs.Outside.{Rose}
 use Rattle.mm_types.specs.Spelling.{Text}
 use Rattle.mm_types.proofs.Bytes.{rose_then, rose_later}
@@ -186,7 +186,7 @@ quiet o s [] c u none = quiet_here o s c
 quiet o s (l ∷ ls) c u none =
     quiet_by o s l ls (last_stage l.after ls) l.before l.after c u.0.follows u.0.decided none.0
     (λ m calm at. subst (λ (x : Stage). QuietTo o m ls (last_stage x ls)) (sym at)
-      (quiet o m ls calm (subst (λ (x : Stage). AreDecided x ls) at u.2) none.1))
+    (quiet o m ls calm (subst (λ (x : Stage). AreDecided x ls) at u.2) none.1))
 
 -- ---- the first line
 

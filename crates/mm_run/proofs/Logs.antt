@@ -1,5 +1,5 @@
 -- What the sink of moves took in a run, and what its devices hold at the end.
-use Rattle.std.proofs.Common.{◌≡◌, ◌≢◌, ℕ, suc, List, [], ◌∷◌, ◌++◌, Option, Some, None, refl, sym, ap, ◌∙◌, subst, inl, inr, append_assoc}
+use Rattle.std.proofs.Common.{◌≡◌, ◌≢◌, ℕ, List, [], ◌∷◌, ◌++◌, Option, Some, None, refl, sym, ap, ◌∙◌, subst, inl, inr, append_assoc}
 use Rattle.std.specs.Prelude.{Bool, false}
 use Rattle.mm_types.specs.Outside.{Appended}
 use Rattle.mm_types.specs.Spelling.{Text}

@@ -1,7 +1,7 @@
 -- What a run of a generated script did, from how far its events were decided.
-use Rattle.std.proofs.Common.{◌≡◌, ◌≢◌, ◌⊎◌, ℕ, ◌+◌, ◌<◌, ◌≤◌, List, [], ◌∷◌, ◌++◌, length, Option, Some, None, refl, sym, ap, ◌∙◌, subst, inl, inr, arith}
+use Rattle.std.proofs.Common.{◌≡◌, ◌≢◌, ◌⊎◌, ℕ, ◌<◌, List, [], ◌++◌, length, Option, refl, sym, ap, ◌∙◌, subst, inl, inr, arith}
 use Rattle.std.specs.Prelude.{Result, Ok, Err}
-use Rattle.mm_types.specs.Outside.{Appended, Rose}
+use Rattle.mm_types.specs.Outside.{Appended}
 use Rattle.mm_types.specs.Spelling.{Text}
 use Rattle.mm_types.proofs.Bytes.{append_nil, appended_none}
 use Rattle.mm_types.specs.declared.events.Event.{Event}
@@ -13,8 +13,8 @@ use Rattle.mm_run.specs.Answered.{DecidedLine, last_stage, answers_of, moves_of}
 use Rattle.mm_run.specs.Texts.{TornText, status_of}
 use Rattle.mm_run.specs.Ends.{DeviceLeft, IsLeft, Left, Leaves}
 use Rattle.mm_run.specs.Ran.{Around, begun_at}
-use Rattle.mm_run.specs.Bulk.{AreDecided, ClosesEvents, Stops, BulkEnds, BulkRan, IsFront, events_of, bulk_text, four_lines}
-use Rattle.mm_run.specs.Batch.{Handled, Stopped, Tallied, BatchRan}
+use Rattle.mm_run.specs.Bulk.{AreDecided, ClosesEvents, Stops, BulkEnds, BulkRan, events_of, bulk_text, four_lines}
+use Rattle.mm_run.specs.Batch.{Stopped, Tallied, BatchRan}
 use Rattle.mm_run.proofs.Stories.{follows_here}
 use Rattle.mm_run.proofs.Batches.{answers_many, events_many}
 use Rattle.mm_run.proofs.Logs.{events_logged, log_closed, log_left, events_hold}
@@ -54,7 +54,7 @@ module _ (a b : Around) (events : List Event) (status : ℕ) where
     closes = closes;
     leaves = leaves;
     log = log_left a.beside.moves (moves_of lines) e (last_stage (begun_at a.beside) lines) end b.beside leaves
-      (log_closed (begun_at a.beside) (last_stage (begun_at a.beside) lines) (moves_of lines) (events_logged (begun_at a.beside) lines decided) refl e end closes);
+        (log_closed (begun_at a.beside) (last_stage (begun_at a.beside) lines) (moves_of lines) (events_logged (begun_at a.beside) lines decided) refl e end closes);
     holds = λ q. events_hold (begun_at a.beside) lines end b.beside tt decided (follows_done e (last_stage (begun_at a.beside) lines) end q closes) leaves;
     faultless = λ calm none unnamed. events_faultless a.beside b.beside e end leaves calm unnamed lines decided closes none;
   }

@@ -1,12 +1,14 @@
 -- Three words are texts, and a form with two numbers.
-use Rattle.std.proofs.Common.{◌≡◌, ℕ, ◌<◌, ◌≤◌, List, [], ◌∷◌, length, map, get_or, refl, sym, ap, ◌∙◌, arith, Option, Some, None, codes, string_bytes}
+use Rattle.std.proofs.Common.{◌≡◌, ℕ, ◌<◌, ◌≤◌, List, [], ◌∷◌, length, map, get_or, sym, ap, ◌∙◌, subst, arith, Option, Some, None, codes, string_bytes}
 use Rattle.std.specs.Prelude.{Bool, IsTrue, nat_eq, String, MatchOption}
 use Rattle.std.specs.declared.alloc.Global.{Global}
 use Rattle.std.specs.Cmp.Lexicographic.{pointwise}
 use Rattle.std.specs.Cmp.{unsigned_Decides}
 use Rattle.std.proofs.lemmas.Slice.Eq.{slice_eq-Decides}
 use Rattle.mm_types.specs.Spelling.{Text}
-use Rattle.mm_run.specs.Bulk.{IsBulk, IsNoBulk, word_value}
+use Rattle.mm_make.specs.Generated.{script_of}
+use Rattle.mm_run.specs.Bulk.{IsBulk, IsNoBulk, BulkRan, word_value}
+use Rattle.mm_run.specs.Ran.{Around}
 
 pub three_words : {S : Type 0} (f : S → Text) (ws : List S) (a b c : S) → 3 ≤ length ws → length ws < 4 → a ≡ get_or ws 0 a → b ≡ get_or ws 1 b → c ≡ get_or ws 2 c → map f ws ≡ f a ∷ f b ∷ f c ∷ []
 three_words f [] a b c some few p q r = absurd (omega arith)
@@ -45,3 +47,7 @@ one_bulk ws s n s' n' a b =
 
 pub no_run : (ws : List (String Global)) → map string_bytes ws ≡ codes "run" ∷ [] → IsNoBulk ws
 no_run ws q = λ s n b. let both : codes "run" ∷ [] ≡ codes "bulk" ∷ b.first ∷ b.second ∷ [] = sym q ∙ b.words_are in absurd (let many = ap length both in omega arith)
+
+-- what a run of a script did is what a run of the same script did
+pub bulk_same : (a b : Around) (s n s' n' status : ℕ) → s ≡ s' → n ≡ n' → BulkRan a b (script_of s n) status → BulkRan a b (script_of s' n') status
+bulk_same a b s n s' n' status e f h = subst (λ (k : ℕ). BulkRan a b (script_of s' k) status) f (subst (λ (k : ℕ). BulkRan a b (script_of k n) status) e h)

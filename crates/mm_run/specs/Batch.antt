@@ -1,5 +1,5 @@
 -- Where a run of a generated script stands, between its events.
-use Rattle.std.specs.Prelude.{◌≡◌, ◌<◌, ℕ, Bool, true, false, List, [], ◌∷◌, ◌++◌, length, count_by, Result, Ok, Err}
+use Rattle.std.specs.Prelude.{◌≡◌, ◌<◌, ℕ, true, false, List, ◌++◌, length, count_by, Result, Ok, Err}
 use Rattle.std.specs.List.{AllByRecursion}
 use Rattle.mm_types.specs.declared.events.Event.{Event}
 use Rattle.mm_script.specs.Printed.{IsWellFormed}

@@ -125,7 +125,6 @@ pub record BulkRan (a b : Around) (events : List Event) (status : ℕ) : Type 0 
   pub left : List Event
   pub events_are : events ≡ events_of lines ++ left
   pub decided : AreDecided (begun_at a.beside) lines
-
   -- What it came to, and what was written.
   pub e : Ending
   pub stops : Stops e left
@@ -133,7 +132,6 @@ pub record BulkRan (a b : Around) (events : List Event) (status : ℕ) : Type 0 
   pub written : Text
   pub wrote : Appended a.took b.took written
   pub ends : BulkEnds status e (bulk_text (answers_of lines) end) written
-
   -- What happened behind the last event, and what the end leaves, as `Ran` has it.
   pub closes : ClosesEvents e (last_stage (begun_at a.beside) lines) end
   pub leaves : Leaves end b.beside

@@ -73,11 +73,7 @@ fn one_if(test: bool) -> u32
     ensures value { result ≡ cond test 1 0 }
     ensures most { result ≤ 1 }
 {
-    if test {
-        1
-    } else {
-        0
-    }
+    if test { 1 } else { 0 }
 }
 
 /// Decides an event, which is not the first, with all its moves written.

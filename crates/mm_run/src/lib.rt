@@ -4,10 +4,10 @@
 mod bulk;
 mod decisions;
 mod endings;
+mod forms;
 mod machines;
 mod readings;
 mod top;
-mod forms;
 
 pub use endings::Ending;
 pub use top::run;

@@ -12,8 +12,8 @@ ghost use Rattle.mm_run.specs.Bulk.{IsBulk, IsNoBulk, BulkRan};
 
 use crate::bulk::bulk;
 use crate::endings::Ending;
-use crate::machines::decide_all;
 use crate::forms::bulk_words;
+use crate::machines::decide_all;
 use mm_blocks::Blocks;
 use mm_io::{Sink, Source, write_all};
 use mm_text::{LineBuf, put_decimal};

@@ -16,7 +16,7 @@ fn device(alloc: Global) -> Result<MemBlocks, AllocError> {
 
 /// A sink of which these calls fail.
 fn sink(alloc: Global, fails: &[u32]) -> Result<MemSink, AllocError> {
-    match MemSink::new(alloc, 4096, Vec::from_slice(alloc, fails)?) {
+    match MemSink::new(alloc, 262_144, Vec::from_slice(alloc, fails)?) {
         Ok(sink) => Ok(sink),
         Err(_) => Err(AllocError),
     }

@@ -93,7 +93,10 @@ fn words(rt: HostRuntime) -> Result<(), Fail> {
     for word in ["x", "-h", "", "run "] {
         let (status, text) = outcome(alloc, word, SMALLEST, 100, NOTHING)?;
         assert_eq!(rt; status, 2);
-        assert_eq!(rt; text.as_slice(), b"usage: mmsim run | mmsim bulk SEED COUNT\n".as_slice());
+        assert_eq!(rt;
+            text.as_slice(),
+            b"usage: mmsim run | mmsim bulk SEED COUNT\n".as_slice()
+        );
     }
     let none: Vec<String> = Vec::new(alloc);
     let mut source = MemSource::new(Vec::new(alloc), Vec::new(alloc));

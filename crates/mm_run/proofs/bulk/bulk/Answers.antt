@@ -1,4 +1,4 @@
-use Rattle.std.proofs.Common.{◌≡◌, refl, sym, ap, ◌∙◌, subst, arith}
+use Rattle.std.proofs.Common.{refl, sym, ◌∙◌, arith}
 use Rattle.mm_make.specs.Generated.{script_of}
 use Rattle.mm_types.proofs.Bytes.{rose_then}
 use Rattle.mm_run.specs.Story.{counts_with}

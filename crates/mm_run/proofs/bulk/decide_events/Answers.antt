@@ -1,4 +1,4 @@
-use Rattle.std.proofs.Common.{◌≡◌, ◌+◌, refl, sym, ap, ◌∙◌, arith}
+use Rattle.std.proofs.Common.{sym, arith}
 use Rattle.mm_run.specs.Scenes.{Running, scene}
 use Rattle.mm_run.proofs.Batches.{first_handled, first_stopped, first_muted}
 use Rattle.mm_run.proofs.bulk.decide_events.Goals as goal

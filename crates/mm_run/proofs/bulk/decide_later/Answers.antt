@@ -1,7 +1,6 @@
-use Rattle.std.proofs.Common.{◌≡◌, ◌≤◌, ◌+◌, length, refl, sym, ap, ◌∙◌, subst, cond, arith}
+use Rattle.std.proofs.Common.{refl, ap, ◌∙◌, cond, arith}
 use Rattle.mm_run.specs.Scenes.{Running, scene}
-
-use Rattle.mm_run.proofs.Batches.{handled_none, handled_on, handled_all, stopped_on, later_at, blamed_next}
+use Rattle.mm_run.proofs.Batches.{handled_none, handled_on, stopped_on}
 use Rattle.mm_run.proofs.bulk.decide_later.Goals as goal
 
 pub loop-event-init : goal.loop-event-init
@@ -26,7 +25,7 @@ loop-event-preserved g c =
     let none_most = c.one_if-none.ensures.most in
     record {
       handled = handled_on (Running (scene c.args.world.now)) (Running (scene l.world)) (Running (scene c.decide_event.new.world)) c.args.events.now l.event-index l.ok l.none c.one_if-ok.result c.one_if-none.result c.event-item.result c.in-Ok.answer (omega arith) c.event-item.is i.handled d.decided d.noted
-        (c.one_if-ok.ensures.value ∙ ap (λ b. cond b 1 0) c.begins_ok.ensures) (c.one_if-none.ensures.value ∙ ap (λ b. cond b 1 0) c.is_none.ensures);
+          (c.one_if-ok.ensures.value ∙ ap (λ b. cond b 1 0) c.begins_ok.ensures) (c.one_if-none.ensures.value ∙ ap (λ b. cond b 1 0) c.is_none.ensures);
       next = omega (arith, i.next);
       ok_few = omega (arith, i.ok_few, ok_most);
       none_few = omega (arith, i.none_few, none_most);

@@ -1,10 +1,9 @@
-use Rattle.std.proofs.Common.{◌≡◌, ◌∷◌, List, drop, refl, sym, ap, ◌∙◌, subst, inl, arith}
-use Rattle.mm_types.specs.declared.events.Event.{Event}
+use Rattle.std.proofs.Common.{refl, ◌∙◌, inl, arith}
 use Rattle.mm_run.specs.declared.endings.Ending.TheVariants as ending
 use Rattle.mm_make.specs.Generated.{script_of}
 use Rattle.mm_run.specs.Scenes.{NotBegun, outset}
 use Rattle.mm_run.proofs.Batches.{stopped_here}
-use Rattle.mm_run.proofs.Drawn.{slice_later, slice_few, slice_whole}
+use Rattle.mm_run.proofs.Drawn.{slice_later, slice_few}
 use Rattle.mm_run.proofs.bulk.decide_script.Goals as goal
 
 pub returns-in-Err-clause-came : goal.returns-in-Err-clause-came

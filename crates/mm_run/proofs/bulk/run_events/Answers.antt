@@ -1,5 +1,5 @@
 use Rattle.std.specs.Prelude.{IfErr}
-use Rattle.std.proofs.Common.{ℕ, ◌∷◌, ◌≡◌, ◌≤◌, ◌<◌, ◌+◌, refl, sym, ap, ◌∙◌, subst, inl, arith, rules}
+use Rattle.std.proofs.Common.{ℕ, ◌∷◌, ◌≡◌, ◌≤◌, ◌+◌, refl, sym, ap, ◌∙◌, subst, inl, arith, rules}
 use Rattle.mm_types.specs.Machine.{IsMachine}
 use Rattle.mm_blocks.specs.Traffic.{NoneLogged, told_by}
 use Rattle.mm_core.specs.Shown.{world}

@@ -1,4 +1,4 @@
-use Rattle.std.proofs.Common.{◌≡◌, ◌∷◌, refl, arith}
+use Rattle.std.proofs.Common.{◌∷◌, refl, arith}
 use Rattle.mm_types.specs.declared.events.Event.TheVariants as line
 use Rattle.mm_run.specs.Scenes.{NotBegun, outset}
 use Rattle.mm_run.proofs.Batches.{stopped_here, blamed_opened}

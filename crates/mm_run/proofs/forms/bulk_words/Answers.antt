@@ -1,4 +1,4 @@
-use Rattle.std.proofs.Common.{◌≡◌, ℕ, ◌≤◌, Some, Option, sym, ap, ◌∙◌, subst, arith, string_bytes}
+use Rattle.std.proofs.Common.{◌≡◌, ℕ, ◌≤◌, Some, sym, ◌∙◌, subst, arith, string_bytes}
 use Rattle.std.specs.Prelude.{List, MatchOption}
 use Rattle.mm_run.specs.Bulk.{word_value}
 use Rattle.mm_run.proofs.ThreeWords.{three_words, same_text, bulk_read}

@@ -1,10 +1,6 @@
-use Rattle.std.proofs.Common.{ℕ, ◌≡◌, ◌≢◌, refl, sym, ap, ◌∙◌, subst, arith}
-use Rattle.mm_make.specs.Generated.{script_of}
-use Rattle.mm_run.specs.Bulk.{BulkRan}
-use Rattle.mm_run.specs.Ran.{around}
 use Rattle.mm_run.specs.Story.{IsForm}
 use Rattle.mm_run.proofs.Scripts.{exact, usage, not_usage}
-use Rattle.mm_run.proofs.ThreeWords.{one_bulk, no_run}
+use Rattle.mm_run.proofs.ThreeWords.{one_bulk, no_run, bulk_same}
 use Rattle.mm_run.proofs.top.run.Goals as goal
 
 pub returns-in-None-clause-exact : goal.returns-in-None-clause-exact
@@ -28,8 +24,7 @@ returns-in-Some-clause-ran g c = λ no. absurd (no c.in-Some.seed c.in-Some.coun
 pub returns-in-Some-clause-bulk : goal.returns-in-Some-clause-bulk
 returns-in-Some-clause-bulk g c = λ s n is.
     let one = one_bulk c.args.words.now c.in-Some.seed c.in-Some.count s n c.in-Some.ensures is in
-    subst (λ (k : ℕ). BulkRan _ _ (script_of k n) c.bulk.result) one.0
-    (subst (λ (k : ℕ). BulkRan _ _ (script_of c.in-Some.seed k) c.bulk.result) one.1 (c.bulk.ensures.ran (g.S.Source.left c.args.source.now)))
+    bulk_same _ _ c.in-Some.seed c.in-Some.count s n c.bulk.result one.0 one.1 (c.bulk.ensures.ran (g.S.Source.left c.args.source.now))
 
 pub returns-in-Some-clause-usage : goal.returns-in-Some-clause-usage
 returns-in-Some-clause-usage g c = λ no other. absurd (other c.in-Some.seed c.in-Some.count c.in-Some.ensures)
