@@ -1,0 +1,11 @@
+pub mod Written
+pub mod Regions
+pub mod LiveCalls
+pub mod LiveLines
+pub mod KeptAccesses
+pub mod Reserving
+pub mod Tidy
+pub mod Deciding
+pub mod Transfers
+pub mod Staying
+pub mod Lasting

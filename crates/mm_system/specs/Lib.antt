@@ -1,0 +1,4 @@
+pub mod Live
+pub mod Writes
+pub mod Lines
+pub mod Shown

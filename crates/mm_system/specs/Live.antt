@@ -1,0 +1,26 @@
+-- Watched regions are private regions of processes that live.
+use Rattle.std.specs.Prelude.{Bool, false, ◌&&◌, ◌==◌, List, Option, Some, None}
+use Rattle.std.specs.List.{list_any, list_all}
+use Rattle.mm_types.specs.Address.{Range}
+use Rattle.mm_world.specs.World.{RegionOf, ProcessOf, WorldOf, pages_of}
+use Rattle.mm_world.specs.Find.{process_of, is_private}
+use Rattle.mm_world.specs.Watch.{WatchOf, watched_range}
+
+abbrev pub is_same_range : Range → Range → Bool
+is_same_range a b = (a.first == b.first) && (a.count == b.count)
+
+module _ {B : Type 0} where
+  -- a private region of exactly these pages
+  abbrev pub is_private_region : Range → RegionOf B → Bool
+  is_private_region range r = is_private r.kind && is_same_range (pages_of r) range
+
+  abbrev pub holds_private : Range → Option (ProcessOf B) → Bool
+  holds_private range None = false
+  holds_private range (Some p) = list_any (is_private_region range) p.regions
+
+  -- the process lives, and its pages that are watched are those of a private region
+  abbrev pub is_live : WorldOf B → WatchOf → Bool
+  is_live w a = holds_private (watched_range a) (process_of w a.pid)
+
+  abbrev pub are_live : WorldOf B → List WatchOf → Bool
+  are_live w watches = list_all (is_live w) watches

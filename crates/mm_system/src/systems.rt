@@ -1,0 +1,166 @@
+ghost use Rattle.std.specs.Prelude.{◌≡◌, ◌≢◌, ◌≤◌, ◌⊎◌, ◌+◌, ℕ, true, false, IfOk, OnOk, OnErr, IsOk};
+ghost use Rattle.mm_types.specs.declared.answers.Answer.TheVariants as answer;
+ghost use Rattle.mm_types.specs.declared.answers.Wait.TheVariants as wait;
+ghost use Rattle.mm_world.specs.Step.{unpaged};
+ghost use Rattle.mm_world.specs.System.{first_system, system_step, watches_after};
+ghost use Rattle.mm_world.specs.Charge.{charge, limit};
+ghost use Rattle.mm_world.specs.Contents.{tables_of};
+ghost use Rattle.mm_world.specs.Laws.{SystemLeaves};
+ghost use Rattle.mm_pages.specs.Conditions.{IsNew};
+ghost use Rattle.mm_paging.specs.Lines.{Noted, Broken};
+ghost use Rattle.mm_script.specs.Printed.{IsWellFormed};
+ghost use Rattle.mm_tables.specs.References.{IsTidy};
+ghost use Rattle.mm_watch.specs.Watches.{AreApart};
+ghost use Rattle.mm_watch.specs.Told.{HadRegion};
+ghost use Rattle.mm_core.specs.Built.{takes_memory};
+ghost use Rattle.mm_core.specs.Forgetting.{EndsWaits};
+ghost use Rattle.mm_core.specs.Stepping.{asks_frames};
+ghost use Rattle.mm_core.specs.Serving.{AskedFiles, AskedPaging, IsFailure, OneRose, Flushed, Named, is_grow, is_fail, FailedBefore};
+ghost use Rattle.mm_core.specs.Shown.{world as world_of};
+ghost use Rattle.mm_system.specs.Lines.{is_built, is_watched};
+ghost use Rattle.mm_system.specs.Live.{are_live};
+ghost use Rattle.mm_system.specs.Writes.{writes_of};
+
+use crate::built::{either, other_line};
+use crate::kept_writes::KeptWrites;
+use crate::watching::{follow, take_room};
+use mm_core::World;
+use mm_pages::Pages;
+use mm_types::{Answer, Event, Machine, NoMemory};
+use mm_watch::Watch;
+use std::alloc::Global;
+
+/// A machine's address spaces over a store of their pages, with the watched regions beside them.
+///
+/// After `NoMemory` it is spent: nothing is to be asked of it but its charge and its store.
+#[derive(Drop)]
+pub struct System<G: Pages> {
+    /// The world that the lines change.
+    world: World<G>,
+    watch: Watch,
+    writes: KeptWrites,
+    spent: bool,
+    ghost ready: { spent ≡ false → world.spent ≡ false },
+    ghost live: { are_live (world_of world) watch.watches ≡ true },
+    ghost kept: { writes ≡ writes_of (world_of world) },
+    ghost tidy: { ∥ IsTidy (tables_of (world_of world)) ∥₁ },
+}
+
+impl<G: Pages> System<G> {
+    ghost use Rattle.mm_system.specs.Shown.{world, watches, system, report, behind, line_of, paging_device, file_device, file_blocks, loans};
+
+    /// The system after the `machine` line, over a new store of that machine.
+    pub fn new(alloc: Global, machine: Machine, pages: G) -> System<G>
+        requires new { IsNew machine (G.contents pages) (G.store pages) }
+        ensures system { system result ≡ first_system machine }
+        ensures pages { result.world.pages ≡ pages }
+        ensures ready { result.spent ≡ false }
+    {
+        System {
+            world: World::new(alloc, machine, pages),
+            watch: Watch::new(alloc),
+            writes: KeptWrites::new(),
+            spent: false,
+        }
+    }
+
+    /// The store.
+    pub fn finish(self) -> G
+        ensures { result ≡ self.world.pages }
+    {
+        let System {
+            world,
+            watch: _,
+            writes: _,
+            spent: _,
+        } = self;
+        world.finish()
+    }
+
+    /// The commit charge and the commit limit, in pages.
+    pub fn charge(&self) -> (u32, u32)
+        ensures charge { result.0 ≡ charge (world self.now) }
+        ensures limit { result.1 ≡ limit (world self.now) }
+        ensures within { charge (world self.now) ≤ limit (world self.now) }
+    {
+        self.world.charge()
+    }
+
+    /// Hands on what the type keeps: no two watched regions of a process share a page, and each is a private region of its
+    /// process, which lives. Does nothing.
+    pub fn sound(&self)
+        ensures apart { AreApart (watches self.now) }
+        ensures live { are_live (world self.now) (watches self.now) ≡ true }
+    {
+        self.watch.regions_lie_apart();
+    }
+
+    /// Decides one line, the next one: its answer is that of the definitions' step from the system that there was, by the
+    /// store's reports before and after it, and the system that there is then is the step's.
+    ///
+    /// `watch` is GetWriteWatch, `resetwatch` is ResetWriteWatch, and an `alloc` of the types 0x202000 and 0x203000 has
+    /// MEM_WRITE_WATCH. Each other line is decided by the world, as is what such an `alloc` does to it. `line` is the number
+    /// of the line in its script, where `machine` is line 1.
+    ///
+    /// `NoMemory` comes only from the lines from which it comes of a world. Then the system is as it was, and no further line
+    /// can be decided. An `alloc` of a watched region takes the room for its written pages first, so that in such a line want
+    /// of memory may come before a refusal. `watch` and `resetwatch` take no memory.
+    ///
+    /// Over a store that pages, the line's piece of the log of moves is its `at` and the moves that its form allows (`paged`);
+    /// after `NoMemory` it is an `at` alone, or empty (`broken`).
+    pub fn step(&mut self, alloc: Global, line: u32, event: &Event) -> Result<Answer, NoMemory>
+        requires well_formed { IsWellFormed event.now }
+        requires built { is_built event.now ≡ true }
+        requires next { line ≡ line_of self.old + 1 }
+        requires few { line ≤ 1000000 }
+        requires ready { self.old.spent ≡ false }
+        ensures step { IfOk result (λ a. system_step (system self.old) event.now (report self.old) (report self.new) ≡ record { answer = a; system = system self.new }) }
+        ensures told { G.unpaged ≡ true → asks_frames event.now ≡ false → is_watched event.now ≡ false → IfOk result (λ a. a ≢ answer.Fault → unpaged (world self.old) event.now ≡ record { answer = a; world = world self.new }) }
+        ensures watched { IfOk result (λ a. watches self.new ≡ watches_after (world self.old) (watches self.old) event.now a) }
+        ensures had { IfOk result (λ a. HadRegion (watches self.old) event.now a) }
+        ensures err { OnErr result (system self.new ≡ system self.old) }
+        ensures leaves { IfOk result (λ a. SystemLeaves (system self.old) event.now (record { answer = a; system = system self.new })) }
+        ensures within { charge (world self.new) ≤ limit (world self.new) }
+        ensures lives { IsTidy (tables_of (world self.new)) }
+        ensures asked_files { is_fail event.now ≡ false → OnOk result (AskedFiles (file_device self.old) (file_device self.new) (report self.new)) }
+        ensures asked_paging { is_fail event.now ≡ false → is_grow event.now ≡ false → OnOk result (AskedPaging (paging_device self.old) (paging_device self.new) (report self.new)) }
+        ensures named { IfOk result (λ a. Named G.unpaged event.now a (paging_device self.old) (paging_device self.new) (file_device self.old) (file_device self.new)) }
+        ensures idle { OnErr result ((paging_device self.new ≡ paging_device self.old) × (file_device self.new ≡ file_device self.old) × (file_blocks self.new ≡ file_blocks self.old)) }
+        ensures failed { IfOk result (λ a. IsFailure a → FailedBefore event.now (report self.old) ⊎ OneRose (paging_device self.old) (paging_device self.new) (file_device self.old) (file_device self.new)) }
+        ensures unwaited { G.unpaged ≡ true → (tid : ℕ) → ((report self.old).wait tid ≡ wait.None) × ((report self.new).wait tid ≡ wait.None) }
+        ensures waits { IfOk result (λ a. EndsWaits (world self.old) event.now a (report self.new)) }
+        ensures paging_later { (paging_device self.old).faults ≤ (paging_device self.new).faults }
+        ensures files_later { (file_device self.old).faults ≤ (file_device self.new).faults }
+        ensures flushed { IfOk result (λ a. Flushed (world self.new) (file_blocks self.new) event.now a) }
+        ensures paged { G.unpaged ≡ false → IfOk result (λ a. Noted (world self.old) (report self.old) (behind self.old) (paging_device self.old) (file_device self.old) event.now a (world self.new) (report self.new) (behind self.new) (paging_device self.new) (file_device self.new)) }
+        ensures broken { G.unpaged ≡ false → OnErr result (Broken (behind self.old) (behind self.new)) }
+        ensures no_memory { takes_memory event.now ≡ false → IsOk result }
+        ensures line { OnOk result (line_of self.new ≡ line) }
+        ensures ready { OnOk result (self.new.spent ≡ false) }
+        ensures spent { OnErr result (self.new.spent ≡ true) }
+        ensures loans { loans self.new ≡ loans self.old }
+    {
+        if let Err(why) = take_room(&mut self.watch, event) {
+            // No line has begun. What world and store keep at all times is told once more.
+            let _charge = self.world.charge();
+            self.world.pages.sound();
+            self.spent = true;
+            return Err(why);
+        }
+        let other = other_line(event);
+        match self.world.step(alloc, line, either(&other, event)) {
+            Ok(given) => {
+                let answer = follow(&mut self.watch, &self.writes, event, given);
+                self.writes.follow(event, &answer);
+                Ok(answer)
+            }
+            Err(why) => {
+                self.spent = true;
+                Err(why)
+            }
+        }
+    }
+}
+
+#[cfg(test)]
+mod tests;

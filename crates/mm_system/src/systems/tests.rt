@@ -1,0 +1,161 @@
+ghost use Rattle.std.specs.Prelude.{◌≡◌, ◌≤◌, ◌+◌, [], ◌∷◌, true, false, IfOk, OnOk, length};
+ghost use Rattle.mm_script.specs.Printed.{IsWellFormed};
+ghost use Rattle.mm_system.specs.Lines.{is_built};
+ghost use Rattle.mm_system.specs.Shown.{line_of};
+
+use crate::{System, is_built};
+use mm_blocks::{Blocks, Inject, Injected, MemBlocks};
+use mm_pages::Pages;
+use mm_plain::Plain;
+use mm_types::{AccessSpec, Answer, ByteBuf, Code, Event, Machine, NoMemory, Pid, Tid};
+use std::alloc::Global;
+use std::process::Abort;
+use std::test::Fail;
+
+const PID: Pid = Pid(1);
+
+const TID: Tid = Tid(3);
+
+// The line's number is told, and no more, so that what follows is proved with little at hand.
+fn decide<G: Pages>(
+    alloc: Global,
+    system: &mut System<G>,
+    line: u32,
+    event: &Event,
+) -> Result<Answer, NoMemory>
+    requires well_formed { IsWellFormed event.now }
+    requires built { is_built event.now ≡ true }
+    requires next { line ≡ line_of system.old + 1 }
+    requires few { line ≤ 1000000 }
+    requires ready { system.old.spent ≡ false }
+    ensures line { OnOk result (line_of system.new ≡ line) }
+    ensures ready { OnOk result (system.new.spent ≡ false) }
+{
+    system.step(alloc, line, event)
+}
+
+// A machine with one process, and a watched region of four pages at 0x10000.
+fn watched<F: Inject + Drop>(alloc: Global, files: F) -> Result<System<Plain<F>>, NoMemory>
+    requires opened { length (F.Blocks.blocks files) ≡ 2 }
+    requires plain { F.Blocks.named files ≡ [] }
+    ensures line { IfOk result (λ s. line_of s ≡ 3) }
+    ensures ready { IfOk result (λ s. s.spent ≡ false) }
+{
+    let machine = Machine::new(8, 8, 1, 2);
+    let store = match Plain::new(alloc, machine, files) {
+        Ok(store) => store,
+        Err(_) => return Err(NoMemory),
+    };
+    let mut system = System::new(alloc, machine, store);
+    decide(alloc, &mut system, 2, &Event::Process(0, 8))?;
+    decide(
+        alloc,
+        &mut system,
+        3,
+        &Event::Alloc(PID, 0, 0x4000, 0x203000, 0x04),
+    )?;
+    Ok(system)
+}
+
+// The pages that a `watch` line tells, unwritten from then on if so asked.
+fn tell<G: Pages>(
+    alloc: Global,
+    system: &mut System<G>,
+    line: u32,
+    unwrites: bool,
+) -> Result<Answer, NoMemory>
+    requires next { line ≡ line_of system.old + 1 }
+    requires few { line ≤ 1000000 }
+    requires ready { system.old.spent ≡ false }
+    ensures line { OnOk result (line_of system.new ≡ line) }
+    ensures ready { OnOk result (system.new.spent ≡ false) }
+{
+    if unwrites {
+        decide(
+            alloc,
+            system,
+            line,
+            &Event::Watch(PID, true, 0x10000, 0x4000, 1),
+        )
+    } else {
+        decide(
+            alloc,
+            system,
+            line,
+            &Event::Watch(PID, false, 0x10000, 0x4000, 16),
+        )
+    }
+}
+
+// One byte, 7.
+fn seven() -> ByteBuf
+    ensures { result ≡ 7 ∷ [] }
+{
+    match ByteBuf::from_slice(&[7]) {
+        Some(bytes) => bytes,
+        None => unreachable!(),
+    }
+}
+
+fn answers<F: Inject + Drop>(
+    alloc: Global,
+    files: F,
+) -> Result<(Answer, Answer, Answer, Answer, (u32, u32)), NoMemory>
+    requires opened { length (F.Blocks.blocks files) ≡ 2 }
+    requires plain { F.Blocks.named files ≡ [] }
+{
+    let mut system = watched(alloc, files)?;
+    decide(alloc, &mut system, 4, &Event::Write(PID, 0x13000, seven()))?;
+    let access = AccessSpec::Write(0x11000, seven());
+    decide(alloc, &mut system, 5, &Event::Begin(TID, PID, access))?;
+    let both = tell(alloc, &mut system, 6, true)?;
+    let second = tell(alloc, &mut system, 7, false)?;
+    decide(
+        alloc,
+        &mut system,
+        8,
+        &Event::ResetWatch(PID, 0x10000, 0x4000),
+    )?;
+    let none = tell(alloc, &mut system, 9, false)?;
+    decide(
+        alloc,
+        &mut system,
+        10,
+        &Event::Free(PID, 0x10000, 0, 0x8000),
+    )?;
+    let gone = tell(alloc, &mut system, 11, false)?;
+    system.sound();
+    let charge = system.charge();
+    let _files = system.finish().finish();
+    Ok((both, second, none, gone, charge))
+}
+
+// An answer of written pages is of these.
+fn is_of(rt: &impl Abort, answer: &Answer, addresses: &[u32]) {
+    match answer {
+        Answer::Watched(pages) => assert_eq!(rt; pages.as_slice(), addresses),
+        _ => panic!(rt; "no written pages are told"),
+    }
+}
+
+#[test]
+fn written_pages_are_told(rt: HostRuntime) -> Result<(), Fail> {
+    let mut memory = MemBlocks::new(rt.alloc(), Vec::new(rt.alloc()), 8)?;
+    let mut files = Injected::new(&mut memory);
+    files.open(2)?;
+    let (both, second, none, gone, charge) = answers(rt.alloc(), files)?;
+    is_of(&rt, &both, &[0x11000]);
+    is_of(&rt, &second, &[0x13000]);
+    is_of(&rt, &none, &[]);
+    assert!(rt; matches!(gone, Answer::Error(Code::InvalidParameter)));
+    assert_eq!(rt; charge, (0, 12));
+    Ok(())
+}
+
+#[test]
+fn forms_are_built_or_not(rt: HostRuntime) {
+    assert!(rt; is_built(&Event::Charge));
+    assert!(rt; is_built(&Event::ResetWatch(PID, 0x10000, 1)));
+    assert!(rt; is_built(&Event::Alloc(PID, 0, 1, 0x202000, 0x04)));
+    assert!(rt; !is_built(&Event::Probe(TID, 0x10000)));
+}
