@@ -9,10 +9,8 @@ use Rattle.mm_types.specs.declared.numbers.Place.{Place}
 use Rattle.mm_life.specs.Frames.{is_empty, record_at}
 use Rattle.mm_life.specs.Life.{FrameLife, changed, same_key, is_live, is_shared, key_of_place}
 use Rattle.mm_life.specs.Legal.{IsLegal, touches, shows_shared, owner_is}
-use Rattle.mm_life.specs.Effect.{after_move}
-use Rattle.mm_pages.specs.Accesses.{Aim, AccessMove}
+use Rattle.mm_pages.specs.Accesses.{Aim}
 use Rattle.mm_pages.specs.Conditions.{touch}
-use Rattle.mm_walks.specs.Walks.{Walk, Through, walked_all}
 use Rattle.mm_moving.specs.Shown.{StateOf, Made, moved}
 use Rattle.mm_moving.specs.Holds.{Holds}
 use Rattle.mm_moving.proofs.Doing.{does_one, does_two, does_then}
@@ -21,33 +19,31 @@ use Rattle.mm_paged.specs.Pieces.{Took, IsFor, LifeKept, walk_at}
 use Rattle.mm_paged.specs.Copies.{KeyAdded, Readies, Zeroed, Cleared, Taken}
 use Rattle.mm_paged.proofs.HeldCopy.{room_then}
 use Rattle.mm_paged.proofs.Keeping.{kept_all, kept_same}
-use Rattle.mm_paged.proofs.Taking.{went_give, cleared_first, stolen_first}
+use Rattle.mm_paged.proofs.Taking.{cleared_first, stolen_first}
 
 -- ---- it is taken a frame
 
-pub took_after_add : (a : Aim) (k : Key) (s y z : StateOf) → Made (move.Add k None) s y → a.need.copy ≡ Some k → Took a 0 y z → Took a 0 s z
-took_after_add a k s y z m c w = record {
-  moves = move.Add k None ∷ w.moves;
-  does = does_then (move.Add k None ∷ []) w.moves s y z (does_one (move.Add k None) s y m) w.does;
-  each = λ t. (c, subst (λ (x : Walk). Through (AccessMove a) x w.moves) (sym (there t)) (w.each t));
-  fresh = λ t. ap (λ (x : Walk). (walked_all x w.moves).tried) (there t) ∙ w.fresh t;
-  few_reads = w.few_reads;
-  paid = w.paid;
+-- with a frame that is zeroed
+took_added : (a : Aim) (k : Key) (f : Frame) (x y z : StateOf) → Made (move.Add k None) x y → a.need.copy ≡ Some k → Made (move.Give f k) y z → Took a 0 x z
+took_added a k f x y z m c g = record {
+  moves = move.Add k None ∷ move.Give f k ∷ [];
+  does = does_two (move.Add k None) (move.Give f k) x y z m g;
+  each = λ t. ((c, (f, refl)), (inr c, tt));
+  fresh = λ t. refl;
+  few_reads = omega arith;
+  paid = omega arith;
 }
-  where
-    there : (t : List ℕ) → record { life = after_move s.life (move.Add k None); ages = s.ages; tried = t } ≡ walk_at t y
-    there t = ap (λ (l : FrameLife). record { life = l; ages = s.ages; tried = t }) (sym m.life) ∙ ap (λ (g : Place → ℕ). record { life = y.life; ages = g; tried = t }) (sym m.ages)
 
 -- a frame is zeroed first
 pub took_ready : (a : Aim) (k : Key) (f : Frame) (s x y z : StateOf) → Readies s x → Made (move.Add k None) x y → a.need.copy ≡ Some k → f ≡ front y.life.frames.zeroed → Made (move.Give f k) y z → Took a 0 s z
-took_ready a k f s x y z (Zeroed e) m c q g = subst (λ (w : StateOf). Took a 0 w z) e (took_after_add a k x y z m c (went_give a f k y z g (inr c)))
+took_ready a k f s x y z (Zeroed e) m c q g = subst (λ (w : StateOf). Took a 0 w z) e (took_added a k f x y z m c g)
 took_ready a k f s x y z (Cleared none p) m c q g =
     let first = front s.life.frames.free in
     let taken : f ≡ first = q ∙ ap (λ (l : FrameLife). front l.frames.zeroed) m.life ∙ cleared_first s.life x.life first p.life none in
     record {
       moves = move.Clear first ∷ move.Add k None ∷ move.Give f k ∷ [];
       does = does_then (move.Clear first ∷ []) (move.Add k None ∷ move.Give f k ∷ []) s x z (does_one (move.Clear first) s x p) (does_two (move.Add k None) (move.Give f k) x y z m g);
-      each = λ t. (inl taken, (c, (inr c, tt)));
+      each = λ t. (inl taken, ((c, (f, refl)), (inr c, tt)));
       fresh = λ t. refl;
       few_reads = omega arith;
       paid = omega arith;
@@ -61,7 +57,7 @@ took_ready a k f s x y z (Taken u none none_free st p) m c q g =
       moves = move.Steal d ∷ move.Clear first ∷ move.Add k None ∷ move.Give f k ∷ [];
       does = does_then (move.Steal d ∷ []) (move.Clear first ∷ move.Add k None ∷ move.Give f k ∷ []) s u z (does_one (move.Steal d) s u st)
           (does_then (move.Clear first ∷ []) (move.Add k None ∷ move.Give f k ∷ []) u x z (does_one (move.Clear first) u x p) (does_two (move.Add k None) (move.Give f k) x y z m g));
-      each = λ t. (inl (taken ∙ stolen_first s.life u.life d st.life none_free), (inl taken, (c, (inr c, tt))));
+      each = λ t. (inl (taken ∙ stolen_first s.life u.life d st.life none_free), (inl taken, ((c, (f, refl)), (inr c, tt))));
       fresh = λ t. refl;
       few_reads = omega arith;
       paid = omega arith;

@@ -52,7 +52,7 @@ kept_unmap l p (Some f) = record { machine = refl; line = refl; kind = refl; pag
 
 kept_one : (a : Aim) (w : Walk) (m : Move) (ms : List Move) → a.need.copy ≡ None → AccessMove a w m ms → LifeKept w.life (after_move w.life m)
 kept_one a w (move.At n k) ms c h = absurd h
-kept_one a w (move.Add k None) ms c h = let bad : None ≡ Some k = sym c ∙ h in cc
+kept_one a w (move.Add k None) ms c h = let bad : None ≡ Some k = sym c ∙ h.0 in cc
 kept_one a w (move.Add k (Some b)) ms c h = absurd h
 kept_one a w (move.Drop k) ms c h = absurd h
 kept_one a w (move.Clear f) ms c h = record { machine = refl; line = refl; kind = refl; paging = refl; keys = refl; pids = refl; added = refl }

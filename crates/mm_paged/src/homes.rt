@@ -1,4 +1,4 @@
-ghost use Rattle.std.specs.Prelude.{◌≡◌, ◌≤◌, ◌<◌, ◌+◌, ◌-◌, ◌^◌, ◌==◌, ℕ, Bool, true, false, None, Some, IsSome, IsErrOf, OnOk, OnErr, length};
+ghost use Rattle.std.specs.Prelude.{◌≡◌, ◌≤◌, ◌<◌, ◌+◌, ◌-◌, ◌^◌, ◌==◌, ℕ, Bool, true, false, None, Some, IsSome, IsErrOf, IsOk, OnOk, OnErr, length};
 ghost use Rattle.mm_types.specs.Address.{are_user_pages};
 ghost use Rattle.mm_types.specs.Machine.{limit_of};
 ghost use Rattle.mm_types.specs.Outside.{Rose};
@@ -80,6 +80,7 @@ impl<T: Moving> Paged<T> {
     /// Sees that there is room for `total` page-file keys, which is at most the commit limit. There always is.
     pub fn reserve(&mut self, total: u32) -> Result<(), NoMemory>
         requires { total ≤ limit_of (store self.old).machine }
+        ensures enough { total ≤ (store self.old).room → IsOk result }
         ensures store { store self.new ≡ record (store self.old) { room = (store self.new).room } }
         ensures later { (store self.old).room ≤ (store self.new).room }
         ensures ok { OnOk result (total ≤ (store self.new).room) }

@@ -7,6 +7,7 @@ use Rattle.mm_types.specs.declared.frames.Held.TheVariants as held
 use Rattle.mm_types.specs.declared.moves.Move.{Move}
 use Rattle.mm_types.specs.declared.moves.Move.TheVariants as move
 use Rattle.mm_types.specs.declared.numbers.Frame.{Frame}
+use Rattle.mm_types.specs.declared.numbers.Key.{Key}
 use Rattle.mm_types.specs.declared.numbers.Place.{Place}
 use Rattle.mm_life.specs.Frames.{record_at, is_on, is_read}
 use Rattle.mm_life.specs.Life.{FrameLife, set_of, is_live}
@@ -45,6 +46,11 @@ IsTaken f (move.Give g k ∷ ms) = (g ≡ f) ⊎ IsTaken f ms
 IsTaken f (move.Read g k ∷ ms) = (g ≡ f) ⊎ IsTaken f ms
 IsTaken f (m ∷ ms) = IsTaken f ms
 
+-- the next move gives a frame to the key
+abbrev pub IsGiven : Key → List Move → Type 0
+IsGiven k [] = ⊥
+IsGiven k (m ∷ ms) = (f : Frame) × (m ≡ move.Give f k)
+
 -- the next move ends the frame's request
 abbrev pub IsReadEnded : Frame → List Move → Type 0
 IsReadEnded f [] = ⊥
@@ -68,7 +74,7 @@ pub data Goes (a : Aim) (w : Walk) (p : Place) (rest : List Move) : Type 0 where
 -- what each move of an access is
 abbrev pub AccessMove : Aim → Walk → Move → List Move → Type 0
 AccessMove a w (move.At n k) rest = ⊥
-AccessMove a w (move.Add k None) rest = a.need.copy ≡ Some k
+AccessMove a w (move.Add k None) rest = (a.need.copy ≡ Some k) × IsGiven k rest
 AccessMove a w (move.Add k (Some b)) rest = ⊥
 AccessMove a w (move.Drop k) rest = ⊥
 AccessMove a w (move.Clear f) rest = IsTaken f rest

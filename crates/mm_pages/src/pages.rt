@@ -111,9 +111,11 @@ pub trait Pages {
         ensures passes { (held : Place → Bool) (from to : ℕ) → AreAmong held from to pid (record { first = first.0; count = n }) → PassesIn unpaged (Turns (Ending held from to)) (store self.old) (store self.new) (behind self.old) (behind self.new) }
         ensures loans { loans self.new ≡ loans self.old };
 
-    /// Sees that there is room for `total` page-file keys, which is at most the commit limit. Room never falls.
+    /// Sees that there is room for `total` page-file keys, which is at most the commit limit. Room never falls, and where
+    /// there is enough nothing is asked for.
     fn reserve(&mut self, total: u32) -> Result<(), NoMemory>
         requires { total ≤ limit_of (store self.old).machine }
+        ensures enough { total ≤ (store self.old).room → IsOk result }
         ensures store { store self.new ≡ record (store self.old) { room = (store self.new).room } }
         ensures later { (store self.old).room ≤ (store self.new).room }
         ensures ok { OnOk result (total ≤ (store self.new).room) }

@@ -1,4 +1,4 @@
-ghost use Rattle.std.specs.Prelude.{◌≡◌, ◌+◌, ◌-◌, ◌<◌, ◌≤◌, OnOk};
+ghost use Rattle.std.specs.Prelude.{◌≡◌, ◌+◌, ◌-◌, ◌<◌, ◌≤◌, IsOk, OnOk};
 ghost use Rattle.mm_world.specs.World.{filled};
 ghost use Rattle.mm_plain.specs.Stocks.{StockOf};
 
@@ -46,6 +46,7 @@ impl Stock {
         ensures more { self.new.boxes + self.old.room ≡ self.old.boxes + self.new.room }
         ensures later { self.old.room ≤ self.new.room }
         ensures ok { OnOk result (total ≤ self.new.room) }
+        ensures enough { total ≤ self.old.room → IsOk result }
     {
         if total <= self.room {
             return Ok(());

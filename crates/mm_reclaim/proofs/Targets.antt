@@ -77,7 +77,7 @@ same_lowest : (free : List Bool) (s : ℕ) → IsLowest free s → LowestSlot fr
 same_lowest free s h = record { is_free = h.is_free; below = h.below }
 
 -- a frame is written to where the code writes it
-target_is : (l : FrameLife) → Sound l → (f : Frame) → is_on f.0 l.frames.modified ≡ true → (home : Stored) → IsLegal (move.Write f home) l → home ≡ write_target l f
+pub target_is : (l : FrameLife) → Sound l → (f : Frame) → is_on f.0 l.frames.modified ≡ true → (home : Stored) → IsLegal (move.Write f home) l → home ≡ write_target l f
 target_is l s f on (stored.Slot t) legal =
     let low : t.0 ≡ lowest_free l.free_slots = lowest_number l.free_slots t.0 (same_lowest l.free_slots t.0 (lowest_is l.free_slots t.0 (slot_parts l s f on t legal).1)) in
     let none : (record_at l.frames f.0).backing ≡ backing.None = slot_backing l s f on t legal in

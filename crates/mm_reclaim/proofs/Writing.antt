@@ -24,23 +24,20 @@ use Rattle.mm_life.specs.Effect.{after_move}
 use Rattle.mm_life.specs.Victims.{can_be_written}
 use Rattle.mm_frames.specs.Base.{has_block, modified_with_block}
 use Rattle.mm_laws.specs.FileBlocks.{block_of}
-use Rattle.mm_laws.specs.Lowest.{IsLowest}
-use Rattle.mm_laws.specs.Sound.{Sound}
 use Rattle.mm_laws.specs.Tally.{one_if, times}
 use Rattle.mm_laws.proofs.Deduced.{reached_sound}
 use Rattle.mm_laws.proofs.FromSound.{modified_frame}
 use Rattle.mm_laws.proofs.Lists.{without_none, without_append, without_self}
-use Rattle.mm_laws.proofs.Lowest.{lowest_is, free_counted}
+use Rattle.mm_laws.proofs.Lowest.{free_counted}
 use Rattle.mm_laws.proofs.Tallies.{tally-append}
-use Rattle.mm_slots.specs.Slots.{IsLowest as LowestSlot}
 use Rattle.mm_walks.specs.Chores.{frame_of, lowest_free as lowest_from, target, writes_begun}
 use Rattle.mm_room.specs.Searches.{first_passing}
-use Rattle.mm_room.proofs.Writing.{which_writes, store_in_writer, slot_parts, slot_backing, block_is, write_others}
+use Rattle.mm_room.proofs.Writing.{which_writes, store_in_writer, write_others}
 use Rattle.mm_parts.specs.Moves.{goes_to, lowest_free, write_target, own_after}
-use Rattle.mm_parts.proofs.Requesting.{lowest_is as lowest_number}
 use Rattle.mm_moving.specs.Shown.{StateOf, Made, moved}
 use Rattle.mm_moving.specs.Holds.{Holds}
 use Rattle.mm_reclaim.specs.Chores.{Rounds, writings}
+use Rattle.mm_reclaim.proofs.Targets.{target_is}
 
 -- ---- the first that passes a test
 
@@ -114,16 +111,6 @@ first_with_block s n h e none = first_filtered (can_be_written s.life) (λ f. ha
 
 -- ---- where it is written to
 
--- the lowest free slot, in the words of the slots
-lowest_slot : (free : List Bool) (t : ℕ) → IsLowest free t → LowestSlot free t
-lowest_slot free t h = record { is_free = h.is_free; below = h.below }
-
-goes_where : (l : FrameLife) → Sound l → (f : Frame) → is_on f.0 l.frames.modified ≡ true → (home : Stored) → IsLegal (move.Write f home) l → home ≡ write_target l f
-goes_where l s f on (stored.Slot t) legal =
-    let low : t.0 ≡ lowest_free l.free_slots = lowest_number l.free_slots t.0 (lowest_slot l.free_slots t.0 (lowest_is l.free_slots t.0 (slot_parts l s f on t legal).1)) in
-    ap (λ (n : ℕ). stored.Slot (record { 0 = n })) low ∙ sym (ap (λ (b : Backing). goes_to b (lowest_free l.free_slots)) (slot_backing l s f on t legal))
-goes_where l s f on (stored.Block b) legal = sym (ap (λ (x : Backing). goes_to x (lowest_free l.free_slots)) (block_is l s f on b legal))
-
 pub writer_legal : (s : StateOf) (f : Frame) → Holds s → s.life.kind ≡ kind.Writer → has_depth s.life ≡ true → first_passing (can_be_written s.life) s.life.frames.modified ≡ Some f.0 → IsLegal (move.Write f (write_target s.life f)) s.life
 writer_legal s f h k depth first =
     let on = passing_on (can_be_written s.life) s.life.frames.modified f.0 first in
@@ -131,7 +118,7 @@ writer_legal s f h k depth first =
     ∥∥₁_elim h.reached (Bool-set _ _) (λ r.
     let sound = reached_sound s.life r in
     let there = store_in_writer s.life sound f on (ap is_writer k) depth can in
-    subst (λ (x : Stored). IsLegal (move.Write f x) s.life) (goes_where s.life sound f on there.0 there.1) there.1)
+    subst (λ (x : Stored). IsLegal (move.Write f x) s.life) (target_is s.life sound f on there.0 there.1) there.1)
 
 -- the lowest free slot, counted in two ways
 lowest_from_is : (free : List Bool) (n : ℕ) → lowest_from n free ≡ lowest_free free + n
