@@ -1,8 +1,8 @@
-mod Tests
-mod Outcomes
-mod Around
-mod Counts
-mod Decided
-mod Areas
-mod Pages
-mod Beginning
+pub mod Tests
+pub mod Outcomes
+pub mod Around
+pub mod Counts
+pub mod Decided
+pub mod Areas
+pub mod Pages
+pub mod Beginning

@@ -1,9 +1,10 @@
-ghost use Rattle.std.specs.Prelude.{◌≡◌, ◌≤◌, true, is_some, Some, IfOk, OnErr, option_map};
+ghost use Rattle.std.specs.Prelude.{◌≡◌, ◌≤◌, ◌+◌, true, is_some, min, Some, IsOk, IfOk, OnErr, option_map};
 ghost use Rattle.mm_types.specs.declared.moves.LineKind.TheVariants as line_kind;
 ghost use Rattle.mm_types.specs.declared.views.Kind.TheVariants as kind;
 ghost use Rattle.mm_world.specs.World.{ProcessOf};
 ghost use Rattle.mm_world.specs.Find.{process_of, region_around};
 ghost use Rattle.mm_world.specs.Alloc.{reserve, commit_pages};
+ghost use Rattle.mm_world.specs.Charge.{charge, limit};
 ghost use Rattle.mm_world.specs.Contents.{blank};
 ghost use Rattle.mm_world.specs.Rows.{is_protection_among, private_protections};
 ghost use Rattle.mm_pages.specs.Housekeeping.{Turn, Turns, Makes};
@@ -53,9 +54,10 @@ pub(crate) fn reserve<G: Pages>(
     Ok(Answer::At(range.first * PAGE_SIZE))
 }
 
-/// Commits pages of a living process, in a private region or in a view.
+/// Commits pages of a living process, in a private region or in a view, as `valloc` does. `NoMemory` comes only where the store has no
+/// room for them.
 #[tactic(auto, using(mm_pages::proofs::Passed::turns_same))]
-pub(crate) fn commit<G: Pages>(
+pub fn commit<G: Pages>(
     t: &mut Tables,
     g: &mut G,
     pid: Pid,
@@ -67,6 +69,7 @@ pub(crate) fn commit<G: Pages>(
     requires lives { is_some (process_of t.old pid.0) ≡ true }
     requires prot { is_protection_among private_protections prot ≡ true }
     ensures ok { IfOk result (λ a. (p : ProcessOf (Unit {0})) → process_of t.old pid.0 ≡ Some p → commit_pages blank t.old pid.0 p range prot ≡ record { answer = a; world = t.new }) }
+    ensures enough { min (charge t.old + range.count) (limit t.old) ≤ (G.store g.old).room → IsOk result }
     ensures err { OnErr result ((t.new ≡ t.old) × (G.contents g.new ≡ G.contents g.old)) }
     ensures settled { Settled t.new (G.contents g.old) (G.contents g.new) (G.store g.old) (G.store g.new) }
     ensures passes { PassesIn G.unpaged (Turns Makes) (G.store g.old) (G.store g.new) (G.behind g.old) (G.behind g.new) }
@@ -98,6 +101,7 @@ fn commit_private<G: Pages>(
     requires around { (p : ProcessOf (Unit {0})) → process_of t.old pid.0 ≡ Some p → option_map (λ r. r.thing.kind) (region_around p.regions range) ≡ Some kind.Private }
     requires prot { is_protection_among private_protections prot ≡ true }
     ensures ok { IfOk result (λ a. (p : ProcessOf (Unit {0})) → process_of t.old pid.0 ≡ Some p → commit_pages blank t.old pid.0 p range prot ≡ record { answer = a; world = t.new }) }
+    ensures enough { min (charge t.old + range.count) (limit t.old) ≤ (G.store g.old).room → IsOk result }
     ensures err { OnErr result ((t.new ≡ t.old) × (G.contents g.new ≡ G.contents g.old)) }
     ensures settled { Settled t.new (G.contents g.old) (G.contents g.new) (G.store g.old) (G.store g.new) }
     ensures passes { PassesIn G.unpaged (Turns Makes) (G.store g.old) (G.store g.new) (G.behind g.old) (G.behind g.new) }
@@ -130,6 +134,7 @@ fn commit_view<G: Pages>(
     requires around { (p : ProcessOf (Unit {0})) → process_of t.old pid.0 ≡ Some p → option_map found_info (region_around p.regions range) ≡ Some (record { pages = pages; kind = kind.View view }) }
     requires prot { is_protection_among private_protections prot ≡ true }
     ensures ok { IfOk result (λ a. (p : ProcessOf (Unit {0})) → process_of t.old pid.0 ≡ Some p → commit_pages blank t.old pid.0 p range prot ≡ record { answer = a; world = t.new }) }
+    ensures enough { min (charge t.old + range.count) (limit t.old) ≤ (G.store g.old).room → IsOk result }
     ensures err { OnErr result ((t.new ≡ t.old) × (G.contents g.new ≡ G.contents g.old)) }
     ensures settled { Settled t.new (G.contents g.old) (G.contents g.new) (G.store g.old) (G.store g.new) }
     ensures passes { PassesIn G.unpaged (Turns Makes) (G.store g.old) (G.store g.new) (G.behind g.old) (G.behind g.new) }

@@ -10,6 +10,7 @@ mod parameters;
 mod protections;
 mod queries;
 
+pub use allocations::commit;
 pub use machine_calls::{grow_paging, new_process};
 pub use memory_calls::{protect, valloc, vfree};
 pub use queries::query;

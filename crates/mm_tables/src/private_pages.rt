@@ -1,4 +1,4 @@
-ghost use Rattle.std.specs.Prelude.{◌≡◌, ◌≤◌, ◌+◌, ◌%◌, ℕ, Bool, true, false, is_some, Option, Some, OnOk, OnErr, option_map, remove};
+ghost use Rattle.std.specs.Prelude.{◌≡◌, ◌≤◌, ◌+◌, ◌%◌, ℕ, Bool, true, false, is_some, Option, Some, IsOk, OnOk, OnErr, option_map, remove};
 ghost use Rattle.mm_types.specs.declared.moves.LineKind.TheVariants as line_kind;
 ghost use Rattle.mm_types.specs.declared.numbers.Place.{Place};
 ghost use Rattle.mm_pages.specs.Conditions.{AreAmong};
@@ -24,7 +24,7 @@ use std::alloc::Global;
 
 impl Tables {
     /// Commits a range of one private region of a process; `n` of its pages are not committed, and the limit allows them. After
-    /// `NoMemory` tables and bytes are as before.
+    /// `NoMemory`, which does not come where the store has room for them, tables and bytes are as before.
     pub fn commit<G: Pages>(
         &mut self,
         g: &mut G,
@@ -42,6 +42,8 @@ impl Tables {
         requires counted { (p : ProcessOf (Unit {0})) → process_of self.old pid.0 ≡ Some p → n + owned_in p.regions range ≡ range.count }
         requires room { charge self.old + n ≤ limit self.old }
         ensures ok { OnOk result ((p : ProcessOf (Unit {0})) (r : Found (RegionOf (Unit {0}))) → process_of self.old pid.0 ≡ Some p → region_around p.regions range ≡ Some r → self.new ≡ set_region self.old pid.0 p r.place (change_rows (commit tt prot) range r.thing)) }
+        ensures enough { charge self.old + n ≤ (G.store g.old).room → IsOk result }
+        ensures later { (G.store g.old).room ≤ (G.store g.new).room }
         ensures err { OnErr result ((self.new ≡ self.old) × (G.contents g.new ≡ G.contents g.old)) }
         ensures settled { Settled self.new (G.contents g.old) (G.contents g.new) (G.store g.old) (G.store g.new) }
         ensures passes { PassesIn G.unpaged (Turns Makes) (G.store g.old) (G.store g.new) (G.behind g.old) (G.behind g.new) }
@@ -81,6 +83,7 @@ impl Tables {
         requires prot { is_protection_among private_protections prot ≡ true }
         requires room { charge self.old + new_pages kind range ≤ limit self.old }
         ensures ok { OnOk result ((p : ProcessOf (Unit {0})) → process_of self.old pid.0 ≡ Some p → self.new ≡ set_regions self.old pid.0 p (add_region (private_region blank kind prot range) p.regions)) }
+        ensures later { (G.store g.old).room ≤ (G.store g.new).room }
         ensures err { OnErr result ((self.new ≡ self.old) × (G.contents g.new ≡ G.contents g.old)) }
         ensures settled { Settled self.new (G.contents g.old) (G.contents g.new) (G.store g.old) (G.store g.new) }
         ensures passes { PassesIn G.unpaged (Turns Makes) (G.store g.old) (G.store g.new) (G.behind g.old) (G.behind g.new) }

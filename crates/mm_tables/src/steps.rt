@@ -86,6 +86,8 @@ pub(crate) fn commit_pages<G: Pages>(
     ensures stored { OnOk result (Stored pid range Makes Leaves false (G.contents g.old) (G.contents g.new) (G.store g.old) (G.store g.new)) }
     ensures counted { OnOk result ((G.store g.new).paging_keys ≡ (G.store g.old).paging_keys + passing (is_dead pid (G.contents g.old)) range.first range.count) }
     ensures room { OnOk result (total ≤ (G.store g.new).room) }
+    ensures enough { total ≤ (G.store g.old).room → IsOk result }
+    ensures later { (G.store g.old).room ≤ (G.store g.new).room }
     ensures kept { OnErr result (Became process.old process.new (regions_of process.old)) }
     ensures err { OnErr result (Roomier (G.contents g.old) (G.contents g.new) (G.store g.old) (G.store g.new)) }
     ensures passes { PassesIn G.unpaged (Turns Making) (G.store g.old) (G.store g.new) (G.behind g.old) (G.behind g.new) }
@@ -181,6 +183,7 @@ fn grow_for_region<G: Pages>(
     ensures stored { OnOk result (Stored pid range Leaves Makes true (G.contents g.old) (G.contents g.new) (G.store g.old) (G.store g.new)) }
     ensures counted { (G.store g.new).paging_keys ≡ (G.store g.old).paging_keys }
     ensures room { OnOk result (total ≤ (G.store g.new).room) }
+    ensures later { (G.store g.old).room ≤ (G.store g.new).room }
     ensures err { OnErr result (Roomier (G.contents g.old) (G.contents g.new) (G.store g.old) (G.store g.new)) }
     ensures passes { (turn : Turn) → PassesIn G.unpaged (Turns turn) (G.store g.old) (G.store g.new) (G.behind g.old) (G.behind g.new) }
     ensures loans { G.loans g.new ≡ G.loans g.old }
@@ -231,6 +234,7 @@ pub(crate) fn make_region<G: Pages>(
     ensures stored { OnOk result (Stored pid range (keys_of kind) Makes true (G.contents g.old) (G.contents g.new) (G.store g.old) (G.store g.new)) }
     ensures counted { OnOk result ((G.store g.new).paging_keys ≡ (G.store g.old).paging_keys + new_pages kind range) }
     ensures room { OnOk result (total ≤ (G.store g.new).room) }
+    ensures later { (G.store g.old).room ≤ (G.store g.new).room }
     ensures kept { OnErr result (Became process.old process.new (regions_of process.old)) }
     ensures err { OnErr result (Roomier (G.contents g.old) (G.contents g.new) (G.store g.old) (G.store g.new)) }
     ensures passes { PassesIn G.unpaged (Turns Making) (G.store g.old) (G.store g.new) (G.behind g.old) (G.behind g.new) }

@@ -1,4 +1,4 @@
-ghost use Rattle.std.specs.Prelude.{◌≡◌, ◌≤◌, ◌<◌, ◌+◌, ◌-◌, ◌%◌, ◌^◌, true, false, is_some, if◌then◌else◌, Some, None, OnOk, OnErr, length, slice_set};
+ghost use Rattle.std.specs.Prelude.{◌≡◌, ◌≤◌, ◌<◌, ◌+◌, ◌-◌, ◌%◌, ◌^◌, true, false, is_some, if◌then◌else◌, Some, None, IsOk, OnOk, OnErr, length, slice_set};
 ghost use Rattle.mm_types.specs.declared.moves.LineKind.TheVariants as line_kind;
 ghost use Rattle.mm_types.specs.declared.views.View.{View};
 ghost use Rattle.mm_types.specs.declared.views.Kind.TheVariants as kind;
@@ -271,8 +271,8 @@ fn protect_view(processes: &mut Vec<Option<Process>>, pid: Pid, range: PageRange
 
 impl Tables {
     /// Commits the section pages under a range of one view of a page-file section, and gives the view's rows the protection, which
-    /// they accept. `n` of the section pages are not committed, and the limit allows them. After `NoMemory` tables and bytes are as
-    /// before.
+    /// they accept. `n` of the section pages are not committed, and the limit allows them. After `NoMemory`, which does not come where
+    /// the store has room for them, tables and bytes are as before.
     #[tactic(auto, using(mm_pages::proofs::Passed::makes_then))]
     pub fn commit_view<G: Pages>(
         &mut self,
@@ -294,6 +294,7 @@ impl Tables {
         requires room { charge self.old + n ≤ limit self.old }
         ensures ok { OnOk result ((p : ProcessOf (Unit {0})) (r : Found (RegionOf (Unit {0}))) (v : View) → process_of self.old pid.0 ≡ Some p → region_around p.regions range ≡ Some r → r.thing.kind ≡ kind.View v →
             self.new ≡ set_area (set_region self.old pid.0 p r.place (change_rows (protected r.thing.kind prot) range r.thing)) v.area.0 (commit_shared blank (v.first + (range.first - r.thing.base)) range.count (area_at self.old v.area.0))) }
+        ensures enough { charge self.old + n ≤ (G.store g.old).room → IsOk result }
         ensures err { OnErr result ((self.new ≡ self.old) × (G.contents g.new ≡ G.contents g.old)) }
         ensures settled { Settled self.new (G.contents g.old) (G.contents g.new) (G.store g.old) (G.store g.new) }
         ensures passes { PassesIn G.unpaged (Turns Makes) (G.store g.old) (G.store g.new) (G.behind g.old) (G.behind g.new) }

@@ -1,4 +1,4 @@
-use Rattle.std.proofs.Common.{◌∙◌, sym, ap}
+use Rattle.std.proofs.Common.{◌≤◌, ◌∙◌, sym, ap, arith}
 use Rattle.mm_tables.specs.Spaces.{regions_of}
 use Rattle.mm_tables.proofs.Filled.{can_fill}
 use Rattle.mm_tables.proofs.steps.make_region.Goals as goal
@@ -9,3 +9,6 @@ fill_region-requires-clause-can g c commits =
     (g.G.Pages.contents c.args.g.now) (g.G.Pages.contents c.grow_for_region.new.g) (g.G.Pages.store c.args.g.now) (g.G.Pages.store c.grow_for_region.new.g)
     c.requires.can c.in_ok-grow_for_region.ensures.stored c.in_ok-grow_for_region.ensures.counted c.in_ok-grow_for_region.ensures.room
     (c.in_ok-grow_for_region.ensures.regions ∙ sym (ap regions_of c.in-Some.is)) commits
+
+pub returns-clause-later : goal.returns-clause-later
+returns-clause-later g c = omega (arith, c.grow_for_region.ensures.later, c.fill_region.ensures.room)
