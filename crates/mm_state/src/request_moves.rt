@@ -77,10 +77,9 @@ impl<P: Inject, F: Inject, M: Moves> State<P, F, M> {
         } }
         ensures loans { loans self.new ≡ loans self.old }
     {
-        let mut page = [0; 4096];
         let r = self.parts.look(f);
-        let ok = get_page(&mut self.paging, &mut self.files, r.backing, &mut page);
-        settle_read(&mut self.parts, f, ok, &page);
+        let ok = get_page(&mut self.paging, &mut self.files, r.backing, &mut self.page);
+        settle_read(&mut self.parts, f, ok, &self.page);
         self.told.read(r.backing, r.owner, ok);
         self.moves.note(read_move(f, ok));
         ok
@@ -110,10 +109,9 @@ impl<P: Inject, F: Inject, M: Moves> State<P, F, M> {
         ensures loans { loans self.new ≡ loans self.old }
     {
         self.parts.bytes_hold();
-        let mut page = [0; 4096];
-        self.parts.take(f, &mut page);
+        self.parts.take(f, &mut self.page);
         let home = self.parts.look(f).backing;
-        let ok = put_page(&mut self.paging, &mut self.files, home, &page);
+        let ok = put_page(&mut self.paging, &mut self.files, home, &self.page);
         self.parts.end_write(f, ok);
         self.told.wrote(home, ok);
         self.moves.note(write_move(f, ok));

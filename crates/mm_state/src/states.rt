@@ -24,6 +24,8 @@ pub struct State<P: Inject, F: Inject, M: Moves> {
     pub(crate) files: F,
     pub(crate) moves: M,
     pub(crate) told: Tallies,
+    /// Where the page of a device call stands. It is kept so that none is filled with zeros at each call.
+    pub(crate) page: [u8; 4096],
     ghost located: { BytesLocated (parts_of.shown parts).life (parts_of.shown parts).bytes (P.Blocks.blocks paging) (F.Blocks.blocks files) },
     ghost tallied: { IsTallied told },
     ghost slots_whole: { AreWhole (P.Blocks.blocks paging) },
@@ -75,6 +77,7 @@ impl<P: Inject, F: Inject, M: Moves> State<P, F, M> {
                     files,
                     moves,
                     told: Tallies::none(),
+                    page: [0; 4096],
                 })
             }
             Err(NoMemory) => Err(Unmade {
@@ -93,6 +96,7 @@ impl<P: Inject, F: Inject, M: Moves> State<P, F, M> {
             files,
             moves,
             told: _,
+            page: _,
         } = self;
         (paging, files, moves)
     }

@@ -1,5 +1,5 @@
 -- The first page of an age, and the page that goes first.
-use Rattle.std.proofs.Common.{◌≡◌, ◌≢◌, ◌⊎◌, ℕ, ◌+◌, ◌<◌, ◌≤◌, Bool, true, false, cond, eqb, leb, List, [], ◌∷◌, ◌++◌, Option, Some, None, refl, sym, ap, ◌∙◌, subst, inl, inr, arith}
+use Rattle.std.proofs.Common.{◌≡◌, ◌≢◌, ◌⊎◌, ℕ, ◌+◌, ◌<◌, ◌≤◌, Bool, true, false, cond, eqb, leb, ◌||◌, ◌&&◌, List, [], ◌∷◌, ◌++◌, Option, Some, None, refl, sym, ap, ◌∙◌, subst, inl, inr, arith}
 use Rattle.std.proofs.lemmas.Bool.{cases_lt, cases_eq, le-leb, lt-leb, leb-true, eqb-true, eq-eqb, ne_eqb, and_parts, and_from, and_left, and_right, or_parts}
 use Rattle.std.specs.Prelude.{find, MatchOption, is_some}
 use Rattle.mm_wset.specs.declared.trees.Aged.{Aged}
@@ -19,6 +19,9 @@ first_one : (o later : Option Aged) → o ≢ None → or_else o later ≡ o
 first_one None later some = absurd (some refl)
 first_one (Some x) later some = refl
 
+absurd_some : {x : Aged} → Some x ≡ None → ⊥
+absurd_some e = cc
+
 -- ---- around one of the pages
 
 module _ (from age : ℕ) where
@@ -28,6 +31,15 @@ module _ (from age : ℕ) where
   none_of_age (x ∷ xs) e =
       let parts = or_parts (eqb x.age age) (has_age age xs) e in
       ap (λ b. cond b (Some x) (find (is_from from age) xs)) (and_right (leb from x.page) (eqb x.age age) parts.0) ∙ none_of_age xs parts.1
+
+  -- of any page on, one is found where one has the age
+  pub some_of_age_from : (xs : List Aged) → from ≡ 0 → has_age age xs ≡ true → find (is_from from age) xs ≢ None
+  some_of_age_from [] start e = cc
+  some_of_age_from (x ∷ xs) start e =
+      elim (eqb x.age age) as (λ b. eqb x.age age ≡ b → (b || has_age age xs) ≡ true → cond (leb from x.page && b) (Some x) (find (is_from from age) xs) ≢ None) [
+        | true ↦ λ same any. (λ none. absurd_some (sym (ap (λ b. cond b (Some x) (find (is_from from age) xs)) (and_from (leb from x.page) true (le-leb from x.page (omega (arith, start))) refl)) ∙ none))
+        | false ↦ λ other any. (λ none. some_of_age_from xs start any (sym (ap (λ b. cond b (Some x) (find (is_from from age) xs)) (and_right (leb from x.page) false refl)) ∙ none))
+      ] refl e
 
   -- pages below one that is below `from` are not found
   pub find_right : (a : ℕ) (xs : List Aged) (m : Aged) (ys : List Aged) → IsSorted a (xs ++ m ∷ ys) → m.page < from → find (is_from from age) (xs ++ m ∷ ys) ≡ find (is_from from age) ys
@@ -49,6 +61,10 @@ module _ (from age : ℕ) where
   find_after xs m ys none other =
       find-append (is_from from age) xs (m ∷ ys) ∙ ap (λ o. or_else o (find (is_from from age) (m ∷ ys))) none
       ∙ ap (λ b. cond b (Some m) (find (is_from from age) ys)) (and_right (leb from m.page) (eqb m.age age) (ne_eqb m.age age other))
+
+-- some page is found where one has the age
+pub some_of_age : (age : ℕ) (xs : List Aged) → has_age age xs ≡ true → find (is_from 0 age) xs ≢ None
+some_of_age age xs e = some_of_age_from 0 age xs refl e
 
 -- ---- what is found
 
@@ -142,9 +158,14 @@ not_some : {A : Type 0} (r : Option A) → is_some r ≡ false → r ≡ None
 not_some None e = refl
 not_some (Some x) e = cc
 
-pub none_from_more : (xs : List Aged) (limit before age : ℕ) (r : Option Aged) → before ≡ age + 1 → NoneFrom xs limit before → r ≡ find (is_from 0 age) xs → is_some r ≡ false → NoneFrom xs limit age
-none_from_more xs limit before age r step none is not w b h l = elim (cases_eq b age) [
-  | inl same ↦ absurd (found_none 0 age xs w (sym is ∙ not_some r not) (h ∙ ap (λ (n : ℕ). Some n) same) (omega arith))
+-- what is not none is some
+pub some_is : {A : Type 0} (r : Option A) → r ≢ None → is_some r ≡ true
+some_is None other = absurd (other refl)
+some_is (Some x) other = refl
+
+pub none_from_lacking : (xs : List Aged) (limit before age : ℕ) → before ≡ age + 1 → NoneFrom xs limit before → has_age age xs ≡ false → NoneFrom xs limit age
+none_from_lacking xs limit before age step none lacking w b h l = elim (cases_eq b age) [
+  | inl same ↦ absurd (found_none 0 age xs w (none_of_age 0 age xs lacking) (h ∙ ap (λ (n : ℕ). Some n) same) (omega arith))
   | inr other ↦ omega (arith, other, none w b h l, step)
 ]
 

@@ -6,6 +6,7 @@ use Rattle.std.proofs.lemmas.Nat.Bits.{bit_at_or, bit_at-pow_same, bit_at-pow_ot
 use Rattle.std.specs.Prelude.{bit_or}
 use Rattle.std.specs.Int.{bit_at}
 use Rattle.mm_wset.specs.declared.trees.Aged.{Aged}
+use Rattle.mm_wset.specs.declared.trees.Node.{Node}
 use Rattle.mm_wset.specs.declared.trees.Span.{Span}
 use Rattle.mm_wset.specs.AgedPages.{has_age}
 use Rattle.mm_wset.specs.Shape.{TreeOf, IsShaped, DifferByAtMost}
@@ -65,3 +66,25 @@ lacks s t age is unset = by (has_age age t.pages) (ap (λ n. eqb n 1) (sym (is.a
   by : (b : Bool) → eqb (number b) 1 ≡ false → b ≡ false
   by true e = cc
   by false e = refl
+
+-- a bit that is set: some page has that age
+pub holds : (s : Span) (t : TreeOf) (age : ℕ) → IsSpan s t → eqb (bit_at s.ages age) 1 ≡ true → has_age age t.pages ≡ true
+holds s t age is set = by (has_age age t.pages) (ap (λ n. eqb n 1) (sym (is.ages_are age)) ∙ set) where
+  by : (b : Bool) → eqb (number b) 1 ≡ true → b ≡ true
+  by true e = refl
+  by false e = cc
+
+-- a node beside which another tree is put, on either side
+pub left_put : (n was new : Node) (l : TreeOf) (below above : Span) → was ≡ n → new ≡ record { left = was.left; aged = was.aged; right = was.right; span = kept_over below n.aged.age above } → IsSpan below l → IsSpan above n.right → IsShaped l → IsShaped n.right → DifferByAtMost 1 l.height n.right.height → n.aged.age ≤ 7
+    → IsNode (record { left = l; aged = new.aged; right = new.right; span = new.span }) (record { pages = l.pages ++ new.aged ∷ new.right.pages; height = new.span.height })
+left_put n was new l below above is made b a shaped_l shaped_r near young =
+    let P : Node → Type 0 = λ m. IsNode (record { left = l; aged = m.aged; right = m.right; span = m.span }) (record { pages = l.pages ++ m.aged ∷ m.right.pages; height = m.span.height }) in
+    let Q : Node → Type 0 = λ m. P (record { left = m.left; aged = m.aged; right = m.right; span = kept_over below n.aged.age above }) in
+    subst P (sym made) (subst Q (sym is) (node_fork l n.right n.aged below above b a shaped_l shaped_r near young))
+
+pub right_put : (n was new : Node) (r : TreeOf) (below above : Span) → was ≡ n → new ≡ record { left = was.left; aged = was.aged; right = was.right; span = kept_over below n.aged.age above } → IsSpan below n.left → IsSpan above r → IsShaped n.left → IsShaped r → DifferByAtMost 1 n.left.height r.height → n.aged.age ≤ 7
+    → IsNode (record { left = new.left; aged = new.aged; right = r; span = new.span }) (record { pages = new.left.pages ++ new.aged ∷ r.pages; height = new.span.height })
+right_put n was new r below above is made b a shaped_l shaped_r near young =
+    let P : Node → Type 0 = λ m. IsNode (record { left = m.left; aged = m.aged; right = r; span = m.span }) (record { pages = m.left.pages ++ m.aged ∷ r.pages; height = m.span.height }) in
+    let Q : Node → Type 0 = λ m. P (record { left = m.left; aged = m.aged; right = m.right; span = kept_over below n.aged.age above }) in
+    subst P (sym made) (subst Q (sym is) (node_fork n.left r n.aged below above b a shaped_l shaped_r near young))

@@ -131,6 +131,13 @@ impl Tree {
         }
     }
 
+    /// The node at the root, with both of its sides.
+    fn opened(self) -> Option<Box<Node>>
+        ensures { MatchOption result (self ≡ record { pages = []; height = 0 }) (λ n. IsNode n.value self) }
+    {
+        self.root
+    }
+
     /// The pages with that of `node` in its place.
     pub fn insert(self, node: Box<Node>) -> Tree
         requires sorted { IsSorted 0 self.pages }
@@ -140,13 +147,15 @@ impl Tree {
         ensures not_lower { self.height ≤ result.height }
         ensures at_most_one_higher { result.height ≤ self.height + 1 }
     {
-        match self.apart() {
+        match self.opened() {
             None => fork(Tree::new(), node, Tree::new()),
-            Some((left, top, right)) => {
+            Some(mut top) => {
                 if node.aged.page < top.aged.page {
-                    balance(left.insert(node), top, right)
+                    let left = mem::replace(&mut top.left, Tree::new());
+                    put_left(left.insert(node), top)
                 } else {
-                    balance(left, top, right.insert(node))
+                    let right = mem::replace(&mut top.right, Tree::new());
+                    put_right(top, right.insert(node))
                 }
             }
         }
@@ -161,16 +170,20 @@ impl Tree {
         ensures not_higher { result.1.height ≤ self.height }
         ensures at_most_one_lower { self.height ≤ result.1.height + 1 }
     {
-        let Some((left, top, right)) = self.apart() else {
+        let Some(mut top) = self.opened() else {
             unreachable!()
         };
         if page < top.aged.page {
+            let left = mem::replace(&mut top.left, Tree::new());
             let (node, rest) = left.remove(page);
-            (node, balance(rest, top, right))
+            (node, put_left(rest, top))
         } else if top.aged.page < page {
+            let right = mem::replace(&mut top.right, Tree::new());
             let (node, rest) = right.remove(page);
-            (node, balance(left, top, rest))
+            (node, put_right(top, rest))
         } else {
+            let left = mem::replace(&mut top.left, Tree::new());
+            let right = mem::replace(&mut top.right, Tree::new());
             (top, join(left, right))
         }
     }
@@ -247,18 +260,34 @@ impl Tree {
         }
     }
 
+    /// The lowest page of an age.
+    fn lowest_of(&self, age: u8) -> Option<Aged>
+        requires sorted { IsSorted 0 self.now.pages }
+        requires young { age ≤ 7 }
+        ensures { result ≡ find (is_from 0 age) self.now.pages }
+    {
+        let node = self.top()?;
+        if node.left.span().has(age) {
+            return node.left.lowest_of(age);
+        }
+        if node.aged.age == age {
+            return Some(node.aged);
+        }
+        node.right.lowest_of(age)
+    }
+
     /// The page that goes first of those whose age is below `limit`: the oldest, and of these the lowest.
     pub fn oldest_below(&self, limit: u8) -> Option<Aged>
         requires sorted { IsSorted 0 self.now.pages }
         requires young { limit ≤ 8 }
         ensures { MatchOption result (NoneOf (age_in self.now.pages) (IsBelow limit)) (IsFirstOf (age_in self.now.pages) (IsBelow limit)) }
     {
+        let span = self.span();
         let mut age = limit;
         while age > 0 {
             age -= 1;
-            let found = self.first_from(age, 0);
-            if found.is_some() {
-                return found;
+            if span.has(age) {
+                return self.lowest_of(age);
             }
         }
         None
@@ -307,6 +336,45 @@ fn fork(left: Tree, mut node: Box<Node>, right: Tree) -> Tree
         span,
     };
     Tree { root: Some(node) }
+}
+
+/// The pages of `left`, then those from the page of `node` on; what stood below it is given up. Of its two sides one may be two levels
+/// higher. A side that has not changed is not touched.
+#[inline(always)] // each step of the way down to a page that comes or goes ends here or in `put_right`
+fn put_left(left: Tree, mut node: Box<Node>) -> Tree
+    requires near { DifferByAtMost 2 left.height node.value.right.height }
+    requires young { node.value.aged.age ≤ 7 }
+    requires few { length left.pages + length node.value.right.pages + 1 < 2 ^ 32 }
+    ensures { IsBalanced result (left.pages ++ node.value.aged ∷ node.value.right.pages) left.height node.value.right.height }
+{
+    let (below, above) = (left.span(), node.right.span());
+    if below.height.abs_diff(above.height) > 1 {
+        let right = mem::replace(&mut node.right, Tree::new());
+        balance(left, node, right)
+    } else {
+        node.span = span_over(below, node.aged.age, above);
+        node.left = left;
+        Tree { root: Some(node) }
+    }
+}
+
+/// The pages up to the page of `node`, then those of `right`; what stood above it is given up. As `put_left`.
+#[inline(always)]
+fn put_right(mut node: Box<Node>, right: Tree) -> Tree
+    requires near { DifferByAtMost 2 node.value.left.height right.height }
+    requires young { node.value.aged.age ≤ 7 }
+    requires few { length node.value.left.pages + length right.pages + 1 < 2 ^ 32 }
+    ensures { IsBalanced result (node.value.left.pages ++ node.value.aged ∷ right.pages) node.value.left.height right.height }
+{
+    let (below, above) = (node.left.span(), right.span());
+    if below.height.abs_diff(above.height) > 1 {
+        let left = mem::replace(&mut node.left, Tree::new());
+        balance(left, node, right)
+    } else {
+        node.span = span_over(below, node.aged.age, above);
+        node.right = right;
+        Tree { root: Some(node) }
+    }
 }
 
 /// What is kept of the pages on both sides of one of this age.
