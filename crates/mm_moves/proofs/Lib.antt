@@ -1,7 +1,9 @@
 pub mod Onto
 pub mod Growing
 pub mod Numbers
+pub mod Written
 pub mod ReadAgain
+pub mod Sounds
 pub mod Slotting
 pub mod Holding
 pub mod Flags

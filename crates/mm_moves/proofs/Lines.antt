@@ -20,7 +20,7 @@ use Rattle.mm_text.proofs.Spelled.{IsPlain, plain-digits}
 use Rattle.mm_life.specs.MoveText.{numbered, place_onto, key_onto, kind_onto, stored_onto, home_onto, move_onto, move_text, IsMove}
 use Rattle.mm_moves.specs.Reading.{read_text}
 use Rattle.mm_moves.proofs.Onto.{length-decimal}
-use Rattle.mm_moves.proofs.ReadAgain.{read_text-onto}
+use Rattle.mm_moves.proofs.ReadAgain.{read_text-onto, value_of}
 
 abbrev pub NoFeed : Text → Type 0
 NoFeed bytes = AllByRecursion (λ b. b ≢ 10) bytes
@@ -262,5 +262,5 @@ no_line (x ∷ xs) (y ∷ ys) a b q l e = let tail : xs ++ 10 ∷ a ≡ ys ++ b 
 pub one_move : (m n : Move) (a b : Text) → IsMove m → IsMove n → move_onto m (10 ∷ a) ≡ move_onto n (10 ∷ b) → (m ≡ n) × (a ≡ b)
 one_move m n a b h k e =
     let lines : move_text m ++ 10 ∷ a ≡ move_text n ++ 10 ∷ b = sym (move_onto-is m (10 ∷ a)) ∙ e ∙ move_onto-is n (10 ∷ b) in
-    let same : Some m ≡ Some n = sym (read_text-onto m (10 ∷ a) h refl) ∙ ap read_text e ∙ read_text-onto n (10 ∷ b) k refl in
+    let same : Some m ≡ Some n = ap value_of (sym (read_text-onto m (10 ∷ a) h refl) ∙ ap read_text e ∙ read_text-onto n (10 ∷ b) k refl) in
     (cc, (one_line (move_text m) (move_text n) a b (move_no_feed m) (move_no_feed n) lines).1)

@@ -1,12 +1,12 @@
 -- Numbers that are read digit by digit.
-use Rattle.std.proofs.Common.{◌≡◌, ℕ, zero, suc, ◌+◌, ◌-◌, ◌*◌, ◌/◌, ◌%◌, ◌^◌, ◌≤◌, ◌<◌, Bool, true, false, cond, [], ◌∷◌, ◌++◌, Option, Some, None, refl, sym, ap, ◌∙◌, subst, inl, inr, arith, add-one}
+use Rattle.std.proofs.Common.{◌≡◌, ℕ, zero, suc, ◌+◌, ◌-◌, ◌*◌, ◌/◌, ◌%◌, ◌^◌, ◌≤◌, ◌<◌, lit≤, Bool, true, false, cond, [], ◌∷◌, ◌++◌, Option, Some, None, refl, sym, ap, ◌∙◌, subst, inl, inr, arith, add-one}
 use Rattle.std.specs.Prelude.{nat_le}
 use Rattle.std.proofs.lemmas.Bool.{lt-ltb, le-ltb, cases_lt, le-leb, and_from}
 use Rattle.std.proofs.lemmas.Nat.{div_below, mod_below}
 use Rattle.std.proofs.Math.Nat.{mod-eq_of_lt, pow-zero}
 use Rattle.std.proofs.lemmas.Grind.{pow_more}
 use Rattle.mm_types.specs.Spelling.{Text, glyph, decimal, decimal_onto}
-use Rattle.mm_moves.specs.Reading.{is_digit, number_from, below, read_number}
+use Rattle.mm_moves.specs.Reading.{is_digit, number_from, below, led_by, read_number}
 
 abbrev next : Bool → (ℕ × Text) → (ℕ × Text) → ℕ × Text
 next b more last = cond b more last
@@ -48,11 +48,11 @@ glyph_digit sum d rest low =
 abbrev either : Bool → Text → Text → Text
 either b last more = cond b last more
 
-step_last : (count n : ℕ) (rest : Text) → n < 10 → decimal_onto (suc count) n rest ≡ glyph (n % 10) ∷ rest
+pub step_last : (count n : ℕ) (rest : Text) → n < 10 → decimal_onto (suc count) n rest ≡ glyph (n % 10) ∷ rest
 unfolding decimal_onto
 step_last count n rest low = ap (λ b. either b (glyph (n % 10) ∷ rest) (decimal_onto count (n / 10) (glyph (n % 10) ∷ rest))) (lt-ltb n 10 low)
 
-step_more : (count n : ℕ) (rest : Text) → 10 ≤ n → decimal_onto (suc count) n rest ≡ decimal_onto count (n / 10) (glyph (n % 10) ∷ rest)
+pub step_more : (count n : ℕ) (rest : Text) → 10 ≤ n → decimal_onto (suc count) n rest ≡ decimal_onto count (n / 10) (glyph (n % 10) ∷ rest)
 unfolding decimal_onto
 step_more count n rest high = ap (λ b. either b (glyph (n % 10) ∷ rest) (decimal_onto count (n / 10) (glyph (n % 10) ∷ rest))) (le-ltb n 10 high)
 
@@ -60,7 +60,7 @@ step_none : (n : ℕ) (rest : Text) → decimal_onto zero n rest ≡ rest
 unfolding decimal_onto
 step_none n rest = refl
 
-below_power : (count n : ℕ) → n < 10 ^ suc count → n / 10 < 10 ^ count
+pub below_power : (count n : ℕ) → n < 10 ^ suc count → n / 10 < 10 ^ count
 below_power count n low = div_below n 10 (10 ^ count) (omega arith) (subst (λ (k : ℕ). n < k) (ap (λ (k : ℕ). 10 ^ k) (sym (add-one count)) ∙ pow_more 10 count) low)
 
 pub number_of-decimal_onto : (count n : ℕ) (rest : Text) → n < 10 ^ count → number_from 0 (decimal_onto count n rest) ≡ number_from n rest
@@ -79,7 +79,7 @@ number_of-decimal_onto (suc count) n rest low = elim (cases_lt n 10) [
 ]
 
 -- the digits in front of a text are written as one text
-onto_append : (count n : ℕ) (rest behind : Text) → decimal_onto count n rest ++ behind ≡ decimal_onto count n (rest ++ behind)
+pub onto_append : (count n : ℕ) (rest behind : Text) → decimal_onto count n rest ++ behind ≡ decimal_onto count n (rest ++ behind)
 onto_append zero n rest behind = ap (λ t. t ++ behind) (step_none n rest) ∙ sym (step_none n (rest ++ behind))
 onto_append (suc count) n rest behind = elim (cases_lt n 10) [
   | inl small ↦ ap (λ t. t ++ behind) (step_last count n rest small) ∙ sym (step_last count n (rest ++ behind) small)
@@ -105,10 +105,51 @@ number_stops : (n : ℕ) (behind : Text) → ends_number behind ≡ true → num
 number_stops n [] e = refl
 number_stops n (c ∷ cs) e = stop_at (is_digit c) (number_from (10 * n + (c - 0x30)) cs) (n, c ∷ cs) e
 
+-- ---- a number's first digit
+
+glyph_is : (d : ℕ) → d < 10 → glyph d ≡ 0x30 + d
+glyph_is d low = ap (λ b. cond b (0x30 + d) (0x37 + d)) (lt-ltb d 10 low)
+
+-- the first digit is not zero but where the number is
+front : (count n : ℕ) (rest : Text) → 0 < n → n < 10 ^ suc count → (d : ℕ) × (cs : Text) × (0 < d) × (d < 10) × (decimal_onto (suc count) n rest ≡ (0x30 + d) ∷ cs)
+front zero n rest some low =
+    let ten : 10 ^ suc zero ≡ 10 = refl in
+    let small : n < 10 = omega (arith, ten, low) in
+    (n, rest, some, small, step_last zero n rest small ∙ ap (λ c. c ∷ rest) (ap glyph (mod-eq_of_lt small) ∙ glyph_is n small))
+front (suc count) n rest some low = elim (cases_lt n 10) [
+  | inl small ↦ (n, rest, some, small, step_last (suc count) n rest small ∙ ap (λ c. c ∷ rest) (ap glyph (mod-eq_of_lt small) ∙ glyph_is n small))
+  | inr large ↦
+      (let up = front count (n / 10) (glyph (n % 10) ∷ rest) (omega (arith, large)) (below_power (suc count) n low) in
+      (up.0, up.1, up.2, up.3, step_more (suc count) n rest large ∙ up.4))
+]
+
+abbrev led : Bool → Option (ℕ × Text) → Option (ℕ × Text)
+led b found = cond b found None
+
+abbrev led_more : Bool → Option (ℕ × Text) → ℕ → Text → Option (ℕ × Text)
+led_more b more zero_is cs = cond b more (Some (zero_is, cs))
+
+pub is_digit-true : (c : ℕ) → 0x30 ≤ c → c ≤ 0x39 → is_digit c ≡ true
+is_digit-true c low high = and_from (nat_le 0x30 c) (nat_le c 0x39) (le-leb 0x30 c low) (le-leb c 0x39 high)
+
+pub read_led : (c : ℕ) (cs : Text) → 0x30 < c → c ≤ 0x39 → read_number (c ∷ cs) ≡ below (2 ^ 32) (number_from (c - 0x30) cs)
+read_led c cs low high =
+    ap (λ b. led b (led_by c cs)) (is_digit-true c (omega arith) high)
+    ∙ ap (λ b. led_more b (below (2 ^ 32) (number_from (c - 0x30) cs)) 0 cs) (lt-ltb 0x30 c low)
+
 pub read_number-decimal : (n : ℕ) (behind : Text) → n < 2 ^ 32 → ends_number behind ≡ true → read_number (decimal n ++ behind) ≡ Some (n, behind)
-read_number-decimal n behind low ends =
+read_number-decimal zero behind low ends = ap (λ t. read_number (t ++ behind)) (step_last 19 0 [] (lit≤ tt))
+read_number-decimal (suc m) behind low ends =
+    let n = suc m in
+    let f = front 19 n [] (omega arith) (omega arith) in
+    let text : decimal n ++ behind ≡ (0x30 + f.0) ∷ (f.1 ++ behind) = ap (λ t. t ++ behind) f.4 in
     let all : number_from 0 (decimal n ++ behind) ≡ (n, behind) =
     ap (number_from 0) (onto_append 20 n [] behind)
     ∙ number_of-decimal_onto 20 n behind (omega arith)
     ∙ number_stops n behind ends in
-    ap (below (2 ^ 32)) all ∙ number_within (n, behind) low
+    let first : number_from ((0x30 + f.0) - 0x30) (f.1 ++ behind) ≡ number_from 0 ((0x30 + f.0) ∷ (f.1 ++ behind)) =
+    ap (λ (k : ℕ). number_from k (f.1 ++ behind)) (omega arith) ∙ sym (number_digit 0 (0x30 + f.0) (f.1 ++ behind) (omega arith) (omega (arith, f.3))) in
+    ap read_number text
+    ∙ read_led (0x30 + f.0) (f.1 ++ behind) (omega (arith, f.2)) (omega (arith, f.3))
+    ∙ ap (below (2 ^ 32)) (first ∙ ap (number_from 0) (sym text) ∙ all)
+    ∙ number_within (n, behind) low

@@ -15,7 +15,7 @@ use Rattle.mm_types.specs.declared.moves.Stored.TheVariants as stored
 use Rattle.mm_types.specs.declared.moves.Move.{Move}
 use Rattle.mm_types.specs.declared.moves.Move.TheVariants as move
 use Rattle.mm_life.specs.MoveText.{place_onto, key_onto, kind_onto, stored_onto, home_onto, move_onto, move_text, IsKey, IsPlace, IsKind, IsStored, IsBlock, IsMove}
-use Rattle.mm_moves.specs.Reading.{pid, small, read_pid, read_place, read_key, read_key_alone, read_kind, home_behind, stored_behind, read_text}
+use Rattle.mm_moves.specs.Reading.{pid, small, read_pid, read_place, read_key, read_kind, home_behind, stored_behind, read_text}
 use Rattle.mm_moves.proofs.Numbers.{ends_number, read_number-decimal}
 
 abbrev small_or : Bool → ℕ → Text → Option (Pid × Text)
@@ -37,11 +37,8 @@ pub read_key-onto : (k : Key) (b : Text) → IsKey k → ends_number b ≡ true 
 read_key-onto (Private p v) b h e = rw (read_pid-decimal p.0 (46 ∷ (decimal v.0 ++ b)) h.0 refl, read_number-decimal v.0 b h.1 e)
 read_key-onto (Shared a i) b h e = rw (read_number-decimal a.0 (46 ∷ (decimal i ++ b)) h.0 refl, read_number-decimal i b h.1 e)
 
-pub read_key_alone-spelled : (k : Key) → IsKey k → read_key_alone (key_onto k []) ≡ Some k
-read_key_alone-spelled k h = rw (read_key-onto k [] h refl)
-
 -- the same with anything behind that does not begin with a digit
-read_kind-onto : (k : LineKind) (b : Text) → IsKind k → ends_number b ≡ true → read_kind (kind_onto k b) ≡ Some k
+read_kind-onto : (k : LineKind) (b : Text) → IsKind k → ends_number b ≡ true → read_kind (kind_onto k b) ≡ Some (k, b)
 read_kind-onto (kind.Machine frames slots depth blocks) b h e =
     rw (
       read_number-decimal frames (32 ∷ (decimal slots ++ (32 ∷ (decimal depth ++ (32 ∷ (decimal blocks ++ b)))))) h.0 refl,
@@ -65,7 +62,7 @@ read_kind-onto kind.Io b h e = refl
 read_kind-onto kind.Call b h e = refl
 read_kind-onto (kind.Grow n) b h e = rw (read_number-decimal n b h e)
 
-home-onto : (k : Key) (home : Option Block) (b : Text) → IsBlock home → ends_number b ≡ true → home_behind k (home_onto home b) ≡ Some (move.Add k home)
+home-onto : (k : Key) (home : Option Block) (b : Text) → IsBlock home → ends_number b ≡ true → home_behind k (home_onto home b) ≡ Some (move.Add k home, b)
 home-onto k None b h e = refl
 home-onto k (Some n) b h e = rw (read_number-decimal n.0 b h e)
 
@@ -73,7 +70,7 @@ home-ends : (home : Option Block) (b : Text) → ends_number (home_onto home b) 
 home-ends None b = refl
 home-ends (Some n) b = refl
 
-stored-onto : (f : Frame) (s : Stored) (b : Text) → IsStored s → ends_number b ≡ true → stored_behind f (stored_onto s b) ≡ Some (move.Write f s)
+stored-onto : (f : Frame) (s : Stored) (b : Text) → IsStored s → ends_number b ≡ true → stored_behind f (stored_onto s b) ≡ Some (move.Write f s, b)
 stored-onto f (stored.Slot s) b h e = rw (read_number-decimal s.0 b h e)
 stored-onto f (stored.Block n) b h e = rw (read_number-decimal n.0 b h e)
 
@@ -81,7 +78,7 @@ stored-ends : (s : Stored) (b : Text) → ends_number (stored_onto s b) ≡ true
 stored-ends (stored.Slot s) b = refl
 stored-ends (stored.Block n) b = refl
 
-pub read_text-onto : (m : Move) (b : Text) → IsMove m → ends_number b ≡ true → read_text (move_onto m b) ≡ Some m
+pub read_text-onto : (m : Move) (b : Text) → IsMove m → ends_number b ≡ true → read_text (move_onto m b) ≡ Some (m, b)
 read_text-onto (move.At n k) b h e = rw (read_number-decimal n (32 ∷ kind_onto k b) h.0 refl, read_kind-onto k b h.1 e)
 read_text-onto (move.Add k home) b h e = rw (read_key-onto k (home_onto home b) h.0 (home-ends home b), home-onto k home b h.1 e)
 read_text-onto (move.Drop k) b h e = rw (read_key-onto k b h e)
@@ -98,10 +95,19 @@ read_text-onto (move.Write f s) b h e = rw (read_number-decimal f.0 (stored_onto
 read_text-onto (move.Wrote f) b h e = rw (read_number-decimal f.0 b h e)
 read_text-onto (move.Lost f) b h e = rw (read_number-decimal f.0 b h e)
 
-pub read_text-spelled : (m : Move) → IsMove m → read_text (move_text m) ≡ Some m
+pub read_text-spelled : (m : Move) → IsMove m → read_text (move_text m) ≡ Some (m, [])
 read_text-spelled m h = read_text-onto m [] h refl
+
+-- what was read, and what stands behind it
+abbrev pub value_of : {A : Type 0} → Option (A × Text) → Option A
+value_of None = None
+value_of (Some p) = Some p.0
+
+abbrev pub rest_of : {A : Type 0} → Option (A × Text) → Text
+rest_of None = []
+rest_of (Some p) = p.1
 
 -- the spelling of a move is that of no other
 pub spelling_is_unique : (m n : Move) → IsMove m → IsMove n → move_text m ≡ move_text n → m ≡ n
 spelling_is_unique m n h k e =
-    let same : Some m ≡ Some n = sym (read_text-spelled m h) ∙ ap read_text e ∙ read_text-spelled n k in cc
+    let same : Some m ≡ Some n = ap value_of (sym (read_text-spelled m h) ∙ ap read_text e ∙ read_text-spelled n k) in cc

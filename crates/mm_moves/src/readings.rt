@@ -1,11 +1,9 @@
-ghost use Rattle.std.specs.Prelude.{◌≡◌, ◌+◌, ℕ, List, Option, IfSome, Some, [], option_map};
+ghost use Rattle.std.specs.Prelude.{◌≡◌, ◌^◌, ℕ, List, Option, IfSome, Some, [], option_map};
 ghost use Rattle.mm_types.specs.declared.moves.Move.{Move};
 ghost use Rattle.mm_life.specs.MoveText.{move_text, key_onto, IsMove, IsKey};
 ghost use Rattle.mm_types.specs.declared.numbers.Key.{Key};
-ghost use Rattle.mm_moves.specs.Reading.{strip, read_number, number_behind, read_pid, read_place, read_key, read_key_alone, read_private, read_shared, read_frame, read_machine, read_process, read_plain_kind, read_kind, read_at, read_add, read_give, read_read, read_map, read_write, key_behind, place_behind, home_behind, stored_behind, read_end, read_taking, read_text};
+ghost use Rattle.mm_moves.specs.Reading.{strip, number_from, below, read_number, number_behind, read_pid, read_place, read_key, read_private, read_shared, read_frame, read_machine, read_process, read_plain_kind, read_kind, read_at, read_add, read_give, read_read, read_map, read_write, key_behind, place_behind, home_behind, stored_behind, read_end, read_taking, read_text};
 
-use crate::spellings::{put_key, put_move};
-use mm_text::LineBuf;
 use mm_types::{Area, Block, Frame, Key, LineKind, Move, Pid, Place, Slot, Stored, Vpn};
 
 /// What stands behind a word, where the text begins with it.
@@ -26,13 +24,13 @@ fn behind<'a>(text: &'a [u8], word: &[u8]) -> Option<&'a [u8]>
     Some(rest)
 }
 
-/// The number below 2^32 of the digits in front of a text, and what stands behind them.
+/// Goes on with a number by the digits in front of a text. The number stays below 2^32.
 #[tactic(auto, using(crate::proofs::Numbers::numbers))]
-fn number(text: &[u8]) -> Option<(u32, &[u8])>
-    ensures { option_map (λ p. (p.0, p.1.now)) result ≡ read_number text.now }
+fn digits(first: u8, text: &[u8]) -> Option<(u32, &[u8])>
+    ensures { option_map (λ p. (p.0, p.1.now)) result ≡ below (2 ^ 32) (number_from first text.now) }
 {
     let mut rest = text;
-    let mut sum = 0u64;
+    let mut sum = u64::from(first);
     while let [byte, more @ ..] = rest {
         if *byte < b'0' || *byte > b'9' {
             break;
@@ -44,6 +42,24 @@ fn number(text: &[u8]) -> Option<(u32, &[u8])>
         rest = more;
     }
     Some((sum as u32, rest))
+}
+
+/// The number below 2^32 in front of a text, and what stands behind it. No zero stands in front of another digit.
+fn number(text: &[u8]) -> Option<(u32, &[u8])>
+    ensures { option_map (λ p. (p.0, p.1.now)) result ≡ read_number text.now }
+{
+    match text {
+        [byte, rest @ ..] => {
+            if *byte < b'0' || *byte > b'9' {
+                return None;
+            }
+            if *byte > b'0' {
+                return digits(*byte - b'0', rest);
+            }
+            Some((0, rest))
+        }
+        [] => None,
+    }
 }
 
 /// The number behind a word.
@@ -107,66 +123,66 @@ fn key(text: &[u8]) -> Option<(Key, &[u8])>
     shared_key(rest)
 }
 
-fn machine_kind(text: &[u8]) -> Option<LineKind>
-    ensures { result ≡ read_machine text.now }
+fn machine_kind(text: &[u8]) -> Option<(LineKind, &[u8])>
+    ensures { option_map (λ p. (p.0, p.1.now)) result ≡ read_machine text.now }
 {
     let (frames, rest) = number(text)?;
     let (slots, rest) = number_behind(rest, b" ")?;
     let (depth, rest) = number_behind(rest, b" ")?;
-    let (blocks, _) = number_behind(rest, b" ")?;
-    Some(LineKind::Machine(frames, slots, depth, blocks))
+    let (blocks, last) = number_behind(rest, b" ")?;
+    Some((LineKind::Machine(frames, slots, depth, blocks), last))
 }
 
-fn process_kind(text: &[u8]) -> Option<LineKind>
-    ensures { result ≡ read_process text.now }
+fn process_kind(text: &[u8]) -> Option<(LineKind, &[u8])>
+    ensures { option_map (λ p. (p.0, p.1.now)) result ≡ read_process text.now }
 {
     let (pid, rest) = pid(text)?;
     let (min, rest) = number_behind(rest, b" ")?;
-    let (max, _) = number_behind(rest, b" ")?;
-    Some(LineKind::Process(pid, min, max))
+    let (max, last) = number_behind(rest, b" ")?;
+    Some((LineKind::Process(pid, min, max), last))
 }
 
 /// A kind of line that names no process.
-fn plain_kind(text: &[u8]) -> Option<LineKind>
-    ensures { result ≡ read_plain_kind text.now }
+fn plain_kind(text: &[u8]) -> Option<(LineKind, &[u8])>
+    ensures { option_map (λ p. (p.0, p.1.now)) result ≡ read_plain_kind text.now }
 {
-    if behind(text, b"call").is_some() {
-        return Some(LineKind::Call);
+    if let Some(last) = behind(text, b"call") {
+        return Some((LineKind::Call, last));
     }
-    if behind(text, b"writer").is_some() {
-        return Some(LineKind::Writer);
+    if let Some(last) = behind(text, b"writer") {
+        return Some((LineKind::Writer, last));
     }
-    if behind(text, b"zeroer").is_some() {
-        return Some(LineKind::Zeroer);
+    if let Some(last) = behind(text, b"zeroer") {
+        return Some((LineKind::Zeroer, last));
     }
-    if behind(text, b"io").is_some() {
-        return Some(LineKind::Io);
+    if let Some(last) = behind(text, b"io") {
+        return Some((LineKind::Io, last));
     }
     if let Some(rest) = behind(text, b"machine ") {
         return machine_kind(rest);
     }
-    let (count, _) = number_behind(text, b"grow ")?;
-    Some(LineKind::Grow(count))
+    let (count, last) = number_behind(text, b"grow ")?;
+    Some((LineKind::Grow(count), last))
 }
 
-fn kind(text: &[u8]) -> Option<LineKind>
-    ensures { result ≡ read_kind text.now }
+fn kind(text: &[u8]) -> Option<(LineKind, &[u8])>
+    ensures { option_map (λ p. (p.0, p.1.now)) result ≡ read_kind text.now }
 {
     if let Some(rest) = behind(text, b"access ") {
-        let (pid, _) = pid(rest)?;
-        return Some(LineKind::Access(pid));
+        let (pid, last) = pid(rest)?;
+        return Some((LineKind::Access(pid), last));
     }
     if let Some(rest) = behind(text, b"thread ") {
-        let (pid, _) = pid(rest)?;
-        return Some(LineKind::Thread(pid));
+        let (pid, last) = pid(rest)?;
+        return Some((LineKind::Thread(pid), last));
     }
     if let Some(rest) = behind(text, b"unbind ") {
-        let (pid, _) = pid(rest)?;
-        return Some(LineKind::Unbind(pid));
+        let (pid, last) = pid(rest)?;
+        return Some((LineKind::Unbind(pid), last));
     }
     if let Some(rest) = behind(text, b"trim ") {
-        let (pid, _) = pid(rest)?;
-        return Some(LineKind::Trim(pid));
+        let (pid, last) = pid(rest)?;
+        return Some((LineKind::Trim(pid), last));
     }
     if let Some(rest) = behind(text, b"process ") {
         return process_kind(rest);
@@ -174,24 +190,24 @@ fn kind(text: &[u8]) -> Option<LineKind>
     plain_kind(text)
 }
 
-fn at_move(text: &[u8]) -> Option<Move>
-    ensures { result ≡ read_at text.now }
+fn at_move(text: &[u8]) -> Option<(Move, &[u8])>
+    ensures { option_map (λ p. (p.0, p.1.now)) result ≡ read_at text.now }
 {
     let (line, rest) = number(text)?;
     let rest = behind(rest, b" ")?;
-    let kind = kind(rest)?;
-    Some(Move::At(line, kind))
+    let (kind, last) = kind(rest)?;
+    Some((Move::At(line, kind), last))
 }
 
-fn add_move(text: &[u8]) -> Option<Move>
-    ensures { result ≡ read_add text.now }
+fn add_move(text: &[u8]) -> Option<(Move, &[u8])>
+    ensures { option_map (λ p. (p.0, p.1.now)) result ≡ read_add text.now }
 {
     let (key, rest) = key(text)?;
-    if behind(rest, b" zero").is_some() {
-        return Some(Move::Add(key, None));
+    if let Some(last) = behind(rest, b" zero") {
+        return Some((Move::Add(key, None), last));
     }
-    let (block, _) = number_behind(rest, b" block ")?;
-    Some(Move::Add(key, Some(Block(block))))
+    let (block, last) = number_behind(rest, b" block ")?;
+    Some((Move::Add(key, Some(Block(block))), last))
 }
 
 fn key_behind(text: &[u8]) -> Option<(Key, &[u8])>
@@ -201,85 +217,85 @@ fn key_behind(text: &[u8]) -> Option<(Key, &[u8])>
     key(rest)
 }
 
-fn give_move(text: &[u8]) -> Option<Move>
-    ensures { result ≡ read_give text.now }
+fn give_move(text: &[u8]) -> Option<(Move, &[u8])>
+    ensures { option_map (λ p. (p.0, p.1.now)) result ≡ read_give text.now }
 {
     let (frame, rest) = frame(text)?;
-    let (key, _) = key_behind(rest)?;
-    Some(Move::Give(frame, key))
+    let (key, last) = key_behind(rest)?;
+    Some((Move::Give(frame, key), last))
 }
 
-fn read_in(text: &[u8]) -> Option<Move>
-    ensures { result ≡ read_read text.now }
+fn read_in(text: &[u8]) -> Option<(Move, &[u8])>
+    ensures { option_map (λ p. (p.0, p.1.now)) result ≡ read_read text.now }
 {
     let (frame, rest) = frame(text)?;
-    let (key, _) = key_behind(rest)?;
-    Some(Move::Read(frame, key))
+    let (key, last) = key_behind(rest)?;
+    Some((Move::Read(frame, key), last))
 }
 
-fn map_move(text: &[u8]) -> Option<Move>
-    ensures { result ≡ read_map text.now }
+fn map_move(text: &[u8]) -> Option<(Move, &[u8])>
+    ensures { option_map (λ p. (p.0, p.1.now)) result ≡ read_map text.now }
 {
     let (frame, rest) = frame(text)?;
     let rest = behind(rest, b" ")?;
-    let (place, _) = place(rest)?;
-    Some(Move::Map(frame, place))
+    let (place, last) = place(rest)?;
+    Some((Move::Map(frame, place), last))
 }
 
-fn write_move(text: &[u8]) -> Option<Move>
-    ensures { result ≡ read_write text.now }
+fn write_move(text: &[u8]) -> Option<(Move, &[u8])>
+    ensures { option_map (λ p. (p.0, p.1.now)) result ≡ read_write text.now }
 {
     let (frame, rest) = frame(text)?;
-    if let Some(last) = behind(rest, b" slot ") {
-        let (slot, _) = number(last)?;
-        return Some(Move::Write(frame, Stored::Slot(Slot(slot))));
+    if let Some(behind) = behind(rest, b" slot ") {
+        let (slot, last) = number(behind)?;
+        return Some((Move::Write(frame, Stored::Slot(Slot(slot))), last));
     }
-    let (block, _) = number_behind(rest, b" block ")?;
-    Some(Move::Write(frame, Stored::Block(Block(block))))
+    let (block, last) = number_behind(rest, b" block ")?;
+    Some((Move::Write(frame, Stored::Block(Block(block))), last))
 }
 
 /// The ends of requests, and `soil`.
-fn end_move(text: &[u8]) -> Option<Move>
-    ensures { result ≡ read_end text.now }
+fn end_move(text: &[u8]) -> Option<(Move, &[u8])>
+    ensures { option_map (λ p. (p.0, p.1.now)) result ≡ read_end text.now }
 {
     if let Some(rest) = behind(text, b"wrote ") {
-        let (frame, _) = frame(rest)?;
-        return Some(Move::Wrote(frame));
+        let (frame, last) = frame(rest)?;
+        return Some((Move::Wrote(frame), last));
     }
     if let Some(rest) = behind(text, b"got ") {
-        let (frame, _) = frame(rest)?;
-        return Some(Move::Got(frame));
+        let (frame, last) = frame(rest)?;
+        return Some((Move::Got(frame), last));
     }
     if let Some(rest) = behind(text, b"soil ") {
-        let (frame, _) = frame(rest)?;
-        return Some(Move::Soil(frame));
+        let (frame, last) = frame(rest)?;
+        return Some((Move::Soil(frame), last));
     }
     if let Some(rest) = behind(text, b"lost ") {
-        let (frame, _) = frame(rest)?;
-        return Some(Move::Lost(frame));
+        let (frame, last) = frame(rest)?;
+        return Some((Move::Lost(frame), last));
     }
     let rest = behind(text, b"bad ")?;
-    let (frame, _) = frame(rest)?;
-    Some(Move::Bad(frame))
+    let (frame, last) = frame(rest)?;
+    Some((Move::Bad(frame), last))
 }
 
 /// The moves by which a frame is found and used.
-fn taking_move(text: &[u8]) -> Option<Move>
-    ensures { result ≡ read_taking text.now }
+fn taking_move(text: &[u8]) -> Option<(Move, &[u8])>
+    ensures { option_map (λ p. (p.0, p.1.now)) result ≡ read_taking text.now }
 {
     if let Some(rest) = behind(text, b"give ") {
         return give_move(rest);
     }
     if let Some(rest) = behind(text, b"clear ") {
-        let (frame, _) = frame(rest)?;
-        return Some(Move::Clear(frame));
+        let (frame, last) = frame(rest)?;
+        return Some((Move::Clear(frame), last));
     }
     if let Some(rest) = behind(text, b"read ") {
         return read_in(rest);
     }
     if let Some(rest) = behind(text, b"steal ") {
-        let (frame, _) = frame(rest)?;
-        return Some(Move::Steal(frame));
+        let (frame, last) = frame(rest)?;
+        return Some((Move::Steal(frame), last));
     }
     if let Some(rest) = behind(text, b"write ") {
         return write_move(rest);
@@ -287,9 +303,9 @@ fn taking_move(text: &[u8]) -> Option<Move>
     end_move(text)
 }
 
-/// A move that the text is if it is one.
-fn candidate(text: &[u8]) -> Option<Move>
-    ensures { result ≡ read_text text.now }
+/// The move in front of a text, and what stands behind it.
+fn move_in_front(text: &[u8]) -> Option<(Move, &[u8])>
+    ensures { option_map (λ p. (p.0, p.1.now)) result ≡ read_text text.now }
 {
     if let Some(rest) = behind(text, b"at ") {
         return at_move(rest);
@@ -298,42 +314,27 @@ fn candidate(text: &[u8]) -> Option<Move>
         return map_move(rest);
     }
     if let Some(rest) = behind(text, b"unmap ") {
-        let (place, _) = place(rest)?;
-        return Some(Move::Unmap(place));
+        let (place, last) = place(rest)?;
+        return Some((Move::Unmap(place), last));
     }
     if let Some(rest) = behind(text, b"add ") {
         return add_move(rest);
     }
     if let Some(rest) = behind(text, b"drop ") {
-        let (key, _) = key(rest)?;
-        return Some(Move::Drop(key));
+        let (key, last) = key(rest)?;
+        return Some((Move::Drop(key), last));
     }
     taking_move(text)
 }
 
 /// The move that a line is, without its line feed; `None` where it is none. A number has no leading zeros.
-
 pub fn read_move(line: &[u8]) -> Option<Move>
     ensures spelled { IfSome result (λ m. move_text m ≡ line.now) }
     ensures in_range { IfSome result IsMove }
     ensures again { (m : Move) → IsMove m → move_text m ≡ line.now → result ≡ Some m }
 {
-    let m = candidate(line)?;
-    let mut text = LineBuf::new();
-    put_move(&m, &mut text);
-    if text.as_slice() == line {
-        Some(m)
-    } else {
-        None
-    }
-}
-
-/// A key that the word is if it is one.
-fn key_candidate(word: &[u8]) -> Option<Key>
-    ensures { result ≡ read_key_alone word.now }
-{
-    let (key, _) = key(word)?;
-    Some(key)
+    let (m, rest) = move_in_front(line)?;
+    if rest.is_empty() { Some(m) } else { None }
 }
 
 /// The key that a word is; `None` where it is none. A number has no leading zeros.
@@ -342,14 +343,8 @@ pub fn read_key(word: &[u8]) -> Option<Key>
     ensures in_range { IfSome result IsKey }
     ensures again { (k : Key) → IsKey k → key_onto k [] ≡ word.now → result ≡ Some k }
 {
-    let key = key_candidate(word)?;
-    let mut text = LineBuf::new();
-    put_key(&mut text, key);
-    if text.as_slice() == word {
-        Some(key)
-    } else {
-        None
-    }
+    let (key, rest) = key(word)?;
+    if rest.is_empty() { Some(key) } else { None }
 }
 
 ghost use Rattle.std.specs.Prelude.{◌∷◌};

@@ -42,6 +42,8 @@ pub trait Moves {
 pub struct Recorder<'a, K: Sink> {
     sink: &'a mut K,
     failed: bool,
+    /// Room for the line of a move. It is kept, since a new one would be cleared for each move.
+    line: LineBuf,
 }
 
 /// Writes a line. Where a call of the sink fails, the front that it took is not all of the line: `write_all` does
@@ -70,6 +72,7 @@ impl<'a, K: Sink> Recorder<'a, K> {
         Recorder {
             sink,
             failed: false,
+            line: LineBuf::new(),
         }
     }
 
@@ -78,7 +81,11 @@ impl<'a, K: Sink> Recorder<'a, K> {
         ensures same_reference { result.ghost_name ≡ self.entry.sink.ghost_name }
         ensures sink { result.now ≡ self.entry.sink.now }
     {
-        let Recorder { sink, failed: _ } = self;
+        let Recorder {
+            sink,
+            failed: _,
+            line: _,
+        } = self;
         sink
     }
 }
@@ -90,10 +97,10 @@ impl<'a, K: Sink> Moves for Recorder<'a, K> {
 
     #[tactic(auto, using(crate::proofs::Growing::growing))]
     fn note(&mut self, m: Move) {
-        let mut line = LineBuf::new();
-        spell(&m, &mut line);
+        self.line.clear();
+        spell(&m, &mut self.line);
         if !self.failed {
-            match write_line(self.sink, line.as_slice()) {
+            match write_line(self.sink, self.line.as_slice()) {
                 Ok(()) => {}
                 Err(Failed) => self.failed = true,
             }

@@ -1,10 +1,98 @@
 ghost use Rattle.std.specs.Prelude.{◌≡◌, ◌≤◌, ◌<◌, ◌+◌, ◌^◌, ◌∷◌, ◌++◌, [], List, ℕ, length};
+ghost use Rattle.mm_types.specs.Spelling.{glyph, decimal};
 ghost use Rattle.mm_life.specs.MoveText.{numbered, place_onto, key_onto, kind_onto, stored_onto, home_onto, move_onto, spelling_of_move, IsKey, IsPlace, IsKind, IsStored, IsBlock, IsMove};
 
-use mm_text::{LineBuf, put_decimal};
+use mm_text::LineBuf;
 use mm_types::{Block, Frame, Key, LineKind, Move, Place, Stored};
 
+/// A digit as a byte.
+fn digit(n: u32) -> u8
+    requires { n < 10 }
+    ensures { result ≡ glyph n }
+{
+    b'0' + n as u8
+}
+
+/// Writes a number of at most four digits. The pieces have a fixed length, so that no loop and no copy is called.
+#[inline(always)]
+#[tactic(auto, using(crate::proofs::Written::written))]
+fn put_few(out: &mut LineBuf, n: u32)
+    requires few { n < 10000 }
+    requires room { length out.old + 4 ≤ 256 }
+    ensures text { out.new ≡ out.old ++ decimal n }
+    ensures few { length out.new ≤ length out.old + 4 }
+{
+    let tens = n / 10;
+    let hundreds = tens / 10;
+    if n < 10 {
+        out.push(digit(n));
+    } else if n < 100 {
+        out.push_slice(&[digit(tens), digit(n % 10)]);
+    } else if n < 1000 {
+        out.push_slice(&[digit(hundreds), digit(tens % 10), digit(n % 10)]);
+    } else {
+        out.push_slice(&[
+            digit(hundreds / 10),
+            digit(hundreds % 10),
+            digit(tens % 10),
+            digit(n % 10),
+        ]);
+    }
+}
+
+/// Writes a number of at most six digits.
+#[inline(always)]
+#[tactic(auto, using(crate::proofs::Written::written))]
+fn put_front(out: &mut LineBuf, n: u32)
+    requires few { n < 1000000 }
+    requires room { length out.old + 6 ≤ 256 }
+    ensures text { out.new ≡ out.old ++ decimal n }
+    ensures few { length out.new ≤ length out.old + 6 }
+{
+    if n < 10000 {
+        put_few(out, n);
+    } else {
+        let tens = n / 10;
+        put_few(out, tens / 10);
+        out.push_slice(&[digit(tens % 10), digit(n % 10)]);
+    }
+}
+
+/// Writes a number of five digits or more: the last four as one piece.
+#[inline(never)]
+#[tactic(auto, using(crate::proofs::Written::written))]
+fn put_many(out: &mut LineBuf, n: u32)
+    requires many { 10000 ≤ n }
+    requires room { length out.old + 10 ≤ 256 }
+    ensures { out.new ≡ out.old ++ decimal n }
+{
+    let tens = n / 10;
+    let hundreds = tens / 10;
+    let thousands = hundreds / 10;
+    put_front(out, thousands / 10);
+    out.push_slice(&[
+        digit(thousands % 10),
+        digit(hundreds % 10),
+        digit(tens % 10),
+        digit(n % 10),
+    ]);
+}
+
+/// Writes a number in decimal.
+#[inline(never)]
+fn put_number(out: &mut LineBuf, n: u32)
+    requires { length out.old + 10 ≤ 256 }
+    ensures { out.new ≡ out.old ++ decimal n }
+{
+    if n < 10000 {
+        put_few(out, n);
+    } else {
+        put_many(out, n);
+    }
+}
+
 /// A word and a number, of at most 10 digits.
+#[inline(always)]
 #[tactic(auto, using(crate::proofs::Onto::onto_short))]
 fn put_numbered(out: &mut LineBuf, word: &[u8], n: u32)
     requires { length out.old + length word.now + 10 ≤ 256 }
@@ -12,7 +100,7 @@ fn put_numbered(out: &mut LineBuf, word: &[u8], n: u32)
     ensures few { length out.new ≤ length out.old + length word.now + 10 }
 {
     out.push_slice(word);
-    put_decimal(out, u64::from(n));
+    put_number(out, n);
 }
 
 /// Some words.

@@ -1,33 +1,36 @@
-use Rattle.std.proofs.Common.{◌≡◌, true, [], ◌++◌, Some, None, sym, ap, ◌∙◌}
-use Rattle.std.proofs.lemmas.Slice.Eq.{slice_eq-Decides}
-use Rattle.std.proofs.lemmas.Bool.Decides.{Decides-eqb}
+use Rattle.std.proofs.Common.{◌≡◌, ◌==◌, true, [], Some, None, length, refl, sym, ap, ◌∙◌}
+use Rattle.mm_types.specs.Spelling.{Text}
 use Rattle.mm_types.specs.declared.numbers.Key.{Key}
-use Rattle.mm_types.proofs.Bytes.{append_nil}
-use Rattle.mm_life.specs.MoveText.{key_onto}
-use Rattle.mm_moves.specs.Reading.{read_key_alone}
-use Rattle.mm_moves.proofs.ReadAgain.{read_key_alone-spelled}
+use Rattle.mm_life.specs.MoveText.{key_onto, IsKey}
+use Rattle.mm_moves.specs.Reading.{read_key}
+use Rattle.mm_moves.proofs.ReadAgain.{read_key-onto, value_of, rest_of}
+use Rattle.mm_moves.proofs.Sounds.{key_sound, all_read, none_behind}
 use Rattle.mm_moves.proofs.readings.read_key.Goals as goal
 
--- a key that the word spells is the candidate
+-- what is spelled right is read
 pub returns-in_err-key-clause-again : goal.returns-in_err-key-clause-again
 returns-in_err-key-clause-again c = λ m h e.
-    let found : c.key_candidate.result ≡ Some m = c.key_candidate.ensures ∙ ap read_key_alone (sym e) ∙ read_key_alone-spelled m h in
-    let none : c.key_candidate.result ≡ None = c.in_err-key.was in
-    cc
+    let found : read_key c.args.word.now ≡ Some (m, []) = ap read_key (sym e) ∙ read_key-onto m [] h refl in
+    let none : read_key c.args.word.now ≡ None = sym c.in_err-key.ensures in
+    cc (found, none)
 
-pub returns-then-eq-clause-again : goal.returns-then-eq-clause-again
-returns-then-eq-clause-again c = λ m h e.
-    let found : c.key_candidate.result ≡ Some m = c.key_candidate.ensures ∙ ap read_key_alone (sym e) ∙ read_key_alone-spelled m h in
-    let was : c.key_candidate.result ≡ Some c.in_ok-key.key = c.in_ok-key.was in
-    sym was ∙ found
+pub returns-then-is_empty-clause-again : goal.returns-then-is_empty-clause-again
+returns-then-is_empty-clause-again c = λ m h e.
+    let found : read_key c.args.word.now ≡ Some (m, []) = ap read_key (sym e) ∙ read_key-onto m [] h refl in
+    let here : read_key c.args.word.now ≡ Some (c.in_ok-key.key, c.in_ok-key.rest.now) = sym c.in_ok-key.ensures in
+    ap value_of (sym here ∙ found)
 
-pub returns-else-eq-clause-again : goal.returns-else-eq-clause-again
-returns-else-eq-clause-again c = λ m h e.
-    let found : c.key_candidate.result ≡ Some m = c.key_candidate.ensures ∙ ap read_key_alone (sym e) ∙ read_key_alone-spelled m h in
-    let was : c.key_candidate.result ≡ Some c.in_ok-key.key = c.in_ok-key.was in
-    let same : c.in_ok-key.key ≡ m = cc in
-    let text : c.put_key.new.out ≡ key_onto c.in_ok-key.key [] =
-    sym (append_nil c.put_key.new.out) ∙ c.put_key.ensures.text [] ∙ ap (λ xs. xs ++ key_onto c.in_ok-key.key []) c.new-text.ensures in
-    let whole : c.as_slice.result.now ≡ c.args.word.now = c.as_slice.ensures.bytes ∙ text ∙ ap (λ (x : Key). key_onto x []) same ∙ e in
-    let equal : c.eq.result ≡ true = (slice_eq-Decides Decides-eqb _ _ _ c.eq.ensures).1 whole in
-    cc (c.if-eq.false, equal)
+pub returns-else-is_empty-clause-again : goal.returns-else-is_empty-clause-again
+returns-else-is_empty-clause-again c = λ m h e.
+    let found : read_key c.args.word.now ≡ Some (m, []) = ap read_key (sym e) ∙ read_key-onto m [] h refl in
+    let here : read_key c.args.word.now ≡ Some (c.in_ok-key.key, c.in_ok-key.rest.now) = sym c.in_ok-key.ensures in
+    let none : c.in_ok-key.rest.now ≡ [] = ap rest_of (sym here ∙ found) in
+    let empty : c.is_empty.result ≡ true = c.is_empty.ensures ∙ ap (λ (t : Text). length t == 0) none in
+    cc (empty, c.if-is_empty.false)
+
+-- what is read stands there
+pub returns-then-is_empty-clause-spelled : goal.returns-then-is_empty-clause-spelled
+returns-then-is_empty-clause-spelled c =
+    let here : read_key c.args.word.now ≡ Some (c.in_ok-key.key, c.in_ok-key.rest.now) = sym c.in_ok-key.ensures in
+    let none : c.in_ok-key.rest.now ≡ [] = none_behind c.in_ok-key.rest.now c.is_empty.result c.is_empty.ensures c.if-is_empty.true in
+    (all_read key_onto IsKey c.args.word.now c.in_ok-key.rest.now (read_key c.args.word.now) c.in_ok-key.key (key_sound c.args.word.now) (sym here) none).0

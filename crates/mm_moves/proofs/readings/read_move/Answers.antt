@@ -1,33 +1,36 @@
-use Rattle.std.proofs.Common.{◌≡◌, true, [], ◌++◌, Some, None, sym, ap, ◌∙◌}
-use Rattle.std.proofs.lemmas.Slice.Eq.{slice_eq-Decides}
-use Rattle.std.proofs.lemmas.Bool.Decides.{Decides-eqb}
+use Rattle.std.proofs.Common.{◌≡◌, ◌==◌, true, [], Some, None, length, sym, ap, ◌∙◌}
+use Rattle.mm_types.specs.Spelling.{Text}
 use Rattle.mm_types.specs.declared.moves.Move.{Move}
-use Rattle.mm_types.proofs.Bytes.{append_nil}
-use Rattle.mm_life.specs.MoveText.{move_text}
+use Rattle.mm_life.specs.MoveText.{move_onto, IsMove}
 use Rattle.mm_moves.specs.Reading.{read_text}
-use Rattle.mm_moves.proofs.ReadAgain.{read_text-spelled}
+use Rattle.mm_moves.proofs.ReadAgain.{read_text-spelled, value_of, rest_of}
+use Rattle.mm_moves.proofs.Sounds.{text_sound, all_read, none_behind}
 use Rattle.mm_moves.proofs.readings.read_move.Goals as goal
 
--- a move that the line spells is the candidate
+-- what is spelled right is read
 pub returns-in_err-m-clause-again : goal.returns-in_err-m-clause-again
 returns-in_err-m-clause-again c = λ m h e.
-    let found : c.candidate.result ≡ Some m = c.candidate.ensures ∙ ap read_text (sym e) ∙ read_text-spelled m h in
-    let none : c.candidate.result ≡ None = c.in_err-m.was in
-    cc
+    let found : read_text c.args.line.now ≡ Some (m, []) = ap read_text (sym e) ∙ read_text-spelled m h in
+    let none : read_text c.args.line.now ≡ None = sym c.in_err-m.ensures in
+    cc (found, none)
 
-pub returns-then-eq-clause-again : goal.returns-then-eq-clause-again
-returns-then-eq-clause-again c = λ m h e.
-    let found : c.candidate.result ≡ Some m = c.candidate.ensures ∙ ap read_text (sym e) ∙ read_text-spelled m h in
-    let was : c.candidate.result ≡ Some c.in_ok-m.m = c.in_ok-m.was in
-    sym was ∙ found
+pub returns-then-is_empty-clause-again : goal.returns-then-is_empty-clause-again
+returns-then-is_empty-clause-again c = λ m h e.
+    let found : read_text c.args.line.now ≡ Some (m, []) = ap read_text (sym e) ∙ read_text-spelled m h in
+    let here : read_text c.args.line.now ≡ Some (c.in_ok-m.m, c.in_ok-m.rest.now) = sym c.in_ok-m.ensures in
+    ap value_of (sym here ∙ found)
 
-pub returns-else-eq-clause-again : goal.returns-else-eq-clause-again
-returns-else-eq-clause-again c = λ m h e.
-    let found : c.candidate.result ≡ Some m = c.candidate.ensures ∙ ap read_text (sym e) ∙ read_text-spelled m h in
-    let was : c.candidate.result ≡ Some c.in_ok-m.m = c.in_ok-m.was in
-    let same : c.in_ok-m.m ≡ m = cc in
-    let text : c.put_move.new.out ≡ move_text c.in_ok-m.m =
-    sym (append_nil c.put_move.new.out) ∙ c.put_move.ensures.text [] ∙ ap (λ xs. xs ++ move_text c.in_ok-m.m) c.new-text.ensures in
-    let whole : c.as_slice.result.now ≡ c.args.line.now = c.as_slice.ensures.bytes ∙ text ∙ ap (λ (x : Move). move_text x) same ∙ e in
-    let equal : c.eq.result ≡ true = (slice_eq-Decides Decides-eqb _ _ _ c.eq.ensures).1 whole in
-    cc (c.if-eq.false, equal)
+pub returns-else-is_empty-clause-again : goal.returns-else-is_empty-clause-again
+returns-else-is_empty-clause-again c = λ m h e.
+    let found : read_text c.args.line.now ≡ Some (m, []) = ap read_text (sym e) ∙ read_text-spelled m h in
+    let here : read_text c.args.line.now ≡ Some (c.in_ok-m.m, c.in_ok-m.rest.now) = sym c.in_ok-m.ensures in
+    let none : c.in_ok-m.rest.now ≡ [] = ap rest_of (sym here ∙ found) in
+    let empty : c.is_empty.result ≡ true = c.is_empty.ensures ∙ ap (λ (t : Text). length t == 0) none in
+    cc (empty, c.if-is_empty.false)
+
+-- what is read stands there
+pub returns-then-is_empty-clause-spelled : goal.returns-then-is_empty-clause-spelled
+returns-then-is_empty-clause-spelled c =
+    let here : read_text c.args.line.now ≡ Some (c.in_ok-m.m, c.in_ok-m.rest.now) = sym c.in_ok-m.ensures in
+    let none : c.in_ok-m.rest.now ≡ [] = none_behind c.in_ok-m.rest.now c.is_empty.result c.is_empty.ensures c.if-is_empty.true in
+    (all_read move_onto IsMove c.args.line.now c.in_ok-m.rest.now (read_text c.args.line.now) c.in_ok-m.m (text_sound c.args.line.now) (sym here) none).0

@@ -1,10 +1,10 @@
 use Rattle.std.proofs.Common.{◌≡◌, ◌<◌, ◌^◌, length}
 use Rattle.mm_moves.specs.Reading.{number_from}
-use Rattle.mm_moves.proofs.readings.number.Given as goal
+use Rattle.mm_moves.proofs.readings.digits.Given as goal
 
 abbrev pub invariant-loop-rest : goal.invariant-loop-rest
 invariant-loop-rest l = record {
-  same : number_from 0 l.fn.text ≡ number_from l.sum l.rest;
+  same : number_from l.fn.first l.fn.text ≡ number_from l.sum l.rest;
   below : l.sum < 2 ^ 32;
 }
 

@@ -1,0 +1,79 @@
+-- The digits of a number, the last apart from those before it.
+use Rattle.std.proofs.Common.{◌≡◌, ℕ, zero, suc, ◌+◌, ◌/◌, ◌%◌, ◌^◌, ◌≤◌, ◌<◌, [], ◌∷◌, ◌++◌, sym, ap, ◌∙◌, inl, inr, arith, append_assoc, length-append}
+use Rattle.std.proofs.lemmas.Bool.{cases_lt}
+use Rattle.std.proofs.lemmas.Nat.{div_below, mod_below}
+use Rattle.std.proofs.Math.Nat.{mod-eq_of_lt}
+use Rattle.mm_types.specs.Spelling.{Text, glyph, decimal, decimal_onto}
+use Rattle.mm_moves.proofs.Numbers.{step_last, step_more, below_power, onto_append}
+
+-- a place more for digits than a number needs changes nothing
+room_more : (count n : ℕ) (rest : Text) → n < 10 ^ suc count → decimal_onto (suc count) n rest ≡ decimal_onto (suc (suc count)) n rest
+room_more zero n rest low = elim (cases_lt n 10) [
+  | inl small ↦ step_last zero n rest small ∙ sym (step_last (suc zero) n rest small)
+  | inr large ↦ absurd (omega (arith, low, large))
+]
+room_more (suc count) n rest low = elim (cases_lt n 10) [
+  | inl small ↦ step_last (suc count) n rest small ∙ sym (step_last (suc (suc count)) n rest small)
+  | inr large ↦
+      step_more (suc count) n rest large
+      ∙ room_more count (n / 10) (glyph (n % 10) ∷ rest) (below_power (suc count) n low)
+      ∙ sym (step_more (suc (suc count)) n rest large)
+]
+
+pub decimal_one : (n : ℕ) → n < 10 → decimal n ≡ glyph n ∷ []
+decimal_one n low = step_last 19 n [] low ∙ ap (λ d. glyph d ∷ []) (mod-eq_of_lt low)
+
+pub decimal_more : (n : ℕ) → 10 ≤ n → n < 2 ^ 32 → decimal n ≡ decimal (n / 10) ++ glyph (n % 10) ∷ []
+decimal_more n high low =
+    step_more 19 n [] high
+    ∙ room_more 18 (n / 10) (glyph (n % 10) ∷ []) (below_power 19 n (omega arith))
+    ∙ sym (onto_append 20 (n / 10) [] (glyph (n % 10) ∷ []))
+
+-- the last four digits apart from those before them
+pub decimal_pieces : (n : ℕ) → 10000 ≤ n → n < 2 ^ 32 → decimal n ≡ decimal (n / 10 / 10 / 10 / 10) ++ glyph (n / 10 / 10 / 10 % 10) ∷ glyph (n / 10 / 10 % 10) ∷ glyph (n / 10 % 10) ∷ glyph (n % 10) ∷ []
+decimal_pieces n high low =
+    let a = glyph (n % 10) ∷ [] in
+    let b = glyph (n / 10 % 10) ∷ [] in
+    let c = glyph (n / 10 / 10 % 10) ∷ [] in
+    let d = glyph (n / 10 / 10 / 10 % 10) ∷ [] in
+    let front = decimal (n / 10 / 10 / 10 / 10) in
+    decimal_more n (omega arith) low
+    ∙ ap (λ t. t ++ a) (decimal_more (n / 10) (omega arith) (omega arith))
+    ∙ ap (λ t. (t ++ b) ++ a) (decimal_more (n / 10 / 10) (omega arith) (omega arith))
+    ∙ ap (λ t. ((t ++ c) ++ b) ++ a) (decimal_more (n / 10 / 10 / 10) (omega arith) (omega arith))
+    ∙ append_assoc ((front ++ d) ++ c) b a
+    ∙ append_assoc (front ++ d) c (b ++ a)
+    ∙ append_assoc front d (c ++ (b ++ a))
+
+-- the last two
+pub decimal_pair : (n : ℕ) → 100 ≤ n → n < 2 ^ 32 → decimal n ≡ decimal (n / 10 / 10) ++ glyph (n / 10 % 10) ∷ glyph (n % 10) ∷ []
+decimal_pair n high low =
+    let a = glyph (n % 10) ∷ [] in
+    let b = glyph (n / 10 % 10) ∷ [] in
+    decimal_more n (omega arith) low
+    ∙ ap (λ t. t ++ a) (decimal_more (n / 10) (omega arith) (omega arith))
+    ∙ append_assoc (decimal (n / 10 / 10)) b a
+
+pub front_then_pair : (n : ℕ) (old : Text) → 100 ≤ n → n < 2 ^ 32 → (old ++ decimal (n / 10 / 10)) ++ glyph (n / 10 % 10) ∷ glyph (n % 10) ∷ [] ≡ old ++ decimal n
+front_then_pair n old high low =
+    append_assoc old (decimal (n / 10 / 10)) (glyph (n / 10 % 10) ∷ glyph (n % 10) ∷ []) ∙ ap (λ t. old ++ t) (sym (decimal_pair n high low))
+
+pub front_then_four : (n : ℕ) (old : Text) → 10000 ≤ n → n < 2 ^ 32 → (old ++ decimal (n / 10 / 10 / 10 / 10)) ++ glyph (n / 10 / 10 / 10 % 10) ∷ glyph (n / 10 / 10 % 10) ∷ glyph (n / 10 % 10) ∷ glyph (n % 10) ∷ [] ≡ old ++ decimal n
+front_then_four n old high low =
+    append_assoc old (decimal (n / 10 / 10 / 10 / 10)) (glyph (n / 10 / 10 / 10 % 10) ∷ glyph (n / 10 / 10 % 10) ∷ glyph (n / 10 % 10) ∷ glyph (n % 10) ∷ [])
+    ∙ ap (λ t. old ++ t) (sym (decimal_pieces n high low))
+
+-- two, three and four digits
+pub decimal_two : (n : ℕ) → 10 ≤ n → n < 100 → decimal n ≡ glyph (n / 10) ∷ glyph (n % 10) ∷ []
+decimal_two n high low =
+    decimal_more n high (omega arith) ∙ ap (λ t. t ++ glyph (n % 10) ∷ []) (decimal_one (n / 10) (omega arith))
+
+pub decimal_three : (n : ℕ) → 100 ≤ n → n < 1000 → decimal n ≡ glyph (n / 10 / 10) ∷ glyph (n / 10 % 10) ∷ glyph (n % 10) ∷ []
+decimal_three n high low =
+    decimal_more n (omega arith) (omega arith) ∙ ap (λ t. t ++ glyph (n % 10) ∷ []) (decimal_two (n / 10) (omega arith) (omega arith))
+
+pub decimal_four : (n : ℕ) → 1000 ≤ n → n < 10000 → decimal n ≡ glyph (n / 10 / 10 / 10) ∷ glyph (n / 10 / 10 % 10) ∷ glyph (n / 10 % 10) ∷ glyph (n % 10) ∷ []
+decimal_four n high low =
+    decimal_more n (omega arith) (omega arith) ∙ ap (λ t. t ++ glyph (n % 10) ∷ []) (decimal_three (n / 10) (omega arith) (omega arith))
+
+pub ruleset written = (decimal_one, decimal_two, decimal_three, decimal_four, front_then_pair, front_then_four, length-append)
