@@ -1,0 +1,11 @@
+pub mod RowLists
+pub mod Joined
+pub mod RegionSteps
+pub mod Making
+pub mod Touching
+pub mod Growths
+pub mod Succeeding
+pub mod Idle
+pub mod Created
+pub mod Growing
+pub mod Probed

@@ -1,0 +1,142 @@
+-- What the definition of a `probe` line comes to.
+use Rattle.std.proofs.Common.{◌≡◌, ◌≤◌, ◌*◌, ℕ, Bool, true, false, Option, Some, None, refl, ◌∙◌, ap, subst, cond, not, arith, is_none, ◌&&◌, ◌||◌, option_map, set}
+use Rattle.std.specs.Prelude.{◌==◌, option_and_then}
+use Rattle.std.specs.Cmp.{unsigned_Decides}
+use Rattle.mm_types.specs.declared.answers.Answer.TheVariants as answer
+use Rattle.mm_types.specs.declared.codes.Raise.TheVariants as raise
+use Rattle.mm_types.specs.declared.numbers.Key.{Key}
+use Rattle.mm_types.specs.declared.protections.Access.TheVariants as access_kind
+use Rattle.mm_types.specs.Address.{address_of, page_of, range_of}
+use Rattle.mm_types.specs.Protection.{permits}
+use Rattle.mm_world.specs.World.{Page, WorldOf, ProcessOf, Numbered, numbered}
+use Rattle.mm_world.specs.Find.{process_of}
+use Rattle.mm_world.specs.Keys.{Committed, committed_at, guard_off}
+use Rattle.mm_world.specs.Outcome.{OutcomeOf, done}
+use Rattle.mm_world.specs.Alloc.{alloc, reserve, commit_pages, commit_type}
+use Rattle.mm_world.specs.Contents.{Tables}
+use Rattle.mm_world.specs.Stack.{StackOf, probe, probe_of, probe_in, probe_at, grown, is_overflow, moved}
+use Rattle.mm_world.proofs.Finding.{numbered_there}
+use Rattle.mm_pages.specs.Store.{StoreOf}
+use Rattle.mm_tables.specs.declared.looks.CommittedRow.{CommittedRow}
+use Rattle.mm_tables.specs.Effects.{Roomier}
+use Rattle.mm_tables.specs.Fits.{Settled, Carries}
+use Rattle.mm_tables.specs.Looks.{committed_row, told_row}
+use Rattle.mm_tables.proofs.EndingFits.{beside_then}
+use Rattle.mm_tables.proofs.Settled.{roomier_beside}
+use Rattle.mm_calls.proofs.Outcomes.{at_alive}
+use Rattle.mm_stack.proofs.RowLists.{set-here}
+
+module _ {B : Type 0} (fill : ℕ → B) (w : WorldOf B) (stacks : Numbered StackOf) (tid addr : ℕ) where
+  pub at_nobody : numbered stacks tid ≡ None → probe fill w stacks tid addr ≡ done answer.Nothing w
+  at_nobody e = ap (probe_of fill w (page_of addr)) e
+
+  module _ (s : StackOf) (has : numbered stacks tid ≡ Some s) where
+    pub at_ended : process_of w s.pid ≡ None → probe fill w stacks tid addr ≡ done answer.Nothing w
+    at_ended e = ap (probe_of fill w (page_of addr)) has ∙ ap (probe_in fill w s (page_of addr)) e
+
+    module _ (p : ProcessOf B) (lives : process_of w s.pid ≡ Some p) where
+      in_process : probe fill w stacks tid addr ≡ probe_at fill w p s (page_of addr) (committed_at w p.regions (page_of addr))
+      in_process = ap (probe_of fill w (page_of addr)) has ∙ ap (probe_in fill w s (page_of addr)) lives
+
+      pub at_bare : committed_at w p.regions (page_of addr) ≡ None → probe fill w stacks tid addr ≡ done (answer.Raised raise.AccessViolation) w
+      at_bare e = in_process ∙ ap (probe_at fill w p s (page_of addr)) e
+
+      module _ (c : Committed B) (there : committed_at w p.regions (page_of addr) ≡ Some c) where
+        abbrev pub off : WorldOf B
+        off = guard_off w s.pid p c (page_of addr)
+
+        -- by whether the guard is on, the page is the guard page, nothing is left, and it may be read
+        abbrev pub chosen : Bool → Bool → Bool → Bool → OutcomeOf B
+        chosen guarded same overflow read =
+            cond (guarded && not same) (done (answer.Raised raise.GuardPage) off)
+            (cond (guarded && overflow) (done (answer.Raised raise.StackOverflow) off)
+            (cond guarded (grown fill w s off)
+            (cond (not read) (done (answer.Raised raise.AccessViolation) w)
+            (done (answer.At (address_of s.guard_page)) w))))
+
+        abbrev pub same : Bool
+        same = page_of addr == s.guard_page
+
+        abbrev pub read : Bool
+        read = permits c.row.prot access_kind.Read
+
+        pub reached : probe fill w stacks tid addr ≡ chosen c.row.guard same (is_overflow w p s) read
+        reached = in_process ∙ ap (probe_at fill w p s (page_of addr)) there
+
+        pub at_other : c.row.guard ≡ true → same ≡ false → probe fill w stacks tid addr ≡ done (answer.Raised raise.GuardPage) off
+        at_other on other = reached ∙ (λ i. chosen (on i) (other i) (is_overflow w p s) read)
+
+        pub at_overflow : c.row.guard ≡ true → same ≡ true → is_overflow w p s ≡ true → probe fill w stacks tid addr ≡ done (answer.Raised raise.StackOverflow) off
+        at_overflow on here full = reached ∙ (λ i. chosen (on i) (here i) (full i) read)
+
+        pub at_growth : c.row.guard ≡ true → same ≡ true → is_overflow w p s ≡ false → probe fill w stacks tid addr ≡ grown fill w s off
+        at_growth on here more = reached ∙ (λ i. chosen (on i) (here i) (more i) read)
+
+        pub at_unreadable : c.row.guard ≡ false → read ≡ false → probe fill w stacks tid addr ≡ done (answer.Raised raise.AccessViolation) w
+        at_unreadable plain denied = reached ∙ (λ i. chosen (plain i) same (is_overflow w p s) (denied i))
+
+        pub at_readable : c.row.guard ≡ false → read ≡ true → probe fill w stacks tid addr ≡ done (answer.At (address_of s.guard_page)) w
+        at_readable plain may = reached ∙ (λ i. chosen (plain i) same (is_overflow w p s) (may i))
+
+-- ---- what was told of a page
+
+pub record IsTold (t : Tables) (pid page : ℕ) (row : CommittedRow) : Type 0 where
+  pub process : ProcessOf (Unit {0})
+  pub lives : process_of t pid ≡ Some process
+  pub committed : Committed (Unit {0})
+  pub there : committed_at t process.regions page ≡ Some committed
+  pub guard : committed.row.guard ≡ row.guard
+  pub prot : committed.row.prot ≡ row.prot.0
+
+pub told : (t : Tables) (pid page : ℕ) (row : CommittedRow) → committed_row t pid page ≡ Some row → IsTold t pid page row
+told t pid page row e = by_process (process_of t pid) refl e
+  where
+    by_row : (p : ProcessOf (Unit {0})) (o : Option (Committed (Unit {0}))) → process_of t pid ≡ Some p → committed_at t p.regions page ≡ o → option_map (told_row pid page) o ≡ Some row → IsTold t pid page row
+    by_row p None lives there e = cc
+    by_row p (Some c) lives there e =
+        let same : told_row pid page c ≡ row = cc in
+        record { process = p; lives = lives; committed = c; there = there; guard = ap (λ (r : CommittedRow). r.guard) same; prot = ap (λ (r : CommittedRow). r.prot.0) same }
+
+    by_process : (o : Option (ProcessOf (Unit {0}))) → process_of t pid ≡ o → option_and_then (λ (p : ProcessOf (Unit {0})). option_map (told_row pid page) (committed_at t p.regions page)) o ≡ Some row → IsTold t pid page row
+    by_process None lives e = cc
+    by_process (Some p) lives e = by_row p (committed_at t p.regions page) lives refl e
+
+pub untold : (t : Tables) (pid page : ℕ) (p : ProcessOf (Unit {0})) → process_of t pid ≡ Some p → is_none (committed_row t pid page) ≡ is_none (committed_at t p.regions page)
+untold t pid page p lives =
+    ap (λ (o : Option (ProcessOf (Unit {0}))). is_none (option_and_then (λ (p : ProcessOf (Unit {0})). option_map (told_row pid page) (committed_at t p.regions page)) o)) lives
+    ∙ by_row (committed_at t p.regions page)
+  where
+    by_row : (o : Option (Committed (Unit {0}))) → is_none (option_map (told_row pid page) o) ≡ is_none o
+    by_row None = refl
+    by_row (Some c) = refl
+
+pub none_is : {A : Type 0} (o : Option A) → is_none o ≡ true → o ≡ None
+none_is None e = refl
+none_is (Some x) e = cc
+
+-- ---- growth
+
+-- after room was taken, which changes nothing that is shown
+pub after_room : (v : Tables) (c d e : Key → Option Page) (s y z : StoreOf) → Roomier c d s y → Settled v d e y z → Settled v c e s z
+after_room v c d e s y z more h =
+    record {
+      fits = h.fits;
+      carries = subst (λ (c : Key → Option Page). Carries c e) more.contents h.carries;
+      rest = beside_then s y z (roomier_beside c d s y more) h.rest;
+    }
+
+-- a page is committed by `alloc` as by a commit
+pub alloc_commits : {B : Type 0} (fill : ℕ → B) (w : WorldOf B) (pid page : ℕ) (p : ProcessOf B) → process_of w pid ≡ Some p → 1 ≤ page → alloc fill w pid (address_of page) 1 commit_type 0x104 ≡ commit_pages fill w pid p (range_of (address_of page) 1) 0x104
+alloc_commits fill w pid page p lives some =
+    at_alive w pid p _ lives ∙ ap (λ b. cond (b || false) (reserve fill w pid p (address_of page) 1 commit_type 0x104) (commit_pages fill w pid p (range_of (address_of page) 1) 0x104)) (not_zero (address_of page == 0) refl)
+  where
+    not_zero : (b : Bool) → (address_of page == 0) ≡ b → (address_of page == 0) ≡ false
+    not_zero true e = let none : page * 4096 ≡ 0 = (unsigned_Decides (address_of page) 0).0 e in absurd (omega (arith, none, some))
+    not_zero false e = e
+
+-- a stack that is put where it is
+pub stays : (stacks : Numbered StackOf) (tid : ℕ) (s : StackOf) → numbered stacks tid ≡ Some s → set stacks tid (option_map (moved (address_of s.guard_page)) (numbered stacks tid)) ≡ stacks
+stays stacks tid s has =
+    let page : page_of (address_of s.guard_page) ≡ s.guard_page = omega arith in
+    let one : option_map (moved (address_of s.guard_page)) (numbered stacks tid) ≡ Some s = ap (option_map (moved (address_of s.guard_page))) has ∙ (λ i. Some (record s { guard_page = page i })) in
+    ap (set stacks tid) one ∙ set-here stacks tid (Some s) None (numbered_there stacks tid s has)

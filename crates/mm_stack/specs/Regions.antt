@@ -1,0 +1,29 @@
+-- What the steps of a new stack begin with.
+use Rattle.std.specs.Prelude.{◌≡◌, ℕ, Some, slice_get}
+use Rattle.mm_types.specs.declared.views.Kind.TheVariants as kind
+use Rattle.mm_types.specs.Address.{Range}
+use Rattle.mm_world.specs.World.{RegionOf, ProcessOf}
+use Rattle.mm_world.specs.Find.{Found, process_of, region_around}
+use Rattle.mm_world.specs.Alloc.{private_region, reserve_type}
+use Rattle.mm_world.specs.Contents.{Tables, blank}
+use Rattle.mm_spaces.specs.Tables.{owned_in}
+
+-- a region of which no page is committed
+abbrev pub reserved_region : Range → RegionOf (Unit {0})
+reserved_region range = private_region blank reserve_type 0x04 range
+
+-- these are the pages of such a region of a living process
+pub record IsReserved (t : Tables) (pid : ℕ) (range : Range) : Type 0 where
+  pub process : ProcessOf (Unit {0})
+  pub place : ℕ
+  pub lives : process_of t pid ≡ Some process
+  pub there : slice_get process.regions place ≡ Some (reserved_region range)
+
+-- these pages lie in a private region of a living process, and none of them is committed
+pub record IsUncommitted (t : Tables) (pid : ℕ) (range : Range) : Type 0 where
+  pub process : ProcessOf (Unit {0})
+  pub region : Found (RegionOf (Unit {0}))
+  pub lives : process_of t pid ≡ Some process
+  pub around : region_around process.regions range ≡ Some region
+  pub private : region.thing.kind ≡ kind.Private
+  pub none : owned_in process.regions range ≡ 0
