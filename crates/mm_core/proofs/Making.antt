@@ -1,24 +1,25 @@
 -- Each line makes at most one of each thing that is numbered, and no call answers that a device failed.
-use Rattle.std.proofs.Common.{◌≡◌, ◌≤◌, ℕ, zero, suc, ◌+◌, Option, Some, None, List, [], ◌∷◌, ◌++◌, refl, sym, ◌∙◌, ap, arith, length, set, map, inl, inr}
+use Rattle.std.proofs.Common.{◌≡◌, ◌≤◌, ℕ, zero, suc, ◌+◌, ◌-◌, false, Option, Some, None, List, [], ◌∷◌, ◌++◌, refl, sym, ◌∙◌, ap, arith, length, set, map, inl, inr}
 use Rattle.std.proofs.lemmas.List.{length-set, length-append, get_or-set_same, get_or-set_other}
 use Rattle.mm_types.proofs.Cells.{same_or_not}
 use Rattle.mm_types.specs.declared.answers.Answer.{Answer}
 use Rattle.mm_types.specs.declared.codes.Code.{Code}
 use Rattle.mm_types.specs.declared.views.Kind.{Kind}
 use Rattle.mm_types.specs.declared.views.Kind.TheVariants as kind
-use Rattle.mm_types.specs.Address.{Range}
+use Rattle.mm_types.specs.Address.{Range, address_of, page_of}
 use Rattle.mm_types.specs.Spelling.{Text}
 use Rattle.mm_world.specs.World.{WorldOf, ProcessOf, RegionOf, AreaOf, SectionOf, FileOf, RowOf, Numbered, numbered}
 use Rattle.mm_world.specs.Find.{Found, process_of, set_process, set_regions, set_area}
-use Rattle.mm_world.specs.Keys.{set_row}
+use Rattle.mm_world.specs.Keys.{Committed, committed_at, set_row, guard_off}
 use Rattle.mm_world.specs.Outcome.{OutcomeOf, done, refused}
-use Rattle.mm_world.specs.Alloc.{alloc, commit_in}
+use Rattle.mm_world.specs.Alloc.{alloc, commit_in, commit_type}
 use Rattle.mm_world.specs.Free.{free}
 use Rattle.mm_world.specs.Protect.{protect}
 use Rattle.mm_world.specs.Query.{query}
 use Rattle.mm_world.specs.Sections.{create, create_file, open_section, close, handle_or, new_section, settle, settled_sections, settled_areas, with_handle}
 use Rattle.mm_world.specs.Views.{map_view, unmap, flush}
 use Rattle.mm_world.specs.Processes.{new_process, exit, new_file, take_fail, no_regions, kept_of_others}
+use Rattle.mm_world.specs.Stack.{StackOf, stack, made, probe, probe_at, probe_in, probe_of, grown}
 use Rattle.mm_tables.specs.References.{MadeAtMost}
 use Rattle.mm_core.specs.Serving.{IsFailure}
 use Rattle.mm_world.proofs.Tables.{Holds, tables}
@@ -240,3 +241,38 @@ module _ {B : Type 0} where
               | inr other ↦ h.handles j q (sym (get_or-set_other w.processes pid j _ None other) ∙ there)
             ];
       }
+
+  -- ---- stacks
+
+  in_made : (fill : ℕ → B) (w : WorldOf B) (pid : ℕ) (p : ProcessOf B) (r c : ℕ) → process_of w pid ≡ Some p → Holds (Makes w) (made fill w pid p r c)
+  in_made fill w pid p r c lives = search forms depth 14
+
+  pub in_stack : (fill : ℕ → B) (w : WorldOf B) (stacks : Numbered StackOf) (tid pid reserve commit : ℕ) → Holds (Makes w) (stack fill w stacks tid pid reserve commit)
+  in_stack fill w stacks tid pid reserve commit = search (tables, by_refusal, unchanged, in_made) depth 14
+
+  by_guard : (w : WorldOf B) (pid : ℕ) (p : ProcessOf B) (c : Committed B) (page : ℕ) (a : Answer) → (IsFailure a → ⊥) → process_of w pid ≡ Some p → Holds (Makes w) (done a (guard_off w pid p c page))
+  by_guard w pid p c page a fine lives = by_regions w pid p _ a fine lives
+
+  in_grown : (fill : ℕ → B) (w : WorldOf B) (s : StackOf) (p : ProcessOf B) (c : Committed B) (page : ℕ) → process_of w s.pid ≡ Some p → Holds (Makes w) (grown fill w s (guard_off w s.pid p c page))
+  in_grown fill w s p c page lives =
+      record {
+        it = record {
+          made = λ n h. (in_alloc fill (guard_off w s.pid p c page) s.pid (address_of (s.guard_page - 1)) 1 commit_type 0x104).it.made n (made-set_row w n s.pid page p c.region (record c.row { guard = false }) lives h);
+          fine = λ f. f;
+        };
+      }
+
+  in_probe_at : (fill : ℕ → B) (w : WorldOf B) (p : ProcessOf B) (s : StackOf) (page : ℕ) (c : Option (Committed B)) → process_of w s.pid ≡ Some p → Holds (Makes w) (probe_at fill w p s page c)
+  in_probe_at fill w p s page None lives = unchanged w _ (λ f. f)
+  in_probe_at fill w p s page (Some c) lives = search (tables, unchanged, by_guard, in_grown) depth 14
+
+  in_probe_in : (fill : ℕ → B) (w : WorldOf B) (s : StackOf) (page : ℕ) (p : Option (ProcessOf B)) → process_of w s.pid ≡ p → Holds (Makes w) (probe_in fill w s page p)
+  in_probe_in fill w s page None lives = unchanged w _ (λ f. f)
+  in_probe_in fill w s page (Some p) lives = in_probe_at fill w p s page (committed_at w p.regions page) lives
+
+  in_probe_of : (fill : ℕ → B) (w : WorldOf B) (page : ℕ) (s : Option StackOf) → Holds (Makes w) (probe_of fill w page s)
+  in_probe_of fill w page None = unchanged w _ (λ f. f)
+  in_probe_of fill w page (Some s) = in_probe_in fill w s page (process_of w s.pid) refl
+
+  pub in_probe : (fill : ℕ → B) (w : WorldOf B) (stacks : Numbered StackOf) (tid addr : ℕ) → Holds (Makes w) (probe fill w stacks tid addr)
+  in_probe fill w stacks tid addr = in_probe_of fill w (page_of addr) (numbered stacks tid)

@@ -1,4 +1,4 @@
--- Which lines are built, and which of them may take memory.
+-- Which lines are built, and which lines may take memory.
 use Rattle.std.specs.Prelude.{Bool, true, false, not, ◌==◌}
 use Rattle.mm_types.specs.declared.events.Event.{Event}
 use Rattle.mm_types.specs.declared.events.Event.TheVariants as line
@@ -36,7 +36,7 @@ is_built line.Charge = true
 is_built (line.Grow n) = true
 is_built _ = false
 
--- a built line that may be answered by a want of memory; of `protect`, one that asks for marks
+-- a line that may be answered by a want of memory; of `protect`, one that asks for marks
 abbrev pub takes_memory : Event → Bool
 takes_memory (line.Process min max) = true
 takes_memory (line.File name pages byte) = true
@@ -47,4 +47,6 @@ takes_memory (line.CreateFile pid file flags name) = true
 takes_memory (line.Open pid name) = true
 takes_memory (line.Map pid handle access offset len addr) = true
 takes_memory (line.Grow n) = true
+takes_memory (line.Stack tid pid reserve commit) = true
+takes_memory (line.Probe tid addr) = true
 takes_memory _ = false

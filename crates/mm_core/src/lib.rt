@@ -15,6 +15,7 @@ mod memory_lines;
 mod paging_lines;
 mod refusals;
 mod section_lines;
+mod stack_lines;
 mod thread_lines;
 mod threads;
 mod worlds;

@@ -1,10 +1,14 @@
 ghost use Rattle.std.specs.Prelude.{◌≡◌, ◌≢◌, ◌≤◌, ◌⊎◌, ◌+◌, ℕ, true, false, IfOk, OnOk, OnErr, IsOk};
 ghost use Rattle.mm_types.specs.declared.answers.Answer.TheVariants as answer;
 ghost use Rattle.mm_types.specs.declared.answers.Wait.TheVariants as wait;
+ghost use Rattle.mm_types.specs.declared.events.Event.TheVariants as lines;
+ghost use Rattle.mm_world.specs.World.{filled};
+ghost use Rattle.mm_world.specs.Stack.{stack, probe};
 ghost use Rattle.mm_world.specs.Step.{first_world, step, unpaged};
 ghost use Rattle.mm_world.specs.Charge.{charge, limit};
 ghost use Rattle.mm_world.specs.Contents.{tables_of};
 ghost use Rattle.mm_world.specs.Laws.{LineLeaves};
+ghost use Rattle.mm_world.specs.System.{stacks_after};
 ghost use Rattle.mm_pages.specs.Conditions.{IsNew};
 ghost use Rattle.mm_paging.specs.Lines.{Noted, Broken};
 ghost use Rattle.mm_script.specs.Printed.{IsWellFormed};
@@ -16,9 +20,11 @@ ghost use Rattle.mm_core.specs.Stepping.{asks_frames};
 ghost use Rattle.mm_core.specs.Serving.{AskedFiles, AskedPaging, IsFailure, OneRose, Flushed, Named, is_grow, is_fail, FailedBefore};
 
 use crate::deciding::decide;
+use crate::stack_lines::{probe_line, stack_line};
 use mm_pages::Pages;
+use mm_stack::Stacks;
 use mm_tables::Tables;
-use mm_types::{Answer, Event, Machine, NoMemory};
+use mm_types::{Answer, Event, Machine, NoMemory, Pid, Tid};
 use std::alloc::Global;
 
 /// A machine's address spaces over a store of their pages.
@@ -118,6 +124,115 @@ impl<G: Pages> World<G> {
     {
         self.pages.sound();
         let result = decide(alloc, &mut self.tables, &mut self.pages, line, event);
+        self.spent = result.is_err();
+        self.tables.sound();
+        self.pages.sound();
+        result
+    }
+
+    /// Decides a `stack` line, the next one: a thread gets a stack, which grows through its guard page (this profile's own).
+    /// Answer and new world are those of the definitions' `stack` from the world and the stacks that there were, and the stacks
+    /// are those that the line leaves.
+    ///
+    /// What else is said of it is what `step` says of each line. After `NoMemory` world and stacks are as they were, and no
+    /// further line can be decided.
+    #[tactic(auto, using(crate::proofs::Charged::charges, crate::proofs::Readiness::idle_in))]
+    pub fn create_stack(
+        &mut self,
+        alloc: Global,
+        line: u32,
+        stacks: &mut Stacks,
+        tid: Tid,
+        pid: Pid,
+        reserve: u32,
+        commit: u32,
+    ) -> Result<Answer, NoMemory>
+        requires next { line ≡ line_of self.old + 1 }
+        requires few { line ≤ 1000000 }
+        requires ready { self.old.spent ≡ false }
+        ensures step { IfOk result (λ a. stack filled (world self.old) stacks.old tid.0 pid.0 reserve commit ≡ record { answer = a; world = world self.new }) }
+        ensures stacks { IfOk result (λ a. stacks.new ≡ stacks_after stacks.old (lines.Stack tid pid reserve commit) a) }
+        ensures err { OnErr result (world self.new ≡ world self.old) }
+        ensures unmoved { OnErr result (stacks.new ≡ stacks.old) }
+        ensures within { charge (world self.new) ≤ limit (world self.new) }
+        ensures lives { IsTidy (tables_of (world self.new)) }
+        ensures asked_files { OnOk result (AskedFiles (file_device self.old) (file_device self.new) (report self.new)) }
+        ensures asked_paging { OnOk result (AskedPaging (paging_device self.old) (paging_device self.new) (report self.new)) }
+        ensures named { IfOk result (λ a. Named G.unpaged (lines.Stack tid pid reserve commit) a (paging_device self.old) (paging_device self.new) (file_device self.old) (file_device self.new)) }
+        ensures idle { OnErr result ((paging_device self.new ≡ paging_device self.old) × (file_device self.new ≡ file_device self.old) × (file_blocks self.new ≡ file_blocks self.old)) }
+        ensures failed { IfOk result (λ a. IsFailure a → FailedBefore (lines.Stack tid pid reserve commit) (report self.old) ⊎ OneRose (paging_device self.old) (paging_device self.new) (file_device self.old) (file_device self.new)) }
+        ensures unwaited { G.unpaged ≡ true → (tid : ℕ) → ((report self.old).wait tid ≡ wait.None) × ((report self.new).wait tid ≡ wait.None) }
+        ensures waits { IfOk result (λ a. EndsWaits (world self.old) (lines.Stack tid pid reserve commit) a (report self.new)) }
+        ensures paging_later { (paging_device self.old).faults ≤ (paging_device self.new).faults }
+        ensures files_later { (file_device self.old).faults ≤ (file_device self.new).faults }
+        ensures flushed { IfOk result (λ a. Flushed (world self.new) (file_blocks self.new) (lines.Stack tid pid reserve commit) a) }
+        ensures paged { G.unpaged ≡ false → IfOk result (λ a. Noted (world self.old) (report self.old) (behind self.old) (paging_device self.old) (file_device self.old) (lines.Stack tid pid reserve commit) a (world self.new) (report self.new) (behind self.new) (paging_device self.new) (file_device self.new)) }
+        ensures broken { G.unpaged ≡ false → OnErr result (Broken (behind self.old) (behind self.new)) }
+        ensures line { OnOk result (line_of self.new ≡ line) }
+        ensures ready { OnOk result (self.new.spent ≡ false) }
+        ensures spent { OnErr result (self.new.spent ≡ true) }
+        ensures loans { loans self.new ≡ loans self.old }
+    {
+        self.pages.sound();
+        let result = stack_line(
+            alloc,
+            &mut self.tables,
+            &mut self.pages,
+            line,
+            stacks,
+            tid,
+            pid,
+            reserve,
+            commit,
+        );
+        self.spent = result.is_err();
+        self.tables.sound();
+        self.pages.sound();
+        result
+    }
+
+    /// Decides a `probe` line, the next one: the touch that a compiled function makes before it uses a page of its stack
+    /// (this profile's own). Answer and new world are those of the definitions' `probe` from the world and the stacks that there
+    /// were, and the stacks are those that the line leaves.
+    ///
+    /// What else is said of it is what `step` says of each line. After `NoMemory`, which comes only where the stack would have
+    /// grown, world and stacks are as they were, and no further line can be decided.
+    #[tactic(auto, using(crate::proofs::Charged::charges, crate::proofs::Readiness::idle_in))]
+    pub fn probe_stack(
+        &mut self,
+        line: u32,
+        stacks: &mut Stacks,
+        tid: Tid,
+        addr: u32,
+    ) -> Result<Answer, NoMemory>
+        requires next { line ≡ line_of self.old + 1 }
+        requires few { line ≤ 1000000 }
+        requires ready { self.old.spent ≡ false }
+        ensures step { IfOk result (λ a. probe filled (world self.old) stacks.old tid.0 addr ≡ record { answer = a; world = world self.new }) }
+        ensures stacks { IfOk result (λ a. stacks.new ≡ stacks_after stacks.old (lines.Probe tid addr) a) }
+        ensures err { OnErr result (world self.new ≡ world self.old) }
+        ensures unmoved { OnErr result (stacks.new ≡ stacks.old) }
+        ensures within { charge (world self.new) ≤ limit (world self.new) }
+        ensures lives { IsTidy (tables_of (world self.new)) }
+        ensures asked_files { OnOk result (AskedFiles (file_device self.old) (file_device self.new) (report self.new)) }
+        ensures asked_paging { OnOk result (AskedPaging (paging_device self.old) (paging_device self.new) (report self.new)) }
+        ensures named { IfOk result (λ a. Named G.unpaged (lines.Probe tid addr) a (paging_device self.old) (paging_device self.new) (file_device self.old) (file_device self.new)) }
+        ensures idle { OnErr result ((paging_device self.new ≡ paging_device self.old) × (file_device self.new ≡ file_device self.old) × (file_blocks self.new ≡ file_blocks self.old)) }
+        ensures failed { IfOk result (λ a. IsFailure a → FailedBefore (lines.Probe tid addr) (report self.old) ⊎ OneRose (paging_device self.old) (paging_device self.new) (file_device self.old) (file_device self.new)) }
+        ensures unwaited { G.unpaged ≡ true → (tid : ℕ) → ((report self.old).wait tid ≡ wait.None) × ((report self.new).wait tid ≡ wait.None) }
+        ensures waits { IfOk result (λ a. EndsWaits (world self.old) (lines.Probe tid addr) a (report self.new)) }
+        ensures paging_later { (paging_device self.old).faults ≤ (paging_device self.new).faults }
+        ensures files_later { (file_device self.old).faults ≤ (file_device self.new).faults }
+        ensures flushed { IfOk result (λ a. Flushed (world self.new) (file_blocks self.new) (lines.Probe tid addr) a) }
+        ensures paged { G.unpaged ≡ false → IfOk result (λ a. Noted (world self.old) (report self.old) (behind self.old) (paging_device self.old) (file_device self.old) (lines.Probe tid addr) a (world self.new) (report self.new) (behind self.new) (paging_device self.new) (file_device self.new)) }
+        ensures broken { G.unpaged ≡ false → OnErr result (Broken (behind self.old) (behind self.new)) }
+        ensures line { OnOk result (line_of self.new ≡ line) }
+        ensures ready { OnOk result (self.new.spent ≡ false) }
+        ensures spent { OnErr result (self.new.spent ≡ true) }
+        ensures loans { loans self.new ≡ loans self.old }
+    {
+        self.pages.sound();
+        let result = probe_line(&mut self.tables, &mut self.pages, line, stacks, tid, addr);
         self.spent = result.is_err();
         self.tables.sound();
         self.pages.sound();

@@ -1,5 +1,5 @@
 -- A line of a system, from the line that the world was given and the answer that it gave.
-use Rattle.std.proofs.Common.{◌≡◌, ℕ, zero, suc, ◌-◌, Bool, true, false, Option, Some, None, List, ◌∷◌, refl, sym, ◌∙◌, ap, subst, cond, map, replicate, not, option_map, unwrap_or}
+use Rattle.std.proofs.Common.{◌≡◌, ℕ, ◌-◌, Bool, true, false, Option, Some, None, List, refl, sym, ◌∙◌, ap, subst, cond, not, option_map, unwrap_or}
 use Rattle.std.specs.Prelude.{◌==◌}
 use Rattle.mm_types.specs.declared.answers.Answer.{Answer}
 use Rattle.mm_types.specs.declared.answers.Answer.TheVariants as answer
@@ -9,12 +9,10 @@ use Rattle.mm_types.specs.declared.events.Event.TheVariants as line
 use Rattle.mm_types.specs.Address.{range_of, page_of, is_user_page}
 use Rattle.mm_world.specs.World.{Page, World, ProcessOf, Numbered}
 use Rattle.mm_world.specs.Find.{Found, process_of, region_with}
-use Rattle.mm_world.specs.Free.{release_type}
 use Rattle.mm_world.specs.Outcome.{OutcomeOf, done, need, find_or}
 use Rattle.mm_world.specs.Query.{query, page_info}
 use Rattle.mm_world.specs.Report.{Report}
-use Rattle.mm_world.specs.Stack.{StackOf, without, is_stack_at, is_stack_in}
-use Rattle.mm_world.specs.Step.{step, threads}
+use Rattle.mm_world.specs.Stack.{StackOf}
 use Rattle.mm_world.specs.System.{System, Done, outcome, system_step, stacks_after, watches_after, is_watched_type}
 use Rattle.mm_world.specs.Watch.{WatchOf, with_watch, watch_around}
 use Rattle.mm_world.specs.Laws.{SystemLeaves}
@@ -22,7 +20,8 @@ use Rattle.mm_world.proofs.LineLeaves.{in_system}
 use Rattle.mm_watch.specs.Told.{HadRegion}
 use Rattle.mm_watch.specs.Watches.{WatchesOf}
 use Rattle.mm_watch.proofs.Lines.{reset_had_region}
-use Rattle.mm_system.specs.Lines.{is_built, is_watched, world_line, said, told_of_range, unless_gone, written_pages, is_gone, with_room, pages_asked}
+use Rattle.mm_stack.specs.Lines.{is_stack_line}
+use Rattle.mm_system.specs.Lines.{is_beside, world_line, given_outcome, said, told_of_range, unless_gone, written_pages, is_gone, with_room, pages_asked}
 
 -- ---- lines of watched regions
 
@@ -66,46 +65,34 @@ module _ (w : World) (watches : List WatchOf) (pid addr size : ℕ) (tell : Watc
 
 -- ---- each line
 
-pub outcome_is : (s : System) (e : Event) (before after : Report) (b : Answer) (v : World) → is_built e ≡ true → step s.world (world_line e) before after ≡ done b v → outcome s e before after ≡ done (said s.watches e b) v
-outcome_is s (line.Watch pid unwrites addr size count) before after b v built h = from_query s.world s.watches pid.0 addr size (written_pages addr size count) b v h
-outcome_is s (line.ResetWatch pid addr size) before after b v built h = from_query s.world s.watches pid.0 addr size (λ a. answer.Ok) b v h
-outcome_is s (line.Stack tid pid reserve commit) before after b v built h = cc
-outcome_is s (line.Probe tid addr) before after b v built h = cc
-outcome_is s e before after b v built h = h
+pub outcome_is : (s : System) (e : Event) (before after : Report) (b : Answer) (v : World) → given_outcome s.world s.stacks e before after ≡ done b v → outcome s e before after ≡ done (said s.watches e b) v
+outcome_is s (line.Watch pid unwrites addr size count) before after b v h = from_query s.world s.watches pid.0 addr size (written_pages addr size count) b v h
+outcome_is s (line.ResetWatch pid addr size) before after b v h = from_query s.world s.watches pid.0 addr size (λ a. answer.Ok) b v h
+outcome_is s e before after b v h = h
 
-none_ends : (ends : StackOf → Bool) (n : ℕ) → map (without ends) (replicate n None) ≡ replicate n None
-none_ends ends zero = refl
-none_ends ends (suc n) = ap (λ (xs : Numbered StackOf). None ∷ xs) (none_ends ends n)
+-- no line of watched regions changes a stack
+pub same_stacks : (watches : List WatchOf) (stacks : Numbered StackOf) (e : Event) (b : Answer) → stacks_after stacks e (said watches e b) ≡ stacks_after stacks e b
+same_stacks watches stacks (line.Watch pid unwrites addr size count) b = refl
+same_stacks watches stacks (line.ResetWatch pid addr size) b = refl
+same_stacks watches stacks _ b = refl
 
-abbrev no_stacks : Numbered StackOf
-no_stacks = replicate threads None
-
-by_type : (b : Bool) (ends : StackOf → Bool) → cond b (map (without ends) no_stacks) no_stacks ≡ no_stacks
-by_type true ends = none_ends ends threads
-by_type false ends = refl
-
--- no thread gets a stack
-pub no_stack : (e : Event) (a : Answer) → is_built e ≡ true → stacks_after no_stacks e a ≡ no_stacks
-no_stack (line.Stack tid pid reserve commit) a built = cc
-no_stack (line.Probe tid addr) a built = cc
-no_stack (line.Free pid addr size type) answer.Ok built = by_type (type == release_type) (is_stack_at pid.0 addr)
-no_stack (line.Exit pid) answer.Ok built = none_ends (is_stack_in pid.0) threads
-no_stack _ _ built = refl
-
-module _ (w v : World) (watches new : List WatchOf) (e : Event) (before after : Report) (a b : Answer) (built : is_built e ≡ true) (given : step w (world_line e) before after ≡ done b v) (is : a ≡ said watches e b) (changed : new ≡ watches_after w watches e a) where
+module _ (w v : World) (watches new : List WatchOf) (stacks left : Numbered StackOf) (e : Event) (before after : Report) (a b : Answer) (given : given_outcome w stacks e before after ≡ done b v) (is : a ≡ said watches e b) (changed : new ≡ watches_after w watches e a) (ended : left ≡ stacks_after stacks e b) where
   abbrev old_system : System
-  old_system = record { world = w; stacks = no_stacks; watches = watches }
+  old_system = record { world = w; stacks = stacks; watches = watches }
 
   abbrev new_system : System
-  new_system = record { world = v; stacks = no_stacks; watches = new }
+  new_system = record { world = v; stacks = left; watches = new }
 
   pub answered_so : outcome old_system e before after ≡ done a v
-  answered_so = outcome_is old_system e before after b v built given ∙ ap (λ (a : Answer). done a v) (sym is)
+  answered_so = outcome_is old_system e before after b v given ∙ ap (λ (a : Answer). done a v) (sym is)
+
+  pub stacks_are : left ≡ stacks_after stacks e a
+  stacks_are = ended ∙ sym (ap (stacks_after stacks e) is ∙ same_stacks watches stacks e b)
 
   pub step_is : system_step old_system e before after ≡ record { answer = a; system = new_system }
   step_is =
-      ap (λ (o : OutcomeOf Page). let d : Done = record { answer = o.answer; system = record { world = o.world; stacks = stacks_after no_stacks e o.answer; watches = watches_after w watches e o.answer } } in d) answered_so
-      ∙ (λ i. record { answer = a; system = record { world = v; stacks = no_stack e a built i; watches = sym changed i } })
+      ap (λ (o : OutcomeOf Page). let d : Done = record { answer = o.answer; system = record { world = o.world; stacks = stacks_after stacks e o.answer; watches = watches_after w watches e o.answer } } in d) answered_so
+      ∙ (λ i. record { answer = a; system = record { world = v; stacks = sym stacks_are i; watches = sym changed i } })
 
   pub leaves : SystemLeaves old_system e (record { answer = a; system = new_system })
   leaves = subst (λ (d : Done). SystemLeaves old_system e d) step_is (in_system old_system e before after)
@@ -123,16 +110,21 @@ by_watched : (b : Bool) (type : ℕ) → b ≡ false → cond b (type - 0x200000
 by_watched true type e = cc
 by_watched false type e = refl
 
-pub same_line : (e : Event) → is_watched e ≡ false → world_line e ≡ e
+pub same_line : (e : Event) → is_beside e ≡ false → world_line e ≡ e
 same_line (line.Watch pid unwrites addr size count) e = cc
 same_line (line.ResetWatch pid addr size) e = cc
 same_line (line.Alloc pid addr size type prot) e = ap (λ (t : ℕ). line.Alloc pid addr size t prot) (by_watched (is_watched_type type) type e)
 same_line _ e = refl
 
-pub same_answer : (watches : List WatchOf) (e : Event) (b : Answer) → is_watched e ≡ false → said watches e b ≡ b
+pub same_answer : (watches : List WatchOf) (e : Event) (b : Answer) → is_beside e ≡ false → said watches e b ≡ b
 same_answer watches (line.Watch pid unwrites addr size count) b e = cc
 same_answer watches (line.ResetWatch pid addr size) b e = cc
 same_answer watches _ b e = refl
+
+pub no_stack_line : (e : Event) → is_beside e ≡ false → is_stack_line e ≡ false
+no_stack_line (line.Stack tid pid reserve commit) h = h
+no_stack_line (line.Probe tid addr) h = h
+no_stack_line _ h = refl
 
 -- ---- what is known of a line once it was answered
 
@@ -144,23 +136,22 @@ pub room_only : (watches : WatchesOf) (e : Event) → (with_room watches e).watc
 room_only watches (line.Alloc pid addr size type prot) = by_room (is_watched_type type) watches (pages_asked addr size)
 room_only watches _ = refl
 
-pub record Went (w v : World) (watches new : List WatchOf) (e : Event) (before after : Report) (a b : Answer) : Type 0 where
-  pub given : step w (world_line e) before after ≡ done b v
+pub record Went (w v : World) (watches new : List WatchOf) (stacks left : Numbered StackOf) (e : Event) (before after : Report) (a b : Answer) : Type 0 where
+  pub given : given_outcome w stacks e before after ≡ done b v
   pub is : a ≡ said watches e b
   pub changed : new ≡ watches_after w watches e a
+  pub ended : left ≡ stacks_after stacks e b
 
-pub given_to : (w v : World) (e q : Event) (before after : Report) (b : Answer) → q ≡ world_line e → step w q before after ≡ done b v → step w (world_line e) before after ≡ done b v
-given_to w v e q before after b asked h = ap (λ (q : Event). step w q before after) (sym asked) ∙ h
-
-pub went : (w v : World) (old mid : WatchesOf) (new : List WatchOf) (e q : Event) (before after : Report) (a b : Answer) → q ≡ world_line e → step w q before after ≡ done b v → mid ≡ with_room old e → a ≡ said mid.watches e b → new ≡ watches_after w mid.watches e a → Went w v old.watches new e before after a b
-went w v old mid new e q before after a b asked h room is changed =
+pub went : (w v : World) (old mid : WatchesOf) (new : List WatchOf) (stacks left : Numbered StackOf) (e : Event) (before after : Report) (a b : Answer) → given_outcome w stacks e before after ≡ done b v → mid ≡ with_room old e → a ≡ said mid.watches e b → new ≡ watches_after w mid.watches e a → left ≡ stacks_after stacks e b → Went w v old.watches new stacks left e before after a b
+went w v old mid new stacks left e before after a b given room is changed ended =
     let same : mid.watches ≡ old.watches = ap (λ (m : WatchesOf). m.watches) room ∙ room_only old e in
     record {
-      given = given_to w v e q before after b asked h;
+      given = given;
       is = is ∙ ap (λ (ws : List WatchOf). said ws e b) same;
       changed = changed ∙ ap (λ (ws : List WatchOf). watches_after w ws e a) same;
+      ended = ended;
     }
 
 -- what was told of the world's line is told of the system's
-pub carry : (P : Event → Answer → Type 0) (watches : List WatchOf) (e q : Event) (a b : Answer) → q ≡ world_line e → a ≡ said watches e b → (P (world_line e) b → P e (said watches e b)) → P q b → P e a
-carry P watches e q a b asked is moves h = subst (λ (a : Answer). P e a) (sym is) (moves (subst (λ (q : Event). P q b) asked h))
+pub carry : (P : Event → Answer → Type 0) (watches : List WatchOf) (e : Event) (a b : Answer) → a ≡ said watches e b → (P (world_line e) b → P e (said watches e b)) → P (world_line e) b → P e a
+carry P watches e a b is moves h = subst (λ (a : Answer). P e a) (sym is) (moves h)

@@ -42,10 +42,10 @@ use Rattle.mm_system.specs.Writes.{page_written, write_of, writes_of, unless_in,
 pub record SameKept (w : World) (o : OutcomeOf Page) : Type 0 where
   pub same : o.world.kept ≡ w.kept
 
-by_kept : (w v : World) (a : Answer) → v.kept ≡ w.kept → Holds (SameKept w) (done a v)
+pub by_kept : (w v : World) (a : Answer) → v.kept ≡ w.kept → Holds (SameKept w) (done a v)
 by_kept w v a same = record { it = record { same = same } }
 
-by_refusal : (w : World) (why : Code) → Holds (SameKept w) (refused w why)
+pub by_refusal : (w : World) (why : Code) → Holds (SameKept w) (refused w why)
 by_refusal w why = by_kept w w _ refl
 
 ruleset keeping = (tables, by_refusal, by_kept)
@@ -54,7 +54,7 @@ in_commit : (w : World) (pid : ℕ) (p : ProcessOf Page) (r : Found (RegionOf Pa
 in_commit w pid p r kind.Private range prot = search keeping depth 12
 in_commit w pid p r (kind.View v) range prot = search keeping depth 12
 
-in_alloc : (w : World) (pid addr size type prot : ℕ) → Holds (SameKept w) (alloc filled w pid addr size type prot)
+pub in_alloc : (w : World) (pid addr size type prot : ℕ) → Holds (SameKept w) (alloc filled w pid addr size type prot)
 in_alloc w pid addr size type prot = search (keeping, in_commit) depth 12
 
 in_free : (w : World) (pid addr size type : ℕ) → Holds (SameKept w) (free w pid addr size type)
@@ -160,7 +160,7 @@ map_others pid (k ∷ ks) =
 pub record TellsWrites (w : World) (e : Event) (o : OutcomeOf Page) : Type 0 where
   pub tells : writes_of o.world ≡ writes_after (writes_of w) e o.answer
 
-tells_same : (w : World) (e : Event) (o : OutcomeOf Page) → Holds (SameKept w) o → ((a : Answer) → writes_after (writes_of w) e a ≡ writes_of w) → TellsWrites w e o
+pub tells_same : (w : World) (e : Event) (o : OutcomeOf Page) → Holds (SameKept w) o → ((a : Answer) → writes_after (writes_of w) e a ≡ writes_of w) → TellsWrites w e o
 tells_same w e o h none = record { tells = ap (map write_of) h.it.same ∙ sym (none o.answer) }
 
 in_exit : (w : World) (pid : Pid) → Holds (TellsWrites w (line.Exit pid)) (exit w pid.0)

@@ -6,6 +6,9 @@ pub mod KeptAccesses
 pub mod Reserving
 pub mod Tidy
 pub mod Deciding
+pub mod Alone
 pub mod Transfers
+pub mod StackCalls
+pub mod Stacked
 pub mod Staying
 pub mod Lasting

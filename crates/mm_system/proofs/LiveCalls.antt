@@ -58,7 +58,7 @@ module _ {B : Type 0} (ends : Answer → WatchOf → Bool) where
 
   -- ---- a region more, or one changed in its rows
 
-  by_added : (w : WorldOf B) (pid : ℕ) (p : ProcessOf B) (new : RegionOf B) (a : Answer) → process_of w pid ≡ Some p → Holds (KeepsLive w) (done a (set_regions w pid p (add_region new p.regions)))
+  pub by_added : (w : WorldOf B) (pid : ℕ) (p : ProcessOf B) (new : RegionOf B) (a : Answer) → process_of w pid ≡ Some p → Holds (KeepsLive w) (done a (set_regions w pid p (add_region new p.regions)))
   by_added w pid p new a lives =
       by_put w pid p (Some (record p { regions = add_region new p.regions })) a lives (λ x e same h. any_insert (is_private_region (watched_range x)) p.regions _ new h)
 
@@ -209,7 +209,7 @@ module _ {B : Type 0} (ends : Answer → WatchOf → Bool) where
       by_region w pid p c.region.place c.region.thing (record c.region.thing { rows = set c.region.thing.rows (page - c.region.thing.base) row }) a lives there refl refl
       (length-set c.region.thing.rows (page - c.region.thing.base) row)
 
-  by_guard : (w : WorldOf B) (pid : ℕ) (p : ProcessOf B) (page : ℕ) (c : Committed B) (a : Answer) → process_of w pid ≡ Some p → committed_at w p.regions page ≡ Some c → Holds (KeepsLive w) (done a (guard_off w pid p c page))
+  pub by_guard : (w : WorldOf B) (pid : ℕ) (p : ProcessOf B) (page : ℕ) (c : Committed B) (a : Answer) → process_of w pid ≡ Some p → committed_at w p.regions page ≡ Some c → Holds (KeepsLive w) (done a (guard_off w pid p c page))
   by_guard w pid p page c a lives committed = by_row w pid p page c (record c.row { guard = false }) a lives committed
 
 -- ---- accesses

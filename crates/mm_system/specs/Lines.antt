@@ -1,31 +1,45 @@
--- The lines of a system: which are built, by which line the world decides each, and what a line of watched regions answers.
-use Rattle.std.specs.Prelude.{ℕ, ◌+◌, ◌≤◌, ◌<◌, ◌≡◌, Bool, true, false, ◌||◌, ◌==◌, if◌then◌else◌, List, map, option_map, unwrap_or}
+-- The lines of a system: by which line the world decides each, and what a line of watched regions answers.
+use Rattle.std.specs.Prelude.{ℕ, ◌+◌, ◌≤◌, ◌<◌, ◌≡◌, Bool, true, false, ◌==◌, if◌then◌else◌, List, map, option_map, unwrap_or}
 use Rattle.mm_types.specs.declared.answers.Answer.{Answer}
 use Rattle.mm_types.specs.declared.answers.Answer.TheVariants as answer
 use Rattle.mm_types.specs.declared.codes.Code.TheVariants as code
 use Rattle.mm_types.specs.declared.events.Event.{Event}
 use Rattle.mm_types.specs.declared.events.Event.TheVariants as line
 use Rattle.mm_types.specs.Address.{Range, range_of, address_of, end_of_user_pages}
+use Rattle.mm_world.specs.World.{World, Page, Numbered, filled}
+use Rattle.mm_world.specs.Outcome.{OutcomeOf}
+use Rattle.mm_world.specs.Report.{Report}
+use Rattle.mm_world.specs.Stack.{StackOf, stack, probe}
+use Rattle.mm_world.specs.Step.{step}
 use Rattle.mm_world.specs.System.{is_watched_type, plain_line, reserved_range}
 use Rattle.mm_world.specs.Watch.{WatchOf, watch_around, written_in}
 use Rattle.mm_watch.specs.Watches.{WatchesOf, is_unwatched}
-use Rattle.mm_core.specs.Built as core
-
--- the lines of watched regions
-abbrev pub is_watched : Event → Bool
-is_watched (line.Watch pid unwrites addr size count) = true
-is_watched (line.ResetWatch pid addr size) = true
-is_watched (line.Alloc pid addr size type prot) = is_watched_type type
-is_watched _ = false
-
-abbrev pub is_built : Event → Bool
-is_built e = core.is_built e || is_watched e
 
 -- the line that the world is given in place of this one. A `query` changes nothing, and tells whether the process lives.
 abbrev pub world_line : Event → Event
 world_line (line.Watch pid unwrites addr size count) = line.Query pid addr
 world_line (line.ResetWatch pid addr size) = line.Query pid addr
 world_line e = plain_line e
+
+-- the line that tells the machine, which comes first and never again
+abbrev pub is_machine : Event → Bool
+is_machine (line.Machine machine) = true
+is_machine _ = false
+
+-- the lines that do not go by the world alone
+abbrev pub is_beside : Event → Bool
+is_beside (line.Watch pid unwrites addr size count) = true
+is_beside (line.ResetWatch pid addr size) = true
+is_beside (line.Alloc pid addr size type prot) = is_watched_type type
+is_beside (line.Stack tid pid reserve commit) = true
+is_beside (line.Probe tid addr) = true
+is_beside _ = false
+
+-- what the world answers to a line, and what becomes of it
+abbrev pub given_outcome : World → Numbered StackOf → Event → Report → Report → OutcomeOf Page
+given_outcome w stacks (line.Stack tid pid reserve commit) before after = stack filled w stacks tid.0 pid.0 reserve commit
+given_outcome w stacks (line.Probe tid addr) before after = probe filled w stacks tid.0 addr
+given_outcome w stacks e before after = step w (world_line e) before after
 
 -- ERROR_INVALID_HANDLE
 abbrev pub is_gone : Answer → Bool

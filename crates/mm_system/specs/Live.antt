@@ -1,9 +1,10 @@
--- Watched regions are private regions of processes that live.
-use Rattle.std.specs.Prelude.{Bool, false, ◌&&◌, ◌==◌, List, Option, Some, None}
+-- Watched regions and stacks are private regions of processes that live.
+use Rattle.std.specs.Prelude.{Bool, true, false, ◌&&◌, ◌==◌, nat_lt, List, Option, Some, None}
 use Rattle.std.specs.List.{list_any, list_all}
-use Rattle.mm_types.specs.Address.{Range}
-use Rattle.mm_world.specs.World.{RegionOf, ProcessOf, WorldOf, pages_of}
+use Rattle.mm_types.specs.Address.{Range, holds_page}
+use Rattle.mm_world.specs.World.{Numbered, RegionOf, ProcessOf, WorldOf, pages_of}
 use Rattle.mm_world.specs.Find.{process_of, is_private}
+use Rattle.mm_world.specs.Stack.{StackOf}
 use Rattle.mm_world.specs.Watch.{WatchOf, watched_range}
 
 abbrev pub is_same_range : Range → Range → Bool
@@ -24,3 +25,24 @@ module _ {B : Type 0} where
 
   abbrev pub are_live : WorldOf B → List WatchOf → Bool
   are_live w watches = list_all (is_live w) watches
+
+  -- ---- stacks
+
+  -- a private region with the base of the stack, which holds its guard page
+  abbrev pub is_stack_region : StackOf → RegionOf B → Bool
+  is_stack_region s r = is_private r.kind && ((r.base == s.base) && holds_page (pages_of r) s.guard_page)
+
+  abbrev pub holds_stack : StackOf → Option (ProcessOf B) → Bool
+  holds_stack s None = false
+  holds_stack s (Some p) = list_any (is_stack_region s) p.regions
+
+  -- the process lives, and the guard page is above the base page
+  abbrev pub is_stacked : WorldOf B → StackOf → Bool
+  is_stacked w s = nat_lt s.base s.guard_page && holds_stack s (process_of w s.pid)
+
+  abbrev pub is_place : WorldOf B → Option StackOf → Bool
+  is_place w None = true
+  is_place w (Some s) = is_stacked w s
+
+  abbrev pub are_stacked : WorldOf B → Numbered StackOf → Bool
+  are_stacked w stacks = list_all (is_place w) stacks

@@ -1,8 +1,8 @@
 -- What a system over a store shows: the world of the definitions with what stands beside it, and what its store shows beside.
-use Rattle.std.specs.Prelude.{ℕ, List, None, replicate}
+use Rattle.std.specs.Prelude.{ℕ, List}
 use Rattle.mm_types.specs.Outside.{Loans}
-use Rattle.mm_world.specs.World.{Page, World}
-use Rattle.mm_world.specs.Step.{threads}
+use Rattle.mm_world.specs.World.{Page, World, Numbered}
+use Rattle.mm_world.specs.Stack.{StackOf}
 use Rattle.mm_world.specs.System.{System}
 use Rattle.mm_world.specs.Watch.{WatchOf}
 use Rattle.mm_world.specs.Report.{Report}
@@ -19,9 +19,12 @@ module _ {G : Type 0} {g : PagesGhosts G} where
   abbrev pub watches : Kept G g → List WatchOf
   watches s = s.watch.watches
 
-  -- no thread has a stack
+  -- of each thread
+  abbrev pub stacks : Kept G g → Numbered StackOf
+  stacks s = s.stacks
+
   abbrev pub system : Kept G g → System
-  system s = record { world = core.world s.world; stacks = replicate threads None; watches = s.watch.watches }
+  system s = record { world = core.world s.world; stacks = s.stacks; watches = s.watch.watches }
 
   abbrev pub report : Kept G g → Report
   report s = core.report s.world

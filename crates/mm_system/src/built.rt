@@ -1,7 +1,7 @@
 ghost use Rattle.std.specs.Prelude.{◌≡◌, Option, unwrap_or};
 ghost use Rattle.mm_types.specs.declared.events.Event.{Event};
 ghost use Rattle.mm_world.specs.System.{is_watched_type};
-ghost use Rattle.mm_system.specs.Lines.{is_built, world_line};
+ghost use Rattle.mm_system.specs.Lines.{world_line};
 
 use mm_types::Event;
 
@@ -19,17 +19,6 @@ pub(crate) fn is_watched_type(form: u32) -> bool
     ensures { result ≡ is_watched_type form }
 {
     form == WATCHED || form == WATCHED_AND_COMMITTED
-}
-
-/// Whether the form of a line is built.
-pub fn is_built(event: &Event) -> bool
-    ensures { result ≡ is_built event.now }
-{
-    match event {
-        Event::Watch(..) | Event::ResetWatch(..) => true,
-        Event::Alloc(_, _, _, form, _) => mm_core::is_built(event) || is_watched_type(*form),
-        _ => mm_core::is_built(event),
-    }
 }
 
 /// The line that the world is given, where it is another one.

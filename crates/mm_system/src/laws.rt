@@ -10,8 +10,7 @@ ghost use Rattle.mm_world.specs.System.{System, system_step, reserved_range};
 ghost use Rattle.mm_world.specs.Watch.{WatchOf};
 ghost use Rattle.mm_watch.specs.Watches.{is_unwatched};
 ghost use Rattle.mm_watch.specs.Told.{line_ends};
-ghost use Rattle.mm_system.specs.Lines.{is_built};
-ghost use Rattle.mm_system.specs.Live.{holds_private, is_live, are_live};
+ghost use Rattle.mm_system.specs.Live.{holds_private, is_live, are_live, are_stacked};
 ghost use Rattle.mm_system.specs.Writes.{writes_of, writes_after};
 
 /// A private region of a process stays one, with its base and its pages, over each line that does not release it or end
@@ -27,9 +26,14 @@ pub fn reserved_regions_are_new()
     ensures apart { (w : World) (watches : List WatchOf) (pid addr size type prot base : ℕ) → (alloc filled w pid addr size type prot).answer ≡ answer.At base → is_reserving addr type ≡ true → are_live w watches ≡ true → is_unwatched watches pid (reserved_range addr size base) ≡ true }
 {}
 
-/// Each watched region is a private region of a process that lives, after each line that is built.
+/// Each watched region is a private region of a process that lives, after each line.
 pub fn watched_regions_stay_live()
-    ensures { (s : System) (e : Event) (before after : Report) → is_built e ≡ true → are_live s.world s.watches ≡ true → are_live (system_step s e before after).system.world (system_step s e before after).system.watches ≡ true }
+    ensures { (s : System) (e : Event) (before after : Report) → are_live s.world s.watches ≡ true → are_live (system_step s e before after).system.world (system_step s e before after).system.watches ≡ true }
+{}
+
+/// Each stack has a private region of a process that lives, with its base and its guard page, after each line.
+pub fn stacks_stay_private_regions()
+    ensures { (s : System) (e : Event) (before after : Report) → are_stacked s.world s.stacks ≡ true → are_stacked (system_step s e before after).system.world (system_step s e before after).system.stacks ≡ true }
 {}
 
 /// The writes that threads keep change as lines and their answers tell.

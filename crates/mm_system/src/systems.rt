@@ -17,37 +17,40 @@ ghost use Rattle.mm_core.specs.Forgetting.{EndsWaits};
 ghost use Rattle.mm_core.specs.Stepping.{asks_frames};
 ghost use Rattle.mm_core.specs.Serving.{AskedFiles, AskedPaging, IsFailure, OneRose, Flushed, Named, is_grow, is_fail, FailedBefore};
 ghost use Rattle.mm_core.specs.Shown.{world as world_of};
-ghost use Rattle.mm_system.specs.Lines.{is_built, is_watched};
-ghost use Rattle.mm_system.specs.Live.{are_live};
-ghost use Rattle.mm_system.specs.Writes.{writes_of};
+ghost use Rattle.mm_system.specs.Lines.{is_machine, is_beside};
+ghost use Rattle.mm_system.specs.Live.{are_live, are_stacked};
+ghost use Rattle.mm_system.specs.Writes.{writes_of, writes_after};
 
-use crate::built::{either, other_line};
 use crate::kept_writes::KeptWrites;
+use crate::lines::decide;
 use crate::watching::{follow, take_room};
 use mm_core::World;
 use mm_pages::Pages;
+use mm_stack::Stacks;
 use mm_types::{Answer, Event, Machine, NoMemory};
 use mm_watch::Watch;
 use std::alloc::Global;
 
-/// A machine's address spaces over a store of their pages, with the watched regions beside them.
+/// A machine's address spaces over a store of their pages, with the watched regions and the stacks of threads beside them.
 ///
 /// After `NoMemory` it is spent: nothing is to be asked of it but its charge and its store.
 #[derive(Drop)]
 pub struct System<G: Pages> {
     /// The world that the lines change.
-    world: World<G>,
+    pub world: World<G>,
     watch: Watch,
+    stacks: Stacks,
     writes: KeptWrites,
     spent: bool,
     ghost ready: { spent ≡ false → world.spent ≡ false },
     ghost live: { are_live (world_of world) watch.watches ≡ true },
+    ghost stacked: { are_stacked (world_of world) stacks ≡ true },
     ghost kept: { writes ≡ writes_of (world_of world) },
     ghost tidy: { ∥ IsTidy (tables_of (world_of world)) ∥₁ },
 }
 
 impl<G: Pages> System<G> {
-    ghost use Rattle.mm_system.specs.Shown.{world, watches, system, report, behind, line_of, paging_device, file_device, file_blocks, loans};
+    ghost use Rattle.mm_system.specs.Shown.{world, watches, stacks, system, report, behind, line_of, paging_device, file_device, file_blocks, loans};
 
     /// The system after the `machine` line, over a new store of that machine.
     pub fn new(alloc: Global, machine: Machine, pages: G) -> System<G>
@@ -59,6 +62,7 @@ impl<G: Pages> System<G> {
         System {
             world: World::new(alloc, machine, pages),
             watch: Watch::new(alloc),
+            stacks: Stacks::new(),
             writes: KeptWrites::new(),
             spent: false,
         }
@@ -71,6 +75,7 @@ impl<G: Pages> System<G> {
         let System {
             world,
             watch: _,
+            stacks: _,
             writes: _,
             spent: _,
         } = self;
@@ -87,10 +92,12 @@ impl<G: Pages> System<G> {
     }
 
     /// Hands on what the type keeps: no two watched regions of a process share a page, and each is a private region of its
-    /// process, which lives. Does nothing.
+    /// process, which lives; so does the process of each stack, whose base is that of a private region of it, which holds its
+    /// guard page, above its base. Does nothing.
     pub fn sound(&self)
         ensures apart { AreApart (watches self.now) }
         ensures live { are_live (world self.now) (watches self.now) ≡ true }
+        ensures stacked { are_stacked (world self.now) (stacks self.now) ≡ true }
     {
         self.watch.regions_lie_apart();
     }
@@ -99,24 +106,26 @@ impl<G: Pages> System<G> {
     /// store's reports before and after it, and the system that there is then is the step's.
     ///
     /// `watch` is GetWriteWatch, `resetwatch` is ResetWriteWatch, and an `alloc` of the types 0x202000 and 0x203000 has
-    /// MEM_WRITE_WATCH. Each other line is decided by the world, as is what such an `alloc` does to it. `line` is the number
-    /// of the line in its script, where `machine` is line 1.
+    /// MEM_WRITE_WATCH; `stack` and `probe` are this profile's own. Each other line is decided by the world, as is what such an
+    /// `alloc` does to it. `line` is the number of the line in its script, where `machine` is line 1, which is no line for
+    /// this call.
     ///
-    /// `NoMemory` comes only from the lines from which it comes of a world. Then the system is as it was, and no further line
-    /// can be decided. An `alloc` of a watched region takes the room for its written pages first, so that in such a line want
-    /// of memory may come before a refusal. `watch` and `resetwatch` take no memory.
+    /// `NoMemory` comes only from the lines from which it comes of a world, and from `stack` and `probe`. Then the system is as
+    /// it was, and no further line can be decided. An `alloc` of a watched region takes the room for its written pages first,
+    /// so that in such a line want of memory may come before a refusal. `watch` and `resetwatch` take no memory.
     ///
     /// Over a store that pages, the line's piece of the log of moves is its `at` and the moves that its form allows (`paged`);
     /// after `NoMemory` it is an `at` alone, or empty (`broken`).
     pub fn step(&mut self, alloc: Global, line: u32, event: &Event) -> Result<Answer, NoMemory>
         requires well_formed { IsWellFormed event.now }
-        requires built { is_built event.now ≡ true }
+        requires later { is_machine event.now ≡ false }
         requires next { line ≡ line_of self.old + 1 }
         requires few { line ≤ 1000000 }
         requires ready { self.old.spent ≡ false }
         ensures step { IfOk result (λ a. system_step (system self.old) event.now (report self.old) (report self.new) ≡ record { answer = a; system = system self.new }) }
-        ensures told { G.unpaged ≡ true → asks_frames event.now ≡ false → is_watched event.now ≡ false → IfOk result (λ a. a ≢ answer.Fault → unpaged (world self.old) event.now ≡ record { answer = a; world = world self.new }) }
+        ensures told { G.unpaged ≡ true → asks_frames event.now ≡ false → is_beside event.now ≡ false → IfOk result (λ a. a ≢ answer.Fault → unpaged (world self.old) event.now ≡ record { answer = a; world = world self.new }) }
         ensures watched { IfOk result (λ a. watches self.new ≡ watches_after (world self.old) (watches self.old) event.now a) }
+        ensures kept { IfOk result (λ a. writes_of (world self.new) ≡ writes_after (writes_of (world self.old)) event.now a) }
         ensures had { IfOk result (λ a. HadRegion (watches self.old) event.now a) }
         ensures err { OnErr result (system self.new ≡ system self.old) }
         ensures leaves { IfOk result (λ a. SystemLeaves (system self.old) event.now (record { answer = a; system = system self.new })) }
@@ -147,8 +156,7 @@ impl<G: Pages> System<G> {
             self.spent = true;
             return Err(why);
         }
-        let other = other_line(event);
-        match self.world.step(alloc, line, either(&other, event)) {
+        match decide(&mut self.world, &mut self.stacks, alloc, line, event) {
             Ok(given) => {
                 let answer = follow(&mut self.watch, &self.writes, event, given);
                 self.writes.follow(event, &answer);

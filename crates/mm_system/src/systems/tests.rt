@@ -1,13 +1,13 @@
 ghost use Rattle.std.specs.Prelude.{◌≡◌, ◌≤◌, ◌+◌, [], ◌∷◌, true, false, IfOk, OnOk, length};
 ghost use Rattle.mm_script.specs.Printed.{IsWellFormed};
-ghost use Rattle.mm_system.specs.Lines.{is_built};
+ghost use Rattle.mm_system.specs.Lines.{is_machine};
 ghost use Rattle.mm_system.specs.Shown.{line_of};
 
-use crate::{System, is_built};
+use crate::System;
 use mm_blocks::{Blocks, Inject, Injected, MemBlocks};
 use mm_pages::Pages;
 use mm_plain::Plain;
-use mm_types::{AccessSpec, Answer, ByteBuf, Code, Event, Machine, NoMemory, Pid, Tid};
+use mm_types::{AccessSpec, Answer, ByteBuf, Code, Event, Machine, NoMemory, Pid, Raise, Tid};
 use std::alloc::Global;
 use std::process::Abort;
 use std::test::Fail;
@@ -24,7 +24,7 @@ fn decide<G: Pages>(
     event: &Event,
 ) -> Result<Answer, NoMemory>
     requires well_formed { IsWellFormed event.now }
-    requires built { is_built event.now ≡ true }
+    requires later { is_machine event.now ≡ false }
     requires next { line ≡ line_of system.old + 1 }
     requires few { line ≤ 1000000 }
     requires ready { system.old.spent ≡ false }
@@ -34,11 +34,11 @@ fn decide<G: Pages>(
     system.step(alloc, line, event)
 }
 
-// A machine with one process, and a watched region of four pages at 0x10000.
-fn watched<F: Inject + Drop>(alloc: Global, files: F) -> Result<System<Plain<F>>, NoMemory>
+// A machine with one process.
+fn with_process<F: Inject + Drop>(alloc: Global, files: F) -> Result<System<Plain<F>>, NoMemory>
     requires opened { length (F.Blocks.blocks files) ≡ 2 }
     requires plain { F.Blocks.named files ≡ [] }
-    ensures line { IfOk result (λ s. line_of s ≡ 3) }
+    ensures line { IfOk result (λ s. line_of s ≡ 2) }
     ensures ready { IfOk result (λ s. s.spent ≡ false) }
 {
     let machine = Machine::new(8, 8, 1, 2);
@@ -48,6 +48,17 @@ fn watched<F: Inject + Drop>(alloc: Global, files: F) -> Result<System<Plain<F>>
     };
     let mut system = System::new(alloc, machine, store);
     decide(alloc, &mut system, 2, &Event::Process(0, 8))?;
+    Ok(system)
+}
+
+// The same, with a watched region of four pages at 0x10000.
+fn watched<F: Inject + Drop>(alloc: Global, files: F) -> Result<System<Plain<F>>, NoMemory>
+    requires opened { length (F.Blocks.blocks files) ≡ 2 }
+    requires plain { F.Blocks.named files ≡ [] }
+    ensures line { IfOk result (λ s. line_of s ≡ 3) }
+    ensures ready { IfOk result (λ s. s.spent ≡ false) }
+{
+    let mut system = with_process(alloc, files)?;
     decide(
         alloc,
         &mut system,
@@ -152,10 +163,40 @@ fn written_pages_are_told(rt: HostRuntime) -> Result<(), Fail> {
     Ok(())
 }
 
+// A stack of 32 pages with ten of them committed, which grows until no commitment is left, and ends with its region.
+fn stack_answers<F: Inject + Drop>(
+    alloc: Global,
+    files: F,
+) -> Result<(Answer, Answer, Answer, Answer, (u32, u32)), NoMemory>
+    requires opened { length (F.Blocks.blocks files) ≡ 2 }
+    requires plain { F.Blocks.named files ≡ [] }
+{
+    let mut system = with_process(alloc, files)?;
+    let made = decide(
+        alloc,
+        &mut system,
+        3,
+        &Event::Stack(TID, PID, 0x20000, 0xA000),
+    )?;
+    let grown = decide(alloc, &mut system, 4, &Event::Probe(TID, 0x25000))?;
+    let full = decide(alloc, &mut system, 5, &Event::Probe(TID, 0x24000))?;
+    decide(alloc, &mut system, 6, &Event::Free(PID, 0x10000, 0, 0x8000))?;
+    let none = decide(alloc, &mut system, 7, &Event::Probe(TID, 0x24000))?;
+    let charge = system.charge();
+    let _files = system.finish().finish();
+    Ok((made, grown, full, none, charge))
+}
+
 #[test]
-fn forms_are_built_or_not(rt: HostRuntime) {
-    assert!(rt; is_built(&Event::Charge));
-    assert!(rt; is_built(&Event::ResetWatch(PID, 0x10000, 1)));
-    assert!(rt; is_built(&Event::Alloc(PID, 0, 1, 0x202000, 0x04)));
-    assert!(rt; !is_built(&Event::Probe(TID, 0x10000)));
+fn stacks_grow_and_end(rt: HostRuntime) -> Result<(), Fail> {
+    let mut memory = MemBlocks::new(rt.alloc(), Vec::new(rt.alloc()), 8)?;
+    let mut files = Injected::new(&mut memory);
+    files.open(2)?;
+    let (made, grown, full, none, charge) = stack_answers(rt.alloc(), files)?;
+    assert!(rt; matches!(made, Answer::Stack(0x10000, 0x20000, 0x25000)));
+    assert!(rt; matches!(grown, Answer::At(0x24000)));
+    assert!(rt; matches!(full, Answer::Raised(Raise::StackOverflow)));
+    assert!(rt; matches!(none, Answer::Nothing));
+    assert_eq!(rt; charge, (0, 12));
+    Ok(())
 }
