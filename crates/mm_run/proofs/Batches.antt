@@ -11,11 +11,10 @@ use Rattle.mm_types.specs.declared.answers.Answer.TheVariants as answer
 use Rattle.mm_types.specs.declared.events.Event.{Event}
 use Rattle.mm_types.specs.declared.events.Event.TheVariants as line
 use Rattle.mm_types.specs.declared.moves.Move.{Move}
-use Rattle.mm_world.specs.Charge.{charge, limit}
-use Rattle.mm_paging.specs.Runs.{Scene, first_move}
+use Rattle.mm_paging.specs.Runs.{first_move}
 use Rattle.mm_run.specs.declared.endings.Ending.{Ending}
 use Rattle.mm_run.specs.declared.endings.Ending.TheVariants as ending
-use Rattle.mm_run.specs.Scenes.{Outset, Stage, NotBegun, Running, Follows, HasNoted, log_of}
+use Rattle.mm_run.specs.Scenes.{Scene, Outset, Stage, NotBegun, Running, Follows, HasNoted, log_of}
 use Rattle.mm_run.specs.Steps.{IsMade, Moved, Breaks}
 use Rattle.mm_run.specs.Answered.{DecidedLine, last_stage, answers_of}
 use Rattle.mm_run.specs.Ends.{BreaksOff}
@@ -124,12 +123,12 @@ stopped_next s z y es left ok none event e failed h some (inr m) =
 limit_ok : (n : ℕ) → begins_ok (answer.Limit n) ≡ true
 limit_ok n = refl
 
-module _ (m : MachineOf) (o : Outset) (s : Scene) (made : IsMade m o s) (within : charge s.world ≤ limit s.world) where
+module _ (m : MachineOf) (o : Outset) (s : Scene) (made : IsMade m o s) where
   abbrev first_line : DecidedLine
   first_line = decided_event (line.Machine m) (answer.Limit (limit_of m)) (first_move m ∷ []) (NotBegun o) (Running s)
 
   first_next : IsEventNext (NotBegun o) first_line
-  first_next = record { follows = follows_here (NotBegun o); decided = first_answered m o s made within (limit_of m) refl }
+  first_next = record { follows = follows_here (NotBegun o); decided = first_answered m o s made (limit_of m) refl }
 
   counted_first : (p : Answer → Bool) (ls : List DecidedLine) → count_by p (answers_of (first_line ∷ ls)) ≡ cond (p (answer.Limit (limit_of m))) 1 0 + count_by p (answers_of ls)
   counted_first p ls = sum_by-cons (λ x. cond (p x) 1 0) (answer.Limit (limit_of m)) (answers_of ls)

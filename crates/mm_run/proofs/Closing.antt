@@ -6,7 +6,7 @@ use Rattle.mm_types.proofs.Bytes.{appended_then}
 use Rattle.mm_run.specs.declared.endings.Ending.{Ending}
 use Rattle.mm_run.specs.declared.endings.Ending.TheVariants as ending
 use Rattle.mm_types.specs.declared.answers.Answer.{Answer}
-use Rattle.mm_run.specs.Scenes.{Stage, NotBegun, Running, Follows}
+use Rattle.mm_run.specs.Scenes.{Stage, NotBegun, Running, Follows, outset}
 use Rattle.mm_run.specs.Answered.{last_stage, answers_of, moves_of}
 use Rattle.mm_run.specs.Texts.{last_text, Ends, TornText, IsOrFlush, status_of}
 use Rattle.mm_run.specs.Story.{Comes, Settles, outside, stand}
@@ -15,6 +15,7 @@ use Rattle.mm_run.specs.Ran.{Around, Ran, begun_at}
 use Rattle.mm_run.proofs.Ends.{whole, torn}
 use Rattle.mm_run.proofs.Logs.{all_logged, log_ran, log_left, holds_at_end}
 use Rattle.mm_run.proofs.Failures.{faultless}
+use Rattle.mm_run.proofs.WatchesTold.{watches_told}
 
 follows_done : (e : Ending) (n : ℕ) (front : Text) (last end : Stage) → e ≡ ending.Done → Closes e n front last end → Follows last end
 follows_done ending.Done n front last end q h = h
@@ -26,7 +27,6 @@ follows_done ending.OutFault n front last end q h = cc
 follows_done ending.MovesFault n front last end q h = cc
 follows_done ending.SetupFault n front last end q h = cc
 follows_done (ending.TooLong l) n front last end q h = cc
-follows_done ending.Unbuilt n front last end q h = cc
 
 module _ (a b : Around) (took : Option Text) (e : Ending) (form : Type 0) (yes_form : form → e ≢ ending.Usage) (not_form : (form → ⊥) → e ≡ ending.Usage) (h : Comes (outside a.left a.took) (outside b.left took) (stand [] 0 (begun_at a.beside)) e b.beside) where
   ran_by : (status : ℕ) (text : Text) → Appended took b.took text → Ends status e (answers_of h.came.decided.lines) (h.came.written ++ text) → Ran a b form status
@@ -38,6 +38,7 @@ module _ (a b : Around) (took : Option Text) (e : Ending) (form : Type 0) (yes_f
         lines = d.lines;
         answered = d.answered;
         limit = let l = d.limit in omega arith;
+        watches = λ before after l at. watches_told (outset a.beside.paging.faults a.beside.files.faults a.beside.moves a.beside.moves_faults) d.lines d.answered before after l at;
         e = e;
         taken = d.taken;
         front = d.front;
@@ -91,6 +92,7 @@ ran_counted a b form status result faults s first r = record {
   lines = r.lines;
   answered = r.answered;
   limit = r.limit;
+  watches = r.watches;
   e = r.e;
   taken = r.taken;
   front = r.front;

@@ -31,7 +31,6 @@ whole status ending.ReadFault answers written q five s = inl (q, (λ p. cc), beh
 whole status ending.MovesFault answers written q five s = inl (q, (λ p. cc), behind _ _ _ s)
 whole status (ending.TooLong l) answers written q five s = inl (q, (λ p. cc), behind _ _ _ s)
 whole status ending.SetupFault answers written q five s = inl (q, (λ p. cc), behind _ _ _ s)
-whole status ending.Unbuilt answers written q five s = inl (q, (λ p. cc), behind _ _ _ s)
 
 torn_last : (answers : List Answer) (written front back last : Text) → last ≡ front ++ back → written ≡ spelled answers → IsTorn (texts answers ++ last ∷ []) (written ++ front)
 torn_last answers written front back last e s = record {
@@ -60,7 +59,6 @@ torn ending.ReadFault answers written front back q s = inr (refl, inr (torn_last
 torn ending.MovesFault answers written front back q s = inr (refl, inr (torn_last answers written front back _ q s))
 torn (ending.TooLong l) answers written front back q s = inr (refl, inr (torn_last answers written front back _ q s))
 torn ending.SetupFault answers written front back q s = inr (refl, inr (torn_last answers written front back _ q s))
-torn ending.Unbuilt answers written front back q s = inr (refl, inr (torn_last answers written front back _ q s))
 
 module _ (opening : Type 0) (c d : Counts) where
   pub blamed_source : (e : Ending) → status_of e ≡ 4 → IsBlamed e opening c d → Rose c.source d.source
@@ -73,7 +71,6 @@ module _ (opening : Type 0) (c d : Counts) where
   blamed_source ending.MovesFault q b = absurd (omega arith)
   blamed_source ending.SetupFault q b = absurd (omega arith)
   blamed_source (ending.TooLong l) q b = absurd (omega arith)
-  blamed_source ending.Unbuilt q b = absurd (omega arith)
 
   pub blamed_out : (e : Ending) → status_of e ≡ 5 → IsBlamed e opening c d → Rose c.out d.out
   blamed_out ending.Done q b = absurd (omega arith)
@@ -85,7 +82,6 @@ module _ (opening : Type 0) (c d : Counts) where
   blamed_out ending.MovesFault q b = absurd (omega arith)
   blamed_out ending.SetupFault q b = absurd (omega arith)
   blamed_out (ending.TooLong l) q b = absurd (omega arith)
-  blamed_out ending.Unbuilt q b = absurd (omega arith)
 
   pub blamed_moves : (e : Ending) → status_of e ≡ 6 → IsBlamed e opening c d → Rose c.moves d.moves
   blamed_moves ending.Done q b = absurd (omega arith)
@@ -97,7 +93,6 @@ module _ (opening : Type 0) (c d : Counts) where
   blamed_moves ending.MovesFault q b = b
   blamed_moves ending.SetupFault q b = absurd (omega arith)
   blamed_moves (ending.TooLong l) q b = absurd (omega arith)
-  blamed_moves ending.Unbuilt q b = absurd (omega arith)
 
   pub blamed_opening : (e : Ending) → status_of e ≡ 7 → IsBlamed e opening c d → opening
   blamed_opening ending.Done q b = absurd (omega arith)
@@ -109,7 +104,6 @@ module _ (opening : Type 0) (c d : Counts) where
   blamed_opening ending.MovesFault q b = absurd (omega arith)
   blamed_opening ending.SetupFault q b = b
   blamed_opening (ending.TooLong l) q b = absurd (omega arith)
-  blamed_opening ending.Unbuilt q b = absurd (omega arith)
 
 -- counts that were less before
 pub blamed_from : (e : Ending) (opening : Type 0) (c m d : Counts) → c.source ≤ m.source → c.out ≤ m.out → c.moves ≤ m.moves → IsBlamed e opening m d → IsBlamed e opening c d
@@ -122,7 +116,6 @@ blamed_from ending.OutFault opening c m d s o v b = rose_later c.out m.out d.out
 blamed_from ending.MovesFault opening c m d s o v b = rose_later c.moves m.moves d.moves v b
 blamed_from ending.SetupFault opening c m d s o v b = b
 blamed_from (ending.TooLong l) opening c m d s o v b = tt
-blamed_from ending.Unbuilt opening c m d s o v b = tt
 
 -- nothing is to be blamed on a device that was opened
 pub blamed_beside : (e : Ending) (opening : Type 0) (c d : Counts) → IsBlamed e ⊥ c d → IsBlamed e opening c d
@@ -135,4 +128,3 @@ blamed_beside ending.OutFault opening c d b = b
 blamed_beside ending.MovesFault opening c d b = b
 blamed_beside ending.SetupFault opening c d b = absurd b
 blamed_beside (ending.TooLong l) opening c d b = tt
-blamed_beside ending.Unbuilt opening c d b = tt

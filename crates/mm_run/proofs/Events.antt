@@ -28,4 +28,3 @@ closed_of ending.ReadFault n front last end h = h
 closed_of ending.OutFault n front last end h = h
 closed_of ending.SetupFault n front last end h = h
 closed_of (ending.TooLong l) n front last end h = h
-closed_of ending.Unbuilt n front last end h = h

@@ -14,14 +14,13 @@ use Rattle.mm_life.specs.Replay.{Replays}
 use Rattle.mm_laws.specs.Sound.{Sound}
 use Rattle.mm_laws.proofs.Kept.{kept_along, replay_sound}
 use Rattle.mm_blocks.specs.Devices.{DeviceOf}
-use Rattle.mm_world.specs.World.{World}
+use Rattle.mm_world.specs.System.{System}
 use Rattle.mm_world.specs.Failure.{wait_failed}
 use Rattle.mm_walks.specs.Waits.{wait_of}
-use Rattle.mm_paging.specs.Runs.{Scene}
 use Rattle.mm_core.specs.Serving.{IsFailure, OneRose, HasFailed, resumed_thread, is_fail}
 use Rattle.mm_run.specs.declared.endings.Ending.{Ending}
 use Rattle.mm_run.specs.declared.endings.Ending.TheVariants as ending
-use Rattle.mm_run.specs.Scenes.{Outset, Stage, NotBegun, Running, Follows}
+use Rattle.mm_run.specs.Scenes.{Scene, Outset, Stage, NotBegun, Running, Follows}
 use Rattle.mm_run.specs.Steps.{Begins, Decides, IsDecided}
 use Rattle.mm_run.specs.Answered.{DecidedLine, AreAnswered, last_stage, NamesNone, NoneNames, NoneFails}
 use Rattle.mm_run.specs.Ends.{Left, Leaves, Closes, BreaksAt}
@@ -72,9 +71,9 @@ RoseTo o s = Rose o.paging s.paging.faults ⊎ Rose o.files s.files.faults
 
 -- no call was named so far, and no read failed that a thread waits for but where a device's count rose
 record Calm (o : Outset) (s : Scene) : Type 0 where
-  pub none : s.world.fails_taken ≡ 0
-  pub paging_named : length s.paging.named ≤ s.world.fails_taken
-  pub files_named : length s.files.named ≤ s.world.fails_taken
+  pub none : s.system.world.fails_taken ≡ 0
+  pub paging_named : length s.paging.named ≤ s.system.world.fails_taken
+  pub files_named : length s.files.named ≤ s.system.world.fails_taken
   pub paging_later : o.paging ≤ s.paging.faults
   pub files_later : o.files ≤ s.files.faults
   pub sound : Sound s.behind.life
@@ -94,14 +93,14 @@ module _ (o : Outset) (s z : Scene) (e : Event) (a : Answer) (ms : List Move) (d
   calm_line u =
       let p = d.paging_later in let f = d.files_later in let po = calm.paging_later in let fo = calm.files_later in
       record {
-        none = count_stays s.world z.world e a s.report z.report (names_not_ok e a u) d.answered ∙ calm.none;
+        none = count_stays s.system z.system e a s.report z.report (names_not_ok e a u) d.answered ∙ calm.none;
         paging_named = d.few_paging;
         files_named = d.few_files;
         paging_later = omega arith;
         files_later = omega arith;
         sound = kept_along ms s.behind.life z.behind.life calm.sound replays;
         waits_are = d.line.agrees.waits;
-        lost = λ t h. elim (lost_line s.world s.report s.behind s.paging s.files e a ms z.world z.report z.behind z.paging z.files d.line calm.sound replays t h) [
+        lost = λ t h. elim (lost_line s.system.world s.report s.behind s.paging s.files e a ms z.system.world z.report z.behind z.paging z.files d.line calm.sound replays t h) [
           | inl was ↦ rose_on o s z p f (calm.lost t was)
           | inr rose ↦ rose_from o s z po fo rose
         ];
@@ -193,11 +192,11 @@ quiet o s (l ∷ ls) c u none =
 first_calm : (o : Outset) (e : Event) (a : Answer) (ms : List Move) (s : Scene) → Begins o e a ms s → Replays ms unstarted s.behind.life → Calm o s
 first_calm o e a ms s b r =
     let f = b.first in
-    let world = ap (λ (w : World). w.fails_taken) f.world in
+    let taken = ap (λ (x : System). x.world.fails_taken) f.system in
     let pn = ap length f.paging.none_named in
     let fn = ap length f.files.none_named in
     record {
-      none = world;
+      none = taken;
       paging_named = omega (arith, pn);
       files_named = omega (arith, fn);
       paging_later = f.paging.later;
@@ -273,7 +272,6 @@ closes_end o s ending.ReadFault end c h none = follows_end o s end c h
 closes_end o s ending.OutFault end c h none = follows_end o s end c h
 closes_end o s ending.SetupFault end c h none = follows_end o s end c h
 closes_end o s (ending.TooLong l) end c h none = follows_end o s end c h
-closes_end o s ending.Unbuilt end c h none = follows_end o s end c h
 
 abbrev outset_in : Outset → Stage → Outset
 outset_in o (NotBegun q) = q

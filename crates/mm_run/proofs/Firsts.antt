@@ -14,13 +14,14 @@ use Rattle.mm_types.specs.declared.answers.Answer.TheVariants as answer
 use Rattle.mm_types.specs.declared.events.Event.TheVariants as line
 use Rattle.mm_types.specs.Machine.{MachineOf, limit_of}
 use Rattle.mm_world.specs.Charge.{charge, limit}
-use Rattle.mm_paging.specs.Runs.{Scene, first_move}
+use Rattle.mm_world.specs.System.{System, first_system}
+use Rattle.mm_paging.specs.Runs.{first_move}
 use Rattle.mm_types.specs.declared.moves.Move.{Move}
 use Rattle.mm_run.specs.declared.endings.Ending.{Ending}
 use Rattle.mm_run.specs.declared.endings.Ending.TheVariants as ending
-use Rattle.mm_run.specs.Built.{is_built}
-use Rattle.mm_run.specs.Reading.{reading, read_first, read_later, is_machine, is_machine_word, without_return}
-use Rattle.mm_run.specs.Scenes.{Outset, Stage, NotBegun, Running, HasNoted, log_of}
+use Rattle.mm_system.specs.Lines.{is_machine}
+use Rattle.mm_run.specs.Reading.{reading, read_first, read_later, is_machine_word, without_return}
+use Rattle.mm_run.specs.Scenes.{Scene, Outset, Stage, NotBegun, Running, HasNoted, log_of}
 use Rattle.mm_run.specs.Steps.{IsDecided, IsMade}
 use Rattle.mm_run.specs.Texts.{TornText}
 use Rattle.mm_run.specs.Answered.{DecidedLine, IsNext}
@@ -50,23 +51,27 @@ first_is b (Ok x) e q = elim (is_machine x) as (λ m. is_machine x ≡ m → is_
 pub first_machine : (text : Text) (e : Event) → reading 0 text ≡ Ok e → is_machine e ≡ true
 first_machine text e q = first_is (is_machine_word (without_return text)) (parse text) e q
 
+-- nothing is charged before the first line
+within_first : (m : MachineOf) (s : Scene) → s.system ≡ first_system m → charge s.system.world ≤ limit s.system.world
+within_first m s e = subst (λ (y : System). charge y.world ≤ limit y.world) (sym e) (omega arith)
+
 -- the first line is decided
-pub first_answered : (m : MachineOf) (o : Outset) (s : Scene) → IsMade m o s → charge s.world ≤ limit s.world → (n : ℕ) → n ≡ limit_of m → IsDecided (NotBegun o) (line.Machine m) (answer.Limit n) (first_move m ∷ []) (Running s)
-first_answered m o s made within n e = record {
+pub first_answered : (m : MachineOf) (o : Outset) (s : Scene) → IsMade m o s → (n : ℕ) → n ≡ limit_of m → IsDecided (NotBegun o) (line.Machine m) (answer.Limit n) (first_move m ∷ []) (Running s)
+first_answered m o s made n e = record {
   step = record { machine = m; names = refl; answered = ap (λ k. answer.Limit k) e; one = refl; first = made.first };
-  within = within;
+  within = within_first m s made.first.system;
   notes = made.notes;
   holds = made.holds;
 }
 
 -- a decided line was answered, whole or torn, or was muted
 module _ (held : Text) (len n : ℕ) (h : HasLine held len) (small : n < 1000000) (behind : length held < len + 1 + 4096) where
-  module _ (a t t' : Option Text) (w w' : Stage) (event : Event) (said : Answer) (moves : List Move) (p : reading n (take len held) ≡ Ok event) (g : IsLineFor (take len held) event) (q : is_built event ≡ true) (s : IsDecided w event said moves w') where
+  module _ (a t t' : Option Text) (w w' : Stage) (event : Event) (said : Answer) (moves : List Move) (p : reading n (take len held) ≡ Ok event) (g : IsLineFor (take len held) event) (s : IsDecided w event said moves w') where
     abbrev one : DecidedLine
     one = record { text = take len held; event = event; answer = said; moves = moves; before = w; after = w' }
 
     next : IsNext n w one
-    next = record { follows = follows_here w; says = record { is_line = is_line held len n h small behind; says = p; built = q; grammar = g }; decided = s }
+    next = record { follows = follows_here w; says = record { is_line = is_line held len n h small behind; says = p; grammar = g }; decided = s }
 
     pub told_muted : t' ≡ t → (log_of w').failed ≡ true → Came (outside a t) (outside a t') (stand held n w) ending.MovesFault w'
     told_muted still failed = came_muted held len n h small behind a t t' w one refl next still failed

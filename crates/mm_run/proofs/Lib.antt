@@ -18,3 +18,6 @@ pub mod Drawn
 pub mod Events
 pub mod Tallies
 pub mod ThreeWords
+pub mod WrittenPages
+pub mod WatchLines
+pub mod WatchesTold

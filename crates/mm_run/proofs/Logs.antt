@@ -149,7 +149,6 @@ module _ (old last : Stage) (moves : List Move) (l : Logged old moves last) (sta
   log_closed ending.OutFault end h = log_whole ending.OutFault end h
   log_closed ending.SetupFault end h = log_whole ending.SetupFault end h
   log_closed (ending.TooLong l) end h = log_whole (ending.TooLong l) end h
-  log_closed ending.Unbuilt end h = log_whole ending.Unbuilt end h
 
   pub log_ran : (e : Ending) (n : ℕ) (front : Text) (end : Stage) → Closes e n front last end → LogRan (log_of old).bytes (log_of end).bytes moves e last end
   log_ran e n front end h = log_closed e end (closed_of e n front last end h)
@@ -170,8 +169,8 @@ holds_follows a b f h = subst HoldsUnchanged (sym f.same) (holds_with (log_of b)
 ends_holding : (end : Stage) (x : Left) → Leaves end x → HoldsUnchanged end → EndsHolding end x.paging.blocks x.files.blocks
 ends_holding (NotBegun o) x l h = tt
 ends_holding (Running s) x l h =
-    subst (λ (b : List Page). DevicesHold s.world s.behind.life x.paging.blocks b) l.2.blocks_are
-    (subst (λ (b : List Page). DevicesHold s.world s.behind.life b s.blocks) l.1.blocks_are h)
+    subst (λ (b : List Page). DevicesHold s.system.world s.behind.life x.paging.blocks b) l.2.blocks_are
+    (subst (λ (b : List Page). DevicesHold s.system.world s.behind.life b s.blocks) l.1.blocks_are h)
 
 pub events_hold : (old : Stage) (lines : List DecidedLine) (end : Stage) (x : Left) → HoldsUnchanged old → AreDecided old lines → Follows (last_stage old lines) end → Leaves end x → EndsHolding end x.paging.blocks x.files.blocks
 events_hold old lines end x h u f l = ends_holding end x l (holds_follows (last_stage old lines) end f (holds_last old lines h u))

@@ -1,6 +1,6 @@
 -- A script comes to one thing.
 use Rattle.std.proofs.Common.{◌≡◌, ◌≢◌, ◌⊎◌, ℕ, ◌+◌, ◌<◌, ◌≤◌, suc, List, [], ◌∷◌, ◌++◌, length, Option, Some, None, refl, sym, ap, ◌∙◌, subst, inl, inr, arith, append_assoc, length-append}
-use Rattle.std.specs.Prelude.{Result, Ok, Err, true, false, map}
+use Rattle.std.specs.Prelude.{Result, Ok, Err, map}
 use Rattle.mm_types.specs.Outside.{Appended, Took}
 use Rattle.mm_types.specs.Spelling.{Text}
 use Rattle.mm_types.specs.AnswerText.{spelled}
@@ -8,12 +8,11 @@ use Rattle.mm_lines.specs.Lines.{NoFeed, IsLine, ended, joined}
 use Rattle.mm_types.specs.declared.events.Event.{Event}
 use Rattle.mm_run.specs.declared.endings.Ending.{Ending}
 use Rattle.mm_run.specs.declared.endings.Ending.TheVariants as ending
-use Rattle.mm_run.specs.Built.{is_built}
 use Rattle.mm_run.specs.Reading.{reading}
 use Rattle.mm_run.specs.Scenes.{Stage}
 use Rattle.mm_run.specs.Answered.{DecidedLine, AreAnswered, texts_of, answers_of}
 use Rattle.mm_run.specs.Texts.{status_of, last_text}
-use Rattle.mm_run.specs.Story.{Settles, IsBad, IsOpen, IsUnbuilt}
+use Rattle.mm_run.specs.Story.{Settles, IsBad, IsOpen}
 use Rattle.mm_run.specs.Ran.{Around, Ran, begun_at}
 use Rattle.mm_run.specs.Script.{Each, IsVerdict, IsScript, IsFault, IsComplete}
 
@@ -49,34 +48,28 @@ column_of : Result Event ℕ → ℕ
 column_of (Ok e) = 0
 column_of (Err column) = column
 
--- A line in the grammar, of a form that is built, settles nothing.
-goes_on : (n : ℕ) (l r front more : Text) (e : Ending) (event : Event) → n < 1000000 → IsLine l → reading n l ≡ Ok event → is_built event ≡ true → IsVerdict e → Settles n front more (Some []) e → ended l ++ r ≡ front ++ more → ⊥
-goes_on n l r front more ending.Done event few line p b v s q =
+-- A line in the grammar settles nothing.
+goes_on : (n : ℕ) (l r front more : Text) (e : Ending) (event : Event) → n < 1000000 → IsLine l → reading n l ≡ Ok event → IsVerdict e → Settles n front more (Some []) e → ended l ++ r ≡ front ++ more → ⊥
+goes_on n l r front more ending.Done event few line p v s q =
     let len = ap length q in
     omega (arith, len, length-append (ended l) r, length-append l (10 ∷ []), length-append front more, ap length s.1, ap length s.2)
-goes_on n l r front more (ending.Script number column) event few line p b v s q = elim s.2 [
+goes_on n l r front more (ending.Script number column) event few line p v s q = elim s.2 [
   | inl bad ↦ (let same = same_line l bad.line front r more line.no_feed bad.is_line.no_feed bad.whole q in
       let clash : Ok event ≡ Err column = sym p ∙ ap (reading n) same ∙ bad.place in cc)
   | inr open_ ↦ (let le = front_short l front r more open_.is_line.no_feed (sym (feed_then l r) ∙ q) in
       let len = ap length q in
       omega (arith, len, length-append (ended l) r, length-append l (10 ∷ []), length-append front more, ap length open_.last))
 ]
-goes_on n l r front more (ending.TooLong number) event few line p b v s q = elim s.1 [
+goes_on n l r front more (ending.TooLong number) event few line p v s q = elim s.1 [
   | inl long ↦ (let le = front_short l front r more long.1 (sym (feed_then l r) ∙ q) in let short = line.short in let many = long.0 in omega arith)
   | inr full ↦ (let all = full.0 in omega arith)
 ]
-goes_on n l r front more ending.Unbuilt event few line p b v s q =
-    let u = s.1 in
-    let same = same_line l u.line front r more line.no_feed u.is_line.no_feed u.whole q in
-    let events : Ok event ≡ Ok u.event = sym p ∙ ap (reading n) same ∙ u.says in
-    let event_is : event ≡ u.event = cc in
-    let clash : true ≡ false = sym b ∙ ap is_built event_is ∙ u.unbuilt in cc
-goes_on n l r front more ending.NoMemory event few line p b v s q = v
-goes_on n l r front more ending.Usage event few line p b v s q = v
-goes_on n l r front more ending.ReadFault event few line p b v s q = v
-goes_on n l r front more ending.OutFault event few line p b v s q = v
-goes_on n l r front more ending.MovesFault event few line p b v s q = v
-goes_on n l r front more ending.SetupFault event few line p b v s q = v
+goes_on n l r front more ending.NoMemory event few line p v s q = v
+goes_on n l r front more ending.Usage event few line p v s q = v
+goes_on n l r front more ending.ReadFault event few line p v s q = v
+goes_on n l r front more ending.OutFault event few line p v s q = v
+goes_on n l r front more ending.MovesFault event few line p v s q = v
+goes_on n l r front more ending.SetupFault event few line p v s q = v
 
 bad_and_long : (n : ℕ) (front more front' more' : Text) (column : ℕ) → front ++ more ≡ front' ++ more' → n < 1000000 → IsBad n front column ⊎ IsOpen n front more (Some []) column
     → ((length front' ≡ 257) × NoFeed front') ⊎ ((n ≡ 1000000) × (length front' ≡ 1)) → ⊥
@@ -87,13 +80,6 @@ bad_and_long n front more front' more' column q few (inr o) (inl long) =
     let short = o.is_line.short in let many = long.0 in
     omega (arith, ap length q, length-append front more, length-append front' more', ap length o.last)
 bad_and_long n front more front' more' column q few b (inr full) = let all = full.0 in omega arith
-
-unbuilt_and_long : (n : ℕ) (front more front' more' : Text) → front ++ more ≡ front' ++ more' → n < 1000000 → IsUnbuilt n front
-    → ((length front' ≡ 257) × NoFeed front') ⊎ ((n ≡ 1000000) × (length front' ≡ 1)) → ⊥
-unbuilt_and_long n front more front' more' q few u (inl long) =
-    let le = front_short u.line front' more more' long.1 (sym (feed_then u.line more) ∙ ap (λ xs. xs ++ more) (sym u.whole) ∙ q) in
-    let short = u.is_line.short in let many = long.0 in omega arith
-unbuilt_and_long n front more front' more' q few u (inr full) = let all = full.0 in omega arith
 
 -- a whole line, and bytes without one up to the end
 whole_and_open : (n : ℕ) (line front more front' more' : Text) (column : ℕ) → front ++ more ≡ front' ++ more' → front ≡ ended line → IsOpen n front' more' (Some []) column → ⊥
@@ -117,12 +103,6 @@ one_column n front more front' more' column column' q (inr o) (inr i) =
     let a = o.place in let b = i.place in
     omega (arith, ap length q, length-append front more, length-append front' more', ap length o.last, ap length i.last)
 
-bad_and_unbuilt : (n : ℕ) (front more front' more' : Text) (column : ℕ) → front ++ more ≡ front' ++ more' → IsBad n front column ⊎ IsOpen n front more (Some []) column → IsUnbuilt n front' → ⊥
-bad_and_unbuilt n front more front' more' column q (inl b) u =
-    let same = two_whole b.line u.line front more front' more' q b.is_line u.is_line b.whole u.whole in
-    let clash : Err column ≡ Ok u.event = sym b.place ∙ ap (reading n) same ∙ u.says in cc
-bad_and_unbuilt n front more front' more' column q (inr o) u = whole_and_open n u.line front' more' front more column (sym q) u.whole o
-
 done_and_bad : (n : ℕ) (front more front' more' : Text) (column : ℕ) → front ≡ [] → more ≡ [] → front ++ more ≡ front' ++ more' → 0 < n → IsBad n front' column ⊎ IsOpen n front' more' (Some []) column → ⊥
 done_and_bad n front more front' more' column f m q some (inl bad) =
     omega (arith, ap length f, ap length m, ap length q, length-append front more, length-append front' more', ap length bad.whole, length-append bad.line (10 ∷ []))
@@ -130,10 +110,6 @@ done_and_bad n front more front' more' column f m q some (inr o) = elim o.some [
   | inl s ↦ omega (arith, ap length f, ap length m, ap length q, length-append front more, length-append front' more')
   | inr z ↦ omega arith
 ]
-
-done_and_unbuilt : (n : ℕ) (front more front' more' : Text) → front ≡ [] → more ≡ [] → front ++ more ≡ front' ++ more' → IsUnbuilt n front' → ⊥
-done_and_unbuilt n front more front' more' f m q u =
-    omega (arith, ap length f, ap length m, ap length q, length-append front more, length-append front' more', ap length u.whole, length-append u.line (10 ∷ []))
 
 done_and_long : (n : ℕ) (front more front' more' : Text) → front ≡ [] → more ≡ [] → front ++ more ≡ front' ++ more' → ((length front' ≡ 257) × NoFeed front') ⊎ ((n ≡ 1000000) × (length front' ≡ 1)) → ⊥
 done_and_long n front more front' more' f m q (inl long) = let many = long.0 in omega (arith, ap length f, ap length m, ap length q, length-append front more, length-append front' more')
@@ -143,20 +119,13 @@ one_ending : (n : ℕ) (front more front' more' : Text) (e f : Ending) → front
 one_ending n x y x' y' ending.Done ending.Done q v w s t = refl
 one_ending n x y x' y' ending.Done (ending.Script l c) q v w s t = absurd (done_and_bad n x y x' y' c s.1 s.2 q s.0 t.2)
 one_ending n x y x' y' ending.Done (ending.TooLong l) q v w s t = absurd (done_and_long n x y x' y' s.1 s.2 q t.1)
-one_ending n x y x' y' ending.Done ending.Unbuilt q v w s t = absurd (done_and_unbuilt n x y x' y' s.1 s.2 q t.1)
 one_ending n x y x' y' (ending.Script l c) ending.Done q v w s t = absurd (done_and_bad n x' y' x y c t.1 t.2 (sym q) t.0 s.2)
 one_ending n x y x' y' (ending.Script l c) (ending.Script k d) q v w s t =
     ap (λ m. ending.Script m c) (s.0 ∙ sym t.0) ∙ ap (λ m. ending.Script k m) (one_column n x y x' y' c d q s.2 t.2)
 one_ending n x y x' y' (ending.Script l c) (ending.TooLong k) q v w s t = absurd (bad_and_long n x y x' y' c q s.1 s.2 t.1)
-one_ending n x y x' y' (ending.Script l c) ending.Unbuilt q v w s t = absurd (bad_and_unbuilt n x y x' y' c q s.2 t.1)
 one_ending n x y x' y' (ending.TooLong l) ending.Done q v w s t = absurd (done_and_long n x' y' x y t.1 t.2 (sym q) s.1)
 one_ending n x y x' y' (ending.TooLong l) (ending.Script k d) q v w s t = absurd (bad_and_long n x' y' x y d (sym q) t.1 t.2 s.1)
 one_ending n x y x' y' (ending.TooLong l) (ending.TooLong k) q v w s t = ap (λ m. ending.TooLong m) (s.0 ∙ sym t.0)
-one_ending n x y x' y' (ending.TooLong l) ending.Unbuilt q v w s t = absurd (unbuilt_and_long n x' y' x y (sym q) t.0 t.1 s.1)
-one_ending n x y x' y' ending.Unbuilt ending.Done q v w s t = absurd (done_and_unbuilt n x' y' x y t.1 t.2 (sym q) s.1)
-one_ending n x y x' y' ending.Unbuilt (ending.Script k d) q v w s t = absurd (bad_and_unbuilt n x' y' x y d (sym q) t.2 s.1)
-one_ending n x y x' y' ending.Unbuilt (ending.TooLong k) q v w s t = absurd (unbuilt_and_long n x y x' y' q s.0 s.1 t.1)
-one_ending n x y x' y' ending.Unbuilt ending.Unbuilt q v w s t = refl
 one_ending n x y x' y' ending.NoMemory f q v w s t = absurd v
 one_ending n x y x' y' ending.Usage f q v w s t = absurd v
 one_ending n x y x' y' ending.ReadFault f q v w s t = absurd v
@@ -178,11 +147,11 @@ one_from n [] [] es gs x y x' y' e f q u v a b s r p w =
     (refl, one_ending (n + 0) x y x' y' e f q p w s r)
 one_from n [] (k ∷ ks) es (g ∷ gs) x y x' y' e f q u v a b s r p w =
     let here : n + 0 ≡ n = omega arith in
-    absurd (goes_on n k (joined ks ++ (x' ++ y')) x y e g (omega arith) v.0.is_line v.0.says v.0.built p (subst (λ (m : ℕ). Settles m x y (Some []) e) here s) (sym (q ∙ append_assoc (ended k) (joined ks) (x' ++ y'))))
+    absurd (goes_on n k (joined ks ++ (x' ++ y')) x y e g (omega arith) v.0.is_line v.0.says p (subst (λ (m : ℕ). Settles m x y (Some []) e) here s) (sym (q ∙ append_assoc (ended k) (joined ks) (x' ++ y'))))
 one_from n [] (k ∷ ks) es [] x y x' y' e f q u v a b s r p w = absurd v
 one_from n (l ∷ ls) [] (g ∷ es) gs x y x' y' e f q u v a b s r p w =
     let here : n + 0 ≡ n = omega arith in
-    absurd (goes_on n l (joined ls ++ (x ++ y)) x' y' f g (omega arith) u.0.is_line u.0.says u.0.built w (subst (λ (m : ℕ). Settles m x' y' (Some []) f) here r) (sym (append_assoc (ended l) (joined ls) (x ++ y)) ∙ q))
+    absurd (goes_on n l (joined ls ++ (x ++ y)) x' y' f g (omega arith) u.0.is_line u.0.says w (subst (λ (m : ℕ). Settles m x' y' (Some []) f) here r) (sym (append_assoc (ended l) (joined ls) (x ++ y)) ∙ q))
 one_from n (l ∷ ls) [] [] gs x y x' y' e f q u v a b s r p w = absurd u
 one_from n (l ∷ ls) (k ∷ ks) [] gs x y x' y' e f q u v a b s r p w = absurd u
 one_from n (l ∷ ls) (k ∷ ks) (h ∷ es) [] x y x' y' e f q u v a b s r p w = absurd v
@@ -210,7 +179,6 @@ settles_all n x y rest (ending.Script l c) v s = (
   ],
 )
 settles_all n x y rest (ending.TooLong l) v s = s
-settles_all n x y rest ending.Unbuilt v s = s
 settles_all n x y rest ending.NoMemory v s = absurd v
 settles_all n x y rest ending.Usage v s = absurd v
 settles_all n x y rest ending.ReadFault v s = absurd v
@@ -233,7 +201,6 @@ verdict_or : (e : Ending) → e ≢ ending.Usage → IsVerdict e ⊎ IsFault (st
 verdict_or ending.Done u = inl tt
 verdict_or (ending.Script l c) u = inl tt
 verdict_or (ending.TooLong l) u = inl tt
-verdict_or ending.Unbuilt u = inl tt
 verdict_or ending.NoMemory u = inr (inl refl)
 verdict_or ending.Usage u = absurd (u refl)
 verdict_or ending.ReadFault u = inr (inr (inl refl))
@@ -246,7 +213,6 @@ usage_only ending.Usage q = refl
 usage_only ending.Done q = absurd (omega arith)
 usage_only (ending.Script l c) q = absurd (omega arith)
 usage_only (ending.TooLong l) q = absurd (omega arith)
-usage_only ending.Unbuilt q = absurd (omega arith)
 usage_only ending.NoMemory q = absurd (omega arith)
 usage_only ending.ReadFault q = absurd (omega arith)
 usage_only ending.OutFault q = absurd (omega arith)

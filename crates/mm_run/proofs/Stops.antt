@@ -1,7 +1,7 @@
 -- What a run comes to, at one line.
 use Rattle.std.proofs.Common.{◌≡◌, ◌⊎◌, ℕ, suc, ◌+◌, ◌<◌, ◌≤◌, [], ◌∷◌, ◌++◌, length, take, drop, Option, refl, sym, ap, ◌∙◌, subst, inl, inr, arith, append_assoc, length-append, add-zero, add-one, length-drop}
 use Rattle.std.proofs.lemmas.List.{length-take}
-use Rattle.std.specs.Prelude.{Ok, Err, true, false}
+use Rattle.std.specs.Prelude.{Ok, Err, true}
 use Rattle.mm_types.specs.Outside.{Appended, IsEnd}
 use Rattle.mm_types.specs.Spelling.{Text}
 use Rattle.mm_types.specs.AnswerText.{spelling}
@@ -11,12 +11,11 @@ use Rattle.mm_lines.specs.Looking.{HasLine, IsLong}
 use Rattle.mm_lines.specs.Filling.{Filled}
 use Rattle.mm_lines.proofs.Fillings.{filled_none}
 use Rattle.mm_types.specs.declared.events.Event.{Event}
-use Rattle.mm_paging.specs.Runs.{Scene}
-use Rattle.mm_run.specs.Scenes.{Stage, Running, HasNoted, Follows, log_of}
+use Rattle.mm_run.specs.Scenes.{Scene, Stage, Running, HasNoted, Follows, log_of}
 use Rattle.mm_run.specs.declared.endings.Ending.{Ending}
 use Rattle.mm_run.specs.declared.endings.Ending.TheVariants as ending
-use Rattle.mm_run.specs.Built.{is_built}
-use Rattle.mm_run.specs.Reading.{reading, is_machine}
+use Rattle.mm_system.specs.Lines.{is_machine}
+use Rattle.mm_run.specs.Reading.{reading}
 use Rattle.mm_run.specs.Steps.{Breaks}
 use Rattle.mm_run.specs.Answered.{DecidedLine, IsNext}
 use Rattle.mm_script.specs.Grammar.{IsLine as IsLineFor}
@@ -66,11 +65,6 @@ module _ (held : Text) (len n : ℕ) (h : HasLine held len) (small : n < 1000000
   came_bad a t w column p r =
       came_here a a t held held n w w _ (ended (take len held)) _ (filled_none a held) split (omega arith)
       (refl, small, inl (record { line = take len held; is_line = is_line; whole = refl; place = p; refused = r })) few refl (follows_here w)
-
-  pub came_unbuilt : (a t : Option Text) (w : Stage) (event : Event) → reading n (take len held) ≡ Ok event → IsLineFor (take len held) event → is_built event ≡ false → Came (outside a t) (outside a t) (stand held n w) ending.Unbuilt w
-  came_unbuilt a t w event p g q =
-      came_here a a t held held n w w _ (ended (take len held)) _ (filled_none a held) split (omega arith)
-      (small, record { line = take len held; event = event; is_line = is_line; whole = refl; says = p; grammar = g; unbuilt = q }) few refl (follows_here w)
 
   pub came_memory : (a t : Option Text) (w end : Stage) → Closes ending.NoMemory n (ended (take len held)) w end → Came (outside a t) (outside a t) (stand held n w) ending.NoMemory end
   came_memory a t w end closes = came_here a a t held held n w end _ (ended (take len held)) _ (filled_none a held) split (omega arith) width few refl closes

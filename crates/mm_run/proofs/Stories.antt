@@ -8,10 +8,9 @@ use Rattle.mm_types.proofs.Bytes.{append_nil, took_then, took_none, appended_non
 use Rattle.mm_lines.specs.Lines.{ended, joined}
 use Rattle.mm_lines.specs.Filling.{Filled}
 use Rattle.mm_types.specs.declared.answers.Answer.{Answer}
-use Rattle.mm_paging.specs.Runs.{Scene}
 use Rattle.mm_run.specs.declared.endings.Ending.{Ending}
 use Rattle.mm_run.specs.declared.endings.Ending.TheVariants as ending
-use Rattle.mm_run.specs.Scenes.{Outset, Stage, NotBegun, Running, Follows, with_faults, log_of, life_of}
+use Rattle.mm_run.specs.Scenes.{Scene, Outset, Stage, NotBegun, Running, Follows, with_faults, log_of, life_of}
 use Rattle.mm_run.specs.Answered.{DecidedLine, IsNext, AreAnswered, last_stage, texts_of, answers_of}
 use Rattle.mm_run.specs.Texts.{IsTorn, StandsAt, texts, concat}
 use Rattle.mm_run.specs.Ends.{Closes, Left}
@@ -122,7 +121,6 @@ closes_from ending.ReadFault n front a b end h c = follows_then a b end h c
 closes_from ending.OutFault n front a b end h c = follows_then a b end h c
 closes_from ending.SetupFault n front a b end h c = follows_then a b end h c
 closes_from (ending.TooLong l) n front a b end h c = follows_then a b end h c
-closes_from ending.Unbuilt n front a b end h c = follows_then a b end h c
 
 -- the second lines begin at a number that is equal, and at a stage that follows
 answered_at : (n m : ℕ) (old mid : Stage) (xs ys : List DecidedLine) → AreAnswered n old xs → m ≡ n + length xs → Follows (last_stage old xs) mid → AreAnswered m mid ys → AreAnswered n old (xs ++ ys)
@@ -166,7 +164,6 @@ stands_more ending.ReadFault xs ys written s = whole_more xs ys written s
 stands_more (ending.TooLong l) xs ys written s = whole_more xs ys written s
 stands_more ending.MovesFault xs ys written s = whole_more xs ys written s
 stands_more ending.SetupFault xs ys written s = whole_more xs ys written s
-stands_more ending.Unbuilt xs ys written s = whole_more xs ys written s
 
 -- the text of some lines, and then of others
 chain : (x t u y z : Text) (ls ks : List DecidedLine) → x ++ t ≡ joined (texts_of ls) ++ y → y ++ u ≡ joined (texts_of ks) ++ z → x ++ (t ++ u) ≡ joined (texts_of (ls ++ ks)) ++ z
@@ -290,10 +287,10 @@ went_on a held n s z h = record {
   wrote = appended_none a.took;
 }
 
-pub scene_follows : (s z : Scene) → z.world ≡ s.world → z.report ≡ s.report → z.paging ≡ s.paging → z.files ≡ s.files → z.blocks ≡ s.blocks
+pub scene_follows : (s z : Scene) → z.system ≡ s.system → z.report ≡ s.report → z.paging ≡ s.paging → z.files ≡ s.files → z.blocks ≡ s.blocks
     → z.behind ≡ record (s.behind) { log = record (s.behind.log) { faults = z.behind.log.faults } } → s.behind.log.faults ≤ z.behind.log.faults → Follows (Running s) (Running z)
 scene_follows s z w r p f b h l = record {
-  same = λ i. Running (record { world = w i; report = r i; paging = p i; files = f i; blocks = b i; behind = h i });
+  same = λ i. Running (record { system = w i; report = r i; paging = p i; files = f i; blocks = b i; behind = h i });
   later = l;
 }
 

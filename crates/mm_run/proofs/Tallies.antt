@@ -30,7 +30,6 @@ follows_done ending.OutFault last end q h = cc
 follows_done ending.MovesFault last end q h = cc
 follows_done ending.SetupFault last end q h = cc
 follows_done (ending.TooLong l) last end q h = cc
-follows_done ending.Unbuilt last end q h = cc
 
 leaves_counted : (end : Stage) (x y : Left) → Leaves end x → y.moves ≡ x.moves → y.paging ≡ x.paging → y.files ≡ x.files → Leaves end y
 leaves_counted (NotBegun o) x y h m p f = h ∙ sym m
@@ -126,7 +125,6 @@ stops_status (ending.Script l c) left s some = absurd s
 stops_status ending.ReadFault left s some = absurd s
 stops_status ending.OutFault left s some = absurd s
 stops_status (ending.TooLong l) left s some = absurd s
-stops_status ending.Unbuilt left s some = absurd s
 
 pub stopped_status : (old : Stage) (events : List Event) (e : Ending) (x : Left) → BatchRan old events (Err e) x → (status_of e ≡ 1) ⊎ ((status_of e ≡ 6) ⊎ (status_of e ≡ 7))
 stopped_status old events e x h = stops_status e h.finished.left h.finished.stops h.finished.some

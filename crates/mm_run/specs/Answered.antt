@@ -10,10 +10,10 @@ use Rattle.mm_types.specs.declared.moves.Move.{Move}
 use Rattle.mm_lines.specs.Lines.{IsLine}
 use Rattle.mm_script.specs.Grammar.{IsLine as IsLineFor}
 use Rattle.mm_core.specs.Serving.{IsFailure}
-use Rattle.mm_run.specs.Built.{is_built}
 use Rattle.mm_run.specs.Reading.{reading}
 use Rattle.mm_run.specs.Scenes.{Stage, HasNoted, Follows, log_of}
 use Rattle.mm_run.specs.Steps.{IsDecided}
+use Rattle.mm_run.specs.Written.{AnsweredLine}
 
 -- A line that was decided: its text without the line feed, its event, its answer, its moves, and what the run shows before and after it.
 pub record DecidedLine : Type 0 where
@@ -30,14 +30,17 @@ texts_of lines = map (λ l. l.text) lines
 abbrev pub answers_of : List DecidedLine → List Answer
 answers_of lines = map (λ l. l.answer) lines
 
+-- the same lines, by their events and answers alone
+abbrev pub told_of : List DecidedLine → List AnsweredLine
+told_of lines = map (λ l. record { event = l.event; answer = l.answer }) lines
+
 abbrev pub moves_of : List DecidedLine → List Move
 moves_of lines = flat_map (λ l. l.moves) lines
 
--- Behind n others a text is a line in the grammar that says this event, and its form is built.
+-- Behind n others a text is a line in the grammar that says this event.
 pub record Says (n : ℕ) (text : Text) (event : Event) : Type 0 where
   pub is_line : IsLine text
   pub says : reading n text ≡ Ok event
-  pub built : is_built event ≡ true
   pub grammar : IsLineFor text event
 
 -- Behind n others and at this stage, the line is in the grammar, and is decided.

@@ -1,21 +1,19 @@
 -- Where a run of a generated script stands, between its events.
-use Rattle.std.specs.Prelude.{◌≡◌, ◌<◌, ℕ, true, false, List, ◌++◌, length, count_by, Result, Ok, Err}
+use Rattle.std.specs.Prelude.{◌≡◌, ◌<◌, ℕ, false, List, ◌++◌, length, count_by, Result, Ok, Err}
 use Rattle.std.specs.List.{AllByRecursion}
 use Rattle.mm_types.specs.declared.events.Event.{Event}
 use Rattle.mm_script.specs.Printed.{IsWellFormed}
 use Rattle.mm_run.specs.declared.bulk.Tally.{Tally}
 use Rattle.mm_run.specs.declared.endings.Ending.{Ending}
-use Rattle.mm_run.specs.Built.{is_built}
-use Rattle.mm_run.specs.Reading.{is_machine}
+use Rattle.mm_system.specs.Lines.{is_machine}
 use Rattle.mm_run.specs.Scenes.{Stage}
 use Rattle.mm_run.specs.Answered.{DecidedLine, last_stage, answers_of}
 use Rattle.mm_run.specs.Ends.{Left, Leaves}
 use Rattle.mm_run.specs.Bulk.{AreDecided, ClosesEvents, Stops, events_of, begins_ok, is_none, charge_at, limit_at}
 
--- An event of a form that is built, which does not make a machine.
+-- An event which does not make a machine.
 pub record IsLater (event : Event) : Type 0 where
   pub well_formed : IsWellFormed event
-  pub built : is_built event ≡ true
   pub later : is_machine event ≡ false
 
 abbrev pub AreLater : List Event → Type 0

@@ -1,7 +1,7 @@
-pub mod Built
 pub mod Reading
 pub mod Scenes
 pub mod Steps
+pub mod Written
 pub mod Answered
 pub mod Texts
 pub mod Ends

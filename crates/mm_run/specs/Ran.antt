@@ -2,7 +2,7 @@
 --
 -- It speaks of what stands around a run, before it and after it: the bytes left in the source, those that both sinks took, and both
 -- devices. What is not told of these has no bytes (`None`), and nothing is said of it.
-use Rattle.std.specs.Prelude.{◌≡◌, ◌≢◌, ◌⊎◌, ℕ, ◌<◌, ◌≤◌, List, ◌++◌, [], length, Option}
+use Rattle.std.specs.Prelude.{◌≡◌, ◌≢◌, ◌⊎◌, ℕ, ◌<◌, ◌≤◌, List, ◌∷◌, ◌++◌, [], length, Option}
 use Rattle.mm_types.specs.Outside.{Took, Appended, Rose}
 use Rattle.mm_types.specs.Spelling.{Text}
 use Rattle.mm_types.specs.declared.moves.Move.{Move}
@@ -15,7 +15,8 @@ use Rattle.mm_paging.specs.Runs.{DevicesHold}
 use Rattle.mm_run.specs.declared.endings.Ending.{Ending}
 use Rattle.mm_run.specs.declared.endings.Ending.TheVariants as ending
 use Rattle.mm_run.specs.Scenes.{Stage, NotBegun, Running, outset, life_of}
-use Rattle.mm_run.specs.Answered.{DecidedLine, AreAnswered, last_stage, texts_of, answers_of, moves_of, NoneNames, NoneFails}
+use Rattle.mm_run.specs.Answered.{DecidedLine, AreAnswered, last_stage, texts_of, answers_of, moves_of, told_of, NoneNames, NoneFails}
+use Rattle.mm_run.specs.Written.{GivesWritten}
 use Rattle.mm_run.specs.Texts.{Ends, TornText}
 use Rattle.mm_run.specs.Story.{Settles, most_lines}
 use Rattle.mm_run.specs.Ends.{Left, Leaves, Closes}
@@ -52,7 +53,7 @@ pub record LogRan (took took' : Option Text) (moves : List Move) (e : Ending) (l
 -- Each key that the replay shows unchanged, with a slot or a block, has its bytes there.
 abbrev pub EndsHolding : Stage → List Page → List Page → Type 0
 EndsHolding (NotBegun o) slots blocks = Unit {0}
-EndsHolding (Running s) slots blocks = DevicesHold s.world s.behind.life slots blocks
+EndsHolding (Running s) slots blocks = DevicesHold s.system.world s.behind.life slots blocks
 
 -- No call of a device is named.
 abbrev pub NoneNamed : Stage → Type 0
@@ -61,12 +62,15 @@ NoneNamed (Running s) = (s.paging.named ≡ []) × (s.files.named ≡ [])
 
 pub record Ran (a b : Around) (form : Type 0) (status : ℕ) : Type 0 where
   -- The lines that were decided and answered, one after another: each with its text, event, answer and moves, and what stands after it.
-  -- Each is in the grammar (`Says`), and decided from what the one before it left (`IsDecided`): its answer and the new world are the
+  -- Each is in the grammar (`Says`), and decided from what the one before it left (`IsDecided`): its answer and the new system are the
   -- definitions' step by the reports before and after it; its charge is within the limit; its moves are its piece of the log, noted before its
   -- answer was written.
   pub lines : List DecidedLine
   pub answered : AreAnswered 0 (begun_at a.beside) lines
   pub limit : length lines ≤ most_lines
+  -- Each `watch` that was answered with pages gave exactly those of its range that are written by the lines before it and their answers
+  -- (GetWriteWatch): the lowest ones, at most as many as it asked for.
+  pub watches : (before after : List DecidedLine) (l : DecidedLine) → before ++ l ∷ after ≡ lines → GivesWritten (told_of before) l.event l.answer
   -- What the run then came to, by the bytes behind these lines up to the one that decided it (`front`); fewer than 4,096 more were taken.
   pub e : Ending
   pub taken : Text

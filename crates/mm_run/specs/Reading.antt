@@ -1,11 +1,11 @@
 -- The event of a line, by where the line stands.
-use Rattle.std.specs.Prelude.{ℕ, zero, suc, ◌-◌, Bool, true, false, if◌then◌else◌, [], ◌∷◌, Result, Ok, Err, codes, bytes_eq, ◌==◌, ◌&&◌, ◌||◌, take, length, nat_eq, slice_index}
+use Rattle.std.specs.Prelude.{ℕ, zero, suc, ◌-◌, Bool, if◌then◌else◌, [], ◌∷◌, Result, Ok, Err, codes, bytes_eq, ◌==◌, ◌&&◌, ◌||◌, take, length, nat_eq, slice_index}
 use Rattle.std.specs.List.{ends_with}
 use Rattle.mm_types.specs.Spelling.{Text}
 use Rattle.mm_types.specs.declared.events.Event.{Event}
-use Rattle.mm_types.specs.declared.events.Event.TheVariants as line
 use Rattle.mm_script.specs.declared.faults.LineFault.{LineFault}
 use Rattle.mm_script.specs.Reading.{parse}
+use Rattle.mm_system.specs.Lines.{is_machine}
 
 -- One carriage return at the end of a line is no part of it.
 abbrev pub without_return : Text → Text
@@ -14,10 +14,6 @@ without_return text = if ends_with nat_eq text (0x0D ∷ []) then take (length t
 -- the first word is `machine`
 abbrev pub is_machine_word : Text → Bool
 is_machine_word text = bytes_eq (take 7 text) (codes "machine") && ((length text == 7) || (slice_index text 7 == 0x20))
-
-abbrev pub is_machine : Event → Bool
-is_machine (line.Machine m) = true
-is_machine _ = false
 
 -- The first line of a script is a `machine` line.
 abbrev pub read_first : Bool → Result Event LineFault → Result Event ℕ

@@ -2,10 +2,23 @@
 use Rattle.std.specs.Prelude.{◌≡◌, ◌≤◌, ℕ, false, List, Option}
 use Rattle.mm_life.specs.Life.{FrameLife, unstarted}
 use Rattle.mm_life.specs.Logs.{Log}
+use Rattle.mm_world.specs.World.{Page}
+use Rattle.mm_world.specs.Report.{Report}
+use Rattle.mm_world.specs.System.{System}
+use Rattle.mm_blocks.specs.Devices.{DeviceOf}
+use Rattle.mm_pages.specs.Behind.{Behind}
 use Rattle.mm_pages.specs.declared.pages.Pages.{Ghosts as PagesGhosts}
-use Rattle.mm_paging.specs.Runs.{Scene}
-use Rattle.mm_core.specs.declared.worlds.World.{World as Kept}
-use Rattle.mm_core.specs.Shown.{world, report, behind, paging_device, file_device, file_blocks}
+use Rattle.mm_system.specs.declared.systems.System.{System as Kept}
+use Rattle.mm_system.specs.Shown.{system, report, behind, paging_device, file_device, file_blocks}
+
+-- A system over a store that pages, with what stands behind it.
+pub record Scene : Type 0 where
+  pub system : System
+  pub report : Report
+  pub paging : DeviceOf
+  pub files : DeviceOf
+  pub blocks : List Page
+  pub behind : Behind
 
 -- Before its first line: the counts of faults of both devices, and how the sink of moves stands.
 pub record Outset : Type 0 where
@@ -46,11 +59,11 @@ pub record Follows (old mid : Stage) : Type 0 where
 
 module _ {G : Type 0} {g : PagesGhosts G} where
   abbrev pub scene : Kept G g → Scene
-  scene w = record {
-    world = world w;
-    report = report w;
-    paging = paging_device w;
-    files = file_device w;
-    blocks = file_blocks w;
-    behind = behind w;
+  scene s = record {
+    system = system s;
+    report = report s;
+    paging = paging_device s;
+    files = file_device s;
+    blocks = file_blocks s;
+    behind = behind s;
   }

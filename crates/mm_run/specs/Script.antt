@@ -12,7 +12,7 @@ use Rattle.mm_run.specs.Texts.{status_of, last_text}
 use Rattle.mm_run.specs.Story.{Settles, most_lines}
 use Rattle.mm_run.specs.Ran.{Around, Ran}
 
--- Behind n lines, each line is in the grammar, says this event, and its form is built.
+-- Behind n lines, each line is in the grammar and says this event.
 abbrev pub Each : ℕ → List Text → List Event → Type 0
 Each n [] [] = Unit {0}
 Each n [] (e ∷ es) = ⊥
@@ -24,11 +24,9 @@ abbrev pub IsVerdict : Ending → Type 0
 IsVerdict ending.Done = Unit {0}
 IsVerdict (ending.Script line column) = Unit {0}
 IsVerdict (ending.TooLong line) = Unit {0}
-IsVerdict ending.Unbuilt = Unit {0}
 IsVerdict _ = ⊥
 
--- The script is these lines, each in the grammar and of a form that is built, and then bytes that make a run
--- come to this.
+-- The script is these lines, each in the grammar, and then bytes that make a run come to this.
 pub record IsScript (text : Text) (n : ℕ) (lines : List Text) (e : Ending) : Type 0 where
   pub events : List Event
   pub front : Text

@@ -1,5 +1,5 @@
 -- What one line does.
-use Rattle.std.specs.Prelude.{◌≡◌, ◌⊎◌, ◌≤◌, ◌+◌, ℕ, Bool, true, false, List, [], ◌∷◌, length, replicate}
+use Rattle.std.specs.Prelude.{◌≡◌, ◌⊎◌, ◌≤◌, ◌+◌, ℕ, Bool, true, false, List, [], ◌∷◌, length, replicate, unwrap_or}
 use Rattle.mm_types.specs.Machine.{MachineOf, limit_of}
 use Rattle.mm_types.specs.declared.answers.Answer.{Answer}
 use Rattle.mm_types.specs.declared.answers.Answer.TheVariants as answer
@@ -15,18 +15,24 @@ use Rattle.mm_life.specs.Replay.{Replays}
 use Rattle.mm_world.specs.Charge.{charge, limit}
 use Rattle.mm_world.specs.Contents.{tables_of}
 use Rattle.mm_world.specs.Report.{Report, failed_calls}
-use Rattle.mm_world.specs.Step.{step, unpaged, first_world, is_told, is_failed_extension}
+use Rattle.mm_world.specs.World.{Page}
+use Rattle.mm_world.specs.Outcome.{OutcomeOf, done}
+use Rattle.mm_world.specs.Step.{unpaged, is_told, is_failed_extension}
+use Rattle.mm_world.specs.System.{System, first_system, beside, plain_line, system_step}
 use Rattle.mm_blocks.specs.Traffic.{NoneLogged, empty_block}
 use Rattle.mm_blocks.specs.Devices.{DeviceOf}
 use Rattle.mm_tables.specs.References.{IsTidy}
 use Rattle.mm_walks.specs.Waits.{Idle}
 use Rattle.mm_paging.specs.Lines.{Line}
-use Rattle.mm_paging.specs.Runs.{Scene, DevicesHold, first_move}
+use Rattle.mm_paging.specs.Runs.{DevicesHold, first_move}
 use Rattle.mm_core.specs.Stepping.{asks_frames}
 use Rattle.mm_core.specs.Serving.{AskedFiles, AskedPaging, Named, IsFailure, FailedBefore, OneRose, Flushed, is_fail, is_grow}
 use Rattle.mm_core.specs.Forgetting.{EndsWaits}
-use Rattle.mm_run.specs.Reading.{is_machine}
-use Rattle.mm_run.specs.Scenes.{Outset, Stage, NotBegun, Running, life_of, log_of}
+use Rattle.mm_watch.specs.Watches.{AreApart}
+use Rattle.mm_system.specs.Live.{are_live}
+use Rattle.mm_system.specs.Writes.{writes_of, writes_after}
+use Rattle.mm_system.specs.Lines.{is_machine}
+use Rattle.mm_run.specs.Scenes.{Scene, Outset, Stage, NotBegun, Running, life_of, log_of}
 
 -- ---- the first line
 
@@ -36,9 +42,9 @@ pub record IsUnused (faults : ℕ) (d : DeviceOf) : Type 0 where
   pub none_named : d.named ≡ []
   pub later : faults ≤ d.faults
 
--- A machine has begun: its world is the first, its devices hold zeros and were not asked for one yet, and no thread waits.
+-- A machine has begun: its system is the first, its devices hold zeros and were not asked for one yet, and no thread waits.
 pub record IsFirst (m : MachineOf) (o : Outset) (s : Scene) : Type 0 where
-  pub world : s.world ≡ first_world m
+  pub system : s.system ≡ first_system m
   pub slots : s.behind.slots ≡ replicate m.slots empty_block
   pub blocks : s.blocks ≡ replicate m.blocks empty_block
   pub paging : IsUnused o.paging s.paging
@@ -63,41 +69,54 @@ tells_paging (line.Io i) = true
 tells_paging line.Counts = true
 tells_paging _ = false
 
+-- no two watched regions of a process share a page, and each is a private region of its process, which lives
+pub record AreWatched (s : System) : Type 0 where
+  pub apart : AreApart s.watches
+  pub live : are_live s.world s.watches ≡ true
+
 -- no device call of the line failed
 pub record NoneFailed (after : Report) : Type 0 where
   pub calls : failed_calls after ≡ 0
   pub extended : is_failed_extension after.extended ≡ false
 
+-- the answer and the world of unpaged address spaces, beside which stacks and watched regions stand
+abbrev pub unpaged_outcome : System → Event → OutcomeOf Page
+unpaged_outcome s e = unwrap_or (beside s e) (unpaged s.world (plain_line e))
+
 pub record Decides (s : Scene) (e : Event) (a : Answer) (moves : List Move) (z : Scene) : Type 0 where
-  -- the answer and the new world are those of the definitions' step, by the reports before and after
-  pub answered : step s.world e s.report z.report ≡ record { answer = a; world = z.world }
-  -- those of unpaged address spaces, of a call and a plain access, where no device call of the line failed
-  pub plain : tells_paging e ≡ false → NoneFailed z.report → unpaged s.world e ≡ record { answer = a; world = z.world }
+  -- the answer and the new system are those of the definitions' step, by the reports before and after
+  pub answered : system_step s.system e s.report z.report ≡ record { answer = a; system = z.system }
+  -- answer and world are those of unpaged address spaces, of a call and a plain access, where no device call of the line failed
+  pub plain : tells_paging e ≡ false → NoneFailed z.report → unpaged_outcome s.system e ≡ done a z.system.world
   -- and of any line but `io` and `counts`, where the answer is no failed access, no pending one and no `fault`
-  pub unpaged : asks_frames e ≡ false → is_told a ≡ false → unpaged s.world e ≡ record { answer = a; world = z.world }
+  pub unpaged : asks_frames e ≡ false → is_told a ≡ false → unpaged_outcome s.system e ≡ done a z.system.world
+  -- each watched region is a private region of a process that lives, and no two of a process share a page
+  pub watched : AreWatched z.system
+  -- the writes that threads keep change as the line and its answer tell
+  pub kept : writes_of z.system.world ≡ writes_after (writes_of s.system.world) e a
   -- sections and names live while something refers to them
-  pub lives : IsTidy (tables_of z.world)
+  pub lives : IsTidy (tables_of z.system.world)
   -- the calls of a device in this line are those of its log and of the report
   pub asked_paging : is_fail e ≡ false → is_grow e ≡ false → AskedPaging s.paging z.paging z.report
   pub asked_files : is_fail e ≡ false → AskedFiles s.files z.files z.report
   pub named : Named false e a s.paging z.paging s.files z.files
   -- no more calls of a device are named than `fail` lines were answered `ok`
-  pub few_paging : length z.paging.named ≤ z.world.fails_taken
-  pub few_files : length z.files.named ≤ z.world.fails_taken
+  pub few_paging : length z.paging.named ≤ z.system.world.fails_taken
+  pub few_files : length z.files.named ≤ z.system.world.fails_taken
   -- a failure is a device's in this line, or, of a `resume`, that of the read that its thread waited for
   pub failed : IsFailure a → FailedBefore e s.report ⊎ OneRose s.paging z.paging s.files z.files
   pub paging_later : s.paging.faults ≤ z.paging.faults
   pub files_later : s.files.faults ≤ z.files.faults
   -- after a `flush` answered `ok` the blocks hold the bytes of their pages
-  pub flushed : Flushed z.world z.blocks e a
+  pub flushed : Flushed z.system.world z.blocks e a
   -- threads whose access or whose process ends wait no more
-  pub waits : EndsWaits s.world e a z.report
+  pub waits : EndsWaits s.system.world e a z.report
   -- the line's moves are one `at` with its number and kind, and what its form allows
-  pub line : Line s.world s.report s.behind s.paging s.files e a moves z.world z.report z.behind z.paging z.files
+  pub line : Line s.system.world s.report s.behind s.paging s.files e a moves z.system.world z.report z.behind z.paging z.files
 
 -- ---- any line
 
--- The first line makes the world; each later line is answered by it, and leaves the next.
+-- The first line makes the system; each later line is answered by it, and leaves the next.
 abbrev pub Stepped : Stage → Event → Answer → List Move → Stage → Type 0
 Stepped (NotBegun o) e a moves (NotBegun after) = ⊥
 Stepped (NotBegun o) e a moves (Running s) = Begins o e a moves s
@@ -107,12 +126,12 @@ Stepped (Running s) e a moves (Running z) = (is_machine e ≡ false) × Decides 
 -- The commit charge is at most the commit limit.
 abbrev pub IsWithinLimit : Stage → Type 0
 IsWithinLimit (NotBegun o) = Unit {0}
-IsWithinLimit (Running s) = charge s.world ≤ limit s.world
+IsWithinLimit (Running s) = charge s.system.world ≤ limit s.system.world
 
 -- Each key that the replay shows unchanged, with a slot or a block, has its bytes there.
 abbrev pub HoldsUnchanged : Stage → Type 0
 HoldsUnchanged (NotBegun o) = Unit {0}
-HoldsUnchanged (Running s) = DevicesHold s.world s.behind.life s.behind.slots s.blocks
+HoldsUnchanged (Running s) = DevicesHold s.system.world s.behind.life s.behind.slots s.blocks
 
 -- Moves that are legal one after another, and by whose text the log grew; where the sink fails in it, by a front of it.
 pub record Notes (old : Stage) (moves : List Move) (new : Stage) : Type 0 where
@@ -120,7 +139,7 @@ pub record Notes (old : Stage) (moves : List Move) (new : Stage) : Type 0 where
   pub grew : Grew (log_of old) (log_of new) (spelled_moves moves)
   pub replays : Replays moves (life_of old) (life_of new)
 
--- A line is decided: its answer and the new world are the definition's, the charge stays within the limit, and its moves are noted.
+-- A line is decided: its answer and the new system are the definition's, the charge stays within the limit, and its moves are noted.
 pub record IsDecided (old : Stage) (e : Event) (a : Answer) (moves : List Move) (new : Stage) : Type 0 where
   pub step : Stepped old e a moves new
   pub within : IsWithinLimit new
@@ -138,12 +157,12 @@ pub record Moved (old : Stage) (e : Event) (a : Answer) (new : Stage) : Type 0 w
   pub moves : List Move
   pub decided : IsDecided old e a moves new
 
--- A line wanted memory: it noted its `at` alone or nothing, and world and devices are as before.
+-- A line wanted memory: it noted its `at` alone or nothing, and system and devices are as before.
 pub record Breaks (s z : Scene) : Type 0 where
   pub moves : List Move
   pub at_most : (moves ≡ []) ⊎ ((k : LineKind) × (moves ≡ move.At (s.behind.life.line + 1) k ∷ []))
   pub notes : Notes (Running s) moves (Running z)
-  pub world : z.world ≡ s.world
+  pub system : z.system ≡ s.system
   pub paging : z.paging ≡ s.paging
   pub files : z.files ≡ s.files
   pub blocks : z.blocks ≡ s.blocks

@@ -1,5 +1,5 @@
 -- What stands at each moment of a run, and what makes it end.
-use Rattle.std.specs.Prelude.{◌≡◌, ◌⊎◌, ℕ, ◌+◌, ◌<◌, ◌≤◌, List, [], ◌∷◌, ◌++◌, length, Option, Ok, Err, map, codes, String, string_bytes, true, false, nat_lt}
+use Rattle.std.specs.Prelude.{◌≡◌, ◌⊎◌, ℕ, ◌+◌, ◌<◌, ◌≤◌, List, [], ◌∷◌, ◌++◌, length, Option, Ok, Err, map, codes, String, string_bytes, true, nat_lt}
 use Rattle.std.specs.declared.alloc.Global.{Global}
 use Rattle.mm_types.specs.Outside.{Took, IsEnd, Appended, Rose}
 use Rattle.mm_types.specs.Spelling.{Text}
@@ -9,8 +9,8 @@ use Rattle.mm_script.specs.Grammar.{IsLine as IsLineFor}
 use Rattle.mm_types.specs.declared.events.Event.{Event}
 use Rattle.mm_run.specs.declared.endings.Ending.{Ending}
 use Rattle.mm_run.specs.declared.endings.Ending.TheVariants as ending
-use Rattle.mm_run.specs.Reading.{reading, is_machine}
-use Rattle.mm_run.specs.Built.{is_built}
+use Rattle.mm_system.specs.Lines.{is_machine}
+use Rattle.mm_run.specs.Reading.{reading}
 use Rattle.mm_run.specs.Scenes.{Stage, Follows}
 use Rattle.mm_run.specs.Answered.{DecidedLine, AreAnswered, last_stage, texts_of, answers_of}
 use Rattle.mm_run.specs.Texts.{StandsAt}
@@ -57,16 +57,6 @@ pub record IsOpen (n : ℕ) (front more : Text) (left : Option Text) (column : �
   pub some : (0 < length front) ⊎ (n ≡ 0)
   pub place : column ≡ length front + 1
 
--- A whole line in the grammar whose form is not built yet.
-pub record IsUnbuilt (n : ℕ) (front : Text) : Type 0 where
-  pub line : Text
-  pub event : Event
-  pub is_line : IsLine line
-  pub whole : front ≡ ended line
-  pub says : reading n line ≡ Ok event
-  pub grammar : IsLineFor line event
-  pub unbuilt : is_built event ≡ false
-
 -- The first line, a `machine` line.
 pub record IsMachineLine (n : ℕ) (front : Text) : Type 0 where
   pub first : n ≡ 0
@@ -88,7 +78,6 @@ Settles n front more left ending.OutFault = front ≡ []
 Settles n front more left ending.MovesFault = length front ≤ 257
 Settles n front more left ending.SetupFault = IsMachineLine n front
 Settles n front more left (ending.TooLong line) = (line ≡ n + 1) × (((length front ≡ 257) × NoFeed front) ⊎ ((n ≡ most_lines) × (length front ≡ 1)))
-Settles n front more left ending.Unbuilt = (n < most_lines) × IsUnbuilt n front
 
 -- So many more lines were read, decided and answered.
 pub record Went (a b : Outside) (x y : Stand) : Type 0 where

@@ -19,7 +19,6 @@ status_of ending.OutFault = 5
 status_of ending.MovesFault = 6
 status_of ending.SetupFault = 7
 status_of (ending.TooLong line) = 8
-status_of ending.Unbuilt = 9
 
 -- the ending's own; or that of a sink whose flush failed at the end
 abbrev pub IsOrFlush : ℕ → Ending → Type 0
@@ -36,7 +35,6 @@ last_text ending.OutFault = []
 last_text ending.MovesFault = []
 last_text ending.SetupFault = []
 last_text (ending.TooLong line) = codes "too long line " ++ (decimal line ++ 10 ∷ [])
-last_text ending.Unbuilt = []
 
 abbrev pub concat : List Text → Text
 concat pieces = flat_map (λ piece. piece) pieces

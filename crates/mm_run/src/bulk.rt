@@ -2,9 +2,8 @@ ghost use Rattle.std.specs.Prelude.{◌≡◌, ◌≢◌, ◌<◌, ◌≤◌, �
 ghost use Rattle.mm_types.specs.Outside.{Appended, Rose, HasCause};
 ghost use Rattle.mm_types.specs.declared.events.Event.TheVariants as event;
 ghost use Rattle.mm_blocks.specs.Traffic.{NoneLogged, empty_block};
-ghost use Rattle.mm_world.specs.Charge.{charge, limit};
 ghost use Rattle.mm_make.specs.Generated.{script_of};
-ghost use Rattle.mm_core.specs.Shown.{line_of, loans, behind};
+ghost use Rattle.mm_system.specs.Shown.{line_of, loans, behind};
 ghost use Rattle.mm_run.specs.Scenes.{Outset, NotBegun, Running, outset, scene};
 ghost use Rattle.mm_run.specs.Steps.{IsMade, Moved, Breaks};
 ghost use Rattle.mm_run.specs.Texts.{TornText};
@@ -19,13 +18,13 @@ use crate::endings::Ending;
 use crate::machines::open_devices;
 use crate::top::put_number;
 use mm_blocks::{Blocks, Injected};
-use mm_core::World;
 use mm_flushing::FlushesMoves;
 use mm_io::{Sink, write_all};
 use mm_make::script;
 use mm_moves::Recorder;
 use mm_paged::Paged;
 use mm_state::State;
+use mm_system::System;
 use mm_text::LineBuf;
 use mm_types::{Answer, Event, Failed, Machine};
 use std::alloc::Global;
@@ -81,26 +80,26 @@ fn decide_event<G: FlushesMoves>(
     alloc: Global,
     n: u32,
     event: &Event,
-    world: &mut World<G>,
+    system: &mut System<G>,
 ) -> Result<Answer, Ending>
     requires later { IsLater event.now }
-    requires next { n ≡ line_of world.old + 1 }
+    requires next { n ≡ line_of system.old + 1 }
     requires few { n ≤ 1000000 }
-    requires ready { world.old.spent ≡ false }
+    requires ready { system.old.spent ≡ false }
     requires paged { G.unpaged ≡ false }
-    requires noted { (behind world.old).log.failed ≡ false }
-    ensures decided { IfOk result (λ a. Moved (Running (scene world.old)) event.now a (Running (scene world.new))) }
-    ensures ends { IfErr result (λ e. ((e ≡ Ending.NoMemory) × Breaks (scene world.old) (scene world.new))
-        ⊎ ((e ≡ Ending.MovesFault) × ((a : Answer) × Moved (Running (scene world.old)) event.now a (Running (scene world.new))) × ((behind world.new).log.failed ≡ true) × Rose (behind world.old).log.faults (behind world.new).log.faults)) }
-    ensures noted { OnOk result ((behind world.new).log.failed ≡ false) }
-    ensures later { (behind world.old).log.faults ≤ (behind world.new).log.faults }
-    ensures line { OnOk result (line_of world.new ≡ n) }
-    ensures ready { OnOk result (world.new.spent ≡ false) }
-    ensures loans { loans world.new ≡ loans world.old }
+    requires noted { (behind system.old).log.failed ≡ false }
+    ensures decided { IfOk result (λ a. Moved (Running (scene system.old)) event.now a (Running (scene system.new))) }
+    ensures ends { IfErr result (λ e. ((e ≡ Ending.NoMemory) × Breaks (scene system.old) (scene system.new))
+        ⊎ ((e ≡ Ending.MovesFault) × ((a : Answer) × Moved (Running (scene system.old)) event.now a (Running (scene system.new))) × ((behind system.new).log.failed ≡ true) × Rose (behind system.old).log.faults (behind system.new).log.faults)) }
+    ensures noted { OnOk result ((behind system.new).log.failed ≡ false) }
+    ensures later { (behind system.old).log.faults ≤ (behind system.new).log.faults }
+    ensures line { OnOk result (line_of system.new ≡ n) }
+    ensures ready { OnOk result (system.new.spent ≡ false) }
+    ensures loans { loans system.new ≡ loans system.old }
 {
-    match decide(alloc, n, event, world) {
+    match decide(alloc, n, event, system) {
         Ok(answer) => {
-            if world.pages.moves_failed() {
+            if system.world.pages.moves_failed() {
                 return Err(Ending::MovesFault);
             }
             Ok(answer)
@@ -113,28 +112,28 @@ fn decide_event<G: FlushesMoves>(
 fn decide_later<G: FlushesMoves>(
     alloc: Global,
     events: &[Event],
-    world: &mut World<G>,
+    system: &mut System<G>,
 ) -> Result<(u32, u32), Ending>
     requires later { AreLater events.now }
     requires few { length events.now < 1000000 }
-    requires count { line_of world.old ≡ 1 }
-    requires ready { world.old.spent ≡ false }
+    requires count { line_of system.old ≡ 1 }
+    requires ready { system.old.spent ≡ false }
     requires paged { G.unpaged ≡ false }
-    requires noted { (behind world.old).log.failed ≡ false }
+    requires noted { (behind system.old).log.failed ≡ false }
     ensures came { MatchResult result
-        (λ r. Handled (Running (scene world.old)) events.now r.0 r.1 (Running (scene world.new)))
-        (λ e. Stopped (Running (scene world.old)) events.now e (Running (scene world.new))) }
+        (λ r. Handled (Running (scene system.old)) events.now r.0 r.1 (Running (scene system.new)))
+        (λ e. Stopped (Running (scene system.old)) events.now e (Running (scene system.new))) }
     ensures few { IfOk result (λ r. (r.0 ≤ length events.now) × (r.1 ≤ length events.now)) }
-    ensures blame { IfErr result (λ e. (s o : ℕ) → IsBlamed e ⊥ (counts_with s o (behind world.old).log.faults) (counts_with s o (behind world.new).log.faults)) }
-    ensures later { (behind world.old).log.faults ≤ (behind world.new).log.faults }
-    ensures loans { loans world.new ≡ loans world.old }
+    ensures blame { IfErr result (λ e. (s o : ℕ) → IsBlamed e ⊥ (counts_with s o (behind system.old).log.faults) (counts_with s o (behind system.new).log.faults)) }
+    ensures later { (behind system.old).log.faults ≤ (behind system.new).log.faults }
+    ensures loans { loans system.new ≡ loans system.old }
 {
     let mut n = 1u32;
     let mut ok = 0u32;
     let mut none = 0u32;
     for event in events {
         n += 1;
-        match decide_event(alloc, n, event, world) {
+        match decide_event(alloc, n, event, system) {
             Ok(answer) => {
                 ok += one_if(begins_ok(&answer));
                 none += one_if(is_none(&answer));
@@ -145,30 +144,29 @@ fn decide_later<G: FlushesMoves>(
     Ok((ok, none))
 }
 
-/// Decides all events over the world that the first one made, once its move is written.
+/// Decides all events over the system that the first one made, once its move is written.
 fn decide_events<G: FlushesMoves>(
     alloc: Global,
     machine: Machine,
     events: &[Event],
-    world: &mut World<G>,
+    system: &mut System<G>,
 ) -> Result<Tally, Ending>
     requires later { AreLater events.now }
     requires few { length events.now < 1000000 }
-    requires count { line_of world.old ≡ 1 }
-    requires ready { world.old.spent ≡ false }
-    requires within { charge (scene world.old).world ≤ limit (scene world.old).world }
+    requires count { line_of system.old ≡ 1 }
+    requires ready { system.old.spent ≡ false }
     requires paged { G.unpaged ≡ false }
-    ensures came { (o : Outset) → IsMade machine o (scene world.old) → Finished (NotBegun o) (event.Machine machine ∷ events.now) result (Running (scene world.new)) }
-    ensures blame { (o : Outset) → IsMade machine o (scene world.old) → o.log.failed ≡ false → IfErr result (λ e. (s k : ℕ) → IsBlamed e ⊥ (counts_with s k o.log.faults) (counts_with s k (behind world.new).log.faults)) }
-    ensures later { (behind world.old).log.faults ≤ (behind world.new).log.faults }
-    ensures loans { loans world.new ≡ loans world.old }
+    ensures came { (o : Outset) → IsMade machine o (scene system.old) → Finished (NotBegun o) (event.Machine machine ∷ events.now) result (Running (scene system.new)) }
+    ensures blame { (o : Outset) → IsMade machine o (scene system.old) → o.log.failed ≡ false → IfErr result (λ e. (s k : ℕ) → IsBlamed e ⊥ (counts_with s k o.log.faults) (counts_with s k (behind system.new).log.faults)) }
+    ensures later { (behind system.old).log.faults ≤ (behind system.new).log.faults }
+    ensures loans { loans system.new ≡ loans system.old }
 {
-    if world.pages.moves_failed() {
+    if system.world.pages.moves_failed() {
         return Err(Ending::MovesFault);
     }
-    match decide_later(alloc, events, world) {
+    match decide_later(alloc, events, system) {
         Ok((ok, none)) => {
-            let (charge, limit) = world.charge();
+            let (charge, limit) = system.charge();
             Ok(Tally {
                 lines: events.len() as u32 + 1,
                 ok: ok + 1,
@@ -219,9 +217,9 @@ fn run_events<M: Sink, P: Blocks, F: Blocks>(
             return Err(Ending::NoMemory);
         }
     };
-    let mut world = World::new(alloc, machine, Paged::over(state));
-    let decided = decide_events(alloc, machine, events, &mut world);
-    let (paging, files, moves) = world.finish().finish().finish();
+    let mut system = System::new(alloc, machine, Paged::over(state));
+    let decided = decide_events(alloc, machine, events, &mut system);
+    let (paging, files, moves) = system.finish().finish().finish();
     let _ = paging.finish();
     let _ = files.finish();
     let _ = moves.finish();

@@ -4,22 +4,21 @@ ghost use Rattle.mm_types.specs.AnswerText.{spelling};
 ghost use Rattle.mm_lines.specs.Looking.{HasLine};
 ghost use Rattle.mm_script.specs.Grammar.{IsLine as IsLineFor};
 ghost use Rattle.mm_script.specs.Printed.{IsWellFormed};
-ghost use Rattle.mm_core.specs.Shown.{line_of, loans, behind};
-ghost use Rattle.mm_paging.specs.Runs.{Scene};
-ghost use Rattle.mm_run.specs.Built.{is_built};
-ghost use Rattle.mm_run.specs.Reading.{reading, is_machine};
-ghost use Rattle.mm_run.specs.Scenes.{Running, Follows, scene};
+ghost use Rattle.mm_system.specs.Shown.{line_of, loans, behind};
+ghost use Rattle.mm_system.specs.Lines.{is_machine};
+ghost use Rattle.mm_run.specs.Reading.{reading};
+ghost use Rattle.mm_run.specs.Scenes.{Scene, Running, Follows, scene};
 ghost use Rattle.mm_run.specs.Steps.{IsDecided, Moved, Breaks};
 ghost use Rattle.mm_run.specs.Texts.{TornText};
 ghost use Rattle.mm_run.specs.Story.{Went, Came, IsBlamed, EndsAt, outside, stand, counts_with};
 
 use crate::endings::Ending;
-use crate::readings::{is_built, read_event};
+use crate::readings::read_event;
 use mm_answer::spell;
-use mm_core::World;
 use mm_flushing::FlushesMoves;
 use mm_io::{Sink, Source, write_all};
 use mm_lines::{Found, Held};
+use mm_system::System;
 use mm_text::LineBuf;
 use mm_types::{Answer, Event, Failed, NoMemory};
 use std::alloc::Global;
@@ -49,46 +48,46 @@ pub(crate) fn tell<O: Sink>(
     }
 }
 
-/// Decides a line of a world over a store that pages, which is not the first: it is told whole.
+/// Decides a line of a system over a store that pages, which is not the first: it is told whole.
 pub(crate) fn decide<G: FlushesMoves>(
     alloc: Global,
     n: u32,
     event: &Event,
-    world: &mut World<G>,
+    system: &mut System<G>,
 ) -> Result<Answer, NoMemory>
     requires well_formed { IsWellFormed event.now }
-    requires built { is_built event.now ≡ true }
     requires not_first { is_machine event.now ≡ false }
-    requires next { n ≡ line_of world.old + 1 }
+    requires next { n ≡ line_of system.old + 1 }
     requires few { n ≤ 1000000 }
-    requires ready { world.old.spent ≡ false }
+    requires ready { system.old.spent ≡ false }
     requires paged { G.unpaged ≡ false }
-    requires noted { (behind world.old).log.failed ≡ false }
-    ensures decided { IfOk result (λ a. Moved (Running (scene world.old)) event.now a (Running (scene world.new))) }
-    ensures breaks { OnErr result (Breaks (scene world.old) (scene world.new)) }
-    ensures blame { OnOk result ((behind world.new).log.failed ≡ true → Rose (behind world.old).log.faults (behind world.new).log.faults) }
-    ensures later { (behind world.old).log.faults ≤ (behind world.new).log.faults }
-    ensures line { OnOk result (line_of world.new ≡ n) }
-    ensures ready { OnOk result (world.new.spent ≡ false) }
-    ensures loans { loans world.new ≡ loans world.old }
+    requires noted { (behind system.old).log.failed ≡ false }
+    ensures decided { IfOk result (λ a. Moved (Running (scene system.old)) event.now a (Running (scene system.new))) }
+    ensures breaks { OnErr result (Breaks (scene system.old) (scene system.new)) }
+    ensures blame { OnOk result ((behind system.new).log.failed ≡ true → Rose (behind system.old).log.faults (behind system.new).log.faults) }
+    ensures later { (behind system.old).log.faults ≤ (behind system.new).log.faults }
+    ensures line { OnOk result (line_of system.new ≡ n) }
+    ensures ready { OnOk result (system.new.spent ≡ false) }
+    ensures loans { loans system.new ≡ loans system.old }
 {
-    match world.step(alloc, n, event) {
+    match system.step(alloc, n, event) {
         Ok(answer) => {
-            world.pages.sound();
+            system.world.pages.sound();
+            system.sound();
             Ok(answer)
         }
         Err(NoMemory) => Err(NoMemory),
     }
 }
 
-/// Decides a line of a form that is built, which is not the first, and answers it once its moves are written.
+/// Decides a line, which is not the first, and answers it once its moves are written.
 fn answer_event<G: FlushesMoves, O: Sink>(
     alloc: Global,
     held: &mut Held,
     len: usize,
     n: u32,
     event: &Event,
-    world: &mut World<G>,
+    system: &mut System<G>,
     out: &mut O,
 ) -> Option<Ending>
     requires some { 0 < n }
@@ -98,27 +97,26 @@ fn answer_event<G: FlushesMoves, O: Sink>(
     requires says { reading n (take len held.old) ≡ Ok event.now }
     requires grammar { IsLineFor (take len held.old) event.now }
     requires well_formed { IsWellFormed event.now }
-    requires built { is_built event.now ≡ true }
-    requires count { line_of world.old ≡ n }
-    requires ready { world.old.spent ≡ false }
+    requires count { line_of system.old ≡ n }
+    requires ready { system.old.spent ≡ false }
     requires paged { G.unpaged ≡ false }
-    requires noted { (behind world.old).log.failed ≡ false }
+    requires noted { (behind system.old).log.failed ≡ false }
     ensures went { (left : Option (List ℕ)) → MatchOption result
-        (Went (outside left (O.taken out.old)) (outside left (O.taken out.new)) (stand held.old n (Running (scene world.old))) (stand held.new (n + 1) (Running (scene world.new))))
-        (λ e. Came (outside left (O.taken out.old)) (outside left (O.taken out.new)) (stand held.old n (Running (scene world.old))) e (Running (scene world.new))) }
+        (Went (outside left (O.taken out.old)) (outside left (O.taken out.new)) (stand held.old n (Running (scene system.old))) (stand held.new (n + 1) (Running (scene system.new))))
+        (λ e. Came (outside left (O.taken out.old)) (outside left (O.taken out.new)) (stand held.old n (Running (scene system.old))) e (Running (scene system.new))) }
     ensures few { IfNone result (length held.new < 4096) }
-    ensures count { IfNone result (line_of world.new ≡ n + 1) }
-    ensures ready { IfNone result (world.new.spent ≡ false) }
-    ensures noted { IfNone result ((behind world.new).log.failed ≡ false) }
-    ensures blame { IfSome result (λ e. (s : ℕ) → IsBlamed e ⊥ (counts_with s (O.faults out.old) (behind world.old).log.faults) (counts_with s (O.faults out.new) (behind world.new).log.faults)) }
+    ensures count { IfNone result (line_of system.new ≡ n + 1) }
+    ensures ready { IfNone result (system.new.spent ≡ false) }
+    ensures noted { IfNone result ((behind system.new).log.failed ≡ false) }
+    ensures blame { IfSome result (λ e. (s : ℕ) → IsBlamed e ⊥ (counts_with s (O.faults out.old) (behind system.old).log.faults) (counts_with s (O.faults out.new) (behind system.new).log.faults)) }
     ensures later { O.faults out.old ≤ O.faults out.new }
-    ensures moves_later { (behind world.old).log.faults ≤ (behind world.new).log.faults }
+    ensures moves_later { (behind system.old).log.faults ≤ (behind system.new).log.faults }
     ensures form { result ≢ Some Ending.Usage }
-    ensures loans { loans world.new ≡ loans world.old }
+    ensures loans { loans system.new ≡ loans system.old }
 {
-    match decide(alloc, n + 1, event, world) {
+    match decide(alloc, n + 1, event, system) {
         Ok(answer) => {
-            if world.pages.moves_failed() {
+            if system.world.pages.moves_failed() {
                 return Some(Ending::MovesFault);
             }
             tell(held, len, &answer, out)
@@ -133,38 +131,35 @@ fn answer_line<G: FlushesMoves, O: Sink>(
     held: &mut Held,
     len: usize,
     n: u32,
-    world: &mut World<G>,
+    system: &mut System<G>,
     out: &mut O,
 ) -> Option<Ending>
     requires some { 0 < n }
     requires few { n < 1000000 }
     requires line { HasLine held.old len }
     requires behind { length held.old < len + 1 + 4096 }
-    requires count { line_of world.old ≡ n }
-    requires ready { world.old.spent ≡ false }
+    requires count { line_of system.old ≡ n }
+    requires ready { system.old.spent ≡ false }
     requires paged { G.unpaged ≡ false }
-    requires noted { (behind world.old).log.failed ≡ false }
+    requires noted { (behind system.old).log.failed ≡ false }
     ensures went { (left : Option (List ℕ)) → MatchOption result
-        (Went (outside left (O.taken out.old)) (outside left (O.taken out.new)) (stand held.old n (Running (scene world.old))) (stand held.new (n + 1) (Running (scene world.new))))
-        (λ e. Came (outside left (O.taken out.old)) (outside left (O.taken out.new)) (stand held.old n (Running (scene world.old))) e (Running (scene world.new))) }
+        (Went (outside left (O.taken out.old)) (outside left (O.taken out.new)) (stand held.old n (Running (scene system.old))) (stand held.new (n + 1) (Running (scene system.new))))
+        (λ e. Came (outside left (O.taken out.old)) (outside left (O.taken out.new)) (stand held.old n (Running (scene system.old))) e (Running (scene system.new))) }
     ensures few { IfNone result (length held.new < 4096) }
-    ensures count { IfNone result (line_of world.new ≡ n + 1) }
-    ensures ready { IfNone result (world.new.spent ≡ false) }
-    ensures noted { IfNone result ((behind world.new).log.failed ≡ false) }
-    ensures blame { IfSome result (λ e. (s : ℕ) → IsBlamed e ⊥ (counts_with s (O.faults out.old) (behind world.old).log.faults) (counts_with s (O.faults out.new) (behind world.new).log.faults)) }
+    ensures count { IfNone result (line_of system.new ≡ n + 1) }
+    ensures ready { IfNone result (system.new.spent ≡ false) }
+    ensures noted { IfNone result ((behind system.new).log.failed ≡ false) }
+    ensures blame { IfSome result (λ e. (s : ℕ) → IsBlamed e ⊥ (counts_with s (O.faults out.old) (behind system.old).log.faults) (counts_with s (O.faults out.new) (behind system.new).log.faults)) }
     ensures later { O.faults out.old ≤ O.faults out.new }
-    ensures moves_later { (behind world.old).log.faults ≤ (behind world.new).log.faults }
+    ensures moves_later { (behind system.old).log.faults ≤ (behind system.new).log.faults }
     ensures form { result ≢ Some Ending.Usage }
-    ensures loans { loans world.new ≡ loans world.old }
+    ensures loans { loans system.new ≡ loans system.old }
 {
     let event = match read_event(&held.bytes()[..len], n) {
         Ok(event) => event,
         Err(column) => return Some(Ending::Script(n + 1, column)),
     };
-    if !is_built(&event) {
-        return Some(Ending::Unbuilt);
-    }
-    answer_event(alloc, held, len, n, &event, world, out)
+    answer_event(alloc, held, len, n, &event, system, out)
 }
 
 /// What a run comes to at the input's end, behind n lines and so many bytes.
@@ -185,34 +180,34 @@ fn read_line<G: FlushesMoves, S: Source, O: Sink>(
     alloc: Global,
     held: &mut Held,
     n: u32,
-    world: &mut World<G>,
+    system: &mut System<G>,
     source: &mut S,
     out: &mut O,
 ) -> Option<Ending>
     requires some { 0 < n }
     requires few { n < 1000000 }
     requires held { length held.old < 4096 }
-    requires count { line_of world.old ≡ n }
-    requires ready { world.old.spent ≡ false }
+    requires count { line_of system.old ≡ n }
+    requires ready { system.old.spent ≡ false }
     requires paged { G.unpaged ≡ false }
-    requires noted { (behind world.old).log.failed ≡ false }
+    requires noted { (behind system.old).log.failed ≡ false }
     ensures went { MatchOption result
-        (Went (outside (S.left source.old) (O.taken out.old)) (outside (S.left source.new) (O.taken out.new)) (stand held.old n (Running (scene world.old))) (stand held.new (n + 1) (Running (scene world.new))))
-        (λ e. Came (outside (S.left source.old) (O.taken out.old)) (outside (S.left source.new) (O.taken out.new)) (stand held.old n (Running (scene world.old))) e (Running (scene world.new))) }
+        (Went (outside (S.left source.old) (O.taken out.old)) (outside (S.left source.new) (O.taken out.new)) (stand held.old n (Running (scene system.old))) (stand held.new (n + 1) (Running (scene system.new))))
+        (λ e. Came (outside (S.left source.old) (O.taken out.old)) (outside (S.left source.new) (O.taken out.new)) (stand held.old n (Running (scene system.old))) e (Running (scene system.new))) }
     ensures few { IfNone result (length held.new < 4096) }
-    ensures count { IfNone result (line_of world.new ≡ n + 1) }
-    ensures ready { IfNone result (world.new.spent ≡ false) }
-    ensures noted { IfNone result ((behind world.new).log.failed ≡ false) }
-    ensures blame { IfSome result (λ e. IsBlamed e ⊥ (counts_with (S.faults source.old) (O.faults out.old) (behind world.old).log.faults) (counts_with (S.faults source.new) (O.faults out.new) (behind world.new).log.faults)) }
+    ensures count { IfNone result (line_of system.new ≡ n + 1) }
+    ensures ready { IfNone result (system.new.spent ≡ false) }
+    ensures noted { IfNone result ((behind system.new).log.failed ≡ false) }
+    ensures blame { IfSome result (λ e. IsBlamed e ⊥ (counts_with (S.faults source.old) (O.faults out.old) (behind system.old).log.faults) (counts_with (S.faults source.new) (O.faults out.new) (behind system.new).log.faults)) }
     ensures idle { MatchOption result (S.idle source.new ≤ S.idle source.old) (λ _. S.idle source.new ≤ S.idle source.old + 1) }
     ensures source_later { S.faults source.old ≤ S.faults source.new }
     ensures out_later { O.faults out.old ≤ O.faults out.new }
-    ensures moves_later { (behind world.old).log.faults ≤ (behind world.new).log.faults }
+    ensures moves_later { (behind system.old).log.faults ≤ (behind system.new).log.faults }
     ensures form { result ≢ Some Ending.Usage }
-    ensures loans { loans world.new ≡ loans world.old }
+    ensures loans { loans system.new ≡ loans system.old }
 {
     match held.next(source) {
-        Ok(Found::Line(len)) => answer_line(alloc, held, len, n, world, out),
+        Ok(Found::Line(len)) => answer_line(alloc, held, len, n, system, out),
         Ok(Found::Long) => Some(Ending::TooLong(n + 1)),
         Ok(Found::End) => Some(at_end(n, held.bytes().len())),
         Err(_) => Some(Ending::ReadFault),
@@ -220,31 +215,31 @@ fn read_line<G: FlushesMoves, S: Source, O: Sink>(
 }
 
 /// Gives on the moves that were noted.
-fn flush_moves<G: FlushesMoves>(world: &mut World<G>) -> Result<(), Failed>
-    ensures follows { Follows (Running (scene world.old)) (Running (scene world.new)) }
-    ensures cause { HasCause (behind world.old).log.faults (behind world.new).log.faults result }
-    ensures noted { (behind world.new).log.failed ≡ (behind world.old).log.failed }
-    ensures count { line_of world.new ≡ line_of world.old }
-    ensures ready { world.new.spent ≡ world.old.spent }
-    ensures loans { loans world.new ≡ loans world.old }
+fn flush_moves<G: FlushesMoves>(system: &mut System<G>) -> Result<(), Failed>
+    ensures follows { Follows (Running (scene system.old)) (Running (scene system.new)) }
+    ensures cause { HasCause (behind system.old).log.faults (behind system.new).log.faults result }
+    ensures noted { (behind system.new).log.failed ≡ (behind system.old).log.failed }
+    ensures count { line_of system.new ≡ line_of system.old }
+    ensures ready { system.new.spent ≡ system.old.spent }
+    ensures loans { loans system.new ≡ loans system.old }
 {
-    world.flush_moves()
+    system.flush_moves()
 }
 
 /// Gives on the moves and then the answers that were written.
-fn flush<G: FlushesMoves, O: Sink>(world: &mut World<G>, out: &mut O) -> Option<Ending>
-    ensures follows { Follows (Running (scene world.old)) (Running (scene world.new)) }
+fn flush<G: FlushesMoves, O: Sink>(system: &mut System<G>, out: &mut O) -> Option<Ending>
+    ensures follows { Follows (Running (scene system.old)) (Running (scene system.new)) }
     ensures taken { O.taken out.new ≡ O.taken out.old }
     ensures ends { IfSome result (λ e. (e ≡ Ending.MovesFault) ⊎ (e ≡ Ending.OutFault)) }
-    ensures blame { IfSome result (λ e. (s : ℕ) → IsBlamed e ⊥ (counts_with s (O.faults out.old) (behind world.old).log.faults) (counts_with s (O.faults out.new) (behind world.new).log.faults)) }
+    ensures blame { IfSome result (λ e. (s : ℕ) → IsBlamed e ⊥ (counts_with s (O.faults out.old) (behind system.old).log.faults) (counts_with s (O.faults out.new) (behind system.new).log.faults)) }
     ensures later { O.faults out.old ≤ O.faults out.new }
-    ensures moves_later { (behind world.old).log.faults ≤ (behind world.new).log.faults }
-    ensures noted { (behind world.new).log.failed ≡ (behind world.old).log.failed }
-    ensures count { line_of world.new ≡ line_of world.old }
-    ensures ready { world.new.spent ≡ world.old.spent }
-    ensures loans { loans world.new ≡ loans world.old }
+    ensures moves_later { (behind system.old).log.faults ≤ (behind system.new).log.faults }
+    ensures noted { (behind system.new).log.failed ≡ (behind system.old).log.failed }
+    ensures count { line_of system.new ≡ line_of system.old }
+    ensures ready { system.new.spent ≡ system.old.spent }
+    ensures loans { loans system.new ≡ loans system.old }
 {
-    match flush_moves(world) {
+    match flush_moves(system) {
         Ok(()) => {}
         Err(_) => return Some(Ending::MovesFault),
     }
@@ -262,24 +257,24 @@ fn has_line(bytes: &[u8]) -> bool {
 /// Flushes both sinks where more has to be read.
 fn flush_before_read<G: FlushesMoves, O: Sink>(
     held: &Held,
-    world: &mut World<G>,
+    system: &mut System<G>,
     out: &mut O,
 ) -> Option<Ending>
-    ensures follows { Follows (Running (scene world.old)) (Running (scene world.new)) }
+    ensures follows { Follows (Running (scene system.old)) (Running (scene system.new)) }
     ensures taken { O.taken out.new ≡ O.taken out.old }
     ensures ends { IfSome result (λ e. (e ≡ Ending.MovesFault) ⊎ (e ≡ Ending.OutFault)) }
-    ensures blame { IfSome result (λ e. (s : ℕ) → IsBlamed e ⊥ (counts_with s (O.faults out.old) (behind world.old).log.faults) (counts_with s (O.faults out.new) (behind world.new).log.faults)) }
+    ensures blame { IfSome result (λ e. (s : ℕ) → IsBlamed e ⊥ (counts_with s (O.faults out.old) (behind system.old).log.faults) (counts_with s (O.faults out.new) (behind system.new).log.faults)) }
     ensures later { O.faults out.old ≤ O.faults out.new }
-    ensures moves_later { (behind world.old).log.faults ≤ (behind world.new).log.faults }
-    ensures noted { (behind world.new).log.failed ≡ (behind world.old).log.failed }
-    ensures count { line_of world.new ≡ line_of world.old }
-    ensures ready { world.new.spent ≡ world.old.spent }
-    ensures loans { loans world.new ≡ loans world.old }
+    ensures moves_later { (behind system.old).log.faults ≤ (behind system.new).log.faults }
+    ensures noted { (behind system.new).log.failed ≡ (behind system.old).log.failed }
+    ensures count { line_of system.new ≡ line_of system.old }
+    ensures ready { system.new.spent ≡ system.old.spent }
+    ensures loans { loans system.new ≡ loans system.old }
 {
     if has_line(held.bytes()) {
         None
     } else {
-        flush(world, out)
+        flush(system, out)
     }
 }
 
@@ -288,35 +283,35 @@ fn decide_line<G: FlushesMoves, S: Source, O: Sink>(
     alloc: Global,
     held: &mut Held,
     n: u32,
-    world: &mut World<G>,
+    system: &mut System<G>,
     source: &mut S,
     out: &mut O,
 ) -> Option<Ending>
     requires some { 0 < n }
     requires few { n < 1000000 }
     requires held { length held.old < 4096 }
-    requires count { line_of world.old ≡ n }
-    requires ready { world.old.spent ≡ false }
+    requires count { line_of system.old ≡ n }
+    requires ready { system.old.spent ≡ false }
     requires paged { G.unpaged ≡ false }
-    requires noted { (behind world.old).log.failed ≡ false }
+    requires noted { (behind system.old).log.failed ≡ false }
     ensures went { MatchOption result
-        (Went (outside (S.left source.old) (O.taken out.old)) (outside (S.left source.new) (O.taken out.new)) (stand held.old n (Running (scene world.old))) (stand held.new (n + 1) (Running (scene world.new))))
-        (λ e. Came (outside (S.left source.old) (O.taken out.old)) (outside (S.left source.new) (O.taken out.new)) (stand held.old n (Running (scene world.old))) e (Running (scene world.new))) }
+        (Went (outside (S.left source.old) (O.taken out.old)) (outside (S.left source.new) (O.taken out.new)) (stand held.old n (Running (scene system.old))) (stand held.new (n + 1) (Running (scene system.new))))
+        (λ e. Came (outside (S.left source.old) (O.taken out.old)) (outside (S.left source.new) (O.taken out.new)) (stand held.old n (Running (scene system.old))) e (Running (scene system.new))) }
     ensures few { IfNone result (length held.new < 4096) }
-    ensures count { IfNone result (line_of world.new ≡ n + 1) }
-    ensures ready { IfNone result (world.new.spent ≡ false) }
-    ensures noted { IfNone result ((behind world.new).log.failed ≡ false) }
-    ensures blame { IfSome result (λ e. IsBlamed e ⊥ (counts_with (S.faults source.old) (O.faults out.old) (behind world.old).log.faults) (counts_with (S.faults source.new) (O.faults out.new) (behind world.new).log.faults)) }
+    ensures count { IfNone result (line_of system.new ≡ n + 1) }
+    ensures ready { IfNone result (system.new.spent ≡ false) }
+    ensures noted { IfNone result ((behind system.new).log.failed ≡ false) }
+    ensures blame { IfSome result (λ e. IsBlamed e ⊥ (counts_with (S.faults source.old) (O.faults out.old) (behind system.old).log.faults) (counts_with (S.faults source.new) (O.faults out.new) (behind system.new).log.faults)) }
     ensures idle { MatchOption result (S.idle source.new ≤ S.idle source.old) (λ _. S.idle source.new ≤ S.idle source.old + 1) }
     ensures source_later { S.faults source.old ≤ S.faults source.new }
     ensures out_later { O.faults out.old ≤ O.faults out.new }
-    ensures moves_later { (behind world.old).log.faults ≤ (behind world.new).log.faults }
+    ensures moves_later { (behind system.old).log.faults ≤ (behind system.new).log.faults }
     ensures form { result ≢ Some Ending.Usage }
-    ensures loans { loans world.new ≡ loans world.old }
+    ensures loans { loans system.new ≡ loans system.old }
 {
-    match flush_before_read(held, world, out) {
+    match flush_before_read(held, system, out) {
         Some(ending) => Some(ending),
-        None => read_line(alloc, held, n, world, source, out),
+        None => read_line(alloc, held, n, system, source, out),
     }
 }
 
@@ -340,31 +335,31 @@ fn behind_last<S: Source>(held: &mut Held, source: &mut S) -> Ending
 pub(crate) fn decide_rest<G: FlushesMoves, S: Source, O: Sink>(
     alloc: Global,
     held: &mut Held,
-    world: &mut World<G>,
+    system: &mut System<G>,
     source: &mut S,
     out: &mut O,
 ) -> Ending
     requires held { length held.old < 4096 }
-    requires count { line_of world.old ≡ 1 }
-    requires ready { world.old.spent ≡ false }
+    requires count { line_of system.old ≡ 1 }
+    requires ready { system.old.spent ≡ false }
     requires paged { G.unpaged ≡ false }
-    requires noted { (behind world.old).log.failed ≡ false }
-    ensures came { Came (outside (S.left source.old) (O.taken out.old)) (outside (S.left source.new) (O.taken out.new)) (stand held.old 1 (Running (scene world.old))) result (Running (scene world.new)) }
-    ensures blame { IsBlamed result ⊥ (counts_with (S.faults source.old) (O.faults out.old) (behind world.old).log.faults) (counts_with (S.faults source.new) (O.faults out.new) (behind world.new).log.faults) }
+    requires noted { (behind system.old).log.failed ≡ false }
+    ensures came { Came (outside (S.left source.old) (O.taken out.old)) (outside (S.left source.new) (O.taken out.new)) (stand held.old 1 (Running (scene system.old))) result (Running (scene system.new)) }
+    ensures blame { IsBlamed result ⊥ (counts_with (S.faults source.old) (O.faults out.old) (behind system.old).log.faults) (counts_with (S.faults source.new) (O.faults out.new) (behind system.new).log.faults) }
     ensures idle { S.idle source.new ≤ S.idle source.old + 1 }
     ensures source_later { S.faults source.old ≤ S.faults source.new }
     ensures out_later { O.faults out.old ≤ O.faults out.new }
-    ensures moves_later { (behind world.old).log.faults ≤ (behind world.new).log.faults }
+    ensures moves_later { (behind system.old).log.faults ≤ (behind system.new).log.faults }
     ensures form { result ≢ Ending.Usage }
-    ensures loans { loans world.new ≡ loans world.old }
+    ensures loans { loans system.new ≡ loans system.old }
 {
     for n in 1..LINES {
-        match decide_line(alloc, held, n, world, source, out) {
+        match decide_line(alloc, held, n, system, source, out) {
             Some(ending) => return ending,
             None => {}
         }
     }
-    match flush_before_read(held, world, out) {
+    match flush_before_read(held, system, out) {
         Some(ending) => ending,
         None => behind_last(held, source),
     }

@@ -22,8 +22,6 @@ pub enum Ending {
     SetupFault,
     /// A line has more than 256 bytes, or is one too many: its number, from 1.
     TooLong(u32),
-    /// A line is in the grammar, and its form is not built yet.
-    Unbuilt,
 }
 
 impl Ending {
@@ -41,7 +39,6 @@ impl Ending {
             Ending::MovesFault => 6,
             Ending::SetupFault => 7,
             Ending::TooLong(_) => 8,
-            Ending::Unbuilt => 9,
         }
     }
 }

@@ -5,9 +5,11 @@ mod bulk;
 mod decisions;
 mod endings;
 mod forms;
+mod laws;
 mod machines;
 mod readings;
 mod top;
 
 pub use endings::Ending;
+pub use laws::watches_give_written_pages;
 pub use top::run;

@@ -3,9 +3,8 @@ ghost use Rattle.mm_types.specs.Outside.{Rose};
 ghost use Rattle.mm_lines.specs.Looking.{HasLine};
 ghost use Rattle.mm_blocks.specs.Traffic.{NoneLogged, empty_block};
 ghost use Rattle.mm_types.specs.declared.events.Event.TheVariants as event;
-ghost use Rattle.mm_world.specs.Charge.{charge, limit};
 ghost use Rattle.mm_script.specs.Grammar.{IsLine as IsLineFor};
-ghost use Rattle.mm_core.specs.Shown.{line_of, loans, behind};
+ghost use Rattle.mm_system.specs.Shown.{line_of, loans, behind};
 ghost use Rattle.mm_run.specs.Reading.{reading};
 ghost use Rattle.mm_run.specs.Scenes.{Outset, NotBegun, Running, outset, scene};
 ghost use Rattle.mm_run.specs.Steps.{IsMade};
@@ -16,13 +15,13 @@ use crate::decisions::{at_end, decide_rest, tell};
 use crate::endings::Ending;
 use crate::readings::read_event;
 use mm_blocks::{Blocks, Injected};
-use mm_core::World;
 use mm_flushing::FlushesMoves;
 use mm_io::{Sink, Source};
 use mm_lines::{Found, Held};
 use mm_moves::Recorder;
 use mm_paged::Paged;
 use mm_state::State;
+use mm_system::System;
 use mm_types::{Answer, Event, Machine, OpenFault};
 use std::alloc::Global;
 
@@ -70,7 +69,7 @@ fn answer_all<G: FlushesMoves, S: Source, O: Sink>(
     held: &mut Held,
     len: usize,
     machine: Machine,
-    world: &mut World<G>,
+    system: &mut System<G>,
     source: &mut S,
     out: &mut O,
 ) -> Ending
@@ -78,25 +77,24 @@ fn answer_all<G: FlushesMoves, S: Source, O: Sink>(
     requires behind { length held.old < len + 1 + 4096 }
     requires says { reading 0 (take len held.old) ≡ Ok (event.Machine machine) }
     requires grammar { IsLineFor (take len held.old) (event.Machine machine) }
-    requires count { line_of world.old ≡ 1 }
-    requires ready { world.old.spent ≡ false }
-    requires within { charge (scene world.old).world ≤ limit (scene world.old).world }
+    requires count { line_of system.old ≡ 1 }
+    requires ready { system.old.spent ≡ false }
     requires paged { G.unpaged ≡ false }
-    ensures came { (o : Outset) → IsMade machine o (scene world.old) → Came (outside (S.left source.old) (O.taken out.old)) (outside (S.left source.new) (O.taken out.new)) (stand held.old 0 (NotBegun o)) result (Running (scene world.new)) }
-    ensures blame { (o : Outset) → IsMade machine o (scene world.old) → o.log.failed ≡ false → IsBlamed result ⊥ (counts_with (S.faults source.old) (O.faults out.old) o.log.faults) (counts_with (S.faults source.new) (O.faults out.new) (behind world.new).log.faults) }
+    ensures came { (o : Outset) → IsMade machine o (scene system.old) → Came (outside (S.left source.old) (O.taken out.old)) (outside (S.left source.new) (O.taken out.new)) (stand held.old 0 (NotBegun o)) result (Running (scene system.new)) }
+    ensures blame { (o : Outset) → IsMade machine o (scene system.old) → o.log.failed ≡ false → IsBlamed result ⊥ (counts_with (S.faults source.old) (O.faults out.old) o.log.faults) (counts_with (S.faults source.new) (O.faults out.new) (behind system.new).log.faults) }
     ensures idle { S.idle source.new ≤ S.idle source.old + 1 }
     ensures source_later { S.faults source.old ≤ S.faults source.new }
     ensures out_later { O.faults out.old ≤ O.faults out.new }
     ensures form { result ≢ Ending.Usage }
-    ensures moves_later { (behind world.old).log.faults ≤ (behind world.new).log.faults }
-    ensures loans { loans world.new ≡ loans world.old }
+    ensures moves_later { (behind system.old).log.faults ≤ (behind system.new).log.faults }
+    ensures loans { loans system.new ≡ loans system.old }
 {
-    if world.pages.moves_failed() {
+    if system.world.pages.moves_failed() {
         return Ending::MovesFault;
     }
     match tell(held, len, &Answer::Limit(machine.limit()), out) {
         Some(ending) => ending,
-        None => decide_rest(alloc, held, world, source, out),
+        None => decide_rest(alloc, held, system, source, out),
     }
 }
 
@@ -147,9 +145,9 @@ fn run_machine<S: Source, O: Sink, M: Sink, P: Blocks, F: Blocks>(
             return Ending::NoMemory;
         }
     };
-    let mut world = World::new(alloc, machine, Paged::over(state));
-    let ending = answer_all(alloc, held, len, machine, &mut world, source, out);
-    let (paging, files, moves) = world.finish().finish().finish();
+    let mut system = System::new(alloc, machine, Paged::over(state));
+    let ending = answer_all(alloc, held, len, machine, &mut system, source, out);
+    let (paging, files, moves) = system.finish().finish().finish();
     let _ = paging.finish();
     let _ = files.finish();
     let _ = moves.finish();

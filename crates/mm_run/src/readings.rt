@@ -3,8 +3,8 @@ ghost use Rattle.mm_types.specs.declared.events.Event.{Event};
 ghost use Rattle.mm_script.specs.Grammar.{IsLine};
 ghost use Rattle.mm_run.specs.Story.{IsMisplaced};
 ghost use Rattle.mm_script.specs.Printed.{IsWellFormed};
-ghost use Rattle.mm_run.specs.Reading.{reading, without_return, is_machine, is_machine_word};
-ghost use Rattle.mm_run.specs.Built.{is_built};
+ghost use Rattle.mm_system.specs.Lines.{is_machine};
+ghost use Rattle.mm_run.specs.Reading.{reading, without_return, is_machine_word};
 
 use mm_script::parse_line;
 use mm_types::Event;
@@ -102,11 +102,4 @@ pub(crate) fn read_event(line: &[u8], n: u32) -> Result<Event, u32>
     } else {
         read_later(line)
     }
-}
-
-/// Whether the form of a line is built.
-pub(crate) fn is_built(event: &Event) -> bool
-    ensures { result ≡ is_built event.now }
-{
-    is_machine(event) || mm_core::is_built(event)
 }

@@ -177,7 +177,7 @@ fn end<S: Source, O: Sink, M: Sink, P: Blocks, F: Blocks>(
 /// Runs a script from the bytes of its source to the bytes of its answers, and says how it ended: 0 where every
 /// line was decided, 1 where memory was refused, 2 where the words are no form, 3 at a line that is not in the
 /// grammar, 4 where the source failed, 5 where `out` failed, 6 where `moves` failed, 7 where a device failed as it was opened, 8 at a
-/// line that is too long, 9 at a line whose form is not built yet.
+/// line that is too long.
 ///
 /// Where the words are `bulk SEED COUNT` the lines are the events of `mm_make`'s script of these two numbers, and nothing is read; their answers are
 /// not written, but how many there are, how many of them begin with `ok`, how many are `none`, and the charge at the end with its limit.

@@ -153,17 +153,6 @@ fn long_lines(rt: HostRuntime) -> Result<(), Fail> {
     Ok(())
 }
 
-#[test]
-fn lines_not_built(rt: HostRuntime) -> Result<(), Fail> {
-    let (status, text) = quiet(
-        rt.alloc(),
-        b"machine 8 4 1 0\nwatch 1 0 0x10000 1 1\nprocess 0 1\n",
-    )?;
-    assert_eq!(rt; status, 9);
-    assert_eq!(rt; text.as_slice(), b"ok 8\n".as_slice());
-    Ok(())
-}
-
 fn failing_reads(alloc: Global, reads: &[u32]) -> Result<(u8, Vec<u8>), AllocError> {
     outcome(alloc, "run", SMALLEST, 4096, Failing { reads, ..NOTHING })
 }

@@ -2,7 +2,7 @@ use Rattle.std.proofs.Common.{◌≡◌, take, sym, ap, ◌∙◌, subst, List, 
 use Rattle.mm_script.specs.Grammar.{IsLine as IsLineFor}
 use Rattle.std.specs.Prelude.{Ok, Err}
 use Rattle.mm_run.specs.Reading.{reading}
-use Rattle.mm_run.proofs.Stops.{came_bad, came_unbuilt}
+use Rattle.mm_run.proofs.Stops.{came_bad}
 use Rattle.mm_run.proofs.decisions.answer_line.Goals as goal
 
 pub returns-in-Err-clause-went : goal.returns-in-Err-clause-went
@@ -10,12 +10,6 @@ returns-in-Err-clause-went g c = λ left.
     let bad : reading c.args.n (take c.args.len c.args.held.now) ≡ Err c.in-Err.column =
     ap (λ xs. reading c.args.n (take c.args.len xs)) (sym c.bytes.ensures) ∙ sym c.read_event.ensures.reads ∙ c.in-Err.is in
     came_bad _ _ _ c.requires.line c.requires.few c.requires.behind left _ _ _ bad (λ e s. c.in-Err.ensures.refused e (subst (λ (xs : List ℕ). IsLineFor (take c.args.len xs) e) (sym c.bytes.ensures) s))
-
-pub returns-then-not-is_built-clause-went : goal.returns-then-not-is_built-clause-went
-returns-then-not-is_built-clause-went g c = λ left.
-    let good : reading c.args.n (take c.args.len c.args.held.now) ≡ Ok c.in-Ok.event =
-    ap (λ xs. reading c.args.n (take c.args.len xs)) (sym c.bytes.ensures) ∙ sym c.read_event.ensures.reads ∙ c.in-Ok.is in
-    came_unbuilt _ _ _ c.requires.line c.requires.few c.requires.behind left _ _ c.in-Ok.event good (subst (λ (xs : List ℕ). IsLineFor (take c.args.len xs) c.in-Ok.event) c.bytes.ensures c.in-Ok.ensures.grammar) (sym c.if-not-is_built.ensures)
 
 pub answer_event-requires-clause-says : goal.answer_event-requires-clause-says
 answer_event-requires-clause-says g c =

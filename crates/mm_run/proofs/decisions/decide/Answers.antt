@@ -1,9 +1,9 @@
 use Rattle.std.proofs.Common.{◌≡◌, ◌∙◌, sym, inl, inr, true, false, subst}
 use Rattle.std.specs.Prelude.{Bool}
 use Rattle.mm_core.specs.Serving.{Named}
-use Rattle.mm_core.specs.Shown.{world, report, paging_device, file_device}
+use Rattle.mm_system.specs.Shown.{system, report, paging_device, file_device}
 use Rattle.mm_run.proofs.Deciding.{stands, devices_hold}
-use Rattle.mm_run.proofs.Unpaged.{unpaged_answer, plain_answer}
+use Rattle.mm_run.proofs.Unpaged.{unpaged_system, plain_system}
 use Rattle.mm_run.proofs.decisions.decide.Goals as goal
 
 pub returns-in-Ok-clause-decided : goal.returns-in-Ok-clause-decided
@@ -11,12 +11,12 @@ returns-in-Ok-clause-decided g c =
     let d = c.in-Ok.ensures in
     let e = c.args.event.now in
     let a = c.in-Ok.answer in
-    let old = c.args.world.now in
+    let old = c.args.system.now in
     let new = c.step.new.self in
     let pages = g.G.Pages in
-    let kept = stands pages.unpaged (pages.contents new.pages) (pages.store new.pages) (pages.behind new.pages) c.requires.paged c.sound.ensures.stands in
+    let kept = stands pages.unpaged (pages.contents new.world.pages) (pages.store new.world.pages) (pages.behind new.world.pages) c.requires.paged c.sound.ensures.stands in
     let p = d.paged c.requires.paged in
-    let fits = new.fits d.ready in
+    let fits = new.world.fits (new.ready d.ready) in
     record {
       moves = p.piece;
       decided = record {
@@ -24,8 +24,10 @@ returns-in-Ok-clause-decided g c =
           c.requires.not_first,
           record {
             answered = d.step;
-            unpaged = unpaged_answer (world old) (world new) e a (report old) (report new) d.step;
-            plain = λ q none. plain_answer (world old) (report old) (report new) none kept.search kept.read (world new) e a d.step q;
+            unpaged = unpaged_system (system old) (system new) e a (report old) (report new) d.step;
+            plain = λ q none. plain_system (system old) (system new) e a (report old) (report new) d.step none kept.search kept.read q;
+            watched = record { apart = c.sound-in-Ok.ensures.apart; live = c.sound-in-Ok.ensures.live };
+            kept = d.kept;
             lives = d.lives;
             asked_paging = d.asked_paging;
             asked_files = d.asked_files;
@@ -42,7 +44,7 @@ returns-in-Ok-clause-decided g c =
         );
         within = d.within;
         notes = record { in_range = p.in_range; grew = p.grew; replays = p.replays };
-        holds = devices_hold new.tables (pages.contents new.pages) (pages.store new.pages) (pages.behind new.pages) kept p.line.agrees.keys;
+        holds = devices_hold new.world.tables (pages.contents new.world.pages) (pages.store new.world.pages) (pages.behind new.world.pages) kept p.line.agrees.keys;
       };
     }
 
@@ -64,7 +66,7 @@ returns-in-Err-clause-breaks g c =
       moves = b.piece;
       at_most = b.at_most;
       notes = record { in_range = b.in_range; grew = b.grew; replays = b.replays };
-      world = d.err;
+      system = d.err;
       paging = d.idle.0;
       files = d.idle.1;
       blocks = d.idle.2;

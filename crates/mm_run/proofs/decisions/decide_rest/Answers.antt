@@ -20,7 +20,7 @@ loop-n-init g c = record {
 }
 
 pub returns-in-Some-clause-came : goal.returns-in-Some-clause-came
-returns-in-Some-clause-came g c = went_came _ _ _ _ _ (Running (scene c.decide_line.new.world)) c.in-Some.ending c.loop-n.invariant.went c.in-Some.ensures.went
+returns-in-Some-clause-came g c = went_came _ _ _ _ _ (Running (scene c.decide_line.new.system)) c.in-Some.ending c.loop-n.invariant.went c.in-Some.ensures.went
 
 pub loop-n-preserved : goal.loop-n-preserved
 loop-n-preserved g c =
@@ -45,8 +45,8 @@ returns-in-Some-flush_before_read-clause-came g c =
     let f = c.flush_before_read in
     let took = g.O.Sink.taken in
     let full : l.n ≡ 1000000 = omega arith in
-    went_came _ _ _ _ _ (Running (scene f.new.world)) c.in-Some-flush_before_read.ending l.invariant.went
-    (came_unflushed (g.S.Source.left l.source) (took l.out) (took f.new.out) l.held l.n (Running (scene l.world)) (Running (scene f.new.world)) c.in-Some-flush_before_read.ending c.in-Some-flush_before_read.ensures.ends
+    went_came _ _ _ _ _ (Running (scene f.new.system)) c.in-Some-flush_before_read.ending l.invariant.went
+    (came_unflushed (g.S.Source.left l.source) (took l.out) (took f.new.out) l.held l.n (Running (scene l.system)) (Running (scene f.new.system)) c.in-Some-flush_before_read.ending c.in-Some-flush_before_read.ensures.ends
     (omega (arith, full)) l.invariant.few f.ensures.taken f.ensures.follows)
 
 pub returns-in-None-flush_before_read-clause-came : goal.returns-in-None-flush_before_read-clause-came
@@ -56,7 +56,7 @@ returns-in-None-flush_before_read-clause-came g c =
     let left = g.S.Source.left in
     let took = g.O.Sink.taken in
     let full : 1000000 ≡ l.n = omega arith in
-    went_came _ _ _ _ _ (Running (scene f.new.world)) c.behind_last.result l.invariant.went
-    (flushed_came (left l.source) (took l.out) (took f.new.out) f.ensures.taken l.held l.n (Running (scene l.world)) (Running (scene f.new.world)) f.ensures.follows (outside (left c.behind_last.new.source) (took f.new.out)) c.behind_last.result (Running (scene f.new.world))
-    (subst (λ (k : ℕ). Came (outside (left l.source) (took f.new.out)) (outside (left c.behind_last.new.source) (took f.new.out)) (stand l.held k (Running (scene f.new.world))) c.behind_last.result (Running (scene f.new.world))) full
-    (c.behind_last.ensures.came (scene f.new.world) (took f.new.out))))
+    went_came _ _ _ _ _ (Running (scene f.new.system)) c.behind_last.result l.invariant.went
+    (flushed_came (left l.source) (took l.out) (took f.new.out) f.ensures.taken l.held l.n (Running (scene l.system)) (Running (scene f.new.system)) f.ensures.follows (outside (left c.behind_last.new.source) (took f.new.out)) c.behind_last.result (Running (scene f.new.system))
+    (subst (λ (k : ℕ). Came (outside (left l.source) (took f.new.out)) (outside (left c.behind_last.new.source) (took f.new.out)) (stand l.held k (Running (scene f.new.system))) c.behind_last.result (Running (scene f.new.system))) full
+    (c.behind_last.ensures.came (scene f.new.system) (took f.new.out))))

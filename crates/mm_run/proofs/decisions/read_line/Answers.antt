@@ -12,13 +12,13 @@ returns-in-Ok-Line-clause-went g c =
 pub returns-in-Ok-Long-clause-went : goal.returns-in-Ok-Long-clause-went
 returns-in-Ok-Long-clause-went g c =
     let found = rw c.in-Ok-Long.field-0-is at c.in-Ok-Long.ensures.finds in
-    came_long _ _ _ _ _ _ (Running (scene c.args.world.now)) c.next.ensures.filled c.requires.few found.0 found.1
+    came_long _ _ _ _ _ _ (Running (scene c.args.system.now)) c.next.ensures.filled c.requires.few found.0 found.1
 
 pub returns-in-Ok-End-clause-went : goal.returns-in-Ok-End-clause-went
 returns-in-Ok-End-clause-went g c =
     let found = rw c.in-Ok-End.field-0-is at c.in-Ok-End.ensures.finds in
-    came_end _ _ _ _ _ _ (Running (scene c.args.world.now)) c.next.ensures.filled _ c.requires.few found.0 found.1
+    came_end _ _ _ _ _ _ (Running (scene c.args.system.now)) c.next.ensures.filled _ c.requires.few found.0 found.1
     (subst (λ (xs : List ℕ). EndsAt c.args.n (length xs) c.at_end.result) c.bytes.ensures c.at_end.ensures)
 
 pub returns-in-Err-clause-went : goal.returns-in-Err-clause-went
-returns-in-Err-clause-went g c = came_read _ _ _ _ _ _ (Running (scene c.args.world.now)) c.next.ensures.filled (omega arith) c.in-Err.ensures.finds
+returns-in-Err-clause-went g c = came_read _ _ _ _ _ _ (Running (scene c.args.system.now)) c.next.ensures.filled (omega arith) c.in-Err.ensures.finds

@@ -11,9 +11,9 @@ use Rattle.mm_run.proofs.machines.answer_all.Goals as goal
 pub returns-then-moves_failed-clause-came : goal.returns-then-moves_failed-clause-came
 returns-then-moves_failed-clause-came g c = λ o made.
     let small : 0 < 1000000 = omega arith in
-    let here = scene c.args.world.now in
+    let here = scene c.args.system.now in
     told_muted c.args.held.now c.args.len 0 c.requires.line small c.requires.behind _ _ _ (NotBegun o) (Running here) (line.Machine c.args.machine) (answer.Limit (limit_of c.args.machine)) (first_move c.args.machine ∷ [])
-    c.requires.says c.requires.grammar refl (first_answered c.args.machine o here made c.requires.within (limit_of c.args.machine) refl) refl (sym c.if-moves_failed.ensures)
+    c.requires.says c.requires.grammar (first_answered c.args.machine o here made (limit_of c.args.machine) refl) refl (sym c.if-moves_failed.ensures)
 
 pub returns-then-moves_failed-clause-blame : goal.returns-then-moves_failed-clause-blame
 returns-then-moves_failed-clause-blame g c = λ o made fresh.
@@ -26,15 +26,15 @@ pub returns-in-Some-clause-came : goal.returns-in-Some-clause-came
 returns-in-Some-clause-came g c = λ o made.
     let small : 0 < 1000000 = omega arith in
     let told = c.in-Some.ensures.told in
-    let here = scene c.args.world.now in
+    let here = scene c.args.system.now in
     told_came c.args.held.now c.args.len 0 c.requires.line small c.requires.behind _ _ _ (NotBegun o) (Running here) (line.Machine c.args.machine) (answer.Limit c.limit.result) (first_move c.args.machine ∷ [])
-    c.requires.says c.requires.grammar refl (first_answered c.args.machine o here made c.requires.within c.limit.result c.limit.ensures) (sym c.if-moves_failed.ensures) c.tell.new.held c.tell.ensures.held c.in-Some.ending told.0 told.1
+    c.requires.says c.requires.grammar (first_answered c.args.machine o here made c.limit.result c.limit.ensures) (sym c.if-moves_failed.ensures) c.tell.new.held c.tell.ensures.held c.in-Some.ending told.0 told.1
 
 pub returns-in-None-clause-came : goal.returns-in-None-clause-came
 returns-in-None-clause-came g c = λ o made.
     let small : 0 < 1000000 = omega arith in
-    let here = scene c.args.world.now in
-    went_came _ _ _ _ _ (Running (scene c.decide_rest.new.world)) c.decide_rest.result
+    let here = scene c.args.system.now in
+    went_came _ _ _ _ _ (Running (scene c.decide_rest.new.system)) c.decide_rest.result
     (told_went c.args.held.now c.args.len 0 c.requires.line small c.requires.behind _ _ _ (NotBegun o) (Running here) (line.Machine c.args.machine) (answer.Limit c.limit.result) (first_move c.args.machine ∷ [])
-    c.requires.says c.requires.grammar refl (first_answered c.args.machine o here made c.requires.within c.limit.result c.limit.ensures) (sym c.if-moves_failed.ensures) c.tell.new.held c.tell.ensures.held c.in-None.ensures.told)
+    c.requires.says c.requires.grammar (first_answered c.args.machine o here made c.limit.result c.limit.ensures) (sym c.if-moves_failed.ensures) c.tell.new.held c.tell.ensures.held c.in-None.ensures.told)
     c.decide_rest.ensures.came

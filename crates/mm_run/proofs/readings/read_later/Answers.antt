@@ -1,6 +1,6 @@
 use Rattle.std.proofs.Common.{◌≡◌, sym, ap, ◌∙◌}
 use Rattle.std.specs.Prelude.{Ok}
-use Rattle.mm_run.specs.Reading.{is_machine}
+use Rattle.mm_system.specs.Lines.{is_machine}
 use Rattle.mm_run.proofs.readings.read_later.Goals as goal
 
 pub returns-then-is_machine-clause-refused : goal.returns-then-is_machine-clause-refused

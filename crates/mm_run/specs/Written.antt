@@ -1,0 +1,75 @@
+-- Which pages of watched regions are written, told by a list of lines and their answers alone (GetWriteWatch).
+use Rattle.std.specs.Prelude.{◌≡◌, ℕ, Bool, true, false, not, ◌&&◌, ◌==◌, if◌then◌else◌, List, map, take, filter, fold}
+use Rattle.std.specs.List.{range_with_len}
+use Rattle.mm_types.specs.declared.answers.Answer.{Answer}
+use Rattle.mm_types.specs.declared.answers.Answer.TheVariants as answer
+use Rattle.mm_types.specs.declared.events.Event.{Event}
+use Rattle.mm_types.specs.declared.events.Event.TheVariants as line
+use Rattle.mm_types.specs.Address.{Range, address_of, range_of, holds_page}
+use Rattle.mm_world.specs.System.{is_watched_type, reserved_range}
+use Rattle.mm_watch.specs.Told.{is_this_page, access_writes, line_clears}
+use Rattle.mm_core.specs.Forgetting.{ends_none}
+
+-- a line that was answered
+pub record AnsweredLine : Type 0 where
+  pub event : Event
+  pub answer : Answer
+
+-- what lines tell of one page: whether a thread keeps a write to it, and whether it is written
+pub record Marks : Type 0 where
+  pub keeps : ℕ → Bool
+  pub written : Bool
+
+abbrev pub unmarked : Marks
+unmarked = record { keeps = λ thread. false; written = false }
+
+module _ (pid page : ℕ) where
+  -- the thread keeps a write to the page from a `begin` answered `pending` on, until a `resume` ends the access or the process ends
+  abbrev pub keeps_after : ℕ → Bool → Event → Answer → Bool
+  keeps_after thread was (line.Begin tid by what) (answer.Pending why) = if tid.0 == thread then access_writes pid page by.0 what else was
+  keeps_after thread was (line.Resume tid) a = if (tid.0 == thread) && not (ends_none a) then false else was
+  keeps_after thread was (line.Exit by) answer.Ok = if by.0 == pid then false else was
+  keeps_after thread was _ _ = was
+
+  -- the line made a watched region with the page
+  abbrev pub line_begins : Event → Answer → Bool
+  line_begins (line.Alloc by addr size type prot) (answer.At base) = (by.0 == pid) && (is_watched_type type && holds_page (reserved_range addr size base) page)
+  line_begins _ _ = false
+
+  -- the line wrote to the page
+  abbrev pub line_wrote : (ℕ → Bool) → Event → Answer → Bool
+  line_wrote keeps (line.Write by addr bytes) answer.Ok = is_this_page pid page by.0 addr
+  line_wrote keeps (line.Begin tid by what) answer.Ok = access_writes pid page by.0 what
+  line_wrote keeps (line.Resume tid) answer.Ok = keeps tid.0
+  line_wrote keeps _ _ = false
+
+  -- the page is not written where the line made its region or made it unwritten, and is where the line wrote to it
+  abbrev pub written_after : (ℕ → Bool) → Bool → Event → Answer → Bool
+  written_after keeps was e a =
+      if line_begins e a then false
+      else if line_clears pid page e a then false
+      else if line_wrote keeps e a then true
+      else was
+
+  abbrev pub marks_after : Marks → AnsweredLine → Marks
+  marks_after m l = record {
+    keeps = λ thread. keeps_after thread (m.keeps thread) l.event l.answer;
+    written = written_after m.keeps m.written l.event l.answer;
+  }
+
+  -- what these lines tell of the page, after others that told this
+  abbrev pub marks_over : Marks → List AnsweredLine → Marks
+  marks_over m lines = fold marks_after m lines
+
+  -- whether the page is written after these lines
+  abbrev pub is_written : List AnsweredLine → Bool
+  is_written lines = (marks_over unmarked lines).written
+
+-- the lowest pages of the range that are written after these lines, at most `count`
+abbrev pub lowest_written : List AnsweredLine → ℕ → Range → ℕ → List ℕ
+lowest_written lines pid range count = take count (filter (λ page. is_written pid page lines) (range_with_len range.first range.count))
+
+-- a `watch` after these lines that was answered with pages gave exactly these
+abbrev pub GivesWritten : List AnsweredLine → Event → Answer → Type 0
+GivesWritten lines (line.Watch pid unwrites addr size count) (answer.Watched pages) = pages ≡ map address_of (lowest_written lines pid.0 (range_of addr size) count)
+GivesWritten lines _ _ = Unit {0}
