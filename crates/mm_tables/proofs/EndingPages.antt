@@ -151,7 +151,7 @@ named_still : (b : Bool) (o : Option Key) (k : Key) → cond b None o ≡ Some k
 named_still true o k e = cc
 named_still false o k e = (e, refl)
 
-owned_passing : (test : ℕ → Bool) (first n : ℕ) → owned_among (λ i. test (first + i)) n ≡ passing test first n
+pub owned_passing : (test : ℕ → Bool) (first n : ℕ) → owned_among (λ i. test (first + i)) n ≡ passing test first n
 owned_passing test first zero = refl
 owned_passing test first (suc n) = ap (λ k. k + cond (test (first + n)) 1 0) (owned_passing test first n)
 

@@ -57,4 +57,6 @@ pub mod EndingClose
 pub mod EndingSpace
 pub mod EndingUnmap
 pub mod EndingRelease
+pub mod EndingRuns
+pub mod RemovingRuns
 pub mod EndingExits

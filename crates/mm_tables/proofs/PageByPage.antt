@@ -20,15 +20,15 @@ use Rattle.mm_tables.proofs.OnePage.{own, once, holds_only}
 
 -- ---- ranges
 
-or_true : (a b : Bool) → (a || b) ≡ true → (P : Type 0) → (a ≡ true → P) → (b ≡ true → P) → P
+pub or_true : (a b : Bool) → (a || b) ≡ true → (P : Type 0) → (a ≡ true → P) → (b ≡ true → P) → P
 or_true true b e P f g = f refl
 or_true false b e P f g = g e
 
-or_left : (a b : Bool) → a ≡ true → (a || b) ≡ true
+pub or_left : (a b : Bool) → a ≡ true → (a || b) ≡ true
 or_left true b e = refl
 or_left false b e = cc
 
-or_right : (a b : Bool) → b ≡ true → (a || b) ≡ true
+pub or_right : (a b : Bool) → b ≡ true → (a || b) ≡ true
 or_right true b e = refl
 or_right false b e = e
 
@@ -36,7 +36,7 @@ pub and_false : (b : Bool) → (b && false) ≡ false
 and_false true = refl
 and_false false = refl
 
-spread : (a b c : Bool) → (a && (b || c)) ≡ ((a && b) || (a && c))
+pub spread : (a b c : Bool) → (a && (b || c)) ≡ ((a && b) || (a && c))
 spread true b c = refl
 spread false b c = refl
 
@@ -66,7 +66,7 @@ place_in_more pid range n q = ap (λ b. (q.pid.0 == pid.0) && b) (holds_more ran
 
 -- ---- functions changed in a range and then at its next page
 
-twice : {V : Type 0} (a b : Bool) (x y : V) → cond a x (cond b x y) ≡ cond (a || b) x y
+pub twice : {V : Type 0} (a b : Bool) (x y : V) → cond a x (cond b x y) ≡ cond (a || b) x y
 twice true b x y = refl
 twice false b x y = refl
 

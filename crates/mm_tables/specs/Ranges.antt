@@ -1,5 +1,5 @@
 -- A store with the private keys of a range of pages added or removed.
-use Rattle.std.specs.Prelude.{◌≡◌, ◌≤◌, ℕ, zero, suc, ◌+◌, ◌-◌, Bool, true, false, not, ◌&&◌, ◌==◌, if◌then◌else◌, is_some, Option, Some, None, unwrap_or, List}
+use Rattle.std.specs.Prelude.{◌≡◌, ◌≤◌, ℕ, zero, suc, ◌+◌, ◌-◌, ◌/◌, Bool, true, false, not, ◌&&◌, ◌==◌, if◌then◌else◌, is_some, Option, Some, None, unwrap_or, List}
 use Rattle.mm_types.specs.declared.numbers.Key.{Key}
 use Rattle.mm_types.specs.declared.numbers.Key.TheVariants as key
 use Rattle.mm_types.specs.declared.numbers.Pid.{Pid}
@@ -82,6 +82,13 @@ only page = record { first = page; count = 1 }
 -- the first `n` pages of a range
 abbrev pub front : Range → ℕ → Range
 front range n = record { first = range.first; count = n }
+
+-- its first half, and the other
+abbrev pub low_half : Range → Range
+low_half range = record { first = range.first; count = range.count / 2 }
+
+abbrev pub high_half : Range → Range
+high_half range = record { first = range.first + range.count / 2; count = range.count - range.count / 2 }
 
 -- what adding keys comes to
 pub record Adds (pid : Pid) (range : Range) (c d : Key → Option Page) (s z : StoreOf) : Type 0 where

@@ -125,8 +125,7 @@ pub(crate) fn release_in<G: Pages>(
 {
     match process {
         Some(process) => {
-            let owned = process.space.owned(range);
-            release_pages(g, &process.space, pid, range);
+            let owned = release_pages(g, &process.space, pid, range);
             process.space.remove_lowest();
             owned
         }

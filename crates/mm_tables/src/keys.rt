@@ -1,11 +1,14 @@
-ghost use Rattle.std.specs.Prelude.{◌≡◌, ◌≤◌, ◌<◌, ◌+◌, ℕ, Bool, true};
+ghost use Rattle.std.specs.Prelude.{◌≡◌, ◌≤◌, ◌<◌, ◌+◌, ℕ, Bool, true, is_some};
 ghost use Rattle.mm_types.specs.Address.{end_of, end_of_user_pages};
 ghost use Rattle.mm_pages.specs.Housekeeping.{Turns, Makes, Ends};
 ghost use Rattle.mm_pages.specs.Passing.{PassesIn};
 ghost use Rattle.mm_pages.specs.Conditions.{AreAmong, place_at};
 ghost use Rattle.mm_types.specs.declared.numbers.Place.{Place};
+ghost use Rattle.mm_world.specs.Find.{region_around};
+ghost use Rattle.mm_spaces.specs.Tables.{owned_in};
 ghost use Rattle.mm_tables.specs.Ranges.{CanAdd, CanRemove, Adds, Removes, only};
 
+use crate::halves::{FEW_PAGES, high_half, low_half};
 use mm_pages::Pages;
 use mm_spaces::{AddressSpace, PageRange};
 use mm_types::{Key, Pid, Vpn};
@@ -57,9 +60,9 @@ fn remove_page<G: Pages>(g: &mut G, space: &AddressSpace, pid: Pid, page: u32)
     }
 }
 
-/// Removes the keys of those pages of the range that are committed.
+/// Removes the keys of those pages of the range that are committed, page by page.
 #[tactic(auto, using(mm_pages::proofs::Passed::turns_same))]
-pub(crate) fn remove_pages<G: Pages>(g: &mut G, space: &AddressSpace, pid: Pid, range: PageRange)
+fn remove_each<G: Pages>(g: &mut G, space: &AddressSpace, pid: Pid, range: PageRange)
     requires end { end_of range ≤ end_of_user_pages }
     requires can { CanRemove pid range space.now.regions (G.contents g.old) (G.store g.old) }
     ensures removes { Removes pid range (G.contents g.old) (G.contents g.new) (G.store g.old) (G.store g.new) }
@@ -68,5 +71,38 @@ pub(crate) fn remove_pages<G: Pages>(g: &mut G, space: &AddressSpace, pid: Pid, 
 {
     for i in 0..range.count {
         remove_page(g, space, pid, range.first + i);
+    }
+}
+
+/// Removes the keys of those pages of a range of one region that are committed; `owned` are. Pages that are not are passed over by
+/// runs, found by halving.
+#[tactic(auto, using(mm_pages::proofs::Passed::turns_same))]
+pub(crate) fn remove_pages<G: Pages>(
+    g: &mut G,
+    space: &AddressSpace,
+    pid: Pid,
+    range: PageRange,
+    owned: u32,
+)
+    requires end { end_of range ≤ end_of_user_pages }
+    requires around { is_some (region_around space.now.regions range) ≡ true }
+    requires owned { owned ≡ owned_in space.now.regions range }
+    requires can { CanRemove pid range space.now.regions (G.contents g.old) (G.store g.old) }
+    ensures removes { Removes pid range (G.contents g.old) (G.contents g.new) (G.store g.old) (G.store g.new) }
+    ensures passes { (held : Place → Bool) (from to : ℕ) → AreAmong held from to pid range → PassesIn G.unpaged (Turns (Ends held from to)) (G.store g.old) (G.store g.new) (G.behind g.old) (G.behind g.new) }
+    ensures loans { G.loans g.new ≡ G.loans g.old }
+{
+    space.sound();
+    if owned == 0 {
+        return;
+    }
+    if owned == range.count || range.count <= FEW_PAGES {
+        remove_each(g, space, pid, range);
+    } else {
+        let low = low_half(range);
+        let high = high_half(range);
+        let low_owned = space.owned(low);
+        remove_pages(g, space, pid, low, low_owned);
+        remove_pages(g, space, pid, high, owned - low_owned);
     }
 }

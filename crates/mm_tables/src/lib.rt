@@ -6,6 +6,7 @@ mod closings;
 mod endings;
 mod exits;
 mod files;
+mod halves;
 mod kept_accesses;
 mod keys;
 mod looks;

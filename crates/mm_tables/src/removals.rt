@@ -6,11 +6,13 @@ ghost use Rattle.mm_pages.specs.Housekeeping.{Turns, Ends};
 ghost use Rattle.mm_pages.specs.Passing.{PassesIn};
 ghost use Rattle.mm_world.specs.Charge.{area_charge};
 ghost use Rattle.mm_world.specs.Failure.{same_key};
-ghost use Rattle.mm_world.specs.Find.{no_area};
+ghost use Rattle.mm_world.specs.Find.{no_area, region_around};
 ghost use Rattle.mm_world.specs.Keys.{own_page};
-ghost use Rattle.mm_tables.specs.Endings.{CanGo, CanGoAll, Gone, among, owned_among, shared_at, is_committed_in, CanGiveUp, GivenUp, CanRelease, Released, CanEnd, Emptied, ended_area};
+ghost use Rattle.mm_spaces.specs.Tables.{owned_in};
+ghost use Rattle.mm_tables.specs.Endings.{is_owned_at, CanGo, CanGoAll, Gone, among, owned_among, shared_at, is_committed_in, CanGiveUp, GivenUp, CanRelease, Released, CanEnd, Emptied, ended_area};
 ghost use Rattle.mm_tables.specs.Ranges.{only, passing, is_live};
 
+use crate::halves::{FEW_PAGES, high_half, low_half};
 use mm_commit::Commit;
 use mm_pages::Pages;
 use mm_sections::SectionPages;
@@ -55,18 +57,74 @@ fn release_page<G: Pages>(g: &mut G, space: &AddressSpace, pid: Pid, page: u32)
     g.unbind(pid, Vpn(page), 1);
 }
 
-/// Gives up pages of a process in rising order, each with its key before the next.
-pub(crate) fn release_pages<G: Pages>(g: &mut G, space: &AddressSpace, pid: Pid, range: PageRange)
+/// Gives up pages of a process one by one in rising order, each with its key before the next.
+fn release_each<G: Pages>(g: &mut G, space: &AddressSpace, pid: Pid, range: PageRange)
     requires end { end_of range ≤ end_of_user_pages }
     requires can { CanRelease pid range space.now.regions (G.contents g.old) (G.store g.old) }
-    ensures given_up { GivenUp pid range (passing (is_live pid (G.contents g.old)) range.first range.count) (G.contents g.old) (G.contents g.new) (G.store g.old) (G.store g.new) }
-    ensures released { Released pid range space.now.regions (G.contents g.old) (G.contents g.new) (G.store g.old) (G.store g.new) }
+    ensures given_up { GivenUp pid range (owned_among (is_owned_at space.now.regions range.first) range.count) (G.contents g.old) (G.contents g.new) (G.store g.old) (G.store g.new) }
     ensures passes { (held : Place → Bool) (from to : ℕ) → AreAmong held from to pid range → PassesIn G.unpaged (Turns (Ends held from to)) (G.store g.old) (G.store g.new) (G.behind g.old) (G.behind g.new) }
     ensures loans { G.loans g.new ≡ G.loans g.old }
 {
     for i in 0..range.count {
         release_page(g, space, pid, range.first + i);
     }
+}
+
+/// Gives up pages of a process of which none has bytes of its own, all at once.
+fn release_empty<G: Pages>(g: &mut G, space: &AddressSpace, pid: Pid, range: PageRange)
+    requires can { CanRelease pid range space.now.regions (G.contents g.old) (G.store g.old) }
+    requires none { owned_among (is_owned_at space.now.regions range.first) range.count ≡ 0 }
+    ensures given_up { GivenUp pid range (owned_among (is_owned_at space.now.regions range.first) range.count) (G.contents g.old) (G.contents g.new) (G.store g.old) (G.store g.new) }
+    ensures passes { (held : Place → Bool) (from to : ℕ) → AreAmong held from to pid range → PassesIn G.unpaged (Turns (Ends held from to)) (G.store g.old) (G.store g.new) (G.behind g.old) (G.behind g.new) }
+    ensures loans { G.loans g.new ≡ G.loans g.old }
+{
+    g.unbind(pid, Vpn(range.first), range.count);
+}
+
+/// Gives up pages of one region of a process in rising order, each key before the place behind it; `owned` of them have bytes of
+/// their own. Pages without are passed over by runs, found by halving.
+fn release_some<G: Pages>(g: &mut G, space: &AddressSpace, pid: Pid, range: PageRange, owned: u32)
+    requires end { end_of range ≤ end_of_user_pages }
+    requires around { is_some (region_around space.now.regions range) ≡ true }
+    requires owned { owned ≡ owned_in space.now.regions range }
+    requires can { CanRelease pid range space.now.regions (G.contents g.old) (G.store g.old) }
+    ensures given_up { GivenUp pid range (owned_among (is_owned_at space.now.regions range.first) range.count) (G.contents g.old) (G.contents g.new) (G.store g.old) (G.store g.new) }
+    ensures passes { (held : Place → Bool) (from to : ℕ) → AreAmong held from to pid range → PassesIn G.unpaged (Turns (Ends held from to)) (G.store g.old) (G.store g.new) (G.behind g.old) (G.behind g.new) }
+    ensures loans { G.loans g.new ≡ G.loans g.old }
+{
+    space.sound();
+    if owned == 0 {
+        release_empty(g, space, pid, range);
+    } else if owned == range.count || range.count <= FEW_PAGES {
+        release_each(g, space, pid, range);
+    } else {
+        let low = low_half(range);
+        let high = high_half(range);
+        let low_owned = space.owned(low);
+        release_some(g, space, pid, low, low_owned);
+        release_some(g, space, pid, high, owned - low_owned);
+    }
+}
+
+/// Gives up pages of one region of a process in rising order, each with its key before the next. Tells how many had bytes of their own.
+pub(crate) fn release_pages<G: Pages>(
+    g: &mut G,
+    space: &AddressSpace,
+    pid: Pid,
+    range: PageRange,
+) -> u32
+    requires end { end_of range ≤ end_of_user_pages }
+    requires around { is_some (region_around space.now.regions range) ≡ true }
+    requires can { CanRelease pid range space.now.regions (G.contents g.old) (G.store g.old) }
+    ensures owned { result ≡ owned_in space.now.regions range }
+    ensures given_up { GivenUp pid range (passing (is_live pid (G.contents g.old)) range.first range.count) (G.contents g.old) (G.contents g.new) (G.store g.old) (G.store g.new) }
+    ensures released { Released pid range space.now.regions (G.contents g.old) (G.contents g.new) (G.store g.old) (G.store g.new) }
+    ensures passes { (held : Place → Bool) (from to : ℕ) → AreAmong held from to pid range → PassesIn G.unpaged (Turns (Ends held from to)) (G.store g.old) (G.store g.new) (G.behind g.old) (G.behind g.new) }
+    ensures loans { G.loans g.new ≡ G.loans g.old }
+{
+    let owned = space.owned(range);
+    release_some(g, space, pid, range, owned);
+    owned
 }
 
 /// Closes the area of a page-file section that has ended.

@@ -127,7 +127,7 @@ pub(crate) fn decommit_pages<G: Pages>(
         unreachable!()
     };
     let owned = process.space.owned(range);
-    remove_pages(g, &process.space, pid, range);
+    remove_pages(g, &process.space, pid, range, owned);
     process.space.decommit(range);
     owned
 }
@@ -159,8 +159,7 @@ pub(crate) fn release_pages<G: Pages>(
     let Some(process) = process else {
         unreachable!()
     };
-    let owned = process.space.owned(range);
-    removals::release_pages(g, &process.space, pid, range);
+    let owned = removals::release_pages(g, &process.space, pid, range);
     process.space.remove(addr);
     owned
 }

@@ -5,6 +5,9 @@ use Rattle.mm_tables.proofs.closings.unmap_in.Goals as goal
 pub marked-marked-requires : goal.marked-marked-requires
 marked-marked-requires g c = record { inside = (c.requires.around (shown_process c.in-Some.process) (ap (option_map shown_process) c.in-Some.is)) }
 
+pub release_pages-requires-clause-around : goal.release_pages-requires-clause-around
+release_pages-requires-clause-around g c = c.requires.around (shown_process c.in-Some.process) (ap (option_map shown_process) c.in-Some.is)
+
 pub release_pages-requires-clause-can : goal.release_pages-requires-clause-can
 release_pages-requires-clause-can g c = c.requires.can (shown_process c.in-Some.process) (ap (option_map shown_process) c.in-Some.is)
 

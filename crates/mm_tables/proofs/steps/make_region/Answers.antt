@@ -1,4 +1,4 @@
-use Rattle.std.proofs.Common.{◌≤◌, ◌∙◌, sym, ap, arith}
+use Rattle.std.proofs.Common.{◌∙◌, sym, ap, arith}
 use Rattle.mm_tables.specs.Spaces.{regions_of}
 use Rattle.mm_tables.proofs.Filled.{can_fill}
 use Rattle.mm_tables.proofs.steps.make_region.Goals as goal

@@ -5,7 +5,7 @@ use Rattle.mm_pages.specs.Conditions.{place_at}
 use Rattle.mm_pages.specs.Housekeeping.{Turns, Ends}
 use Rattle.mm_pages.specs.Passing.{PassesIn}
 use Rattle.mm_tables.specs.Ranges.{Removes, front}
-use Rattle.mm_tables.proofs.keys.remove_pages.Given as goal
+use Rattle.mm_tables.proofs.keys.remove_each.Given as goal
 
 abbrev pub invariant-loop-i : goal.invariant-loop-i
 invariant-loop-i g l = record {

@@ -5,7 +5,7 @@ use Rattle.mm_tables.specs.Ranges.{CanRemove, Removes, only}
 use Rattle.mm_tables.proofs.EndingPasses.{page_then, range_passes}
 use Rattle.mm_tables.proofs.PageByPage.{can_remove_next, removes_then}
 use Rattle.mm_tables.proofs.Regions.{holds}
-use Rattle.mm_tables.proofs.keys.remove_pages.Goals as goal
+use Rattle.mm_tables.proofs.keys.remove_each.Goals as goal
 
 pub remove_page-requires : goal.remove_page-requires
 remove_page-requires g c =
