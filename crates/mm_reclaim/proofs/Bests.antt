@@ -1,11 +1,13 @@
 -- The best so far, as the code keeps it.
-use Rattle.std.proofs.Common.{◌≡◌, ℕ, ◌+◌, ◌<◌, Bool, true, false, Option, Some, None, refl, sym, ap, ◌∙◌, arith}
-use Rattle.std.specs.Prelude.{MatchOption, is_some}
+use Rattle.std.proofs.Common.{◌≡◌, ℕ, zero, suc, ◌+◌, ◌<◌, Bool, true, false, Option, Some, None, refl, sym, ap, ◌∙◌, subst, arith}
+use Rattle.std.specs.Prelude.{MatchOption, is_some, ◌&&◌, not}
 use Rattle.std.proofs.Math.Logic.{∥∥₁_elim}
 use Rattle.std.proofs.Props.{props}
 use Rattle.mm_types.specs.declared.numbers.Frame.{Frame}
 use Rattle.mm_types.specs.declared.numbers.Place.{Place}
 use Rattle.mm_life.specs.Life.{FrameLife, set_of}
+use Rattle.mm_life.specs.Legal.{is_above_min}
+use Rattle.mm_words.specs.Words.{place_of}
 use Rattle.mm_laws.proofs.Deduced.{reached_sound}
 use Rattle.mm_laws.proofs.Machines.{in_range}
 use Rattle.mm_walks.specs.Order.{Ages, may_go, IsOldest, IsVictim}
@@ -32,9 +34,28 @@ closed_stays s h pinned pid closed q e = at (may_go s.life pinned q) refl
     at false g = refl
     at true g = let bad : true ≡ false = sym (goes_open s h pinned q g) ∙ (ap s.is_open e ∙ closed) in cc
 
-pub best_stays : (l : FrameLife) (ages : Ages) (pinned : Option Frame) (n : ℕ) (o : Option Place) (w : Place) → BestBelow l ages pinned n o → w.pid.0 ≡ n → takes_over l n o ≡ false → BestBelow l ages pinned (n + 1) o
-best_stays l ages pinned n None w b e h = cc
-best_stays l ages pinned n (Some v) w b e h = best_kept l ages pinned n v w b e h
+pub best_stays : (l : FrameLife) (ages : Ages) (pinned : Option Frame) (n : ℕ) (o : Option Place) → BestBelow l ages pinned n o → takes_over l n o ≡ false → BestBelow l ages pinned (n + 1) o
+best_stays l ages pinned n None b h = cc
+best_stays l ages pinned n (Some v) b h = best_kept l ages pinned n v (place_of (record { 0 = n }) (record { 0 = 0 })) b refl h
+
+-- where no process takes over the best stays to the end
+best_on : (l : FrameLife) (ages : Ages) (pinned : Option Frame) (o : Option Place) → ((m : ℕ) → takes_over l m o ≡ false) → (n k : ℕ) → BestBelow l ages pinned n o → BestBelow l ages pinned (k + n) o
+best_on l ages pinned o never n zero b =
+    let e : n ≡ zero + n = omega arith in
+    subst (λ m. BestBelow l ages pinned m o) e b
+best_on l ages pinned o never n (suc k) b =
+    let e : k + n + 1 ≡ suc k + n = omega arith in
+    subst (λ m. BestBelow l ages pinned m o) e (best_stays l ages pinned (k + n) o (best_on l ages pinned o never n k b) (never (k + n)))
+
+-- a process above its minimum gives way to none
+pub settled : (l : FrameLife) (v : Place) (n : ℕ) → is_above_min (set_of l v.pid.0) ≡ true → takes_over l n (Some v) ≡ false
+settled l v n above = at (is_above_min (set_of l n)) (is_above_min (set_of l v.pid.0)) above
+  where
+    at : (a b : Bool) → b ≡ true → (a && not b) ≡ false
+    at true true e = refl
+    at false true e = refl
+    at true false e = cc
+    at false false e = refl
 
 -- an open process has a working set
 pub has_set : (s : StateOf) → Holds s → (pid : ℕ) → s.is_open pid ≡ true → is_some (set_of s.life pid) ≡ true
@@ -68,3 +89,8 @@ begins s h pinned q low = at (may_go s.life pinned q) refl
 pub best_answer : (s : StateOf) → Holds s → (pinned : Option Frame) (n : ℕ) (o : Option Place) → 64 < n → BestBelow s.life s.ages pinned n o → MatchOption o (NoneMayGo s.life pinned) (λ v. IsVictim s.life s.ages pinned v)
 best_answer s h pinned n None k b = ∥∥₁_elim h.reached (none_prop s.life pinned) (λ r. let few = (in_range s.life r).sets in best_none s.life (reached_sound s.life r) s.ages pinned n (omega (arith, few, k)) b)
 best_answer s h pinned n (Some v) k b = ∥∥₁_elim h.reached (victim_prop s.life s.ages pinned v) (λ r. let few = (in_range s.life r).sets in best_victim s.life (reached_sound s.life r) s.ages pinned n v (omega (arith, few, k)) b)
+
+pub settled_answer : (s : StateOf) → Holds s → (pinned : Option Frame) (n : ℕ) (o : Option Place) → ((m : ℕ) → takes_over s.life m o ≡ false) → BestBelow s.life s.ages pinned n o → MatchOption o (NoneMayGo s.life pinned) (λ v. IsVictim s.life s.ages pinned v)
+settled_answer s h pinned n o never b =
+    let past : 64 < 65 + n = omega arith in
+    best_answer s h pinned (65 + n) o past (best_on s.life s.ages pinned o never n 65 b)

@@ -58,7 +58,7 @@ pub record Seeks (pin : Option Frame) (s z : StateOf) (moves : List Move) : Type
 abbrev pub writable_modified : FrameLife → List ℕ
 writable_modified l = filter (can_be_written l) l.frames.modified
 
--- in the walk over the modified list, with i of the n frames that can be written behind it
+-- in the walk over the modified list, with i of the n frames that can be written already tried
 pub record WalkedTo (l m : FrameLife) (moves : List Move) (n i : ℕ) : Type 0 where
   pub passed : List ℕ
   pub left : List ℕ

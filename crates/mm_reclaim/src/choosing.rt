@@ -1,4 +1,4 @@
-ghost use Rattle.std.specs.Prelude.{◌≡◌, ◌+◌, true, Some, None, MatchOption};
+ghost use Rattle.std.specs.Prelude.{◌≡◌, ◌+◌, ℕ, true, false, Some, None, MatchOption};
 ghost use Rattle.std.specs.Option.{ForSome};
 ghost use Rattle.mm_types.specs.declared.numbers.Place.{Place};
 ghost use Rattle.mm_walks.specs.Order.{may_go as goes, IsOldest, IsVictim};
@@ -59,7 +59,7 @@ fn takes_over<T: Moving>(state: &T, pid: Pid, best: Option<Place>) -> bool
     }
 }
 
-/// The first page to go of the processes up to a pid, from that of those below it.
+/// The first page to go of the processes up to a pid, from that of those below it. A process that cannot take over is not looked through.
 #[tactic(auto, using(crate::proofs::Bests::closed_same, crate::proofs::Bests::none_same, crate::proofs::Bests::best_stays, crate::proofs::Bests::best_taken))]
 fn better<T: Moving>(
     state: &T,
@@ -76,15 +76,25 @@ fn better<T: Moving>(
     if !state.is_open(pid) {
         return best;
     }
+    if !takes_over(state, pid, best) {
+        return best;
+    }
     match oldest_to_go(state, pinned, pid) {
         None => best,
-        Some(place) => {
-            if takes_over(state, pid, best) {
-                Some(place)
-            } else {
-                best
-            }
-        }
+        Some(place) => Some(place),
+    }
+}
+
+/// Whether no later process takes over from the best so far: its process is above its minimum.
+#[tactic(auto, using(crate::proofs::Bests::has_set, crate::proofs::Bests::settled))]
+fn is_settled<T: Moving>(state: &T, best: Option<Place>) -> bool
+    requires open { ForSome best (λ v. (T.shown state.now).is_open v.pid.0 ≡ true) }
+    ensures { result ≡ true → (n : ℕ) → takes (T.shown state.now).life n best ≡ false }
+{
+    state.sound();
+    match best {
+        None => false,
+        Some(v) => state.is_above_min(v.pid),
     }
 }
 
@@ -98,6 +108,9 @@ pub fn victim<T: Moving>(state: &T, pinned: Option<Frame>) -> Option<Place>
     let mut best = None;
     for n in 1..65 {
         best = better(state, pinned, Pid(n), best);
+        if is_settled(state, best) {
+            return best;
+        }
     }
     best
 }
