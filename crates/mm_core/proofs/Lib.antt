@@ -1,4 +1,5 @@
 pub mod Serving
+pub mod Beside
 pub mod Making
 pub mod With
 pub mod Charged

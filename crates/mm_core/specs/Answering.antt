@@ -29,7 +29,7 @@ aim_in t contents b pid addr what = aim_at (world_with t (bytes_of contents)) b.
 
 -- ---- a plain access
 
--- an access of this aim was answered: its place is valid and new where it was had, and where it failed for want of a frame none was to be found
+-- an access of this aim was answered: where it was had, its place is valid and new; where it failed because no frame was found, none was to be found
 pub record Answers (a : Aim) (r : Answer) (after : Report) (b : Behind) (moves : List Move) (c : Behind) : Type 0 where
   pub made : AccessMoves a b moves
   pub valid : is_had r ≡ true → is_valid c.life a.place ≡ true

@@ -36,7 +36,7 @@ is_built line.Charge = true
 is_built (line.Grow n) = true
 is_built _ = false
 
--- a line that may be answered by a want of memory; of `protect`, one that asks for marks
+-- a line that may run out of memory; of `protect`, one that asks for marks
 abbrev pub takes_memory : Event → Bool
 takes_memory (line.Process min max) = true
 takes_memory (line.File name pages byte) = true

@@ -63,7 +63,7 @@ abbrev pub DecidedBy : OutcomeOf Page → Bool → Event → ℕ → Tables → 
 DecidedBy o never_fails e number t old s a after new z =
     DecidedAs (o ≡ record { answer = a; world = world_with after (bytes_of new) }) never_fails e number t old s a after new z
 
--- a line wanted memory: the world and the devices are as before
+-- a line ran out of memory: the world and the devices are as before
 pub record Idle (t : Tables) (old : Key → Option Page) (s : StoreOf) (after : Tables) (new : Key → Option Page) (z : StoreOf) : Type 0 where
   pub tables : after ≡ t
   pub contents : new ≡ old

@@ -9,3 +9,5 @@ pub mod Forgetting
 pub mod Answering
 pub mod Lining
 pub mod Noting
+pub mod Over
+pub mod Told

@@ -1,4 +1,4 @@
--- What a line notes: its `at` and the moves behind it, before what its store keeps at all times is put beside them.
+-- What a line notes: its `at` and the moves after it, before what its store keeps at all times is put beside them.
 use Rattle.std.specs.Prelude.{◌≡◌, ◌⊎◌, ℕ, Bool, true, false, List, [], ◌∷◌, Option, if◌then◌else◌, nat_lt, ◌==◌, ◌&&◌}
 use Rattle.mm_types.specs.declared.answers.Answer.{Answer}
 use Rattle.mm_types.specs.declared.events.Event.{Event}
@@ -49,7 +49,7 @@ IsOneWay ms = Each keeps_keys ms ⊎ Each takes_away ms
 
 -- ---- a line
 
--- a line's first move, and moves of which this holds behind it. Of a line that asks devices for what is no move nothing is told of devices
+-- a line's first move, and after it moves of which this holds. Of a line whose calls of devices are no moves nothing is told of devices
 pub record Went (beside : Bool) (first : Move) (That : List Move → Type 0) (s z : StoreOf) (b c : Behind) : Type 0 where
   pub moves : List Move
   pub in_range : AreMoves (first ∷ moves)
@@ -78,14 +78,14 @@ abbrev pub MarkedIn : Bool → Event → ℕ → Tables → (Key → Option Page
 MarkedIn unpaged e n t old s b a after new z c =
     unpaged ≡ false → Marked e n (world_with t (bytes_of old)) s b a (world_with after (bytes_of new)) z c
 
--- ---- a line that wanted memory
+-- ---- a line that ran out of memory
 
--- the kind of a line behind the first one
+-- the kind of a line after the first one
 abbrev pub is_later : LineKind → Bool
 is_later (kind.Machine frames slots depth blocks) = false
 is_later _ = true
 
--- no move, or an `at` of the line's number, and keys that came to be behind it
+-- no move, or an `at` of the line's number, and after it keys that came to be
 abbrev pub IsCut : ℕ → List Move → Type 0
 IsCut n piece = (piece ≡ []) ⊎ ((k : LineKind) × ((moves : List Move) × ((is_later k ≡ true) × (piece ≡ move.At n k ∷ moves) × AllTurn Makes moves)))
 

@@ -1,5 +1,5 @@
 -- What a line does to devices, and what it leaves in blocks.
-use Rattle.std.specs.Prelude.{◌≡◌, ◌≤◌, ◌⊎◌, ℕ, ◌+◌, ◌-◌, Bool, true, false, List, Option, Some, None, slice_get}
+use Rattle.std.specs.Prelude.{◌≡◌, ◌≤◌, ◌⊎◌, ℕ, ◌+◌, ◌-◌, Bool, true, false, List, ◌++◌, map, Option, Some, None, slice_get}
 use Rattle.mm_types.specs.declared.answers.Answer.{Answer}
 use Rattle.mm_types.specs.declared.answers.Answer.TheVariants as answer
 use Rattle.mm_types.specs.declared.codes.Raise.TheVariants as raise
@@ -15,9 +15,10 @@ use Rattle.mm_world.specs.Find.{Found, process_of, area_at, shared_page}
 use Rattle.mm_world.specs.Failure.{wait_failed}
 use Rattle.mm_world.specs.Report.{Report, Tally}
 use Rattle.mm_world.specs.Views.{flushed_view, flushed_range}
-use Rattle.mm_blocks.specs.Devices.{DeviceOf, Call, AllServed}
+use Rattle.mm_blocks.specs.Devices.{DeviceOf, Call, AllServed, logged_call}
+use Rattle.mm_pages.specs.Passing.{writes_from, last_write}
 use Rattle.mm_pages.specs.Tallies.{tallied}
-use Rattle.mm_pages.specs.Reports.{no_calls, with_named, with_named_paging}
+use Rattle.mm_pages.specs.Reports.{no_calls, called, with_named, with_named_paging}
 use Rattle.mm_blocks.specs.declared.device_calls.NamedCalls.{NamedCalls}
 use Rattle.mm_types.specs.declared.devices.Device.{Device}
 use Rattle.mm_types.specs.declared.devices.Device.TheVariants as device_of
@@ -56,6 +57,28 @@ Named unpaged (line.Fail device direction k n) answer.Ok paging paging' files fi
     NamedOn unpaged device (record { direction = direction; passes = k - 1; fails = n }) paging paging' files files'
 Named unpaged (line.Fail device direction k n) _ paging paging' files files' = (paging' ≡ paging) × (files' ≡ files)
 Named unpaged _ _ paging paging' files files' = Unit {0}
+
+-- the blocks of a new file are written in rising order from `first` on, all of them, or up to the first write that fails
+pub record WritesBlocks (first pages : ℕ) (ok : Bool) (old new : DeviceOf) : Type 0 where
+  pub whole : ℕ
+  pub calls : List Call
+  pub served : AllServed calls old new
+  pub are : map logged_call calls ≡ writes_from first whole ++ last_write ok (first + whole)
+  pub most : whole ≤ pages
+  pub all : ok ≡ true → whole ≡ pages
+
+-- of a file that is refused none is written
+abbrev pub FileWrites : ℕ → ℕ → Answer → DeviceOf → DeviceOf → Type 0
+FileWrites first pages answer.Ok old new = WritesBlocks first pages true old new
+FileWrites first pages answer.Fault old new = WritesBlocks first pages false old new
+FileWrites first pages _ old new = new ≡ old
+
+-- What is asked of devices beside the moves: a `file` line writes the blocks of its file, the lowest that no file used, and does not call the
+-- paging device; a `grow` line asks the paging device to grow, which stands in no log, and does not call the file device.
+abbrev pub AskedBeside : ℕ → Event → Answer → DeviceOf → DeviceOf → DeviceOf → DeviceOf → Type 0
+AskedBeside used (line.File name pages byte) a paging paging' files files' = (paging' ≡ paging) × FileWrites used pages a files files'
+AskedBeside used (line.Grow n) a paging paging' files files' = (paging' ≡ called paging paging') × (files' ≡ files)
+AskedBeside used _ a paging paging' files files' = Unit {0}
 
 -- the thread whose access a line resumes
 abbrev pub resumed_thread : Event → Option ℕ

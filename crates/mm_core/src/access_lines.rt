@@ -3,16 +3,14 @@ ghost use Rattle.mm_types.specs.declared.events.Event.TheVariants as event;
 ghost use Rattle.mm_types.specs.declared.protections.Access.TheVariants as access_kind;
 ghost use Rattle.mm_types.specs.Address.{page_of};
 ghost use Rattle.mm_world.specs.Access.{ReadOf, WriteOf, Execute};
-ghost use Rattle.mm_world.specs.Contents.{world_with};
 ghost use Rattle.mm_world.specs.WellFormed.{Spaces};
 ghost use Rattle.mm_pages.specs.Reports.{IsBegun};
 ghost use Rattle.mm_pages.specs.Conditions.{place_at, touch, copying, IsReady, MayAccess};
-ghost use Rattle.mm_tables.specs.Fits.{key_at, bytes_of};
-ghost use Rattle.mm_pages.specs.Passing.{PassesIn};
+ghost use Rattle.mm_tables.specs.Fits.{key_at};
 ghost use Rattle.mm_core.specs.Accessing.{Admits, Accessed, IsHad};
-ghost use Rattle.mm_core.specs.Answering.{Answered, aim_in};
+ghost use Rattle.mm_core.specs.Answering.{Answered};
 ghost use Rattle.mm_core.specs.Lining.{Lined};
-ghost use Rattle.mm_core.specs.Deciding.{Keeps, Decided};
+ghost use Rattle.mm_core.specs.Over.{DecidedOver, KeepsOver, PassesOver, aim_over, world_over};
 
 use crate::beginning::begin_access;
 use crate::fetching::{fetch, put, put_copy, read_bytes};
@@ -31,7 +29,7 @@ pub(crate) fn read_at<G: Pages>(
     row: CommittedRow,
     len: u32,
 ) -> Answer
-    requires keeps { Keeps t.now (G.contents g.old) (G.store g.old) }
+    requires keeps { KeepsOver G.Pages t.now g.old }
     requires spaces { Spaces t.now }
     requires admitted { Admits t.now pid.0 addr access_kind.Read row }
     requires at { key_at t.now (place_at pid (page_of addr)) ≡ Some row.key }
@@ -40,11 +38,11 @@ pub(crate) fn read_at<G: Pages>(
     requires some { 1 ≤ len }
     requires few { len ≤ 64 }
     requires inside { addr % 4096 + len ≤ 4096 }
-    ensures accessed { Accessed G.unpaged (world_with t.now (bytes_of (G.contents g.old))) pid.0 addr (ReadOf len) (G.store g.old) (G.store g.new) result (world_with t.now (bytes_of (G.contents g.new))) }
-    ensures keeps { Keeps t.now (G.contents g.new) (G.store g.new) }
+    ensures accessed { Accessed G.unpaged (world_over G.Pages t.now g.old) pid.0 addr (ReadOf len) (G.store g.old) (G.store g.new) result (world_over G.Pages t.now g.new) }
+    ensures keeps { KeepsOver G.Pages t.now g.new }
     ensures had { IsReady (G.store g.old) (place_at pid (page_of addr)) (touch row.key) → IsHad (touch row.key) (G.store g.new).report }
     ensures line { (G.store g.new).line ≡ (G.store g.old).line }
-    ensures passes { PassesIn G.unpaged (Answered (aim_in t.now (G.contents g.old) (G.behind g.old) pid addr (ReadOf len)) (IsReady (G.store g.old) (place_at pid (page_of addr)) (touch row.key)) result (G.store g.new).report) (G.store g.old) (G.store g.new) (G.behind g.old) (G.behind g.new) }
+    ensures passes { PassesOver G.Pages (Answered (aim_over G.Pages t.now g.old pid addr (ReadOf len)) (IsReady (G.store g.old) (place_at pid (page_of addr)) (touch row.key)) result (G.store g.new).report) g.old g.new }
     ensures loans { G.loans g.new ≡ G.loans g.old }
 {
     match read_bytes(t, g, pid, addr, row.key, len) {
@@ -62,17 +60,17 @@ pub(crate) fn execute_at<G: Pages>(
     addr: u32,
     row: CommittedRow,
 ) -> Answer
-    requires keeps { Keeps t.now (G.contents g.old) (G.store g.old) }
+    requires keeps { KeepsOver G.Pages t.now g.old }
     requires spaces { Spaces t.now }
     requires admitted { Admits t.now pid.0 addr access_kind.Execute row }
     requires at { key_at t.now (place_at pid (page_of addr)) ≡ Some row.key }
     requires may { MayAccess (G.store g.old) (place_at pid (page_of addr)) (touch row.key) }
     requires begun { IsBegun (G.store g.old).report }
-    ensures accessed { Accessed G.unpaged (world_with t.now (bytes_of (G.contents g.old))) pid.0 addr Execute (G.store g.old) (G.store g.new) result (world_with t.now (bytes_of (G.contents g.new))) }
-    ensures keeps { Keeps t.now (G.contents g.new) (G.store g.new) }
+    ensures accessed { Accessed G.unpaged (world_over G.Pages t.now g.old) pid.0 addr Execute (G.store g.old) (G.store g.new) result (world_over G.Pages t.now g.new) }
+    ensures keeps { KeepsOver G.Pages t.now g.new }
     ensures had { IsReady (G.store g.old) (place_at pid (page_of addr)) (touch row.key) → IsHad (touch row.key) (G.store g.new).report }
     ensures line { (G.store g.new).line ≡ (G.store g.old).line }
-    ensures passes { PassesIn G.unpaged (Answered (aim_in t.now (G.contents g.old) (G.behind g.old) pid addr Execute) (IsReady (G.store g.old) (place_at pid (page_of addr)) (touch row.key)) result (G.store g.new).report) (G.store g.old) (G.store g.new) (G.behind g.old) (G.behind g.new) }
+    ensures passes { PassesOver G.Pages (Answered (aim_over G.Pages t.now g.old pid addr Execute) (IsReady (G.store g.old) (place_at pid (page_of addr)) (touch row.key)) result (G.store g.new).report) g.old g.new }
     ensures loans { G.loans g.new ≡ G.loans g.old }
 {
     match fetch(t, g, pid, addr, row.key, &mut []) {
@@ -91,7 +89,7 @@ pub(crate) fn write_at<G: Pages>(
     row: CommittedRow,
     bytes: &ByteBuf,
 ) -> Answer
-    requires keeps { Keeps t.now (G.contents g.old) (G.store g.old) }
+    requires keeps { KeepsOver G.Pages t.now g.old }
     requires spaces { Spaces t.now }
     requires admitted { Admits t.now pid.0 addr access_kind.Write row }
     requires at { key_at t.now (place_at pid (page_of addr)) ≡ Some row.key }
@@ -99,11 +97,11 @@ pub(crate) fn write_at<G: Pages>(
     requires begun { IsBegun (G.store g.old).report }
     requires stays { row.copies ≡ false }
     requires inside { addr % 4096 + length bytes.now ≤ 4096 }
-    ensures accessed { Accessed G.unpaged (world_with t.now (bytes_of (G.contents g.old))) pid.0 addr (WriteOf bytes.now) (G.store g.old) (G.store g.new) result (world_with t.now (bytes_of (G.contents g.new))) }
-    ensures keeps { Keeps t.now (G.contents g.new) (G.store g.new) }
+    ensures accessed { Accessed G.unpaged (world_over G.Pages t.now g.old) pid.0 addr (WriteOf bytes.now) (G.store g.old) (G.store g.new) result (world_over G.Pages t.now g.new) }
+    ensures keeps { KeepsOver G.Pages t.now g.new }
     ensures had { IsReady (G.store g.old) (place_at pid (page_of addr)) (touch row.key) → IsHad (touch row.key) (G.store g.new).report }
     ensures line { (G.store g.new).line ≡ (G.store g.old).line }
-    ensures passes { PassesIn G.unpaged (Answered (aim_in t.now (G.contents g.old) (G.behind g.old) pid addr (WriteOf bytes.now)) (IsReady (G.store g.old) (place_at pid (page_of addr)) (touch row.key)) result (G.store g.new).report) (G.store g.old) (G.store g.new) (G.behind g.old) (G.behind g.new) }
+    ensures passes { PassesOver G.Pages (Answered (aim_over G.Pages t.now g.old pid addr (WriteOf bytes.now)) (IsReady (G.store g.old) (place_at pid (page_of addr)) (touch row.key)) result (G.store g.new).report) g.old g.new }
     ensures loans { G.loans g.new ≡ G.loans g.old }
 {
     match put(t, g, pid, addr, row.key, bytes.as_slice()) {
@@ -122,7 +120,7 @@ pub(crate) fn write_to_copy<G: Pages>(
     row: CommittedRow,
     bytes: &ByteBuf,
 ) -> Answer
-    requires keeps { Keeps t.old (G.contents g.old) (G.store g.old) }
+    requires keeps { KeepsOver G.Pages t.old g.old }
     requires spaces { Spaces t.old }
     requires admitted { Admits t.old pid.0 addr access_kind.Write row }
     requires at { key_at t.old (place_at pid (page_of addr)) ≡ Some row.key }
@@ -130,11 +128,11 @@ pub(crate) fn write_to_copy<G: Pages>(
     requires begun { IsBegun (G.store g.old).report }
     requires copies { row.copies ≡ true }
     requires inside { addr % 4096 + length bytes.now ≤ 4096 }
-    ensures accessed { Accessed G.unpaged (world_with t.old (bytes_of (G.contents g.old))) pid.0 addr (WriteOf bytes.now) (G.store g.old) (G.store g.new) result (world_with t.new (bytes_of (G.contents g.new))) }
-    ensures keeps { Keeps t.new (G.contents g.new) (G.store g.new) }
+    ensures accessed { Accessed G.unpaged (world_over G.Pages t.old g.old) pid.0 addr (WriteOf bytes.now) (G.store g.old) (G.store g.new) result (world_over G.Pages t.new g.new) }
+    ensures keeps { KeepsOver G.Pages t.new g.new }
     ensures had { IsReady (G.store g.old) (place_at pid (page_of addr)) (copying row.key (place_at pid (page_of addr))) → IsHad (copying row.key (place_at pid (page_of addr))) (G.store g.new).report }
     ensures line { (G.store g.new).line ≡ (G.store g.old).line }
-    ensures passes { PassesIn G.unpaged (Answered (aim_in t.old (G.contents g.old) (G.behind g.old) pid addr (WriteOf bytes.now)) (IsReady (G.store g.old) (place_at pid (page_of addr)) (copying row.key (place_at pid (page_of addr)))) result (G.store g.new).report) (G.store g.old) (G.store g.new) (G.behind g.old) (G.behind g.new) }
+    ensures passes { PassesOver G.Pages (Answered (aim_over G.Pages t.old g.old pid addr (WriteOf bytes.now)) (IsReady (G.store g.old) (place_at pid (page_of addr)) (copying row.key (place_at pid (page_of addr)))) result (G.store g.new).report) g.old g.new }
     ensures loans { G.loans g.new ≡ G.loans g.old }
 {
     match put_copy(t, g, pid, addr, row, bytes.as_slice()) {
@@ -152,13 +150,13 @@ pub(crate) fn read_line<G: Pages>(
     addr: u32,
     len: u32,
 ) -> Answer
-    requires keeps { Keeps t.old (G.contents g.old) (G.store g.old) }
+    requires keeps { KeepsOver G.Pages t.old g.old }
     requires next { line ≡ (G.store g.old).line + 1 }
     requires some { 1 ≤ len }
     requires few { len ≤ 64 }
     requires inside { addr % 4096 + len ≤ 4096 }
-    ensures decided { Decided G.unpaged (event.Read pid addr len) line t.old (G.contents g.old) (G.store g.old) result t.new (G.contents g.new) (G.store g.new) }
-    ensures passes { PassesIn G.unpaged (Lined (world_with t.old (bytes_of (G.contents g.old))) (event.Read pid addr len) line result (world_with t.new (bytes_of (G.contents g.new))) (G.store g.new).report) (G.store g.old) (G.store g.new) (G.behind g.old) (G.behind g.new) }
+    ensures decided { DecidedOver G.Pages (event.Read pid addr len) line t.old g.old result t.new g.new }
+    ensures passes { PassesOver G.Pages (Lined (world_over G.Pages t.old g.old) (event.Read pid addr len) line result (world_over G.Pages t.new g.new) (G.store g.new).report) g.old g.new }
     ensures loans { G.loans g.new ≡ G.loans g.old }
 {
     t.sound();
@@ -181,11 +179,11 @@ pub(crate) fn write_line<G: Pages>(
     addr: u32,
     bytes: &ByteBuf,
 ) -> Answer
-    requires keeps { Keeps t.old (G.contents g.old) (G.store g.old) }
+    requires keeps { KeepsOver G.Pages t.old g.old }
     requires next { line ≡ (G.store g.old).line + 1 }
     requires inside { addr % 4096 + length bytes.now ≤ 4096 }
-    ensures decided { Decided G.unpaged (event.Write pid addr bytes.now) line t.old (G.contents g.old) (G.store g.old) result t.new (G.contents g.new) (G.store g.new) }
-    ensures passes { PassesIn G.unpaged (Lined (world_with t.old (bytes_of (G.contents g.old))) (event.Write pid addr bytes.now) line result (world_with t.new (bytes_of (G.contents g.new))) (G.store g.new).report) (G.store g.old) (G.store g.new) (G.behind g.old) (G.behind g.new) }
+    ensures decided { DecidedOver G.Pages (event.Write pid addr bytes.now) line t.old g.old result t.new g.new }
+    ensures passes { PassesOver G.Pages (Lined (world_over G.Pages t.old g.old) (event.Write pid addr bytes.now) line result (world_over G.Pages t.new g.new) (G.store g.new).report) g.old g.new }
     ensures loans { G.loans g.new ≡ G.loans g.old }
 {
     t.sound();
@@ -211,10 +209,10 @@ pub(crate) fn exec_line<G: Pages>(
     pid: Pid,
     addr: u32,
 ) -> Answer
-    requires keeps { Keeps t.old (G.contents g.old) (G.store g.old) }
+    requires keeps { KeepsOver G.Pages t.old g.old }
     requires next { line ≡ (G.store g.old).line + 1 }
-    ensures decided { Decided G.unpaged (event.Exec pid addr) line t.old (G.contents g.old) (G.store g.old) result t.new (G.contents g.new) (G.store g.new) }
-    ensures passes { PassesIn G.unpaged (Lined (world_with t.old (bytes_of (G.contents g.old))) (event.Exec pid addr) line result (world_with t.new (bytes_of (G.contents g.new))) (G.store g.new).report) (G.store g.old) (G.store g.new) (G.behind g.old) (G.behind g.new) }
+    ensures decided { DecidedOver G.Pages (event.Exec pid addr) line t.old g.old result t.new g.new }
+    ensures passes { PassesOver G.Pages (Lined (world_over G.Pages t.old g.old) (event.Exec pid addr) line result (world_over G.Pages t.new g.new) (G.store g.new).report) g.old g.new }
     ensures loans { G.loans g.new ≡ G.loans g.old }
 {
     t.sound();

@@ -2,11 +2,10 @@ ghost use Rattle.std.specs.Prelude.{◌≡◌, ◌+◌, true, is_some, if◌then
 ghost use Rattle.mm_types.specs.declared.moves.LineKind.TheVariants as line_kind;
 ghost use Rattle.mm_types.specs.declared.moves.Move.TheVariants as move;
 ghost use Rattle.mm_pages.specs.Housekeeping.{OneMove};
-ghost use Rattle.mm_pages.specs.Passing.{PassesIn};
 ghost use Rattle.mm_world.specs.Find.{process_of};
 ghost use Rattle.mm_world.specs.Contents.{Tables};
-ghost use Rattle.mm_tables.specs.Fits.{Fits};
 ghost use Rattle.mm_core.specs.Deciding.{Begins, is_plain};
+ghost use Rattle.mm_core.specs.Over.{FitsOver, PassesOver};
 
 use mm_pages::Pages;
 use mm_tables::Tables;
@@ -16,11 +15,11 @@ use mm_types::{LineKind, Pid};
 pub(crate) fn begin<G: Pages>(g: &mut G, line: u32, form: LineKind)
     requires next { line ≡ (G.store g.old).line + 1 }
     requires plain { is_plain form ≡ true }
-    ensures fits { (t : Tables) → Fits t (G.contents g.old) (G.store g.old) → Fits t (G.contents g.new) (G.store g.new) }
+    ensures fits { (t : Tables) → FitsOver G.Pages t g.old → FitsOver G.Pages t g.new }
     ensures begins { Begins line (G.store g.old) (G.store g.new) }
     ensures form { (G.store g.new).kind ≡ form }
     ensures contents { G.contents g.new ≡ G.contents g.old }
-    ensures passes { PassesIn G.unpaged (OneMove (move.At line form)) (G.store g.old) (G.store g.new) (G.behind g.old) (G.behind g.new) }
+    ensures passes { PassesOver G.Pages (OneMove (move.At line form)) g.old g.new }
     ensures loans { G.loans g.new ≡ G.loans g.old }
 {
     g.line(line, form);
@@ -35,13 +34,13 @@ fn kind_if(lives: bool, form: LineKind) -> LineKind
 
 /// Begins a line that may unbind pages of a process, if it lives.
 pub(crate) fn begin_release<G: Pages>(t: &Tables, g: &mut G, line: u32, pid: Pid)
-    requires fits { Fits t.now (G.contents g.old) (G.store g.old) }
+    requires fits { FitsOver G.Pages t.now g.old }
     requires next { line ≡ (G.store g.old).line + 1 }
-    ensures fits { Fits t.now (G.contents g.new) (G.store g.new) }
+    ensures fits { FitsOver G.Pages t.now g.new }
     ensures begins { Begins line (G.store g.old) (G.store g.new) }
     ensures form { is_some (process_of t.now pid.0) ≡ true → (G.store g.new).kind ≡ line_kind.Unbind pid }
     ensures contents { G.contents g.new ≡ G.contents g.old }
-    ensures passes { PassesIn G.unpaged (OneMove (move.At line (if is_some (process_of t.now pid.0) then line_kind.Unbind pid else line_kind.Call))) (G.store g.old) (G.store g.new) (G.behind g.old) (G.behind g.new) }
+    ensures passes { PassesOver G.Pages (OneMove (move.At line (if is_some (process_of t.now pid.0) then line_kind.Unbind pid else line_kind.Call))) g.old g.new }
     ensures loans { G.loans g.new ≡ G.loans g.old }
 {
     begin(g, line, kind_if(t.has(pid), LineKind::Unbind(pid)));
@@ -49,14 +48,14 @@ pub(crate) fn begin_release<G: Pages>(t: &Tables, g: &mut G, line: u32, pid: Pid
 
 /// Begins a line that accesses a process, and tells whether it lives.
 pub(crate) fn begin_access<G: Pages>(t: &Tables, g: &mut G, line: u32, pid: Pid) -> bool
-    requires fits { Fits t.now (G.contents g.old) (G.store g.old) }
+    requires fits { FitsOver G.Pages t.now g.old }
     requires next { line ≡ (G.store g.old).line + 1 }
     ensures lives { result ≡ is_some (process_of t.now pid.0) }
-    ensures fits { Fits t.now (G.contents g.new) (G.store g.new) }
+    ensures fits { FitsOver G.Pages t.now g.new }
     ensures begins { Begins line (G.store g.old) (G.store g.new) }
     ensures form { result ≡ true → (G.store g.new).kind ≡ line_kind.Access pid }
     ensures contents { G.contents g.new ≡ G.contents g.old }
-    ensures passes { PassesIn G.unpaged (OneMove (move.At line (if result then line_kind.Access pid else line_kind.Call))) (G.store g.old) (G.store g.new) (G.behind g.old) (G.behind g.new) }
+    ensures passes { PassesOver G.Pages (OneMove (move.At line (if result then line_kind.Access pid else line_kind.Call))) g.old g.new }
     ensures loans { G.loans g.new ≡ G.loans g.old }
 {
     let lives = t.has(pid);
@@ -66,14 +65,14 @@ pub(crate) fn begin_access<G: Pages>(t: &Tables, g: &mut G, line: u32, pid: Pid)
 
 /// Begins a line that trims a process, and tells whether it lives.
 pub(crate) fn begin_trim<G: Pages>(t: &Tables, g: &mut G, line: u32, pid: Pid) -> bool
-    requires fits { Fits t.now (G.contents g.old) (G.store g.old) }
+    requires fits { FitsOver G.Pages t.now g.old }
     requires next { line ≡ (G.store g.old).line + 1 }
     ensures lives { result ≡ is_some (process_of t.now pid.0) }
-    ensures fits { Fits t.now (G.contents g.new) (G.store g.new) }
+    ensures fits { FitsOver G.Pages t.now g.new }
     ensures begins { Begins line (G.store g.old) (G.store g.new) }
     ensures form { result ≡ true → (G.store g.new).kind ≡ line_kind.Trim pid }
     ensures contents { G.contents g.new ≡ G.contents g.old }
-    ensures passes { PassesIn G.unpaged (OneMove (move.At line (if result then line_kind.Trim pid else line_kind.Call))) (G.store g.old) (G.store g.new) (G.behind g.old) (G.behind g.new) }
+    ensures passes { PassesOver G.Pages (OneMove (move.At line (if result then line_kind.Trim pid else line_kind.Call))) g.old g.new }
     ensures loans { G.loans g.new ≡ G.loans g.old }
 {
     let lives = t.has(pid);

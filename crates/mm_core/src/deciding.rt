@@ -3,8 +3,8 @@ ghost use Rattle.mm_types.specs.declared.answers.Wait.TheVariants as wait;
 ghost use Rattle.mm_script.specs.Printed.{IsWellFormed};
 ghost use Rattle.mm_core.specs.Built.{is_built, takes_memory};
 ghost use Rattle.mm_core.specs.Forgetting.{EndsWaits};
-ghost use Rattle.mm_core.specs.Noting.{MarkedIn, HaltedIn};
-ghost use Rattle.mm_core.specs.Deciding.{Keeps, Decided, Idle, is_memory_line, is_section_line, is_view_line, is_access_line, is_paging_line};
+ghost use Rattle.mm_core.specs.Deciding.{is_memory_line, is_section_line, is_view_line, is_access_line, is_paging_line};
+ghost use Rattle.mm_core.specs.Over.{AskedBesideOver, DecidedOver, HaltedOver, IdleOver, KeepsOver, MarkedOver};
 
 use crate::access_lines::{exec_line, read_line, write_line};
 use crate::memory_lines::{
@@ -34,15 +34,16 @@ fn decide_memory<G: Pages>(
 ) -> Result<Answer, NoMemory>
     requires well_formed { IsWellFormed event.now }
     requires form { is_memory_line event.now ≡ true }
-    requires keeps { Keeps t.old (G.contents g.old) (G.store g.old) }
+    requires keeps { KeepsOver G.Pages t.old g.old }
     requires next { line ≡ (G.store g.old).line + 1 }
     requires few { line ≤ 1000000 }
-    ensures ok { IfOk result (λ a. Decided G.unpaged event.now line t.old (G.contents g.old) (G.store g.old) a t.new (G.contents g.new) (G.store g.new)) }
-    ensures err { OnErr result (Idle t.old (G.contents g.old) (G.store g.old) t.new (G.contents g.new) (G.store g.new)) }
+    ensures ok { IfOk result (λ a. DecidedOver G.Pages event.now line t.old g.old a t.new g.new) }
+    ensures err { OnErr result (IdleOver G.Pages t.old g.old t.new g.new) }
     ensures no_memory { takes_memory event.now ≡ false → IsOk result }
     ensures waits { IfOk result (λ a. EndsWaits t.old event.now a (G.store g.new).report) }
-    ensures marked { IfOk result (λ a. MarkedIn G.unpaged event.now line t.old (G.contents g.old) (G.store g.old) (G.behind g.old) a t.new (G.contents g.new) (G.store g.new) (G.behind g.new)) }
-    ensures halted { OnErr result (HaltedIn G.unpaged line (G.behind g.old) (G.behind g.new)) }
+    ensures marked { IfOk result (λ a. MarkedOver G.Pages event.now line t.old g.old a t.new g.new) }
+    ensures halted { OnErr result (HaltedOver G.Pages line g.old g.new) }
+    ensures beside { G.unpaged ≡ false → IfOk result (λ a. AskedBesideOver G.Pages t.old event.now a g.old g.new) }
     ensures loans { G.loans g.new ≡ G.loans g.old }
 {
     match event {
@@ -72,14 +73,15 @@ fn decide_section<G: Pages>(
 ) -> Result<Answer, NoMemory>
     requires well_formed { IsWellFormed event.now }
     requires form { is_section_line event.now ≡ true }
-    requires keeps { Keeps t.old (G.contents g.old) (G.store g.old) }
+    requires keeps { KeepsOver G.Pages t.old g.old }
     requires next { line ≡ (G.store g.old).line + 1 }
     requires few { line ≤ 1000000 }
-    ensures ok { IfOk result (λ a. Decided G.unpaged event.now line t.old (G.contents g.old) (G.store g.old) a t.new (G.contents g.new) (G.store g.new)) }
-    ensures err { OnErr result (Idle t.old (G.contents g.old) (G.store g.old) t.new (G.contents g.new) (G.store g.new)) }
+    ensures ok { IfOk result (λ a. DecidedOver G.Pages event.now line t.old g.old a t.new g.new) }
+    ensures err { OnErr result (IdleOver G.Pages t.old g.old t.new g.new) }
     ensures no_memory { takes_memory event.now ≡ false → IsOk result }
-    ensures marked { IfOk result (λ a. MarkedIn G.unpaged event.now line t.old (G.contents g.old) (G.store g.old) (G.behind g.old) a t.new (G.contents g.new) (G.store g.new) (G.behind g.new)) }
-    ensures halted { OnErr result (HaltedIn G.unpaged line (G.behind g.old) (G.behind g.new)) }
+    ensures marked { IfOk result (λ a. MarkedOver G.Pages event.now line t.old g.old a t.new g.new) }
+    ensures halted { OnErr result (HaltedOver G.Pages line g.old g.new) }
+    ensures beside { G.unpaged ≡ false → IfOk result (λ a. AskedBesideOver G.Pages t.old event.now a g.old g.new) }
     ensures loans { G.loans g.new ≡ G.loans g.old }
 {
     match event {
@@ -106,14 +108,14 @@ fn decide_view<G: Pages>(
 ) -> Result<Answer, NoMemory>
     requires well_formed { IsWellFormed event.now }
     requires form { is_view_line event.now ≡ true }
-    requires keeps { Keeps t.old (G.contents g.old) (G.store g.old) }
+    requires keeps { KeepsOver G.Pages t.old g.old }
     requires next { line ≡ (G.store g.old).line + 1 }
     requires few { line ≤ 1000000 }
-    ensures ok { IfOk result (λ a. Decided G.unpaged event.now line t.old (G.contents g.old) (G.store g.old) a t.new (G.contents g.new) (G.store g.new)) }
-    ensures err { OnErr result (Idle t.old (G.contents g.old) (G.store g.old) t.new (G.contents g.new) (G.store g.new)) }
+    ensures ok { IfOk result (λ a. DecidedOver G.Pages event.now line t.old g.old a t.new g.new) }
+    ensures err { OnErr result (IdleOver G.Pages t.old g.old t.new g.new) }
     ensures no_memory { takes_memory event.now ≡ false → IsOk result }
-    ensures marked { IfOk result (λ a. MarkedIn G.unpaged event.now line t.old (G.contents g.old) (G.store g.old) (G.behind g.old) a t.new (G.contents g.new) (G.store g.new) (G.behind g.new)) }
-    ensures halted { OnErr result (HaltedIn G.unpaged line (G.behind g.old) (G.behind g.new)) }
+    ensures marked { IfOk result (λ a. MarkedOver G.Pages event.now line t.old g.old a t.new g.new) }
+    ensures halted { OnErr result (HaltedOver G.Pages line g.old g.new) }
     ensures loans { G.loans g.new ≡ G.loans g.old }
 {
     match event {
@@ -140,13 +142,13 @@ fn decide_view<G: Pages>(
 fn decide_access<G: Pages>(t: &mut Tables, g: &mut G, line: u32, event: &Event) -> Answer
     requires well_formed { IsWellFormed event.now }
     requires form { is_access_line event.now ≡ true }
-    requires keeps { Keeps t.old (G.contents g.old) (G.store g.old) }
+    requires keeps { KeepsOver G.Pages t.old g.old }
     requires next { line ≡ (G.store g.old).line + 1 }
     requires few { line ≤ 1000000 }
     requires idle { G.unpaged ≡ true → (tid : ℕ) → (G.store g.old).report.wait tid ≡ wait.None }
-    ensures decided { Decided G.unpaged event.now line t.old (G.contents g.old) (G.store g.old) result t.new (G.contents g.new) (G.store g.new) }
+    ensures decided { DecidedOver G.Pages event.now line t.old g.old result t.new g.new }
     ensures waits { EndsWaits t.old event.now result (G.store g.new).report }
-    ensures marked { MarkedIn G.unpaged event.now line t.old (G.contents g.old) (G.store g.old) (G.behind g.old) result t.new (G.contents g.new) (G.store g.new) (G.behind g.new) }
+    ensures marked { MarkedOver G.Pages event.now line t.old g.old result t.new g.new }
     ensures loans { G.loans g.new ≡ G.loans g.old }
 {
     match event {
@@ -163,11 +165,11 @@ fn decide_access<G: Pages>(t: &mut Tables, g: &mut G, line: u32, event: &Event) 
 fn decide_paging<G: Pages>(t: &mut Tables, g: &mut G, line: u32, event: &Event) -> Answer
     requires well_formed { IsWellFormed event.now }
     requires form { is_paging_line event.now ≡ true }
-    requires keeps { Keeps t.old (G.contents g.old) (G.store g.old) }
+    requires keeps { KeepsOver G.Pages t.old g.old }
     requires next { line ≡ (G.store g.old).line + 1 }
     requires few { line ≤ 1000000 }
-    ensures decided { Decided G.unpaged event.now line t.old (G.contents g.old) (G.store g.old) result t.new (G.contents g.new) (G.store g.new) }
-    ensures marked { MarkedIn G.unpaged event.now line t.old (G.contents g.old) (G.store g.old) (G.behind g.old) result t.new (G.contents g.new) (G.store g.new) (G.behind g.new) }
+    ensures decided { DecidedOver G.Pages event.now line t.old g.old result t.new g.new }
+    ensures marked { MarkedOver G.Pages event.now line t.old g.old result t.new g.new }
     ensures loans { G.loans g.new ≡ G.loans g.old }
 {
     match event {
@@ -192,16 +194,17 @@ pub(crate) fn decide<G: Pages>(
 ) -> Result<Answer, NoMemory>
     requires well_formed { IsWellFormed event.now }
     requires built { is_built event.now ≡ true }
-    requires keeps { Keeps t.old (G.contents g.old) (G.store g.old) }
+    requires keeps { KeepsOver G.Pages t.old g.old }
     requires next { line ≡ (G.store g.old).line + 1 }
     requires few { line ≤ 1000000 }
     requires idle { G.unpaged ≡ true → (tid : ℕ) → (G.store g.old).report.wait tid ≡ wait.None }
-    ensures ok { IfOk result (λ a. Decided G.unpaged event.now line t.old (G.contents g.old) (G.store g.old) a t.new (G.contents g.new) (G.store g.new)) }
-    ensures err { OnErr result (Idle t.old (G.contents g.old) (G.store g.old) t.new (G.contents g.new) (G.store g.new)) }
+    ensures ok { IfOk result (λ a. DecidedOver G.Pages event.now line t.old g.old a t.new g.new) }
+    ensures err { OnErr result (IdleOver G.Pages t.old g.old t.new g.new) }
     ensures no_memory { takes_memory event.now ≡ false → IsOk result }
     ensures waits { IfOk result (λ a. EndsWaits t.old event.now a (G.store g.new).report) }
-    ensures marked { IfOk result (λ a. MarkedIn G.unpaged event.now line t.old (G.contents g.old) (G.store g.old) (G.behind g.old) a t.new (G.contents g.new) (G.store g.new) (G.behind g.new)) }
-    ensures halted { OnErr result (HaltedIn G.unpaged line (G.behind g.old) (G.behind g.new)) }
+    ensures marked { IfOk result (λ a. MarkedOver G.Pages event.now line t.old g.old a t.new g.new) }
+    ensures halted { OnErr result (HaltedOver G.Pages line g.old g.new) }
+    ensures beside { G.unpaged ≡ false → IfOk result (λ a. AskedBesideOver G.Pages t.old event.now a g.old g.new) }
     ensures loans { G.loans g.new ≡ G.loans g.old }
 {
     match event {

@@ -9,11 +9,11 @@ ghost use Rattle.mm_world.specs.Access.{written};
 ghost use Rattle.mm_world.specs.WellFormed.{Spaces};
 ghost use Rattle.mm_pages.specs.Store.{changed};
 ghost use Rattle.mm_pages.specs.Accesses.{Touches, Copies};
-ghost use Rattle.mm_pages.specs.Passing.{PassesIn};
 ghost use Rattle.mm_pages.specs.Reports.{IsBegun, Ends, Served, SomeRose, eased};
 ghost use Rattle.mm_pages.specs.Conditions.{place_at, touch, copying, IsReady, MayAccess};
-ghost use Rattle.mm_tables.specs.Fits.{Fits, bytes_of, key_at};
+ghost use Rattle.mm_tables.specs.Fits.{bytes_of, key_at};
 ghost use Rattle.mm_core.specs.Accessing.{Admits};
+ghost use Rattle.mm_core.specs.Over.{FitsOver, PassesOver};
 
 use mm_pages::Pages;
 use mm_tables::{CommittedRow, Tables};
@@ -52,7 +52,7 @@ pub(crate) fn fetch<G: Pages>(
     key: Key,
     out: &mut [u8],
 ) -> Result<(), PageFault>
-    requires fits { Fits t.now (G.contents g.old) (G.store g.old) }
+    requires fits { FitsOver G.Pages t.now g.old }
     requires at { key_at t.now (place_at pid (page_of addr)) ≡ Some key }
     requires may { MayAccess (G.store g.old) (place_at pid (page_of addr)) (touch key) }
     requires begun { IsBegun (G.store g.old).report }
@@ -61,14 +61,14 @@ pub(crate) fn fetch<G: Pages>(
     ensures length { length out.new ≡ length out.old }
     ensures bytes { OnOk result (out.new ≡ take (length out.old) (drop (addr % page_size) (bytes_of (G.contents g.old) key))) }
     ensures ends { Ends (touch key) (G.store g.new).report result }
-    ensures fits { Fits t.now (G.contents g.new) (G.store g.new) }
+    ensures fits { FitsOver G.Pages t.now g.new }
     ensures contents { G.contents g.new ≡ G.contents g.old }
     ensures line { (G.store g.new).line ≡ (G.store g.old).line }
     ensures served { Served (G.store g.old) (G.store g.new) }
     ensures blamed { OnErr result (SomeRose (G.store g.old) (G.store g.new)) }
     ensures ready { IsReady (G.store g.old) (place_at pid (page_of addr)) (touch key) → IsOk result }
     ensures unpaged { G.unpaged ≡ true → IsOk result }
-    ensures passes { PassesIn G.unpaged (Touches (record { place = place_at pid (page_of addr); need = touch key; writes = false; start = (G.behind g.old).life }) (IsReady (G.store g.old) (place_at pid (page_of addr)) (touch key)) result) (G.store g.old) (G.store g.new) (G.behind g.old) (G.behind g.new) }
+    ensures passes { PassesOver G.Pages (Touches (record { place = place_at pid (page_of addr); need = touch key; writes = false; start = (G.behind g.old).life }) (IsReady (G.store g.old) (place_at pid (page_of addr)) (touch key)) result) g.old g.new }
     ensures loans { G.loans g.new ≡ G.loans g.old }
 {
     g.read(place_of(pid, addr), key, offset_of(addr), out)
@@ -83,7 +83,7 @@ pub(crate) fn read_bytes<G: Pages>(
     key: Key,
     len: u32,
 ) -> Result<ByteBuf, PageFault>
-    requires fits { Fits t.now (G.contents g.old) (G.store g.old) }
+    requires fits { FitsOver G.Pages t.now g.old }
     requires at { key_at t.now (place_at pid (page_of addr)) ≡ Some key }
     requires may { MayAccess (G.store g.old) (place_at pid (page_of addr)) (touch key) }
     requires begun { IsBegun (G.store g.old).report }
@@ -92,14 +92,14 @@ pub(crate) fn read_bytes<G: Pages>(
     requires inside { addr % 4096 + len ≤ 4096 }
     ensures bytes { IfOk result (λ b. b ≡ take len (drop (addr % page_size) (bytes_of (G.contents g.old) key))) }
     ensures ends { Ends (touch key) (G.store g.new).report result }
-    ensures fits { Fits t.now (G.contents g.new) (G.store g.new) }
+    ensures fits { FitsOver G.Pages t.now g.new }
     ensures contents { G.contents g.new ≡ G.contents g.old }
     ensures line { (G.store g.new).line ≡ (G.store g.old).line }
     ensures served { Served (G.store g.old) (G.store g.new) }
     ensures blamed { OnErr result (SomeRose (G.store g.old) (G.store g.new)) }
     ensures ready { IsReady (G.store g.old) (place_at pid (page_of addr)) (touch key) → IsOk result }
     ensures unpaged { G.unpaged ≡ true → IsOk result }
-    ensures passes { PassesIn G.unpaged (Touches (record { place = place_at pid (page_of addr); need = touch key; writes = false; start = (G.behind g.old).life }) (IsReady (G.store g.old) (place_at pid (page_of addr)) (touch key)) result) (G.store g.old) (G.store g.new) (G.behind g.old) (G.behind g.new) }
+    ensures passes { PassesOver G.Pages (Touches (record { place = place_at pid (page_of addr); need = touch key; writes = false; start = (G.behind g.old).life }) (IsReady (G.store g.old) (place_at pid (page_of addr)) (touch key)) result) g.old g.new }
     ensures loans { G.loans g.new ≡ G.loans g.old }
 {
     let mut room = [0; 64];
@@ -120,7 +120,7 @@ pub(crate) fn put<G: Pages>(
     key: Key,
     bytes: &[u8],
 ) -> Result<(), PageFault>
-    requires fits { Fits t.now (G.contents g.old) (G.store g.old) }
+    requires fits { FitsOver G.Pages t.now g.old }
     requires at { key_at t.now (place_at pid (page_of addr)) ≡ Some key }
     requires may { MayAccess (G.store g.old) (place_at pid (page_of addr)) (touch key) }
     requires few { length bytes.now ≤ 64 }
@@ -128,14 +128,14 @@ pub(crate) fn put<G: Pages>(
     ensures written { OnOk result (G.contents g.new ≡ changed same_key (G.contents g.old) key (Some (written (bytes_of (G.contents g.old) key) (addr % page_size) bytes.now))) }
     ensures kept { OnErr result (G.contents g.new ≡ G.contents g.old) }
     ensures ends { IsBegun (G.store g.old).report → Ends (touch key) (G.store g.new).report result }
-    ensures fits { Fits t.now (G.contents g.new) (G.store g.new) }
+    ensures fits { FitsOver G.Pages t.now g.new }
     ensures line { (G.store g.new).line ≡ (G.store g.old).line }
     ensures served { Served (G.store g.old) (G.store g.new) }
     ensures blamed { OnErr result (SomeRose (G.store g.old) (G.store g.new)) }
     ensures ready { IsReady (G.store g.old) (place_at pid (page_of addr)) (touch key) → IsOk result }
     ensures eased { IsReady (G.store g.old) (place_at pid (page_of addr)) (touch key) → (G.store g.new).report ≡ eased (G.store g.old).report (G.store g.new).report }
     ensures unpaged { G.unpaged ≡ true → IsOk result }
-    ensures passes { PassesIn G.unpaged (Touches (record { place = place_at pid (page_of addr); need = touch key; writes = true; start = (G.behind g.old).life }) (IsReady (G.store g.old) (place_at pid (page_of addr)) (touch key)) result) (G.store g.old) (G.store g.new) (G.behind g.old) (G.behind g.new) }
+    ensures passes { PassesOver G.Pages (Touches (record { place = place_at pid (page_of addr); need = touch key; writes = true; start = (G.behind g.old).life }) (IsReady (G.store g.old) (place_at pid (page_of addr)) (touch key)) result) g.old g.new }
     ensures loans { G.loans g.new ≡ G.loans g.old }
 {
     g.write(place_of(pid, addr), key, offset_of(addr), bytes)
@@ -149,7 +149,7 @@ fn copy<G: Pages>(
     addr: u32,
     row: CommittedRow,
 ) -> Result<(), PageFault>
-    requires fits { Fits t.old (G.contents g.old) (G.store g.old) }
+    requires fits { FitsOver G.Pages t.old g.old }
     requires spaces { Spaces t.old }
     requires admitted { Admits t.old pid.0 addr access_kind.Write row }
     requires copies { row.copies ≡ true }
@@ -162,13 +162,13 @@ fn copy<G: Pages>(
     ensures ready { OnOk result (IsReady (G.store g.new) (place_at pid (page_of addr)) (touch (private_key pid.0 (page_of addr)))) }
     ensures form { (G.store g.new).kind ≡ (G.store g.old).kind }
     ensures ends { Ends (copying row.key (place_at pid (page_of addr))) (G.store g.new).report result }
-    ensures fits { Fits t.new (G.contents g.new) (G.store g.new) }
+    ensures fits { FitsOver G.Pages t.new g.new }
     ensures line { (G.store g.new).line ≡ (G.store g.old).line }
     ensures served { Served (G.store g.old) (G.store g.new) }
     ensures blamed { OnErr result (SomeRose (G.store g.old) (G.store g.new)) }
     ensures was_ready { IsReady (G.store g.old) (place_at pid (page_of addr)) (copying row.key (place_at pid (page_of addr))) → IsOk result }
     ensures unpaged { G.unpaged ≡ true → IsOk result }
-    ensures passes { PassesIn G.unpaged (Copies (record { place = place_at pid (page_of addr); need = copying row.key (place_at pid (page_of addr)); writes = true; start = (G.behind g.old).life }) (IsReady (G.store g.old) (place_at pid (page_of addr)) (copying row.key (place_at pid (page_of addr)))) result) (G.store g.old) (G.store g.new) (G.behind g.old) (G.behind g.new) }
+    ensures passes { PassesOver G.Pages (Copies (record { place = place_at pid (page_of addr); need = copying row.key (place_at pid (page_of addr)); writes = true; start = (G.behind g.old).life }) (IsReady (G.store g.old) (place_at pid (page_of addr)) (copying row.key (place_at pid (page_of addr)))) result) g.old g.new }
     ensures loans { G.loans g.new ≡ G.loans g.old }
 {
     g.copy(place_of(pid, addr), row.key, own_key_of(pid, addr))?;
@@ -186,7 +186,7 @@ pub(crate) fn put_copy<G: Pages>(
     row: CommittedRow,
     bytes: &[u8],
 ) -> Result<(), PageFault>
-    requires fits { Fits t.old (G.contents g.old) (G.store g.old) }
+    requires fits { FitsOver G.Pages t.old g.old }
     requires spaces { Spaces t.old }
     requires admitted { Admits t.old pid.0 addr access_kind.Write row }
     requires copies { row.copies ≡ true }
@@ -198,13 +198,13 @@ pub(crate) fn put_copy<G: Pages>(
     ensures row { OnOk result ((p : ProcessOf (Unit {0})) (c : Committed (Unit {0})) → process_of t.old pid.0 ≡ Some p → committed_at t.old p.regions (page_of addr) ≡ Some c → t.new ≡ set_row t.old pid.0 p c.region (page_of addr) (record c.row { own = Some tt; prot = 0x04 })) }
     ensures kept { OnErr result ((t.new ≡ t.old) × (G.contents g.new ≡ G.contents g.old)) }
     ensures ends { Ends (copying row.key (place_at pid (page_of addr))) (G.store g.new).report result }
-    ensures fits { Fits t.new (G.contents g.new) (G.store g.new) }
+    ensures fits { FitsOver G.Pages t.new g.new }
     ensures line { (G.store g.new).line ≡ (G.store g.old).line }
     ensures served { Served (G.store g.old) (G.store g.new) }
     ensures blamed { OnErr result (SomeRose (G.store g.old) (G.store g.new)) }
     ensures was_ready { IsReady (G.store g.old) (place_at pid (page_of addr)) (copying row.key (place_at pid (page_of addr))) → IsOk result }
     ensures unpaged { G.unpaged ≡ true → IsOk result }
-    ensures passes { PassesIn G.unpaged (Copies (record { place = place_at pid (page_of addr); need = copying row.key (place_at pid (page_of addr)); writes = true; start = (G.behind g.old).life }) (IsReady (G.store g.old) (place_at pid (page_of addr)) (copying row.key (place_at pid (page_of addr)))) result) (G.store g.old) (G.store g.new) (G.behind g.old) (G.behind g.new) }
+    ensures passes { PassesOver G.Pages (Copies (record { place = place_at pid (page_of addr); need = copying row.key (place_at pid (page_of addr)); writes = true; start = (G.behind g.old).life }) (IsReady (G.store g.old) (place_at pid (page_of addr)) (copying row.key (place_at pid (page_of addr)))) result) g.old g.new }
     ensures loans { G.loans g.new ≡ G.loans g.old }
 {
     copy(t, g, pid, addr, row)?;

@@ -1,9 +1,8 @@
 ghost use Rattle.std.specs.Prelude.{◌≡◌, ◌≤◌, ◌+◌, ◌==◌, false, IfOk, OnErr, IsOk};
 ghost use Rattle.mm_types.specs.declared.events.Event.TheVariants as event;
 ghost use Rattle.mm_types.specs.Protection.{base_of};
-ghost use Rattle.mm_core.specs.Noting.{MarkedIn, HaltedIn};
-ghost use Rattle.mm_core.specs.Deciding.{Keeps, Decided, Idle};
 ghost use Rattle.mm_core.specs.Forgetting.{EndsWaits};
+ghost use Rattle.mm_core.specs.Over.{AskedBesideOver, DecidedOver, HaltedOver, IdleOver, KeepsOver, MarkedOver};
 
 use crate::beginning::{begin, begin_release};
 use crate::forgetting::forget_waits;
@@ -23,15 +22,15 @@ pub(crate) fn process_line<G: Pages>(
     min: u32,
     max: u32,
 ) -> Result<Answer, NoMemory>
-    requires keeps { Keeps t.old (G.contents g.old) (G.store g.old) }
+    requires keeps { KeepsOver G.Pages t.old g.old }
     requires next { line ≡ (G.store g.old).line + 1 }
     requires ordered { min ≤ max }
     requires some { 1 ≤ max }
     requires most { max ≤ 65536 }
-    ensures ok { IfOk result (λ a. Decided G.unpaged (event.Process min max) line t.old (G.contents g.old) (G.store g.old) a t.new (G.contents g.new) (G.store g.new)) }
-    ensures err { OnErr result (Idle t.old (G.contents g.old) (G.store g.old) t.new (G.contents g.new) (G.store g.new)) }
-    ensures marked { IfOk result (λ a. MarkedIn G.unpaged (event.Process min max) line t.old (G.contents g.old) (G.store g.old) (G.behind g.old) a t.new (G.contents g.new) (G.store g.new) (G.behind g.new)) }
-    ensures halted { OnErr result (HaltedIn G.unpaged line (G.behind g.old) (G.behind g.new)) }
+    ensures ok { IfOk result (λ a. DecidedOver G.Pages (event.Process min max) line t.old g.old a t.new g.new) }
+    ensures err { OnErr result (IdleOver G.Pages t.old g.old t.new g.new) }
+    ensures marked { IfOk result (λ a. MarkedOver G.Pages (event.Process min max) line t.old g.old a t.new g.new) }
+    ensures halted { OnErr result (HaltedOver G.Pages line g.old g.new) }
     ensures loans { G.loans g.new ≡ G.loans g.old }
 {
     t.sound();
@@ -48,11 +47,11 @@ pub(crate) fn process_line<G: Pages>(
 
 /// Decides an `exit` line. Threads that keep an access of the process wait no more, before the line begins.
 pub(crate) fn exit_line<G: Pages>(t: &mut Tables, g: &mut G, line: u32, pid: Pid) -> Answer
-    requires keeps { Keeps t.old (G.contents g.old) (G.store g.old) }
+    requires keeps { KeepsOver G.Pages t.old g.old }
     requires next { line ≡ (G.store g.old).line + 1 }
-    ensures decided { Decided G.unpaged (event.Exit pid) line t.old (G.contents g.old) (G.store g.old) result t.new (G.contents g.new) (G.store g.new) }
+    ensures decided { DecidedOver G.Pages (event.Exit pid) line t.old g.old result t.new g.new }
     ensures waits { EndsWaits t.old (event.Exit pid) result (G.store g.new).report }
-    ensures marked { MarkedIn G.unpaged (event.Exit pid) line t.old (G.contents g.old) (G.store g.old) (G.behind g.old) result t.new (G.contents g.new) (G.store g.new) (G.behind g.new) }
+    ensures marked { MarkedOver G.Pages (event.Exit pid) line t.old g.old result t.new g.new }
     ensures loans { G.loans g.new ≡ G.loans g.old }
 {
     t.sound();
@@ -73,12 +72,12 @@ pub(crate) fn alloc_line<G: Pages>(
     form: u32,
     prot: u32,
 ) -> Result<Answer, NoMemory>
-    requires keeps { Keeps t.old (G.contents g.old) (G.store g.old) }
+    requires keeps { KeepsOver G.Pages t.old g.old }
     requires next { line ≡ (G.store g.old).line + 1 }
-    ensures ok { IfOk result (λ a. Decided G.unpaged (event.Alloc pid addr size form prot) line t.old (G.contents g.old) (G.store g.old) a t.new (G.contents g.new) (G.store g.new)) }
-    ensures err { OnErr result (Idle t.old (G.contents g.old) (G.store g.old) t.new (G.contents g.new) (G.store g.new)) }
-    ensures marked { IfOk result (λ a. MarkedIn G.unpaged (event.Alloc pid addr size form prot) line t.old (G.contents g.old) (G.store g.old) (G.behind g.old) a t.new (G.contents g.new) (G.store g.new) (G.behind g.new)) }
-    ensures halted { OnErr result (HaltedIn G.unpaged line (G.behind g.old) (G.behind g.new)) }
+    ensures ok { IfOk result (λ a. DecidedOver G.Pages (event.Alloc pid addr size form prot) line t.old g.old a t.new g.new) }
+    ensures err { OnErr result (IdleOver G.Pages t.old g.old t.new g.new) }
+    ensures marked { IfOk result (λ a. MarkedOver G.Pages (event.Alloc pid addr size form prot) line t.old g.old a t.new g.new) }
+    ensures halted { OnErr result (HaltedOver G.Pages line g.old g.new) }
     ensures loans { G.loans g.new ≡ G.loans g.old }
 {
     t.sound();
@@ -96,10 +95,10 @@ pub(crate) fn free_line<G: Pages>(
     size: u32,
     form: u32,
 ) -> Answer
-    requires keeps { Keeps t.old (G.contents g.old) (G.store g.old) }
+    requires keeps { KeepsOver G.Pages t.old g.old }
     requires next { line ≡ (G.store g.old).line + 1 }
-    ensures decided { Decided G.unpaged (event.Free pid addr size form) line t.old (G.contents g.old) (G.store g.old) result t.new (G.contents g.new) (G.store g.new) }
-    ensures marked { MarkedIn G.unpaged (event.Free pid addr size form) line t.old (G.contents g.old) (G.store g.old) (G.behind g.old) result t.new (G.contents g.new) (G.store g.new) (G.behind g.new) }
+    ensures decided { DecidedOver G.Pages (event.Free pid addr size form) line t.old g.old result t.new g.new }
+    ensures marked { MarkedOver G.Pages (event.Free pid addr size form) line t.old g.old result t.new g.new }
     ensures loans { G.loans g.new ≡ G.loans g.old }
 {
     t.sound();
@@ -117,13 +116,13 @@ pub(crate) fn protect_line<G: Pages>(
     size: u32,
     prot: u32,
 ) -> Result<Answer, NoMemory>
-    requires keeps { Keeps t.old (G.contents g.old) (G.store g.old) }
+    requires keeps { KeepsOver G.Pages t.old g.old }
     requires next { line ≡ (G.store g.old).line + 1 }
-    ensures ok { IfOk result (λ a. Decided G.unpaged (event.Protect pid addr size prot) line t.old (G.contents g.old) (G.store g.old) a t.new (G.contents g.new) (G.store g.new)) }
-    ensures err { OnErr result (Idle t.old (G.contents g.old) (G.store g.old) t.new (G.contents g.new) (G.store g.new)) }
+    ensures ok { IfOk result (λ a. DecidedOver G.Pages (event.Protect pid addr size prot) line t.old g.old a t.new g.new) }
+    ensures err { OnErr result (IdleOver G.Pages t.old g.old t.new g.new) }
     ensures unmarked { (base_of prot == 0x08) ≡ false → IsOk result }
-    ensures marked { IfOk result (λ a. MarkedIn G.unpaged (event.Protect pid addr size prot) line t.old (G.contents g.old) (G.store g.old) (G.behind g.old) a t.new (G.contents g.new) (G.store g.new) (G.behind g.new)) }
-    ensures halted { OnErr result (HaltedIn G.unpaged line (G.behind g.old) (G.behind g.new)) }
+    ensures marked { IfOk result (λ a. MarkedOver G.Pages (event.Protect pid addr size prot) line t.old g.old a t.new g.new) }
+    ensures halted { OnErr result (HaltedOver G.Pages line g.old g.new) }
     ensures loans { G.loans g.new ≡ G.loans g.old }
 {
     t.sound();
@@ -139,10 +138,10 @@ pub(crate) fn query_line<G: Pages>(
     pid: Pid,
     addr: u32,
 ) -> Answer
-    requires keeps { Keeps t.old (G.contents g.old) (G.store g.old) }
+    requires keeps { KeepsOver G.Pages t.old g.old }
     requires next { line ≡ (G.store g.old).line + 1 }
-    ensures decided { Decided G.unpaged (event.Query pid addr) line t.old (G.contents g.old) (G.store g.old) result t.new (G.contents g.new) (G.store g.new) }
-    ensures marked { MarkedIn G.unpaged (event.Query pid addr) line t.old (G.contents g.old) (G.store g.old) (G.behind g.old) result t.new (G.contents g.new) (G.store g.new) (G.behind g.new) }
+    ensures decided { DecidedOver G.Pages (event.Query pid addr) line t.old g.old result t.new g.new }
+    ensures marked { MarkedOver G.Pages (event.Query pid addr) line t.old g.old result t.new g.new }
     ensures loans { G.loans g.new ≡ G.loans g.old }
 {
     t.sound();
@@ -152,10 +151,10 @@ pub(crate) fn query_line<G: Pages>(
 
 /// Decides a `charge` line.
 pub(crate) fn charge_line<G: Pages>(t: &mut Tables, g: &mut G, line: u32) -> Answer
-    requires keeps { Keeps t.old (G.contents g.old) (G.store g.old) }
+    requires keeps { KeepsOver G.Pages t.old g.old }
     requires next { line ≡ (G.store g.old).line + 1 }
-    ensures decided { Decided G.unpaged event.Charge line t.old (G.contents g.old) (G.store g.old) result t.new (G.contents g.new) (G.store g.new) }
-    ensures marked { MarkedIn G.unpaged event.Charge line t.old (G.contents g.old) (G.store g.old) (G.behind g.old) result t.new (G.contents g.new) (G.store g.new) (G.behind g.new) }
+    ensures decided { DecidedOver G.Pages event.Charge line t.old g.old result t.new g.new }
+    ensures marked { MarkedOver G.Pages event.Charge line t.old g.old result t.new g.new }
     ensures loans { G.loans g.new ≡ G.loans g.old }
 {
     begin(g, line, LineKind::Call);
@@ -170,13 +169,14 @@ pub(crate) fn grow_line<G: Pages>(
     line: u32,
     n: u32,
 ) -> Result<Answer, NoMemory>
-    requires keeps { Keeps t.old (G.contents g.old) (G.store g.old) }
+    requires keeps { KeepsOver G.Pages t.old g.old }
     requires next { line ≡ (G.store g.old).line + 1 }
     requires some { 1 ≤ n }
-    ensures ok { IfOk result (λ a. Decided G.unpaged (event.Grow n) line t.old (G.contents g.old) (G.store g.old) a t.new (G.contents g.new) (G.store g.new)) }
-    ensures err { OnErr result (Idle t.old (G.contents g.old) (G.store g.old) t.new (G.contents g.new) (G.store g.new)) }
-    ensures marked { IfOk result (λ a. MarkedIn G.unpaged (event.Grow n) line t.old (G.contents g.old) (G.store g.old) (G.behind g.old) a t.new (G.contents g.new) (G.store g.new) (G.behind g.new)) }
-    ensures halted { OnErr result (HaltedIn G.unpaged line (G.behind g.old) (G.behind g.new)) }
+    ensures ok { IfOk result (λ a. DecidedOver G.Pages (event.Grow n) line t.old g.old a t.new g.new) }
+    ensures err { OnErr result (IdleOver G.Pages t.old g.old t.new g.new) }
+    ensures marked { IfOk result (λ a. MarkedOver G.Pages (event.Grow n) line t.old g.old a t.new g.new) }
+    ensures halted { OnErr result (HaltedOver G.Pages line g.old g.new) }
+    ensures beside { IfOk result (λ a. AskedBesideOver G.Pages t.old (event.Grow n) a g.old g.new) }
     ensures loans { G.loans g.new ≡ G.loans g.old }
 {
     t.sound();

@@ -1,7 +1,6 @@
 ghost use Rattle.std.specs.Prelude.{◌≡◌, ◌≤◌, ◌+◌};
 ghost use Rattle.mm_types.specs.declared.events.Event.TheVariants as event;
-ghost use Rattle.mm_core.specs.Noting.{MarkedIn};
-ghost use Rattle.mm_core.specs.Deciding.{Keeps, Decided};
+ghost use Rattle.mm_core.specs.Over.{DecidedOver, KeepsOver, MarkedOver};
 
 use crate::beginning::{begin, begin_trim};
 use mm_pages::{Done, Pages};
@@ -13,10 +12,10 @@ const MOST_FAILS: u32 = 64;
 
 /// Decides a `trim` line: pages of the process's working set, the oldest first, are taken from it.
 pub(crate) fn trim_line<G: Pages>(t: &mut Tables, g: &mut G, line: u32, pid: Pid, n: u32) -> Answer
-    requires keeps { Keeps t.old (G.contents g.old) (G.store g.old) }
+    requires keeps { KeepsOver G.Pages t.old g.old }
     requires next { line ≡ (G.store g.old).line + 1 }
-    ensures decided { Decided G.unpaged (event.Trim pid n) line t.old (G.contents g.old) (G.store g.old) result t.new (G.contents g.new) (G.store g.new) }
-    ensures marked { MarkedIn G.unpaged (event.Trim pid n) line t.old (G.contents g.old) (G.store g.old) (G.behind g.old) result t.new (G.contents g.new) (G.store g.new) (G.behind g.new) }
+    ensures decided { DecidedOver G.Pages (event.Trim pid n) line t.old g.old result t.new g.new }
+    ensures marked { MarkedOver G.Pages (event.Trim pid n) line t.old g.old result t.new g.new }
     ensures loans { G.loans g.new ≡ G.loans g.old }
 {
     if !begin_trim(t, g, line, pid) {
@@ -28,10 +27,10 @@ pub(crate) fn trim_line<G: Pages>(t: &mut Tables, g: &mut G, line: u32, pid: Pid
 
 /// Decides an `age` line: the pages of the process's working set are older.
 pub(crate) fn age_line<G: Pages>(t: &mut Tables, g: &mut G, line: u32, pid: Pid) -> Answer
-    requires keeps { Keeps t.old (G.contents g.old) (G.store g.old) }
+    requires keeps { KeepsOver G.Pages t.old g.old }
     requires next { line ≡ (G.store g.old).line + 1 }
-    ensures decided { Decided G.unpaged (event.Age pid) line t.old (G.contents g.old) (G.store g.old) result t.new (G.contents g.new) (G.store g.new) }
-    ensures marked { MarkedIn G.unpaged (event.Age pid) line t.old (G.contents g.old) (G.store g.old) (G.behind g.old) result t.new (G.contents g.new) (G.store g.new) (G.behind g.new) }
+    ensures decided { DecidedOver G.Pages (event.Age pid) line t.old g.old result t.new g.new }
+    ensures marked { MarkedOver G.Pages (event.Age pid) line t.old g.old result t.new g.new }
     ensures loans { G.loans g.new ≡ G.loans g.old }
 {
     begin(g, line, LineKind::Call);
@@ -44,10 +43,10 @@ pub(crate) fn age_line<G: Pages>(t: &mut Tables, g: &mut G, line: u32, pid: Pid)
 
 /// Decides a `zeroer` line: free frames are cleared.
 pub(crate) fn zeroer_line<G: Pages>(t: &mut Tables, g: &mut G, line: u32, n: u32) -> Answer
-    requires keeps { Keeps t.old (G.contents g.old) (G.store g.old) }
+    requires keeps { KeepsOver G.Pages t.old g.old }
     requires next { line ≡ (G.store g.old).line + 1 }
-    ensures decided { Decided G.unpaged (event.Zeroer n) line t.old (G.contents g.old) (G.store g.old) result t.new (G.contents g.new) (G.store g.new) }
-    ensures marked { MarkedIn G.unpaged (event.Zeroer n) line t.old (G.contents g.old) (G.store g.old) (G.behind g.old) result t.new (G.contents g.new) (G.store g.new) (G.behind g.new) }
+    ensures decided { DecidedOver G.Pages (event.Zeroer n) line t.old g.old result t.new g.new }
+    ensures marked { MarkedOver G.Pages (event.Zeroer n) line t.old g.old result t.new g.new }
     ensures loans { G.loans g.new ≡ G.loans g.old }
 {
     begin(g, line, LineKind::Zeroer);
@@ -65,12 +64,12 @@ pub(crate) fn fail_line<G: Pages>(
     k: u32,
     n: u32,
 ) -> Answer
-    requires keeps { Keeps t.old (G.contents g.old) (G.store g.old) }
+    requires keeps { KeepsOver G.Pages t.old g.old }
     requires next { line ≡ (G.store g.old).line + 1 }
     requires first { 1 ≤ k }
     requires some { 1 ≤ n }
-    ensures decided { Decided G.unpaged (event.Fail device direction k n) line t.old (G.contents g.old) (G.store g.old) result t.new (G.contents g.new) (G.store g.new) }
-    ensures marked { MarkedIn G.unpaged (event.Fail device direction k n) line t.old (G.contents g.old) (G.store g.old) (G.behind g.old) result t.new (G.contents g.new) (G.store g.new) (G.behind g.new) }
+    ensures decided { DecidedOver G.Pages (event.Fail device direction k n) line t.old g.old result t.new g.new }
+    ensures marked { MarkedOver G.Pages (event.Fail device direction k n) line t.old g.old result t.new g.new }
     ensures loans { G.loans g.new ≡ G.loans g.old }
 {
     t.sound();
@@ -85,10 +84,10 @@ pub(crate) fn fail_line<G: Pages>(
 
 /// Decides a `writer` line: modified pages begin to be written, from the front of their list.
 pub(crate) fn writer_line<G: Pages>(t: &mut Tables, g: &mut G, line: u32, n: u32) -> Answer
-    requires keeps { Keeps t.old (G.contents g.old) (G.store g.old) }
+    requires keeps { KeepsOver G.Pages t.old g.old }
     requires next { line ≡ (G.store g.old).line + 1 }
-    ensures decided { Decided G.unpaged (event.Writer n) line t.old (G.contents g.old) (G.store g.old) result t.new (G.contents g.new) (G.store g.new) }
-    ensures marked { MarkedIn G.unpaged (event.Writer n) line t.old (G.contents g.old) (G.store g.old) (G.behind g.old) result t.new (G.contents g.new) (G.store g.new) (G.behind g.new) }
+    ensures decided { DecidedOver G.Pages (event.Writer n) line t.old g.old result t.new g.new }
+    ensures marked { MarkedOver G.Pages (event.Writer n) line t.old g.old result t.new g.new }
     ensures loans { G.loans g.new ≡ G.loans g.old }
 {
     begin(g, line, LineKind::Writer);
@@ -98,11 +97,11 @@ pub(crate) fn writer_line<G: Pages>(t: &mut Tables, g: &mut G, line: u32, n: u32
 
 /// Decides an `io` line: the `i`-th oldest request is completed, and its device called.
 pub(crate) fn io_line<G: Pages>(t: &mut Tables, g: &mut G, line: u32, i: u32) -> Answer
-    requires keeps { Keeps t.old (G.contents g.old) (G.store g.old) }
+    requires keeps { KeepsOver G.Pages t.old g.old }
     requires next { line ≡ (G.store g.old).line + 1 }
     requires some { 1 ≤ i }
-    ensures decided { Decided G.unpaged (event.Io i) line t.old (G.contents g.old) (G.store g.old) result t.new (G.contents g.new) (G.store g.new) }
-    ensures marked { MarkedIn G.unpaged (event.Io i) line t.old (G.contents g.old) (G.store g.old) (G.behind g.old) result t.new (G.contents g.new) (G.store g.new) (G.behind g.new) }
+    ensures decided { DecidedOver G.Pages (event.Io i) line t.old g.old result t.new g.new }
+    ensures marked { MarkedOver G.Pages (event.Io i) line t.old g.old result t.new g.new }
     ensures loans { G.loans g.new ≡ G.loans g.old }
 {
     begin(g, line, LineKind::Io);
@@ -115,10 +114,10 @@ pub(crate) fn io_line<G: Pages>(t: &mut Tables, g: &mut G, line: u32, i: u32) ->
 
 /// Decides a `counts` line: how many frames, slots and requests there are.
 pub(crate) fn counts_line<G: Pages>(t: &mut Tables, g: &mut G, line: u32) -> Answer
-    requires keeps { Keeps t.old (G.contents g.old) (G.store g.old) }
+    requires keeps { KeepsOver G.Pages t.old g.old }
     requires next { line ≡ (G.store g.old).line + 1 }
-    ensures decided { Decided G.unpaged event.Counts line t.old (G.contents g.old) (G.store g.old) result t.new (G.contents g.new) (G.store g.new) }
-    ensures marked { MarkedIn G.unpaged event.Counts line t.old (G.contents g.old) (G.store g.old) (G.behind g.old) result t.new (G.contents g.new) (G.store g.new) (G.behind g.new) }
+    ensures decided { DecidedOver G.Pages event.Counts line t.old g.old result t.new g.new }
+    ensures marked { MarkedOver G.Pages event.Counts line t.old g.old result t.new g.new }
     ensures loans { G.loans g.new ≡ G.loans g.old }
 {
     begin(g, line, LineKind::Call);

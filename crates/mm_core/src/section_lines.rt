@@ -1,7 +1,6 @@
-ghost use Rattle.std.specs.Prelude.{◌≡◌, ◌≤◌, ◌+◌, IfOk, OnErr};
+ghost use Rattle.std.specs.Prelude.{◌≡◌, ◌≤◌, ◌+◌, false, IfOk, OnErr};
 ghost use Rattle.mm_types.specs.declared.events.Event.TheVariants as event;
-ghost use Rattle.mm_core.specs.Noting.{MarkedIn, HaltedIn};
-ghost use Rattle.mm_core.specs.Deciding.{Keeps, Decided, Idle};
+ghost use Rattle.mm_core.specs.Over.{AskedBesideOver, DecidedOver, HaltedOver, IdleOver, KeepsOver, MarkedOver};
 
 use crate::beginning::{begin, begin_release};
 use mm_pages::Pages;
@@ -20,14 +19,15 @@ pub(crate) fn file_line<G: Pages>(
     pages: u32,
     byte: u8,
 ) -> Result<Answer, NoMemory>
-    requires keeps { Keeps t.old (G.contents g.old) (G.store g.old) }
+    requires keeps { KeepsOver G.Pages t.old g.old }
     requires next { line ≡ (G.store g.old).line + 1 }
     requires few { line ≤ 1000000 }
     requires some { 1 ≤ pages }
-    ensures ok { IfOk result (λ a. Decided G.unpaged (event.File name.now pages byte) line t.old (G.contents g.old) (G.store g.old) a t.new (G.contents g.new) (G.store g.new)) }
-    ensures err { OnErr result (Idle t.old (G.contents g.old) (G.store g.old) t.new (G.contents g.new) (G.store g.new)) }
-    ensures marked { IfOk result (λ a. MarkedIn G.unpaged (event.File name.now pages byte) line t.old (G.contents g.old) (G.store g.old) (G.behind g.old) a t.new (G.contents g.new) (G.store g.new) (G.behind g.new)) }
-    ensures halted { OnErr result (HaltedIn G.unpaged line (G.behind g.old) (G.behind g.new)) }
+    ensures ok { IfOk result (λ a. DecidedOver G.Pages (event.File name.now pages byte) line t.old g.old a t.new g.new) }
+    ensures err { OnErr result (IdleOver G.Pages t.old g.old t.new g.new) }
+    ensures marked { IfOk result (λ a. MarkedOver G.Pages (event.File name.now pages byte) line t.old g.old a t.new g.new) }
+    ensures halted { OnErr result (HaltedOver G.Pages line g.old g.new) }
+    ensures beside { G.unpaged ≡ false → IfOk result (λ a. AskedBesideOver G.Pages t.old (event.File name.now pages byte) a g.old g.new) }
     ensures loans { G.loans g.new ≡ G.loans g.old }
 {
     t.sound();
@@ -46,13 +46,13 @@ pub(crate) fn create_line<G: Pages>(
     flags: u32,
     name: Option<Name>,
 ) -> Result<Answer, NoMemory>
-    requires keeps { Keeps t.old (G.contents g.old) (G.store g.old) }
+    requires keeps { KeepsOver G.Pages t.old g.old }
     requires next { line ≡ (G.store g.old).line + 1 }
     requires few { line ≤ 1000000 }
-    ensures ok { IfOk result (λ a. Decided G.unpaged (event.Create pid size flags name) line t.old (G.contents g.old) (G.store g.old) a t.new (G.contents g.new) (G.store g.new)) }
-    ensures err { OnErr result (Idle t.old (G.contents g.old) (G.store g.old) t.new (G.contents g.new) (G.store g.new)) }
-    ensures marked { IfOk result (λ a. MarkedIn G.unpaged (event.Create pid size flags name) line t.old (G.contents g.old) (G.store g.old) (G.behind g.old) a t.new (G.contents g.new) (G.store g.new) (G.behind g.new)) }
-    ensures halted { OnErr result (HaltedIn G.unpaged line (G.behind g.old) (G.behind g.new)) }
+    ensures ok { IfOk result (λ a. DecidedOver G.Pages (event.Create pid size flags name) line t.old g.old a t.new g.new) }
+    ensures err { OnErr result (IdleOver G.Pages t.old g.old t.new g.new) }
+    ensures marked { IfOk result (λ a. MarkedOver G.Pages (event.Create pid size flags name) line t.old g.old a t.new g.new) }
+    ensures halted { OnErr result (HaltedOver G.Pages line g.old g.new) }
     ensures loans { G.loans g.new ≡ G.loans g.old }
 {
     t.sound();
@@ -70,13 +70,13 @@ pub(crate) fn create_file_line<G: Pages>(
     flags: u32,
     name: Option<Name>,
 ) -> Result<Answer, NoMemory>
-    requires keeps { Keeps t.old (G.contents g.old) (G.store g.old) }
+    requires keeps { KeepsOver G.Pages t.old g.old }
     requires next { line ≡ (G.store g.old).line + 1 }
     requires few { line ≤ 1000000 }
-    ensures ok { IfOk result (λ a. Decided G.unpaged (event.CreateFile pid file.now flags name) line t.old (G.contents g.old) (G.store g.old) a t.new (G.contents g.new) (G.store g.new)) }
-    ensures err { OnErr result (Idle t.old (G.contents g.old) (G.store g.old) t.new (G.contents g.new) (G.store g.new)) }
-    ensures marked { IfOk result (λ a. MarkedIn G.unpaged (event.CreateFile pid file.now flags name) line t.old (G.contents g.old) (G.store g.old) (G.behind g.old) a t.new (G.contents g.new) (G.store g.new) (G.behind g.new)) }
-    ensures halted { OnErr result (HaltedIn G.unpaged line (G.behind g.old) (G.behind g.new)) }
+    ensures ok { IfOk result (λ a. DecidedOver G.Pages (event.CreateFile pid file.now flags name) line t.old g.old a t.new g.new) }
+    ensures err { OnErr result (IdleOver G.Pages t.old g.old t.new g.new) }
+    ensures marked { IfOk result (λ a. MarkedOver G.Pages (event.CreateFile pid file.now flags name) line t.old g.old a t.new g.new) }
+    ensures halted { OnErr result (HaltedOver G.Pages line g.old g.new) }
     ensures loans { G.loans g.new ≡ G.loans g.old }
 {
     t.sound();
@@ -92,13 +92,13 @@ pub(crate) fn open_line<G: Pages>(
     pid: Pid,
     name: &Name,
 ) -> Result<Answer, NoMemory>
-    requires keeps { Keeps t.old (G.contents g.old) (G.store g.old) }
+    requires keeps { KeepsOver G.Pages t.old g.old }
     requires next { line ≡ (G.store g.old).line + 1 }
     requires few { line ≤ 1000000 }
-    ensures ok { IfOk result (λ a. Decided G.unpaged (event.Open pid name.now) line t.old (G.contents g.old) (G.store g.old) a t.new (G.contents g.new) (G.store g.new)) }
-    ensures err { OnErr result (Idle t.old (G.contents g.old) (G.store g.old) t.new (G.contents g.new) (G.store g.new)) }
-    ensures marked { IfOk result (λ a. MarkedIn G.unpaged (event.Open pid name.now) line t.old (G.contents g.old) (G.store g.old) (G.behind g.old) a t.new (G.contents g.new) (G.store g.new) (G.behind g.new)) }
-    ensures halted { OnErr result (HaltedIn G.unpaged line (G.behind g.old) (G.behind g.new)) }
+    ensures ok { IfOk result (λ a. DecidedOver G.Pages (event.Open pid name.now) line t.old g.old a t.new g.new) }
+    ensures err { OnErr result (IdleOver G.Pages t.old g.old t.new g.new) }
+    ensures marked { IfOk result (λ a. MarkedOver G.Pages (event.Open pid name.now) line t.old g.old a t.new g.new) }
+    ensures halted { OnErr result (HaltedOver G.Pages line g.old g.new) }
     ensures loans { G.loans g.new ≡ G.loans g.old }
 {
     t.sound();
@@ -114,10 +114,10 @@ pub(crate) fn close_line<G: Pages>(
     pid: Pid,
     handle: u32,
 ) -> Answer
-    requires keeps { Keeps t.old (G.contents g.old) (G.store g.old) }
+    requires keeps { KeepsOver G.Pages t.old g.old }
     requires next { line ≡ (G.store g.old).line + 1 }
-    ensures decided { Decided G.unpaged (event.Close pid handle) line t.old (G.contents g.old) (G.store g.old) result t.new (G.contents g.new) (G.store g.new) }
-    ensures marked { MarkedIn G.unpaged (event.Close pid handle) line t.old (G.contents g.old) (G.store g.old) (G.behind g.old) result t.new (G.contents g.new) (G.store g.new) (G.behind g.new) }
+    ensures decided { DecidedOver G.Pages (event.Close pid handle) line t.old g.old result t.new g.new }
+    ensures marked { MarkedOver G.Pages (event.Close pid handle) line t.old g.old result t.new g.new }
     ensures loans { G.loans g.new ≡ G.loans g.old }
 {
     t.sound();
@@ -138,12 +138,12 @@ pub(crate) fn map_line<G: Pages>(
     view_length: u32,
     addr: u32,
 ) -> Result<Answer, NoMemory>
-    requires keeps { Keeps t.old (G.contents g.old) (G.store g.old) }
+    requires keeps { KeepsOver G.Pages t.old g.old }
     requires next { line ≡ (G.store g.old).line + 1 }
-    ensures ok { IfOk result (λ a. Decided G.unpaged (event.Map pid handle access offset view_length addr) line t.old (G.contents g.old) (G.store g.old) a t.new (G.contents g.new) (G.store g.new)) }
-    ensures err { OnErr result (Idle t.old (G.contents g.old) (G.store g.old) t.new (G.contents g.new) (G.store g.new)) }
-    ensures marked { IfOk result (λ a. MarkedIn G.unpaged (event.Map pid handle access offset view_length addr) line t.old (G.contents g.old) (G.store g.old) (G.behind g.old) a t.new (G.contents g.new) (G.store g.new) (G.behind g.new)) }
-    ensures halted { OnErr result (HaltedIn G.unpaged line (G.behind g.old) (G.behind g.new)) }
+    ensures ok { IfOk result (λ a. DecidedOver G.Pages (event.Map pid handle access offset view_length addr) line t.old g.old a t.new g.new) }
+    ensures err { OnErr result (IdleOver G.Pages t.old g.old t.new g.new) }
+    ensures marked { IfOk result (λ a. MarkedOver G.Pages (event.Map pid handle access offset view_length addr) line t.old g.old a t.new g.new) }
+    ensures halted { OnErr result (HaltedOver G.Pages line g.old g.new) }
     ensures loans { G.loans g.new ≡ G.loans g.old }
 {
     t.sound();
@@ -159,10 +159,10 @@ pub(crate) fn unmap_line<G: Pages>(
     pid: Pid,
     addr: u32,
 ) -> Answer
-    requires keeps { Keeps t.old (G.contents g.old) (G.store g.old) }
+    requires keeps { KeepsOver G.Pages t.old g.old }
     requires next { line ≡ (G.store g.old).line + 1 }
-    ensures decided { Decided G.unpaged (event.Unmap pid addr) line t.old (G.contents g.old) (G.store g.old) result t.new (G.contents g.new) (G.store g.new) }
-    ensures marked { MarkedIn G.unpaged (event.Unmap pid addr) line t.old (G.contents g.old) (G.store g.old) (G.behind g.old) result t.new (G.contents g.new) (G.store g.new) (G.behind g.new) }
+    ensures decided { DecidedOver G.Pages (event.Unmap pid addr) line t.old g.old result t.new g.new }
+    ensures marked { MarkedOver G.Pages (event.Unmap pid addr) line t.old g.old result t.new g.new }
     ensures loans { G.loans g.new ≡ G.loans g.old }
 {
     t.sound();
@@ -179,10 +179,10 @@ pub(crate) fn flush_line<G: Pages>(
     addr: u32,
     size: u32,
 ) -> Answer
-    requires keeps { Keeps t.old (G.contents g.old) (G.store g.old) }
+    requires keeps { KeepsOver G.Pages t.old g.old }
     requires next { line ≡ (G.store g.old).line + 1 }
-    ensures decided { Decided G.unpaged (event.Flush pid addr size) line t.old (G.contents g.old) (G.store g.old) result t.new (G.contents g.new) (G.store g.new) }
-    ensures marked { MarkedIn G.unpaged (event.Flush pid addr size) line t.old (G.contents g.old) (G.store g.old) (G.behind g.old) result t.new (G.contents g.new) (G.store g.new) (G.behind g.new) }
+    ensures decided { DecidedOver G.Pages (event.Flush pid addr size) line t.old g.old result t.new g.new }
+    ensures marked { MarkedOver G.Pages (event.Flush pid addr size) line t.old g.old result t.new g.new }
     ensures loans { G.loans g.new ≡ G.loans g.old }
 {
     t.sound();

@@ -1,12 +1,10 @@
 ghost use Rattle.std.specs.Prelude.{◌≡◌, ◌+◌, IfOk, OnErr};
 ghost use Rattle.mm_types.specs.declared.events.Event.TheVariants as event;
 ghost use Rattle.mm_world.specs.World.{filled};
-ghost use Rattle.mm_world.specs.Contents.{world_with};
 ghost use Rattle.mm_world.specs.Stack.{stack, probe};
 ghost use Rattle.mm_world.specs.System.{stacks_after};
-ghost use Rattle.mm_tables.specs.Fits.{bytes_of};
-ghost use Rattle.mm_core.specs.Noting.{MarkedIn, HaltedIn};
-ghost use Rattle.mm_core.specs.Deciding.{Keeps, DecidedBy, Idle};
+ghost use Rattle.mm_core.specs.Deciding.{DecidedBy};
+ghost use Rattle.mm_core.specs.Over.{HaltedOver, IdleOver, KeepsOver, MarkedOver, world_over};
 
 use crate::beginning::begin;
 use mm_pages::Pages;
@@ -27,14 +25,14 @@ pub(crate) fn stack_line<G: Pages>(
     reserve: u32,
     commit: u32,
 ) -> Result<Answer, NoMemory>
-    requires keeps { Keeps t.old (G.contents g.old) (G.store g.old) }
+    requires keeps { KeepsOver G.Pages t.old g.old }
     requires next { line ≡ (G.store g.old).line + 1 }
-    ensures ok { IfOk result (λ a. DecidedBy (stack filled (world_with t.old (bytes_of (G.contents g.old))) stacks.old tid.0 pid.0 reserve commit) G.unpaged (event.Stack tid pid reserve commit) line t.old (G.contents g.old) (G.store g.old) a t.new (G.contents g.new) (G.store g.new)) }
+    ensures ok { IfOk result (λ a. DecidedBy (stack filled (world_over G.Pages t.old g.old) stacks.old tid.0 pid.0 reserve commit) G.unpaged (event.Stack tid pid reserve commit) line t.old (G.contents g.old) (G.store g.old) a t.new (G.contents g.new) (G.store g.new)) }
     ensures stacks { IfOk result (λ a. stacks.new ≡ stacks_after stacks.old (event.Stack tid pid reserve commit) a) }
-    ensures err { OnErr result (Idle t.old (G.contents g.old) (G.store g.old) t.new (G.contents g.new) (G.store g.new)) }
+    ensures err { OnErr result (IdleOver G.Pages t.old g.old t.new g.new) }
     ensures unmoved { OnErr result (stacks.new ≡ stacks.old) }
-    ensures marked { IfOk result (λ a. MarkedIn G.unpaged (event.Stack tid pid reserve commit) line t.old (G.contents g.old) (G.store g.old) (G.behind g.old) a t.new (G.contents g.new) (G.store g.new) (G.behind g.new)) }
-    ensures halted { OnErr result (HaltedIn G.unpaged line (G.behind g.old) (G.behind g.new)) }
+    ensures marked { IfOk result (λ a. MarkedOver G.Pages (event.Stack tid pid reserve commit) line t.old g.old a t.new g.new) }
+    ensures halted { OnErr result (HaltedOver G.Pages line g.old g.new) }
     ensures loans { G.loans g.new ≡ G.loans g.old }
 {
     t.sound();
@@ -51,14 +49,14 @@ pub(crate) fn probe_line<G: Pages>(
     tid: Tid,
     addr: u32,
 ) -> Result<Answer, NoMemory>
-    requires keeps { Keeps t.old (G.contents g.old) (G.store g.old) }
+    requires keeps { KeepsOver G.Pages t.old g.old }
     requires next { line ≡ (G.store g.old).line + 1 }
-    ensures ok { IfOk result (λ a. DecidedBy (probe filled (world_with t.old (bytes_of (G.contents g.old))) stacks.old tid.0 addr) G.unpaged (event.Probe tid addr) line t.old (G.contents g.old) (G.store g.old) a t.new (G.contents g.new) (G.store g.new)) }
+    ensures ok { IfOk result (λ a. DecidedBy (probe filled (world_over G.Pages t.old g.old) stacks.old tid.0 addr) G.unpaged (event.Probe tid addr) line t.old (G.contents g.old) (G.store g.old) a t.new (G.contents g.new) (G.store g.new)) }
     ensures stacks { IfOk result (λ a. stacks.new ≡ stacks_after stacks.old (event.Probe tid addr) a) }
-    ensures err { OnErr result (Idle t.old (G.contents g.old) (G.store g.old) t.new (G.contents g.new) (G.store g.new)) }
+    ensures err { OnErr result (IdleOver G.Pages t.old g.old t.new g.new) }
     ensures unmoved { OnErr result (stacks.new ≡ stacks.old) }
-    ensures marked { IfOk result (λ a. MarkedIn G.unpaged (event.Probe tid addr) line t.old (G.contents g.old) (G.store g.old) (G.behind g.old) a t.new (G.contents g.new) (G.store g.new) (G.behind g.new)) }
-    ensures halted { OnErr result (HaltedIn G.unpaged line (G.behind g.old) (G.behind g.new)) }
+    ensures marked { IfOk result (λ a. MarkedOver G.Pages (event.Probe tid addr) line t.old g.old a t.new g.new) }
+    ensures halted { OnErr result (HaltedOver G.Pages line g.old g.new) }
     ensures loans { G.loans g.new ≡ G.loans g.old }
 {
     t.sound();

@@ -1,26 +1,24 @@
-ghost use Rattle.std.specs.Prelude.{◌≡◌, ◌+◌, ℕ, not, ◌&&◌, true, false, is_some, Some, None, if◌then◌else◌};
+ghost use Rattle.std.specs.Prelude.{◌≡◌, ◌+◌, ℕ, ◌&&◌, true, false, is_some, Some, None, if◌then◌else◌};
 ghost use Rattle.mm_types.specs.declared.answers.Wait.TheVariants as wait;
 ghost use Rattle.mm_types.specs.declared.events.Event.TheVariants as event;
 ghost use Rattle.mm_types.specs.declared.moves.LineKind.TheVariants as line_kind;
 ghost use Rattle.mm_world.specs.Access.{address_in, attempt_in};
-ghost use Rattle.mm_world.specs.Contents.{world_with};
 ghost use Rattle.mm_world.specs.Failure.{wait_failed};
 ghost use Rattle.mm_world.specs.Find.{process_of};
 ghost use Rattle.mm_pages.specs.Reports.{IsBegun};
-ghost use Rattle.mm_tables.specs.Fits.{Fits, bytes_of};
 ghost use Rattle.mm_tables.specs.Threads.{FitsPage};
 ghost use Rattle.mm_core.specs.Pending.{Turned};
 ghost use Rattle.mm_core.specs.declared.threads.Threaded.TheVariants as threaded;
-ghost use Rattle.mm_core.specs.Deciding.{Keeps, Begins, Decided};
+ghost use Rattle.mm_core.specs.Deciding.{Begins};
 ghost use Rattle.mm_core.specs.Forgetting.{waited, EndsWaits};
 ghost use Rattle.mm_types.specs.declared.moves.Move.TheVariants as move;
 ghost use Rattle.mm_pages.specs.Accesses.{Forgets};
 ghost use Rattle.mm_pages.specs.Housekeeping.{OneMove};
-ghost use Rattle.mm_pages.specs.Passing.{PassesIn};
-ghost use Rattle.mm_core.specs.Answering.{TurnedBy, aim_in};
+ghost use Rattle.mm_core.specs.Answering.{TurnedBy};
 ghost use Rattle.mm_core.specs.Lining.{Lined};
 ghost use Rattle.mm_world.specs.Step.{keep};
 ghost use Rattle.mm_types.specs.declared.answers.Why.{Why};
+ghost use Rattle.mm_core.specs.Over.{DecidedOver, FitsOver, KeepsOver, PassesOver, aim_over, world_over};
 
 use crate::beginning::begin;
 use crate::threads::{Threaded, read_access, write_access};
@@ -38,15 +36,15 @@ fn access_on<G: Pages>(
     failed: bool,
 ) -> Threaded
     requires lives { is_some (process_of t.old pid.0) ≡ true }
-    requires keeps { Keeps t.old (G.contents g.old) (G.store g.old) }
+    requires keeps { KeepsOver G.Pages t.old g.old }
     requires form { (G.store g.old).kind ≡ line_kind.Thread pid }
     requires begun { IsBegun (G.store g.old).report }
     requires fits { FitsPage what.now }
-    ensures turned { Turned result failed t.old.machine.depth (world_with t.old (bytes_of (G.contents g.old))) pid.0 (address_in what.now) (attempt_in what.now) (G.store g.old) (G.store g.new) (world_with t.new (bytes_of (G.contents g.new))) }
-    ensures keeps { Keeps t.new (G.contents g.new) (G.store g.new) }
+    ensures turned { Turned result failed t.old.machine.depth (world_over G.Pages t.old g.old) pid.0 (address_in what.now) (attempt_in what.now) (G.store g.old) (G.store g.new) (world_over G.Pages t.new g.new) }
+    ensures keeps { KeepsOver G.Pages t.new g.new }
     ensures line { (G.store g.new).line ≡ (G.store g.old).line }
     ensures unpaged { G.unpaged ≡ true → (why : Why) → result ≡ threaded.Waiting why → ⊥ }
-    ensures passes { PassesIn G.unpaged (TurnedBy (aim_in t.old (G.contents g.old) (G.behind g.old) pid (address_in what.now) (attempt_in what.now)) tid.0 result) (G.store g.old) (G.store g.new) (G.behind g.old) (G.behind g.new) }
+    ensures passes { PassesOver G.Pages (TurnedBy (aim_over G.Pages t.old g.old pid (address_in what.now) (attempt_in what.now)) tid.0 result) g.old g.new }
     ensures loans { G.loans g.new ≡ G.loans g.old }
 {
     match what {
@@ -57,14 +55,14 @@ fn access_on<G: Pages>(
 
 /// Begins the line of a thread's access to a process, and tells whether that lives. A thread that is busy accesses nothing.
 fn begin_thread<G: Pages>(t: &Tables, g: &mut G, line: u32, pid: Pid, busy: bool) -> bool
-    requires fits { Fits t.now (G.contents g.old) (G.store g.old) }
+    requires fits { FitsOver G.Pages t.now g.old }
     requires next { line ≡ (G.store g.old).line + 1 }
     ensures lives { result ≡ is_some (process_of t.now pid.0) }
-    ensures fits { Fits t.now (G.contents g.new) (G.store g.new) }
+    ensures fits { FitsOver G.Pages t.now g.new }
     ensures begins { Begins line (G.store g.old) (G.store g.new) }
     ensures form { result ≡ true → busy ≡ false → (G.store g.new).kind ≡ line_kind.Thread pid }
     ensures contents { G.contents g.new ≡ G.contents g.old }
-    ensures passes { PassesIn G.unpaged (OneMove (move.At line (if busy then line_kind.Call else if result then line_kind.Thread pid else line_kind.Call))) (G.store g.old) (G.store g.new) (G.behind g.old) (G.behind g.new) }
+    ensures passes { PassesOver G.Pages (OneMove (move.At line (if busy then line_kind.Call else if result then line_kind.Thread pid else line_kind.Call))) g.old g.new }
     ensures loans { G.loans g.new ≡ G.loans g.old }
 {
     let lives = t.has(pid);
@@ -85,11 +83,11 @@ pub(crate) fn begin_line<G: Pages>(
     pid: Pid,
     what: &AccessSpec,
 ) -> Answer
-    requires keeps { Keeps t.old (G.contents g.old) (G.store g.old) }
+    requires keeps { KeepsOver G.Pages t.old g.old }
     requires next { line ≡ (G.store g.old).line + 1 }
     requires fits { FitsPage what.now }
-    ensures decided { Decided G.unpaged (event.Begin tid pid what.now) line t.old (G.contents g.old) (G.store g.old) result t.new (G.contents g.new) (G.store g.new) }
-    ensures passes { PassesIn G.unpaged (Lined (world_with t.old (bytes_of (G.contents g.old))) (event.Begin tid pid what.now) line result (world_with t.new (bytes_of (G.contents g.new))) (G.store g.new).report) (G.store g.old) (G.store g.new) (G.behind g.old) (G.behind g.new) }
+    ensures decided { DecidedOver G.Pages (event.Begin tid pid what.now) line t.old g.old result t.new g.new }
+    ensures passes { PassesOver G.Pages (Lined (world_over G.Pages t.old g.old) (event.Begin tid pid what.now) line result (world_over G.Pages t.new g.new) (G.store g.new).report) g.old g.new }
     ensures loans { G.loans g.new ≡ G.loans g.old }
 {
     let busy = t.kept(tid).is_some();
@@ -122,13 +120,13 @@ fn has_failed<G: Pages>(g: &G, tid: Tid) -> bool
 
 /// A thread's access has ended: it keeps none, and waits for nothing.
 fn end_access<G: Pages>(t: &mut Tables, g: &mut G, tid: Tid)
-    requires keeps { Keeps t.old (G.contents g.old) (G.store g.old) }
-    ensures keeps { Keeps t.new (G.contents g.new) (G.store g.new) }
+    requires keeps { KeepsOver G.Pages t.old g.old }
+    ensures keeps { KeepsOver G.Pages t.new g.new }
     ensures ended { t.new ≡ keep t.old tid.0 None }
     ensures idle { (G.store g.new).report.wait tid.0 ≡ wait.None }
     ensures rest { G.store g.new ≡ waited (G.store g.old) (G.store g.new) }
     ensures contents { G.contents g.new ≡ G.contents g.old }
-    ensures passes { PassesIn G.unpaged (Forgets tid.0) (G.store g.old) (G.store g.new) (G.behind g.old) (G.behind g.new) }
+    ensures passes { PassesOver G.Pages (Forgets tid.0) g.old g.new }
     ensures loans { G.loans g.new ≡ G.loans g.old }
 {
     g.forget(tid);
@@ -138,12 +136,12 @@ fn end_access<G: Pages>(t: &mut Tables, g: &mut G, tid: Tid)
 /// Decides a `resume` line (own): the access that a thread keeps is decided anew, in the world that there is now. Any answer but
 /// `pending` ends it.
 pub(crate) fn resume_line<G: Pages>(t: &mut Tables, g: &mut G, line: u32, tid: Tid) -> Answer
-    requires keeps { Keeps t.old (G.contents g.old) (G.store g.old) }
+    requires keeps { KeepsOver G.Pages t.old g.old }
     requires next { line ≡ (G.store g.old).line + 1 }
     requires idle { G.unpaged ≡ true → (n : ℕ) → (G.store g.old).report.wait n ≡ wait.None }
-    ensures decided { Decided G.unpaged (event.Resume tid) line t.old (G.contents g.old) (G.store g.old) result t.new (G.contents g.new) (G.store g.new) }
+    ensures decided { DecidedOver G.Pages (event.Resume tid) line t.old g.old result t.new g.new }
     ensures waits { EndsWaits t.old (event.Resume tid) result (G.store g.new).report }
-    ensures passes { PassesIn G.unpaged (Lined (world_with t.old (bytes_of (G.contents g.old))) (event.Resume tid) line result (world_with t.new (bytes_of (G.contents g.new))) (G.store g.new).report) (G.store g.old) (G.store g.new) (G.behind g.old) (G.behind g.new) }
+    ensures passes { PassesOver G.Pages (Lined (world_over G.Pages t.old g.old) (event.Resume tid) line result (world_over G.Pages t.new g.new) (G.store g.new).report) g.old g.new }
     ensures loans { G.loans g.new ≡ G.loans g.old }
 {
     let kept = match t.kept(tid) {

@@ -1,23 +1,19 @@
-ghost use Rattle.std.specs.Prelude.{◌≡◌, ◌≤◌, ◌+◌, ◌%◌, ℕ, true, false, Some, None, is_some, IsOk, IfOk, IfErr, OnErr, length};
+ghost use Rattle.std.specs.Prelude.{◌≡◌, ◌≤◌, ◌+◌, ◌%◌, true, false, Some, is_some, IsOk, IfOk, IfErr, OnErr, length};
 ghost use Rattle.mm_types.specs.declared.moves.LineKind.TheVariants as line_kind;
 ghost use Rattle.mm_types.specs.declared.protections.Access.TheVariants as access_kind;
 ghost use Rattle.mm_types.specs.Address.{page_of};
 ghost use Rattle.mm_world.specs.Access.{ReadOf, WriteOf};
-ghost use Rattle.mm_world.specs.Contents.{world_with};
 ghost use Rattle.mm_world.specs.WellFormed.{Spaces};
 ghost use Rattle.mm_pages.specs.Reports.{IsBegun};
 ghost use Rattle.mm_pages.specs.Conditions.{place_at};
-ghost use Rattle.mm_tables.specs.Fits.{key_at, bytes_of};
+ghost use Rattle.mm_tables.specs.Fits.{key_at};
 ghost use Rattle.mm_core.specs.Accessing.{Admits};
-ghost use Rattle.mm_world.specs.Access.{address_in, attempt_in};
 ghost use Rattle.mm_world.specs.Find.{process_of};
-ghost use Rattle.mm_tables.specs.Threads.{FitsPage};
 ghost use Rattle.mm_types.specs.declared.answers.Why.{Why};
 ghost use Rattle.mm_core.specs.declared.threads.Threaded.TheVariants as threaded;
 ghost use Rattle.mm_core.specs.Pending.{Waits, Went, Turned};
-ghost use Rattle.mm_pages.specs.Passing.{PassesIn};
-ghost use Rattle.mm_core.specs.Answering.{WentBy, TurnedBy, aim_in};
-ghost use Rattle.mm_core.specs.Deciding.{Keeps};
+ghost use Rattle.mm_core.specs.Answering.{WentBy, TurnedBy};
+ghost use Rattle.mm_core.specs.Over.{KeepsOver, PassesOver, aim_over, world_over};
 
 use crate::access_lines::{read_at, write_at, write_to_copy};
 use crate::fetching::place_of;
@@ -48,7 +44,7 @@ pub(crate) fn read_on<G: Pages>(
     row: CommittedRow,
     len: u32,
 ) -> Result<Answer, Why>
-    requires keeps { Keeps t.now (G.contents g.old) (G.store g.old) }
+    requires keeps { KeepsOver G.Pages t.now g.old }
     requires spaces { Spaces t.now }
     requires admitted { Admits t.now pid.0 addr access_kind.Read row }
     requires at { key_at t.now (place_at pid (page_of addr)) ≡ Some row.key }
@@ -57,13 +53,13 @@ pub(crate) fn read_on<G: Pages>(
     requires some { 1 ≤ len }
     requires few { len ≤ 64 }
     requires inside { addr % 4096 + len ≤ 4096 }
-    ensures went { IfOk result (λ a. Went t.now.machine.depth (world_with t.now (bytes_of (G.contents g.old))) pid.0 addr (ReadOf len) (G.store g.old) (G.store g.new) a (world_with t.now (bytes_of (G.contents g.new)))) }
-    ensures waits { IfErr result (λ why. Waits t.now.machine.depth (world_with t.now (bytes_of (G.contents g.old))) pid.0 addr (ReadOf len) (G.store g.old) (G.store g.new) why) }
+    ensures went { IfOk result (λ a. Went t.now.machine.depth (world_over G.Pages t.now g.old) pid.0 addr (ReadOf len) (G.store g.old) (G.store g.new) a (world_over G.Pages t.now g.new)) }
+    ensures waits { IfErr result (λ why. Waits t.now.machine.depth (world_over G.Pages t.now g.old) pid.0 addr (ReadOf len) (G.store g.old) (G.store g.new) why) }
     ensures same { OnErr result (G.contents g.new ≡ G.contents g.old) }
-    ensures keeps { Keeps t.now (G.contents g.new) (G.store g.new) }
+    ensures keeps { KeepsOver G.Pages t.now g.new }
     ensures line { (G.store g.new).line ≡ (G.store g.old).line }
     ensures unpaged { G.unpaged ≡ true → IsOk result }
-    ensures passes { PassesIn G.unpaged (WentBy (aim_in t.now (G.contents g.old) (G.behind g.old) pid addr (ReadOf len)) tid.0 result) (G.store g.old) (G.store g.new) (G.behind g.old) (G.behind g.new) }
+    ensures passes { PassesOver G.Pages (WentBy (aim_over G.Pages t.now g.old pid addr (ReadOf len)) tid.0 result) g.old g.new }
     ensures loans { G.loans g.new ≡ G.loans g.old }
 {
     g.sound();
@@ -83,7 +79,7 @@ pub(crate) fn write_on<G: Pages>(
     row: CommittedRow,
     bytes: &ByteBuf,
 ) -> Result<Answer, Why>
-    requires keeps { Keeps t.now (G.contents g.old) (G.store g.old) }
+    requires keeps { KeepsOver G.Pages t.now g.old }
     requires spaces { Spaces t.now }
     requires admitted { Admits t.now pid.0 addr access_kind.Write row }
     requires at { key_at t.now (place_at pid (page_of addr)) ≡ Some row.key }
@@ -91,13 +87,13 @@ pub(crate) fn write_on<G: Pages>(
     requires begun { IsBegun (G.store g.old).report }
     requires stays { row.copies ≡ false }
     requires inside { addr % 4096 + length bytes.now ≤ 4096 }
-    ensures went { IfOk result (λ a. Went t.now.machine.depth (world_with t.now (bytes_of (G.contents g.old))) pid.0 addr (WriteOf bytes.now) (G.store g.old) (G.store g.new) a (world_with t.now (bytes_of (G.contents g.new)))) }
-    ensures waits { IfErr result (λ why. Waits t.now.machine.depth (world_with t.now (bytes_of (G.contents g.old))) pid.0 addr (WriteOf bytes.now) (G.store g.old) (G.store g.new) why) }
+    ensures went { IfOk result (λ a. Went t.now.machine.depth (world_over G.Pages t.now g.old) pid.0 addr (WriteOf bytes.now) (G.store g.old) (G.store g.new) a (world_over G.Pages t.now g.new)) }
+    ensures waits { IfErr result (λ why. Waits t.now.machine.depth (world_over G.Pages t.now g.old) pid.0 addr (WriteOf bytes.now) (G.store g.old) (G.store g.new) why) }
     ensures same { OnErr result (G.contents g.new ≡ G.contents g.old) }
-    ensures keeps { Keeps t.now (G.contents g.new) (G.store g.new) }
+    ensures keeps { KeepsOver G.Pages t.now g.new }
     ensures line { (G.store g.new).line ≡ (G.store g.old).line }
     ensures unpaged { G.unpaged ≡ true → IsOk result }
-    ensures passes { PassesIn G.unpaged (WentBy (aim_in t.now (G.contents g.old) (G.behind g.old) pid addr (WriteOf bytes.now)) tid.0 result) (G.store g.old) (G.store g.new) (G.behind g.old) (G.behind g.new) }
+    ensures passes { PassesOver G.Pages (WentBy (aim_over G.Pages t.now g.old pid addr (WriteOf bytes.now)) tid.0 result) g.old g.new }
     ensures loans { G.loans g.new ≡ G.loans g.old }
 {
     g.sound();
@@ -118,7 +114,7 @@ pub(crate) fn write_to_copy_on<G: Pages>(
     row: CommittedRow,
     bytes: &ByteBuf,
 ) -> Result<Answer, Why>
-    requires keeps { Keeps t.old (G.contents g.old) (G.store g.old) }
+    requires keeps { KeepsOver G.Pages t.old g.old }
     requires spaces { Spaces t.old }
     requires admitted { Admits t.old pid.0 addr access_kind.Write row }
     requires at { key_at t.old (place_at pid (page_of addr)) ≡ Some row.key }
@@ -126,13 +122,13 @@ pub(crate) fn write_to_copy_on<G: Pages>(
     requires begun { IsBegun (G.store g.old).report }
     requires copies { row.copies ≡ true }
     requires inside { addr % 4096 + length bytes.now ≤ 4096 }
-    ensures went { IfOk result (λ a. Went t.old.machine.depth (world_with t.old (bytes_of (G.contents g.old))) pid.0 addr (WriteOf bytes.now) (G.store g.old) (G.store g.new) a (world_with t.new (bytes_of (G.contents g.new)))) }
-    ensures waits { IfErr result (λ why. Waits t.old.machine.depth (world_with t.old (bytes_of (G.contents g.old))) pid.0 addr (WriteOf bytes.now) (G.store g.old) (G.store g.new) why) }
+    ensures went { IfOk result (λ a. Went t.old.machine.depth (world_over G.Pages t.old g.old) pid.0 addr (WriteOf bytes.now) (G.store g.old) (G.store g.new) a (world_over G.Pages t.new g.new)) }
+    ensures waits { IfErr result (λ why. Waits t.old.machine.depth (world_over G.Pages t.old g.old) pid.0 addr (WriteOf bytes.now) (G.store g.old) (G.store g.new) why) }
     ensures same { OnErr result ((t.new ≡ t.old) × (G.contents g.new ≡ G.contents g.old)) }
-    ensures keeps { Keeps t.new (G.contents g.new) (G.store g.new) }
+    ensures keeps { KeepsOver G.Pages t.new g.new }
     ensures line { (G.store g.new).line ≡ (G.store g.old).line }
     ensures unpaged { G.unpaged ≡ true → IsOk result }
-    ensures passes { PassesIn G.unpaged (WentBy (aim_in t.old (G.contents g.old) (G.behind g.old) pid addr (WriteOf bytes.now)) tid.0 result) (G.store g.old) (G.store g.new) (G.behind g.old) (G.behind g.new) }
+    ensures passes { PassesOver G.Pages (WentBy (aim_over G.Pages t.old g.old pid addr (WriteOf bytes.now)) tid.0 result) g.old g.new }
     ensures loans { G.loans g.new ≡ G.loans g.old }
 {
     g.sound();
@@ -153,17 +149,17 @@ pub(crate) fn read_access<G: Pages>(
     failed: bool,
 ) -> Threaded
     requires lives { is_some (process_of t.old pid.0) ≡ true }
-    requires keeps { Keeps t.old (G.contents g.old) (G.store g.old) }
+    requires keeps { KeepsOver G.Pages t.old g.old }
     requires form { (G.store g.old).kind ≡ line_kind.Thread pid }
     requires begun { IsBegun (G.store g.old).report }
     requires some { 1 ≤ len }
     requires few { len ≤ 64 }
     requires inside { addr % 4096 + len ≤ 4096 }
-    ensures turned { Turned result failed t.old.machine.depth (world_with t.old (bytes_of (G.contents g.old))) pid.0 addr (ReadOf len) (G.store g.old) (G.store g.new) (world_with t.new (bytes_of (G.contents g.new))) }
-    ensures keeps { Keeps t.new (G.contents g.new) (G.store g.new) }
+    ensures turned { Turned result failed t.old.machine.depth (world_over G.Pages t.old g.old) pid.0 addr (ReadOf len) (G.store g.old) (G.store g.new) (world_over G.Pages t.new g.new) }
+    ensures keeps { KeepsOver G.Pages t.new g.new }
     ensures line { (G.store g.new).line ≡ (G.store g.old).line }
     ensures unpaged { G.unpaged ≡ true → (why : Why) → result ≡ threaded.Waiting why → ⊥ }
-    ensures passes { PassesIn G.unpaged (TurnedBy (aim_in t.old (G.contents g.old) (G.behind g.old) pid addr (ReadOf len)) tid.0 result) (G.store g.old) (G.store g.new) (G.behind g.old) (G.behind g.new) }
+    ensures passes { PassesOver G.Pages (TurnedBy (aim_over G.Pages t.old g.old pid addr (ReadOf len)) tid.0 result) g.old g.new }
     ensures loans { G.loans g.new ≡ G.loans g.old }
 {
     t.sound();
@@ -191,15 +187,15 @@ pub(crate) fn write_access<G: Pages>(
     failed: bool,
 ) -> Threaded
     requires lives { is_some (process_of t.old pid.0) ≡ true }
-    requires keeps { Keeps t.old (G.contents g.old) (G.store g.old) }
+    requires keeps { KeepsOver G.Pages t.old g.old }
     requires form { (G.store g.old).kind ≡ line_kind.Thread pid }
     requires begun { IsBegun (G.store g.old).report }
     requires inside { addr % 4096 + length bytes.now ≤ 4096 }
-    ensures turned { Turned result failed t.old.machine.depth (world_with t.old (bytes_of (G.contents g.old))) pid.0 addr (WriteOf bytes.now) (G.store g.old) (G.store g.new) (world_with t.new (bytes_of (G.contents g.new))) }
-    ensures keeps { Keeps t.new (G.contents g.new) (G.store g.new) }
+    ensures turned { Turned result failed t.old.machine.depth (world_over G.Pages t.old g.old) pid.0 addr (WriteOf bytes.now) (G.store g.old) (G.store g.new) (world_over G.Pages t.new g.new) }
+    ensures keeps { KeepsOver G.Pages t.new g.new }
     ensures line { (G.store g.new).line ≡ (G.store g.old).line }
     ensures unpaged { G.unpaged ≡ true → (why : Why) → result ≡ threaded.Waiting why → ⊥ }
-    ensures passes { PassesIn G.unpaged (TurnedBy (aim_in t.old (G.contents g.old) (G.behind g.old) pid addr (WriteOf bytes.now)) tid.0 result) (G.store g.old) (G.store g.new) (G.behind g.old) (G.behind g.new) }
+    ensures passes { PassesOver G.Pages (TurnedBy (aim_over G.Pages t.old g.old pid addr (WriteOf bytes.now)) tid.0 result) g.old g.new }
     ensures loans { G.loans g.new ≡ G.loans g.old }
 {
     t.sound();

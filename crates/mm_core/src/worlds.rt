@@ -10,14 +10,13 @@ ghost use Rattle.mm_world.specs.Contents.{tables_of};
 ghost use Rattle.mm_world.specs.Laws.{LineLeaves};
 ghost use Rattle.mm_world.specs.System.{stacks_after};
 ghost use Rattle.mm_pages.specs.Conditions.{IsNew};
-ghost use Rattle.mm_paging.specs.Lines.{Noted, Broken};
 ghost use Rattle.mm_script.specs.Printed.{IsWellFormed};
 ghost use Rattle.mm_tables.specs.Fits.{Fits};
 ghost use Rattle.mm_tables.specs.References.{IsTidy, MadeAtMost};
 ghost use Rattle.mm_core.specs.Built.{is_built, takes_memory};
 ghost use Rattle.mm_core.specs.Forgetting.{EndsWaits};
 ghost use Rattle.mm_core.specs.Stepping.{asks_frames};
-ghost use Rattle.mm_core.specs.Serving.{AskedFiles, AskedPaging, IsFailure, OneRose, Flushed, Named, is_grow, is_fail, FailedBefore};
+ghost use Rattle.mm_core.specs.Serving.{IsFailure, Flushed, is_grow, is_fail};
 
 use crate::deciding::decide;
 use crate::stack_lines::{probe_line, stack_line};
@@ -41,7 +40,8 @@ pub struct World<G: Pages> {
 }
 
 impl<G: Pages> World<G> {
-    ghost use Rattle.mm_core.specs.Shown.{world, report, behind, line_of, paging_device, file_device, file_blocks, loans};
+    ghost use Rattle.mm_core.specs.Told.{AsksBeside, AsksFiles, AsksNone, AsksPaging, FailsFrom, IsBroken, IsNoted, NamesCalls};
+    ghost use Rattle.mm_core.specs.Shown.{world, report, line_of, paging_device, file_device, file_blocks, loans};
 
     /// The world after the `machine` line, over a new store of that machine.
     pub fn new(alloc: Global, machine: Machine, pages: G) -> World<G>
@@ -104,18 +104,19 @@ impl<G: Pages> World<G> {
         ensures leaves { IfOk result (λ a. LineLeaves (world self.old) event.now (record { answer = a; world = world self.new })) }
         ensures within { charge (world self.new) ≤ limit (world self.new) }
         ensures lives { IsTidy (tables_of (world self.new)) }
-        ensures asked_files { is_fail event.now ≡ false → OnOk result (AskedFiles (file_device self.old) (file_device self.new) (report self.new)) }
-        ensures asked_paging { is_fail event.now ≡ false → is_grow event.now ≡ false → OnOk result (AskedPaging (paging_device self.old) (paging_device self.new) (report self.new)) }
-        ensures named { IfOk result (λ a. Named G.unpaged event.now a (paging_device self.old) (paging_device self.new) (file_device self.old) (file_device self.new)) }
-        ensures idle { OnErr result ((paging_device self.new ≡ paging_device self.old) × (file_device self.new ≡ file_device self.old) × (file_blocks self.new ≡ file_blocks self.old)) }
-        ensures failed { IfOk result (λ a. IsFailure a → FailedBefore event.now (report self.old) ⊎ OneRose (paging_device self.old) (paging_device self.new) (file_device self.old) (file_device self.new)) }
+        ensures asked_files { is_fail event.now ≡ false → OnOk result (AsksFiles self.old self.new) }
+        ensures asked_paging { is_fail event.now ≡ false → is_grow event.now ≡ false → OnOk result (AsksPaging self.old self.new) }
+        ensures beside { G.unpaged ≡ false → IfOk result (λ a. AsksBeside self.old event.now a self.new) }
+        ensures named { IfOk result (λ a. NamesCalls self.old event.now a self.new) }
+        ensures idle { OnErr result (AsksNone self.old self.new) }
+        ensures failed { IfOk result (λ a. IsFailure a → FailsFrom self.old event.now self.new) }
         ensures unwaited { G.unpaged ≡ true → (tid : ℕ) → ((report self.old).wait tid ≡ wait.None) × ((report self.new).wait tid ≡ wait.None) }
         ensures waits { IfOk result (λ a. EndsWaits (world self.old) event.now a (report self.new)) }
         ensures paging_later { (paging_device self.old).faults ≤ (paging_device self.new).faults }
         ensures files_later { (file_device self.old).faults ≤ (file_device self.new).faults }
         ensures flushed { IfOk result (λ a. Flushed (world self.new) (file_blocks self.new) event.now a) }
-        ensures paged { G.unpaged ≡ false → IfOk result (λ a. Noted (world self.old) (report self.old) (behind self.old) (paging_device self.old) (file_device self.old) event.now a (world self.new) (report self.new) (behind self.new) (paging_device self.new) (file_device self.new)) }
-        ensures broken { G.unpaged ≡ false → OnErr result (Broken (behind self.old) (behind self.new)) }
+        ensures paged { G.unpaged ≡ false → IfOk result (λ a. IsNoted self.old event.now a self.new) }
+        ensures broken { G.unpaged ≡ false → OnErr result (IsBroken self.old self.new) }
         ensures no_memory { takes_memory event.now ≡ false → IsOk result }
         ensures line { OnOk result (line_of self.new ≡ line) }
         ensures ready { OnOk result (self.new.spent ≡ false) }
@@ -156,18 +157,18 @@ impl<G: Pages> World<G> {
         ensures unmoved { OnErr result (stacks.new ≡ stacks.old) }
         ensures within { charge (world self.new) ≤ limit (world self.new) }
         ensures lives { IsTidy (tables_of (world self.new)) }
-        ensures asked_files { OnOk result (AskedFiles (file_device self.old) (file_device self.new) (report self.new)) }
-        ensures asked_paging { OnOk result (AskedPaging (paging_device self.old) (paging_device self.new) (report self.new)) }
-        ensures named { IfOk result (λ a. Named G.unpaged (lines.Stack tid pid reserve commit) a (paging_device self.old) (paging_device self.new) (file_device self.old) (file_device self.new)) }
-        ensures idle { OnErr result ((paging_device self.new ≡ paging_device self.old) × (file_device self.new ≡ file_device self.old) × (file_blocks self.new ≡ file_blocks self.old)) }
-        ensures failed { IfOk result (λ a. IsFailure a → FailedBefore (lines.Stack tid pid reserve commit) (report self.old) ⊎ OneRose (paging_device self.old) (paging_device self.new) (file_device self.old) (file_device self.new)) }
+        ensures asked_files { OnOk result (AsksFiles self.old self.new) }
+        ensures asked_paging { OnOk result (AsksPaging self.old self.new) }
+        ensures named { IfOk result (λ a. NamesCalls self.old (lines.Stack tid pid reserve commit) a self.new) }
+        ensures idle { OnErr result (AsksNone self.old self.new) }
+        ensures failed { IfOk result (λ a. IsFailure a → FailsFrom self.old (lines.Stack tid pid reserve commit) self.new) }
         ensures unwaited { G.unpaged ≡ true → (tid : ℕ) → ((report self.old).wait tid ≡ wait.None) × ((report self.new).wait tid ≡ wait.None) }
         ensures waits { IfOk result (λ a. EndsWaits (world self.old) (lines.Stack tid pid reserve commit) a (report self.new)) }
         ensures paging_later { (paging_device self.old).faults ≤ (paging_device self.new).faults }
         ensures files_later { (file_device self.old).faults ≤ (file_device self.new).faults }
         ensures flushed { IfOk result (λ a. Flushed (world self.new) (file_blocks self.new) (lines.Stack tid pid reserve commit) a) }
-        ensures paged { G.unpaged ≡ false → IfOk result (λ a. Noted (world self.old) (report self.old) (behind self.old) (paging_device self.old) (file_device self.old) (lines.Stack tid pid reserve commit) a (world self.new) (report self.new) (behind self.new) (paging_device self.new) (file_device self.new)) }
-        ensures broken { G.unpaged ≡ false → OnErr result (Broken (behind self.old) (behind self.new)) }
+        ensures paged { G.unpaged ≡ false → IfOk result (λ a. IsNoted self.old (lines.Stack tid pid reserve commit) a self.new) }
+        ensures broken { G.unpaged ≡ false → OnErr result (IsBroken self.old self.new) }
         ensures line { OnOk result (line_of self.new ≡ line) }
         ensures ready { OnOk result (self.new.spent ≡ false) }
         ensures spent { OnErr result (self.new.spent ≡ true) }
@@ -214,18 +215,18 @@ impl<G: Pages> World<G> {
         ensures unmoved { OnErr result (stacks.new ≡ stacks.old) }
         ensures within { charge (world self.new) ≤ limit (world self.new) }
         ensures lives { IsTidy (tables_of (world self.new)) }
-        ensures asked_files { OnOk result (AskedFiles (file_device self.old) (file_device self.new) (report self.new)) }
-        ensures asked_paging { OnOk result (AskedPaging (paging_device self.old) (paging_device self.new) (report self.new)) }
-        ensures named { IfOk result (λ a. Named G.unpaged (lines.Probe tid addr) a (paging_device self.old) (paging_device self.new) (file_device self.old) (file_device self.new)) }
-        ensures idle { OnErr result ((paging_device self.new ≡ paging_device self.old) × (file_device self.new ≡ file_device self.old) × (file_blocks self.new ≡ file_blocks self.old)) }
-        ensures failed { IfOk result (λ a. IsFailure a → FailedBefore (lines.Probe tid addr) (report self.old) ⊎ OneRose (paging_device self.old) (paging_device self.new) (file_device self.old) (file_device self.new)) }
+        ensures asked_files { OnOk result (AsksFiles self.old self.new) }
+        ensures asked_paging { OnOk result (AsksPaging self.old self.new) }
+        ensures named { IfOk result (λ a. NamesCalls self.old (lines.Probe tid addr) a self.new) }
+        ensures idle { OnErr result (AsksNone self.old self.new) }
+        ensures failed { IfOk result (λ a. IsFailure a → FailsFrom self.old (lines.Probe tid addr) self.new) }
         ensures unwaited { G.unpaged ≡ true → (tid : ℕ) → ((report self.old).wait tid ≡ wait.None) × ((report self.new).wait tid ≡ wait.None) }
         ensures waits { IfOk result (λ a. EndsWaits (world self.old) (lines.Probe tid addr) a (report self.new)) }
         ensures paging_later { (paging_device self.old).faults ≤ (paging_device self.new).faults }
         ensures files_later { (file_device self.old).faults ≤ (file_device self.new).faults }
         ensures flushed { IfOk result (λ a. Flushed (world self.new) (file_blocks self.new) (lines.Probe tid addr) a) }
-        ensures paged { G.unpaged ≡ false → IfOk result (λ a. Noted (world self.old) (report self.old) (behind self.old) (paging_device self.old) (file_device self.old) (lines.Probe tid addr) a (world self.new) (report self.new) (behind self.new) (paging_device self.new) (file_device self.new)) }
-        ensures broken { G.unpaged ≡ false → OnErr result (Broken (behind self.old) (behind self.new)) }
+        ensures paged { G.unpaged ≡ false → IfOk result (λ a. IsNoted self.old (lines.Probe tid addr) a self.new) }
+        ensures broken { G.unpaged ≡ false → OnErr result (IsBroken self.old self.new) }
         ensures line { OnOk result (line_of self.new ≡ line) }
         ensures ready { OnOk result (self.new.spent ≡ false) }
         ensures spent { OnErr result (self.new.spent ≡ true) }

@@ -1,5 +1,5 @@
 -- What a run did, from what it came to and how its last text was written.
-use Rattle.std.proofs.Common.{◌≡◌, ◌≢◌, ◌⊎◌, ℕ, ◌+◌, List, [], ◌++◌, length, Option, refl, sym, ap, ◌∙◌, subst, inl, inr, arith}
+use Rattle.std.proofs.Common.{◌≡◌, ◌≢◌, ◌≤◌, ◌⊎◌, ℕ, ◌+◌, List, [], ◌++◌, length, Option, refl, sym, ap, ◌∙◌, subst, inl, inr, arith}
 use Rattle.mm_types.specs.Outside.{Appended}
 use Rattle.mm_types.specs.Spelling.{Text}
 use Rattle.mm_types.proofs.Bytes.{appended_then}
@@ -10,10 +10,11 @@ use Rattle.mm_run.specs.Scenes.{Stage, NotBegun, Running, Follows, outset}
 use Rattle.mm_run.specs.Answered.{last_stage, answers_of, moves_of}
 use Rattle.mm_run.specs.Texts.{last_text, Ends, TornText, IsOrFlush, status_of}
 use Rattle.mm_run.specs.Story.{Comes, Settles, outside, stand}
-use Rattle.mm_run.specs.Ends.{Closes, Left, Leaves}
+use Rattle.mm_life.specs.Logs.{Log}
+use Rattle.mm_run.specs.Ends.{Closes, Left, Leaves, IsLogLeft}
 use Rattle.mm_run.specs.Ran.{Around, Ran, begun_at}
 use Rattle.mm_run.proofs.Ends.{whole, torn}
-use Rattle.mm_run.proofs.Logs.{all_logged, log_ran, log_left, holds_at_end}
+use Rattle.mm_run.proofs.Logs.{all_logged, log_ran, log_left, log_counted, holds_at_end}
 use Rattle.mm_run.proofs.Failures.{faultless}
 use Rattle.mm_run.proofs.WatchesTold.{watches_told}
 
@@ -55,8 +56,8 @@ module _ (a b : Around) (took : Option Text) (e : Ending) (form : Type 0) (yes_f
         end = h.end;
         closes = closes;
         leaves = h.leaves;
-        log = log_left a.beside.moves (moves_of d.lines) e (last_stage (begun_at a.beside) d.lines) h.end b.beside h.leaves
-            (log_ran (begun_at a.beside) (last_stage (begun_at a.beside) d.lines) (moves_of d.lines) (all_logged 0 (begun_at a.beside) d.lines d.answered) refl e (length d.lines) d.front h.end closes);
+        log = log_left a.beside.moves a.beside.moves_faults (moves_of d.lines) e (last_stage (begun_at a.beside) d.lines) h.end b.beside h.leaves
+            (log_ran (begun_at a.beside) (last_stage (begun_at a.beside) d.lines) (moves_of d.lines) (all_logged 0 (begun_at a.beside) d.lines d.answered) refl refl e (length d.lines) d.front h.end closes);
         holds = λ q. holds_at_end 0 (begun_at a.beside) d.lines h.end b.beside tt d.answered (follows_done e (length d.lines) d.front (last_stage (begun_at a.beside) d.lines) h.end q closes) h.leaves;
         faultless = λ calm none unnamed. faultless a.beside b.beside e h.end h.leaves calm unnamed (length d.lines) d.front d.lines d.answered closes none;
       }
@@ -82,13 +83,16 @@ flush_ends : (status result : ℕ) (e : Ending) (answers : List Answer) (written
 flush_ends status result e answers written s first (inl whole) = inl (flush_status status result e s whole.0, whole.1, whole.2)
 flush_ends status result e answers written s first (inr torn) = inr (first torn.0, torn.1)
 
-leaves_flushed : (end : Stage) (x : Left) (faults : ℕ) → Leaves end x → Leaves end (record x { moves_faults = faults })
-leaves_flushed (NotBegun o) x faults h = h
-leaves_flushed (Running s) x faults h = h
+log_later : (log : Log) (x : Left) (faults : ℕ) → x.moves_faults ≤ faults → IsLogLeft log x → IsLogLeft log (record x { moves_faults = faults })
+log_later log x faults l h = let f = h.faults_are in record { bytes_are = h.bytes_are; faults_are = omega (arith, l, f) }
+
+leaves_flushed : (end : Stage) (x : Left) (faults : ℕ) → x.moves_faults ≤ faults → Leaves end x → Leaves end (record x { moves_faults = faults })
+leaves_flushed (NotBegun o) x faults l h = log_later o.log x faults l h
+leaves_flushed (Running s) x faults l h = (log_later s.behind.log x faults l h.0, h.1, h.2)
 
 -- at the same bytes, and at another count of faults
-ran_counted : (a b : Around) (form : Type 0) (status result : ℕ) (faults : ℕ) → (result ≡ status) ⊎ ((result ≡ 5) ⊎ (result ≡ 6)) → (status ≡ 5 → result ≡ 5) → Ran a b form status → Ran a (record b { beside = record (b.beside) { moves_faults = faults } }) form result
-ran_counted a b form status result faults s first r = record {
+ran_counted : (a b : Around) (form : Type 0) (status result : ℕ) (faults : ℕ) → b.beside.moves_faults ≤ faults → (result ≡ status) ⊎ ((result ≡ 5) ⊎ (result ≡ 6)) → (status ≡ 5 → result ≡ 5) → Ran a b form status → Ran a (record b { beside = record (b.beside) { moves_faults = faults } }) form result
+ran_counted a b form status result faults l s first r = record {
   lines = r.lines;
   answered = r.answered;
   limit = r.limit;
@@ -108,15 +112,15 @@ ran_counted a b form status result faults s first r = record {
   ends = flush_ends status result r.e (answers_of r.lines) r.written s first r.ends;
   end = r.end;
   closes = r.closes;
-  leaves = leaves_flushed r.end b.beside faults r.leaves;
-  log = r.log;
+  leaves = leaves_flushed r.end b.beside faults l r.leaves;
+  log = log_counted a.beside.moves b.beside.moves a.beside.moves_faults b.beside.moves_faults faults (moves_of r.lines) r.e (last_stage (begun_at a.beside) r.lines) r.end l r.log;
   holds = r.holds;
   faultless = r.faultless;
 }
 
-pub ran_flushed : (a b : Around) (form : Type 0) (status result : ℕ) (took moves : Option Text) (faults : ℕ) → took ≡ b.took → moves ≡ b.beside.moves → (result ≡ status) ⊎ ((result ≡ 5) ⊎ (result ≡ 6)) → (status ≡ 5 → result ≡ 5) → Ran a b form status
+pub ran_flushed : (a b : Around) (form : Type 0) (status result : ℕ) (took moves : Option Text) (faults : ℕ) → took ≡ b.took → moves ≡ b.beside.moves → b.beside.moves_faults ≤ faults → (result ≡ status) ⊎ ((result ≡ 5) ⊎ (result ≡ 6)) → (status ≡ 5 → result ≡ 5) → Ran a b form status
     → Ran a (record b { took = took; beside = record (b.beside) { moves = moves; moves_faults = faults } }) form result
-ran_flushed a b form status result took moves faults p q s first r =
+ran_flushed a b form status result took moves faults p q l s first r =
     subst (λ (t : Option Text). Ran a (record b { took = t; beside = record (b.beside) { moves = moves; moves_faults = faults } }) form result) (sym p)
     (subst (λ (m : Option Text). Ran a (record b { beside = record (b.beside) { moves = m; moves_faults = faults } }) form result) (sym q)
-    (ran_counted a b form status result faults s first r))
+    (ran_counted a b form status result faults l s first r))

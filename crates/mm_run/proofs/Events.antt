@@ -13,7 +13,10 @@ decided_of n old [] u = tt
 decided_of n old (l ∷ ls) u = (record { follows = u.0.follows; decided = u.0.decided }, u.1, decided_of (suc n) l.after ls u.2)
 
 pub closed_of : (e : Ending) (n : ℕ) (front : Text) (last end : Stage) → Closes e n front last end → ClosesEvents e last end
-closed_of ending.NoMemory n front last end h = h
+closed_of ending.NoMemory n front last end h = elim h.broken [
+  | inl m ↦ inl m.1
+  | inr m ↦ inr m.1
+]
 closed_of ending.MovesFault n front last end (inl h) = inl h
 closed_of ending.MovesFault n front last end (inr m) = inr (record {
   line = m.line;

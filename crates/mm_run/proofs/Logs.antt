@@ -1,10 +1,10 @@
 -- What the sink of moves took in a run, and what its devices hold at the end.
-use Rattle.std.proofs.Common.{◌≡◌, ◌≢◌, ℕ, List, [], ◌∷◌, ◌++◌, Option, Some, None, refl, sym, ap, ◌∙◌, subst, inl, inr, append_assoc}
-use Rattle.std.specs.Prelude.{Bool, false}
-use Rattle.mm_types.specs.Outside.{Appended}
+use Rattle.std.proofs.Common.{◌≡◌, ◌≢◌, ◌≤◌, ℕ, arith, List, [], ◌∷◌, ◌++◌, Option, Some, None, refl, sym, ap, ◌∙◌, subst, inl, inr, append_assoc}
+use Rattle.std.specs.Prelude.{Bool, true, false}
+use Rattle.mm_types.specs.Outside.{Appended, Rose}
 use Rattle.mm_types.specs.Spelling.{Text}
 use Rattle.mm_types.specs.declared.moves.Move.{Move}
-use Rattle.mm_types.proofs.Bytes.{append_nil, appended_none, appended_then}
+use Rattle.mm_types.proofs.Bytes.{append_nil, appended_none, appended_then, rose_later, rose_then}
 use Rattle.mm_life.specs.Life.{FrameLife, unstarted}
 use Rattle.mm_life.specs.Logs.{Told}
 use Rattle.mm_life.specs.MoveText.{AreMoves, spelled_moves}
@@ -21,16 +21,23 @@ use Rattle.mm_run.specs.Texts.{TornText}
 use Rattle.mm_run.specs.Ends.{Closes, BreaksAt, Left, Leaves}
 use Rattle.mm_run.specs.Ran.{LogRan, EndsHolding}
 use Rattle.mm_run.specs.Bulk.{AreDecided, ClosesEvents}
-use Rattle.mm_run.proofs.Stories.{life_follows, bytes_follow}
+use Rattle.mm_run.proofs.Stories.{life_follows, bytes_follow, failed_follows}
 use Rattle.mm_run.proofs.Events.{decided_of, closed_of}
 
 -- ---- one piece
 
-front_of : (a b : Option (List ℕ)) (text : List ℕ) (p q : Bool) → Told a b text p q → TornText a b text
+abbrev front_of : (a b : Option (List ℕ)) (text : List ℕ) (p q : Bool) → Told a b text p q → TornText a b text
 front_of None None text p q t = record { front = text; back = []; whole = sym (append_nil text); wrote = tt }
 front_of None (Some b) text p q t = absurd t
 front_of (Some a) None text p q t = absurd t
 front_of (Some a) (Some b) text p q t = record { front = t.front; back = t.behind; whole = t.whole; wrote = t.written }
+
+-- all of it, where the sink has not failed
+front_whole : (a b : Option (List ℕ)) (text : List ℕ) (p q : Bool) (t : Told a b text p q) → q ≡ false → (front_of a b text p q t).back ≡ []
+front_whole None None text p q t e = refl
+front_whole None (Some b) text p q t e = absurd t
+front_whole (Some a) None text p q t e = absurd t
+front_whole (Some a) (Some b) text p q t e = t.all e
 
 all_of : (a b : Option (List ℕ)) (text : List ℕ) (p q : Bool) → q ≡ false → Told a b text p q → Appended a b text
 all_of None None text p q e t = tt
@@ -45,15 +52,19 @@ pub record Logged (old : Stage) (moves : List Move) (last : Stage) : Type 0 wher
   pub in_range : AreMoves moves
   pub replays : Replays moves (life_of old) (life_of last)
   pub wrote : Appended (log_of old).bytes (log_of last).bytes (spelled_moves moves)
+  pub later : (log_of old).faults ≤ (log_of last).faults
+  pub noted : HasNoted old → HasNoted last
 
 logged_here : (old : Stage) → Logged old [] old
-logged_here old = record { in_range = tt; replays = refl; wrote = appended_none (log_of old).bytes }
+logged_here old = record { in_range = tt; replays = refl; wrote = appended_none (log_of old).bytes; later = omega arith; noted = λ h. h }
 
 one_logged : (old new : Stage) (moves : List Move) → Notes old moves new → HasNoted new → Logged old moves new
 one_logged old new moves n h = record {
   in_range = n.in_range;
   replays = n.replays;
   wrote = all_of (log_of old).bytes (log_of new).bytes (spelled_moves moves) (log_of old).failed (log_of new).failed h n.grew.told;
+  later = n.grew.later;
+  noted = λ before. h;
 }
 
 -- at a stage that another one follows
@@ -62,6 +73,8 @@ logged_from a b c moves h l = record {
   in_range = l.in_range;
   replays = subst (λ (f : FrameLife). Replays moves f (life_of c)) (life_follows a b h) l.replays;
   wrote = subst (λ (x : Option Text). Appended x (log_of c).bytes (spelled_moves moves)) (bytes_follow a b h) l.wrote;
+  later = omega (arith, h.later, l.later);
+  noted = λ before. l.noted (failed_follows a b h ∙ before);
 }
 
 logged_then : (a b c : Stage) (xs ys : List Move) → Logged a xs b → Logged b ys c → Logged a (xs ++ ys) c
@@ -70,6 +83,8 @@ logged_then a b c xs ys u v = record {
   replays = replays_then xs ys (life_of a) (life_of b) (life_of c) u.replays v.replays;
   wrote = subst (λ (x : Text). Appended (log_of a).bytes (log_of c).bytes x) (sym (spelled-append xs ys))
       (appended_then (log_of a).bytes (log_of b).bytes (log_of c).bytes (spelled_moves xs) (spelled_moves ys) u.wrote v.wrote);
+  later = omega (arith, u.later, v.later);
+  noted = λ before. v.noted (u.noted before);
 }
 
 pub events_logged : (old : Stage) (lines : List DecidedLine) → AreDecided old lines → Logged old (moves_of lines) (last_stage old lines)
@@ -85,15 +100,24 @@ all_logged n old lines u = events_logged old lines (decided_of n old lines u)
 -- ---- the end
 
 bytes_left : (end : Stage) (x : Left) → Leaves end x → (log_of end).bytes ≡ x.moves
-bytes_left (NotBegun o) x h = h
-bytes_left (Running s) x h = h.0
+bytes_left (NotBegun o) x h = h.bytes_are
+bytes_left (Running s) x h = h.0.bytes_are
 
-module _ (old last : Stage) (moves : List Move) (l : Logged old moves last) (start : life_of old ≡ unstarted) where
+faults_left : (end : Stage) (x : Left) → Leaves end x → (log_of end).faults ≤ x.moves_faults
+faults_left (NotBegun o) x h = h.faults_are
+faults_left (Running s) x h = h.0.faults_are
+
+-- nothing is missing where this would blame a sink that has not failed
+none_missing : {R : Type 0} (back : Text) (q : Bool) → (q ≡ false → back ≡ []) → (q ≡ true → R) → (R → ⊥) → back ≡ []
+none_missing back false all blame calm = all refl
+none_missing back true all blame calm = absurd (calm (blame refl))
+
+module _ (old last : Stage) (moves : List Move) (l : Logged old moves last) (start : life_of old ≡ unstarted) (fresh : HasNoted old) where
   from_start : Replays moves unstarted (life_of last)
   from_start = subst (λ (f : FrameLife). Replays moves f (life_of last)) start l.replays
 
   -- nothing more was noted
-  log_whole : (e : Ending) (end : Stage) → Follows last end → LogRan (log_of old).bytes (log_of end).bytes moves e last end
+  log_whole : (e : Ending) (end : Stage) → Follows last end → LogRan (log_of old).bytes (log_of end).bytes (log_of old).faults (log_of end).faults moves e last end
   log_whole e end h = record {
     more = [];
     in_range = moves-append moves [] l.in_range tt;
@@ -108,10 +132,11 @@ module _ (old last : Stage) (moves : List Move) (l : Logged old moves last) (sta
     };
     none = λ a b. refl;
     whole = λ a b. refl;
+    unless = λ calm. refl;
   }
 
   -- a line more was noted, as far as the sink took it
-  log_more : (e : Ending) (mid end : Stage) (more : List Move) → Follows last mid → Notes mid more end → ((e ≢ ending.NoMemory) → (e ≢ ending.MovesFault) → ⊥) → LogRan (log_of old).bytes (log_of end).bytes moves e last end
+  log_more : (e : Ending) (mid end : Stage) (more : List Move) → Follows last mid → Notes mid more end → ((e ≢ ending.NoMemory) → (e ≢ ending.MovesFault) → ⊥) → LogRan (log_of old).bytes (log_of end).bytes (log_of old).faults (log_of end).faults moves e last end
   log_more e mid end more h n never =
       let t = front_of (log_of mid).bytes (log_of end).bytes (spelled_moves more) (log_of mid).failed (log_of end).failed n.grew.told in
       record {
@@ -128,19 +153,23 @@ module _ (old last : Stage) (moves : List Move) (l : Logged old moves last) (sta
         };
         none = λ a b. absurd (never a b);
         whole = λ a b. absurd (never a b);
+        unless = none_missing t.back (log_of end).failed (front_whole (log_of mid).bytes (log_of end).bytes (spelled_moves more) (log_of mid).failed (log_of end).failed n.grew.told) (λ bad. elim (n.grew.cause bad) [
+          | inl was ↦ (let clash : true ≡ false = sym was ∙ failed_follows last mid h ∙ l.noted fresh in cc)
+          | inr rose ↦ rose_later (log_of old).faults (log_of mid).faults (log_of end).faults (omega (arith, l.later, h.later)) rose
+        ]);
       }
 
-  break_notes : (e : Ending) (mid end : Stage) → e ≡ ending.NoMemory → Follows last mid → BreaksAt mid end → LogRan (log_of old).bytes (log_of end).bytes moves e last end
+  break_notes : (e : Ending) (mid end : Stage) → e ≡ ending.NoMemory → Follows last mid → BreaksAt mid end → LogRan (log_of old).bytes (log_of end).bytes (log_of old).faults (log_of end).faults moves e last end
   break_notes e (NotBegun o) end q h b = absurd b
   break_notes e (Running s) (NotBegun o) q h b = absurd b
   break_notes e (Running s) (Running z) q h b = log_more e (Running s) (Running z) b.moves h b.notes (λ n m. n q)
 
-  pub log_closed : (e : Ending) (end : Stage) → ClosesEvents e last end → LogRan (log_of old).bytes (log_of end).bytes moves e last end
+  pub log_closed : (e : Ending) (end : Stage) → ClosesEvents e last end → LogRan (log_of old).bytes (log_of end).bytes (log_of old).faults (log_of end).faults moves e last end
   log_closed ending.NoMemory end (inl h) = log_whole ending.NoMemory end h
   log_closed ending.NoMemory end (inr b) = break_notes ending.NoMemory b.before end refl b.follows b.breaks
   log_closed ending.MovesFault end (inl h) = log_whole ending.MovesFault end h
   log_closed ending.MovesFault end (inr m) =
-      subst (λ (z : Stage). LogRan (log_of old).bytes (log_of z).bytes moves ending.MovesFault last z) (sym m.after)
+      subst (λ (z : Stage). LogRan (log_of old).bytes (log_of z).bytes (log_of old).faults (log_of z).faults moves ending.MovesFault last z) (sym m.after)
       (log_more ending.MovesFault m.line.before m.line.after m.line.moves m.next.follows m.next.decided.notes (λ a b. b refl))
   log_closed ending.Done end h = log_whole ending.Done end h
   log_closed ending.Usage end h = log_whole ending.Usage end h
@@ -150,7 +179,7 @@ module _ (old last : Stage) (moves : List Move) (l : Logged old moves last) (sta
   log_closed ending.SetupFault end h = log_whole ending.SetupFault end h
   log_closed (ending.TooLong l) end h = log_whole (ending.TooLong l) end h
 
-  pub log_ran : (e : Ending) (n : ℕ) (front : Text) (end : Stage) → Closes e n front last end → LogRan (log_of old).bytes (log_of end).bytes moves e last end
+  pub log_ran : (e : Ending) (n : ℕ) (front : Text) (end : Stage) → Closes e n front last end → LogRan (log_of old).bytes (log_of end).bytes (log_of old).faults (log_of end).faults moves e last end
   log_ran e n front end h = log_closed e end (closed_of e n front last end h)
 
 -- ---- what stands on devices
@@ -178,5 +207,20 @@ events_hold old lines end x h u f l = ends_holding end x l (holds_follows (last_
 pub holds_at_end : (n : ℕ) (old : Stage) (lines : List DecidedLine) (end : Stage) (x : Left) → HoldsUnchanged old → AreAnswered n old lines → Follows (last_stage old lines) end → Leaves end x → EndsHolding end x.paging.blocks x.files.blocks
 holds_at_end n old lines end x h u f l = events_hold old lines end x h (decided_of n old lines u) f l
 
-pub log_left : (took : Option Text) (moves : List Move) (e : Ending) (last end : Stage) (x : Left) → Leaves end x → LogRan took (log_of end).bytes moves e last end → LogRan took x.moves moves e last end
-log_left took moves e last end x h r = subst (λ (b : Option Text). LogRan took b moves e last end) (bytes_left end x h) r
+-- the count of faults may rise further
+pub log_counted : (took took' : Option Text) (faults counted counted' : ℕ) (moves : List Move) (e : Ending) (last end : Stage) → counted ≤ counted' → LogRan took took' faults counted moves e last end → LogRan took took' faults counted' moves e last end
+log_counted took took' faults counted counted' moves e last end more r = record {
+  more = r.more;
+  in_range = r.in_range;
+  replays = r.replays;
+  replays_more = r.replays_more;
+  wrote = r.wrote;
+  none = r.none;
+  whole = r.whole;
+  unless = λ calm. r.unless (λ rose. calm (rose_then faults counted counted' rose more));
+}
+
+pub log_left : (took : Option Text) (faults : ℕ) (moves : List Move) (e : Ending) (last end : Stage) (x : Left) → Leaves end x → LogRan took (log_of end).bytes faults (log_of end).faults moves e last end → LogRan took x.moves faults x.moves_faults moves e last end
+log_left took faults moves e last end x h r =
+    log_counted took x.moves faults (log_of end).faults x.moves_faults moves e last end (faults_left end x h)
+    (subst (λ (b : Option Text). LogRan took b faults (log_of end).faults moves e last end) (bytes_left end x h) r)

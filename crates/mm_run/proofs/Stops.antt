@@ -20,7 +20,8 @@ use Rattle.mm_run.specs.Steps.{Breaks}
 use Rattle.mm_run.specs.Answered.{DecidedLine, IsNext}
 use Rattle.mm_script.specs.Grammar.{IsLine as IsLineFor}
 use Rattle.mm_run.specs.Texts.{StandsAt}
-use Rattle.mm_run.specs.Ends.{Closes}
+use Rattle.mm_core.specs.Built.{takes_memory}
+use Rattle.mm_run.specs.Ends.{Closes, BreaksOff}
 use Rattle.mm_run.specs.Story.{IsMisplaced, Went, Came, Settles, EndsAt, outside, stand}
 use Rattle.mm_run.proofs.Stories.{follows_here}
 
@@ -66,11 +67,16 @@ module _ (held : Text) (len n : ℕ) (h : HasLine held len) (small : n < 1000000
       came_here a a t held held n w w _ (ended (take len held)) _ (filled_none a held) split (omega arith)
       (refl, small, inl (record { line = take len held; is_line = is_line; whole = refl; place = p; refused = r })) few refl (follows_here w)
 
-  pub came_memory : (a t : Option Text) (w end : Stage) → Closes ending.NoMemory n (ended (take len held)) w end → Came (outside a t) (outside a t) (stand held n w) ending.NoMemory end
-  came_memory a t w end closes = came_here a a t held held n w end _ (ended (take len held)) _ (filled_none a held) split (omega arith) width few refl closes
+  pub came_memory : (a t : Option Text) (w end : Stage) (event : Event) → reading n (take len held) ≡ Ok event → IsLineFor (take len held) event
+      → ((is_machine event ≡ true) × Follows w end) ⊎ ((takes_memory event ≡ true) × BreaksOff w end) → Came (outside a t) (outside a t) (stand held n w) ending.NoMemory end
+  came_memory a t w end event says grammar broken =
+      came_here a a t held held n w end _ (ended (take len held)) _ (filled_none a held) split (omega arith) width few refl
+      (record { line = take len held; event = event; whole = refl; says = record { is_line = is_line; says = says; grammar = grammar }; broken = broken })
 
-  pub came_broken : (a t : Option Text) (s z : Scene) → Breaks s z → Came (outside a t) (outside a t) (stand held n (Running s)) ending.NoMemory (Running z)
-  came_broken a t s z b = came_memory a t (Running s) (Running z) (inr (record { before = Running s; follows = follows_here (Running s); breaks = b }))
+  pub came_broken : (a t : Option Text) (s z : Scene) (event : Event) → reading n (take len held) ≡ Ok event → IsLineFor (take len held) event → takes_memory event ≡ true → Breaks s z
+      → Came (outside a t) (outside a t) (stand held n (Running s)) ending.NoMemory (Running z)
+  came_broken a t s z event says grammar takes b =
+      came_memory a t (Running s) (Running z) event says grammar (inr (takes, record { before = Running s; follows = follows_here (Running s); breaks = b }))
 
   pub came_setup : (a t : Option Text) (w : Stage) (event : Event) → n ≡ 0 → reading 0 (take len held) ≡ Ok event → is_machine event ≡ true → Came (outside a t) (outside a t) (stand held n w) ending.SetupFault w
   came_setup a t w event first p m =

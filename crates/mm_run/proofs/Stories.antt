@@ -13,7 +13,8 @@ use Rattle.mm_run.specs.declared.endings.Ending.TheVariants as ending
 use Rattle.mm_run.specs.Scenes.{Scene, Outset, Stage, NotBegun, Running, Follows, with_faults, log_of, life_of}
 use Rattle.mm_run.specs.Answered.{DecidedLine, IsNext, AreAnswered, last_stage, texts_of, answers_of}
 use Rattle.mm_run.specs.Texts.{IsTorn, StandsAt, texts, concat}
-use Rattle.mm_run.specs.Ends.{Closes, Left}
+use Rattle.mm_life.specs.Logs.{Log}
+use Rattle.mm_run.specs.Ends.{Closes, Left, IsLogLeft}
 use Rattle.mm_run.specs.Story.{Went, Came, Comes, Settles, Outside, Stand, outside, stand}
 
 pub joined-append : (xs ys : List Text) → joined (xs ++ ys) ≡ joined xs ++ joined ys
@@ -109,8 +110,16 @@ last_from a b [] h = h
 last_from a b (y ∷ ys) h = follows_here (last_stage y.after ys)
 
 closes_from : (e : Ending) (n : ℕ) (front : Text) (a b end : Stage) → Follows a b → Closes e n front b end → Closes e n front a end
-closes_from ending.NoMemory n front a b end h (inl c) = inl (follows_then a b end h c)
-closes_from ending.NoMemory n front a b end h (inr c) = inr (record { before = c.before; follows = follows_then a b c.before h c.follows; breaks = c.breaks })
+closes_from ending.NoMemory n front a b end h c = record {
+  line = c.line;
+  event = c.event;
+  whole = c.whole;
+  says = c.says;
+  broken = elim c.broken [
+    | inl m ↦ inl (m.0, follows_then a b end h m.1)
+    | inr m ↦ inr (m.0, record { before = m.1.before; follows = follows_then a b m.1.before h m.1.follows; breaks = m.1.breaks })
+  ];
+}
 closes_from ending.MovesFault n front a b end h (inl c) = inl (follows_then a b end h c)
 closes_from ending.MovesFault n front a b end h (inr c) =
     inr (record { line = c.line; whole = c.whole; muted = record { next = next_from n a b c.line h c.muted.next; failed = c.muted.failed }; after = c.after })
@@ -270,9 +279,12 @@ went_none a x y e = subst (λ (z : Stand). Went a a x z) (sym e) (record {
   wrote = appended_none a.took;
 })
 
+pub log_left_at : (log : Log) (x : Left) → log.bytes ≡ x.moves → log.faults ≡ x.moves_faults → IsLogLeft log x
+log_left_at log x b f = record { bytes_are = b; faults_are = omega (arith, f) }
+
 -- nothing was decided, and nothing was noted
-pub comes_here : (a b : Outside) (x : Stand) (e : Ending) (o : Outset) (left : Left) → o.log.bytes ≡ left.moves → Came a b x e (NotBegun o) → Comes a b x e left
-comes_here a b x e o left q h = record { end = NotBegun o; came = h; leaves = q }
+pub comes_here : (a b : Outside) (x : Stand) (e : Ending) (o : Outset) (left : Left) → o.log.bytes ≡ left.moves → o.log.faults ≡ left.moves_faults → Came a b x e (NotBegun o) → Comes a b x e left
+comes_here a b x e o left q f h = record { end = NotBegun o; came = h; leaves = log_left_at o.log left q f }
 
 -- no line more, at a stage that follows
 pub went_on : (a : Outside) (held : Text) (n : ℕ) (s z : Stage) → Follows s z → Went a a (stand held n s) (stand held n z)

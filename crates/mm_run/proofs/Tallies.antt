@@ -1,5 +1,5 @@
 -- What a run of a generated script did, from how far its events were decided.
-use Rattle.std.proofs.Common.{◌≡◌, ◌≢◌, ◌⊎◌, ℕ, ◌<◌, List, [], ◌++◌, length, Option, refl, sym, ap, ◌∙◌, subst, inl, inr, arith}
+use Rattle.std.proofs.Common.{◌≡◌, ◌≢◌, ◌⊎◌, ℕ, ◌<◌, ◌≤◌, List, [], ◌++◌, length, Option, refl, sym, ap, ◌∙◌, subst, inl, inr, arith}
 use Rattle.std.specs.Prelude.{Result, Ok, Err}
 use Rattle.mm_types.specs.Outside.{Appended}
 use Rattle.mm_types.specs.Spelling.{Text}
@@ -11,7 +11,8 @@ use Rattle.mm_run.specs.declared.endings.Ending.TheVariants as ending
 use Rattle.mm_run.specs.Scenes.{Stage, NotBegun, Running, Follows}
 use Rattle.mm_run.specs.Answered.{DecidedLine, last_stage, answers_of, moves_of}
 use Rattle.mm_run.specs.Texts.{TornText, status_of}
-use Rattle.mm_run.specs.Ends.{DeviceLeft, IsLeft, Left, Leaves}
+use Rattle.mm_life.specs.Logs.{Log}
+use Rattle.mm_run.specs.Ends.{DeviceLeft, IsLeft, IsLogLeft, Left, Leaves}
 use Rattle.mm_run.specs.Ran.{Around, begun_at}
 use Rattle.mm_run.specs.Bulk.{AreDecided, ClosesEvents, Stops, BulkEnds, BulkRan, events_of, bulk_text, four_lines}
 use Rattle.mm_run.specs.Batch.{Stopped, Tallied, BatchRan}
@@ -31,10 +32,13 @@ follows_done ending.MovesFault last end q h = cc
 follows_done ending.SetupFault last end q h = cc
 follows_done (ending.TooLong l) last end q h = cc
 
-leaves_counted : (end : Stage) (x y : Left) → Leaves end x → y.moves ≡ x.moves → y.paging ≡ x.paging → y.files ≡ x.files → Leaves end y
-leaves_counted (NotBegun o) x y h m p f = h ∙ sym m
-leaves_counted (Running s) x y h m p f =
-    (h.0 ∙ sym m, subst (λ (d : DeviceLeft). IsLeft s.paging s.behind.slots d) (sym p) h.1, subst (λ (d : DeviceLeft). IsLeft s.files s.blocks d) (sym f) h.2)
+log_counted_at : (log : Log) (x y : Left) → IsLogLeft log x → y.moves ≡ x.moves → x.moves_faults ≤ y.moves_faults → IsLogLeft log y
+log_counted_at log x y h m l = let f = h.faults_are in record { bytes_are = h.bytes_are ∙ sym m; faults_are = omega (arith, l, f) }
+
+leaves_counted : (end : Stage) (x y : Left) → Leaves end x → y.moves ≡ x.moves → x.moves_faults ≤ y.moves_faults → y.paging ≡ x.paging → y.files ≡ x.files → Leaves end y
+leaves_counted (NotBegun o) x y h m l p f = log_counted_at o.log x y h m l
+leaves_counted (Running s) x y h m l p f =
+    (log_counted_at s.behind.log x y h.0 m l, subst (λ (d : DeviceLeft). IsLeft s.paging s.behind.slots d) (sym p) h.1, subst (λ (d : DeviceLeft). IsLeft s.files s.blocks d) (sym f) h.2)
 
 module _ (a b : Around) (events : List Event) (status : ℕ) where
   ran_by : (lines : List DecidedLine) (left : List Event) (e : Ending) (end : Stage) (written : Text) → events ≡ events_of lines ++ left → AreDecided (begun_at a.beside) lines → Stops e left → ClosesEvents e (last_stage (begun_at a.beside) lines) end
@@ -52,8 +56,8 @@ module _ (a b : Around) (events : List Event) (status : ℕ) where
     ends = ends;
     closes = closes;
     leaves = leaves;
-    log = log_left a.beside.moves (moves_of lines) e (last_stage (begun_at a.beside) lines) end b.beside leaves
-        (log_closed (begun_at a.beside) (last_stage (begun_at a.beside) lines) (moves_of lines) (events_logged (begun_at a.beside) lines decided) refl e end closes);
+    log = log_left a.beside.moves a.beside.moves_faults (moves_of lines) e (last_stage (begun_at a.beside) lines) end b.beside leaves
+        (log_closed (begun_at a.beside) (last_stage (begun_at a.beside) lines) (moves_of lines) (events_logged (begun_at a.beside) lines decided) refl refl e end closes);
     holds = λ q. events_hold (begun_at a.beside) lines end b.beside tt decided (follows_done e (last_stage (begun_at a.beside) lines) end q closes) leaves;
     faultless = λ calm none unnamed. events_faultless a.beside b.beside e end leaves calm unnamed lines decided closes none;
   }
@@ -98,9 +102,9 @@ module _ (a b : Around) (events : List Event) (status : ℕ) where
       either (inr own) = inr (own, not_done e h.stops h.some)
 
   -- the moves were given on behind the last event
-  module _ (x : Left) (m : b.beside.moves ≡ x.moves) (p : b.beside.paging ≡ x.paging) (f : b.beside.files ≡ x.files) where
+  module _ (x : Left) (m : b.beside.moves ≡ x.moves) (l : x.moves_faults ≤ b.beside.moves_faults) (p : b.beside.paging ≡ x.paging) (f : b.beside.files ≡ x.files) where
     leaves_here : (end : Stage) → Leaves end x → Leaves end b.beside
-    leaves_here end h = leaves_counted end x b.beside h m p f
+    leaves_here end h = leaves_counted end x b.beside h m l p f
 
     pub ran_unflushed : (r : Result Tally Ending) → BatchRan (begun_at a.beside) events r x → status ≡ 6 → b.took ≡ a.took → BulkRan a b events status
     ran_unflushed (Ok t) h q still = all_unflushed t h.end h.finished (leaves_here h.end h.leaves) q still

@@ -37,13 +37,13 @@ told_of lines = map (λ l. record { event = l.event; answer = l.answer }) lines
 abbrev pub moves_of : List DecidedLine → List Move
 moves_of lines = flat_map (λ l. l.moves) lines
 
--- Behind n others a text is a line in the grammar that says this event.
+-- After n others a text is a line in the grammar that says this event.
 pub record Says (n : ℕ) (text : Text) (event : Event) : Type 0 where
   pub is_line : IsLine text
   pub says : reading n text ≡ Ok event
   pub grammar : IsLineFor text event
 
--- Behind n others and at this stage, the line is in the grammar, and is decided.
+-- After n others and at this stage, the line is in the grammar, and is decided.
 pub record IsNext (n : ℕ) (old : Stage) (l : DecidedLine) : Type 0 where
   pub follows : Follows old l.before
   pub says : Says n l.text l.event

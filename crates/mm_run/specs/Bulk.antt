@@ -1,4 +1,5 @@
 -- `bulk SEED COUNT`: what a run of a generated script did, on one page.
+-- Profile, "A run".
 --
 -- Its events are those of mm_make. Each is decided as a line of a script would be, the first of them as line 1; none has a text, so what a decided
 -- line has as its text says nothing here, and the source is not asked. No answer is printed: four lines are, over all of them.
@@ -57,20 +58,20 @@ abbrev pub AreDecided : Stage → List DecidedLine → Type 0
 AreDecided old [] = Unit {0}
 AreDecided old (l ∷ ls) = IsEventNext old l × HasNoted l.after × AreDecided l.after ls
 
--- The event behind these was decided, and its moves could not all be written.
+-- The event after these was decided, and its moves could not all be written.
 pub record MutesEvent (last end : Stage) : Type 0 where
   pub line : DecidedLine
   pub next : IsEventNext last line
   pub failed : (log_of end).failed ≡ true
   pub after : end ≡ line.after
 
--- Behind the last event nothing happened, but that one wanted memory, or could not note all its moves.
+-- After the last event nothing happened, but that one ran out of memory, or could not note all its moves.
 abbrev pub ClosesEvents : Ending → Stage → Stage → Type 0
 ClosesEvents ending.NoMemory last end = Follows last end ⊎ BreaksOff last end
 ClosesEvents ending.MovesFault last end = Follows last end ⊎ MutesEvent last end
 ClosesEvents _ last end = Follows last end
 
--- All events were decided; or some are left, for want of memory, or since the moves were not all written or a device was not opened.
+-- All events were decided; or some are left, since memory ran out, or since the moves were not all written or a device was not opened.
 abbrev pub Stops : Ending → List Event → Type 0
 Stops ending.Done left = left ≡ []
 Stops ending.NoMemory left = 0 < length left
@@ -132,9 +133,9 @@ pub record BulkRan (a b : Around) (events : List Event) (status : ℕ) : Type 0 
   pub written : Text
   pub wrote : Appended a.took b.took written
   pub ends : BulkEnds status e (bulk_text (answers_of lines) end) written
-  -- What happened behind the last event, and what the end leaves, as `Ran` has it.
+  -- What happened after the last event, and what the end leaves, as `Ran` has it.
   pub closes : ClosesEvents e (last_stage (begun_at a.beside) lines) end
   pub leaves : Leaves end b.beside
-  pub log : LogRan a.beside.moves b.beside.moves (moves_of lines) e (last_stage (begun_at a.beside) lines) end
+  pub log : LogRan a.beside.moves b.beside.moves a.beside.moves_faults b.beside.moves_faults (moves_of lines) e (last_stage (begun_at a.beside) lines) end
   pub holds : e ≡ ending.Done → EndsHolding end b.beside.paging.blocks b.beside.files.blocks
   pub faultless : (SomeRose a.beside b.beside → ⊥) → NoneNames lines → (e ≡ ending.MovesFault → NoneNamed end) → NoneFails lines

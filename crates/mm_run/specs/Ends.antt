@@ -1,28 +1,32 @@
 -- How the end of a run stands to its last answered line, and what is left then on devices and in the log of moves.
-use Rattle.std.specs.Prelude.{◌≡◌, ◌⊎◌, ℕ, List, [], Option}
+use Rattle.std.specs.Prelude.{◌≡◌, ◌⊎◌, ◌≤◌, ℕ, true, List, [], Option}
 use Rattle.mm_types.specs.Spelling.{Text}
+use Rattle.mm_types.specs.declared.events.Event.{Event}
 use Rattle.mm_lines.specs.Lines.{ended}
+use Rattle.mm_life.specs.Logs.{Log}
 use Rattle.mm_world.specs.World.{Page}
 use Rattle.mm_blocks.specs.declared.device_calls.DeviceCall.{DeviceCall}
 use Rattle.mm_blocks.specs.declared.device_calls.NamedCalls.{NamedCalls}
 use Rattle.mm_blocks.specs.Devices.{DeviceOf}
 use Rattle.mm_blocks.specs.Traffic.{told_by}
+use Rattle.mm_core.specs.Built.{takes_memory}
+use Rattle.mm_system.specs.Lines.{is_machine}
 use Rattle.mm_run.specs.declared.endings.Ending.{Ending}
 use Rattle.mm_run.specs.declared.endings.Ending.TheVariants as ending
 use Rattle.mm_run.specs.Scenes.{Stage, NotBegun, Running, Follows}
 use Rattle.mm_run.specs.Steps.{Breaks}
-use Rattle.mm_run.specs.Answered.{DecidedLine, IsMuted}
+use Rattle.mm_run.specs.Answered.{DecidedLine, IsMuted, Says}
 
 -- ---- between the last answer and the end
 
--- The line behind these was decided and not answered; its feed is the last byte of `front`.
+-- The line after these was decided and not answered; its line feed is the last byte of `front`.
 pub record Mutes (n : ℕ) (front : Text) (last end : Stage) : Type 0 where
   pub line : DecidedLine
   pub whole : front ≡ ended line.text
   pub muted : IsMuted n last line
   pub after : end ≡ line.after
 
--- The line behind these wanted memory.
+-- A line ran out of memory.
 abbrev pub BreaksAt : Stage → Stage → Type 0
 BreaksAt (NotBegun o) end = ⊥
 BreaksAt (Running s) (NotBegun o) = ⊥
@@ -33,9 +37,18 @@ pub record BreaksOff (last end : Stage) : Type 0 where
   pub follows : Follows last before
   pub breaks : BreaksAt before end
 
--- Nothing happened, but that a line wanted memory, or could not note all its moves.
+-- The line after these ran out of memory: `machine`, whose machine was not made then, or a line of a form that takes memory. Its feed is the
+-- last byte of `front`.
+pub record WantsMemory (n : ℕ) (front : Text) (last end : Stage) : Type 0 where
+  pub line : Text
+  pub event : Event
+  pub whole : front ≡ ended line
+  pub says : Says n line event
+  pub broken : ((is_machine event ≡ true) × Follows last end) ⊎ ((takes_memory event ≡ true) × BreaksOff last end)
+
+-- Nothing happened, but that a line ran out of memory, or could not note all its moves.
 abbrev pub Closes : Ending → ℕ → Text → Stage → Stage → Type 0
-Closes ending.NoMemory n front last end = Follows last end ⊎ BreaksOff last end
+Closes ending.NoMemory n front last end = WantsMemory n front last end
 Closes ending.MovesFault n front last end = Follows last end ⊎ Mutes n front last end
 Closes _ n front last end = Follows last end
 
@@ -66,7 +79,13 @@ pub record Left : Type 0 where
 abbrev pub left_with : Option Text → ℕ → DeviceLeft → DeviceLeft → Left
 left_with moves faults paging files = record { moves = moves; moves_faults = faults; paging = paging; files = files }
 
+-- The log of moves as it is left: its bytes, where told, are those of the stage, and its count of faults is at least that one, since a flush may
+-- fail at the end.
+pub record IsLogLeft (log : Log) (x : Left) : Type 0 where
+  pub bytes_are : log.bytes ≡ x.moves
+  pub faults_are : log.faults ≤ x.moves_faults
+
 -- Before the first line was decided nothing was noted; devices may have been opened.
 abbrev pub Leaves : Stage → Left → Type 0
-Leaves (NotBegun o) x = o.log.bytes ≡ x.moves
-Leaves (Running s) x = (s.behind.log.bytes ≡ x.moves) × IsLeft s.paging s.behind.slots x.paging × IsLeft s.files s.blocks x.files
+Leaves (NotBegun o) x = IsLogLeft o.log x
+Leaves (Running s) x = IsLogLeft s.behind.log x × IsLeft s.paging s.behind.slots x.paging × IsLeft s.files s.blocks x.files

@@ -10,3 +10,4 @@ pub mod Ran
 pub mod Script
 pub mod Bulk
 pub mod Batch
+pub mod Seen

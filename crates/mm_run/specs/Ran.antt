@@ -1,4 +1,5 @@
 -- What a run did: the promise of `run`, on one page.
+-- Profile, "A run".
 --
 -- It speaks of what stands around a run, before it and after it: the bytes left in the source, those that both sinks took, and both
 -- devices. What is not told of these has no bytes (`None`), and nothing is said of it.
@@ -38,10 +39,10 @@ begun_at x = NotBegun (outset x.paging.faults x.files.faults x.moves x.moves_fau
 abbrev pub SomeRose : Left → Left → Type 0
 SomeRose x y = Rose x.paging.faults y.paging.faults ⊎ Rose x.files.faults y.files.faults
 
--- What the sink of moves took is the text of the moves of the answered lines, one behind another, and of `more`: nothing, but the `at` of a
--- line that wanted memory, or the moves of a line that was decided and could not note them all. Of all these together, which are legal
--- one after another, a front was written: all of it, but in these two cases.
-pub record LogRan (took took' : Option Text) (moves : List Move) (e : Ending) (last end : Stage) : Type 0 where
+-- What the sink of moves took is the text of the moves of the answered lines, one after another, and of `more`: nothing, but the `at` of a
+-- line that ran out of memory, or the moves of a line that was decided and could not note them all. Of all these together, which are legal
+-- one after another, a front was written: all of it, but in these two cases, and in these too unless the sink's count of faults rose.
+pub record LogRan (took took' : Option Text) (faults faults' : ℕ) (moves : List Move) (e : Ending) (last end : Stage) : Type 0 where
   pub more : List Move
   pub in_range : AreMoves (moves ++ more)
   pub replays : Replays moves unstarted (life_of last)
@@ -49,6 +50,7 @@ pub record LogRan (took took' : Option Text) (moves : List Move) (e : Ending) (l
   pub wrote : TornText took took' (spelled_moves (moves ++ more))
   pub none : e ≢ ending.NoMemory → e ≢ ending.MovesFault → more ≡ []
   pub whole : e ≢ ending.NoMemory → e ≢ ending.MovesFault → wrote.back ≡ []
+  pub unless : (Rose faults faults' → ⊥) → wrote.back ≡ []
 
 -- Each key that the replay shows unchanged, with a slot or a block, has its bytes there.
 abbrev pub EndsHolding : Stage → List Page → List Page → Type 0
@@ -71,7 +73,7 @@ pub record Ran (a b : Around) (form : Type 0) (status : ℕ) : Type 0 where
   -- Each `watch` that was answered with pages gave exactly those of its range that are written by the lines before it and their answers
   -- (GetWriteWatch): the lowest ones, at most as many as it asked for.
   pub watches : (before after : List DecidedLine) (l : DecidedLine) → before ++ l ∷ after ≡ lines → GivesWritten (told_of before) l.event l.answer
-  -- What the run then came to, by the bytes behind these lines up to the one that decided it (`front`); fewer than 4,096 more were taken.
+  -- What the run then came to, by the bytes after these lines up to the one that decided it (`front`); fewer than 4,096 more were taken.
   pub e : Ending
   pub taken : Text
   pub front : Text
@@ -86,11 +88,11 @@ pub record Ran (a b : Around) (form : Type 0) (status : ℕ) : Type 0 where
   pub written : Text
   pub wrote : Appended a.took b.took written
   pub ends : Ends status e (answers_of lines) written
-  -- What happened behind the last answer, and what the end leaves: the log of moves, the devices.
+  -- What happened after the last answer, and what the end leaves: the log of moves, the devices.
   pub end : Stage
   pub closes : Closes e (length lines) front (last_stage (begun_at a.beside) lines) end
   pub leaves : Leaves end b.beside
-  pub log : LogRan a.beside.moves b.beside.moves (moves_of lines) e (last_stage (begun_at a.beside) lines) end
+  pub log : LogRan a.beside.moves b.beside.moves a.beside.moves_faults b.beside.moves_faults (moves_of lines) e (last_stage (begun_at a.beside) lines) end
   pub holds : e ≡ ending.Done → EndsHolding end b.beside.paging.blocks b.beside.files.blocks
   -- If no `fail` line was answered `ok`, nor named calls as the line without an answer, an answer tells of a failure only where a
   -- device's count of faults rose.

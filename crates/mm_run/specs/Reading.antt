@@ -1,4 +1,5 @@
 -- The event of a line, by where the line stands.
+-- Profile, "Script".
 use Rattle.std.specs.Prelude.{ℕ, zero, suc, ◌-◌, Bool, if◌then◌else◌, [], ◌∷◌, Result, Ok, Err, codes, bytes_eq, ◌==◌, ◌&&◌, ◌||◌, take, length, nat_eq, slice_index}
 use Rattle.std.specs.List.{ends_with}
 use Rattle.mm_types.specs.Spelling.{Text}
@@ -25,7 +26,7 @@ abbrev pub read_later : Bool → Result Event LineFault → Result Event ℕ
 read_later says_machine (Ok event) = if is_machine event then Err 1 else Ok event
 read_later says_machine (Err fault) = Err (if says_machine then 1 else fault.column)
 
--- What a line says behind n others: its event, or the column of its fault. Where a first line's first word is
+-- What a line says after n others: its event, or the column of its fault. Where a first line's first word is
 -- not `machine`, or a later line's is, that is column 1.
 abbrev pub reading : ℕ → Text → Result Event ℕ
 reading zero text = read_first (is_machine_word (without_return text)) (parse text)

@@ -29,7 +29,7 @@ pub record Outset : Type 0 where
 abbrev pub outset : ℕ → ℕ → Option (List ℕ) → ℕ → Outset
 outset paging files taken faults = record { paging = paging; files = files; log = record { bytes = taken; failed = false; faults = faults } }
 
--- Before its first line a run has an outset; behind it, a scene.
+-- Before its first line a run has an outset; after it, a scene.
 pub data Stage : Type 0 where
   NotBegun : Outset → Stage
   Running : Scene → Stage

@@ -1,4 +1,5 @@
 -- What a script is, and what it comes to by itself.
+-- Profile, "Script" and "A run".
 use Rattle.std.specs.Prelude.{◌≡◌, ◌⊎◌, ℕ, suc, ◌+◌, ◌≤◌, List, [], ◌∷◌, ◌++◌, length, Some}
 use Rattle.mm_types.specs.Outside.{Appended}
 use Rattle.mm_types.specs.Spelling.{Text}
@@ -12,7 +13,7 @@ use Rattle.mm_run.specs.Texts.{status_of, last_text}
 use Rattle.mm_run.specs.Story.{Settles, most_lines}
 use Rattle.mm_run.specs.Ran.{Around, Ran}
 
--- Behind n lines, each line is in the grammar and says this event.
+-- After n lines, each line is in the grammar and says this event.
 abbrev pub Each : ℕ → List Text → List Event → Type 0
 Each n [] [] = Unit {0}
 Each n [] (e ∷ es) = ⊥

@@ -26,7 +26,7 @@ use Rattle.mm_walks.specs.Waits.{Idle}
 use Rattle.mm_paging.specs.Lines.{Line}
 use Rattle.mm_paging.specs.Runs.{DevicesHold, first_move}
 use Rattle.mm_core.specs.Stepping.{asks_frames}
-use Rattle.mm_core.specs.Serving.{AskedFiles, AskedPaging, Named, IsFailure, FailedBefore, OneRose, Flushed, is_fail, is_grow}
+use Rattle.mm_core.specs.Serving.{AskedBeside, AskedFiles, AskedPaging, Named, IsFailure, FailedBefore, OneRose, Flushed, is_fail, is_grow}
 use Rattle.mm_core.specs.Forgetting.{EndsWaits}
 use Rattle.mm_watch.specs.Watches.{AreApart}
 use Rattle.mm_system.specs.Live.{are_live}
@@ -99,6 +99,8 @@ pub record Decides (s : Scene) (e : Event) (a : Answer) (moves : List Move) (z :
   -- the calls of a device in this line are those of its log and of the report
   pub asked_paging : is_fail e ≡ false → is_grow e ≡ false → AskedPaging s.paging z.paging z.report
   pub asked_files : is_fail e ≡ false → AskedFiles s.files z.files z.report
+  -- but for these: a `file` line writes the blocks of its file in rising order, `grow` asks the paging device to grow, and `fail` names calls
+  pub beside : AskedBeside s.system.world.blocks_used e a s.paging z.paging s.files z.files
   pub named : Named false e a s.paging z.paging s.files z.files
   -- no more calls of a device are named than `fail` lines were answered `ok`
   pub few_paging : length z.paging.named ≤ z.system.world.fails_taken
@@ -157,7 +159,7 @@ pub record Moved (old : Stage) (e : Event) (a : Answer) (new : Stage) : Type 0 w
   pub moves : List Move
   pub decided : IsDecided old e a moves new
 
--- A line wanted memory: it noted its `at` alone or nothing, and system and devices are as before.
+-- A line ran out of memory: it noted its `at` alone or nothing, and system and devices are as before.
 pub record Breaks (s z : Scene) : Type 0 where
   pub moves : List Move
   pub at_most : (moves ≡ []) ⊎ ((k : LineKind) × (moves ≡ move.At (s.behind.life.line + 1) k ∷ []))

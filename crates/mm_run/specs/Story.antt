@@ -1,4 +1,5 @@
 -- What stands at each moment of a run, and what makes it end.
+-- Profile, "A run".
 use Rattle.std.specs.Prelude.{◌≡◌, ◌⊎◌, ℕ, ◌+◌, ◌<◌, ◌≤◌, List, [], ◌∷◌, ◌++◌, length, Option, Ok, Err, map, codes, String, string_bytes, true, nat_lt}
 use Rattle.std.specs.declared.alloc.Global.{Global}
 use Rattle.mm_types.specs.Outside.{Took, IsEnd, Appended, Rose}
@@ -41,7 +42,7 @@ stand held n stage = record { held = held; n = n; stage = stage }
 abbrev pub IsMisplaced : ℕ → Event → Type 0
 IsMisplaced n e = is_machine e ≡ nat_lt 0 n
 
--- A whole line behind n others that is not in the grammar, with its fault at this column.
+-- A whole line after n others that is not in the grammar, with its fault at this column.
 pub record IsBad (n : ℕ) (front : Text) (column : ℕ) : Type 0 where
   pub line : Text
   pub is_line : IsLine line
@@ -66,8 +67,8 @@ pub record IsMachineLine (n : ℕ) (front : Text) : Type 0 where
   pub says : reading 0 line ≡ Ok event
   pub machine : is_machine event ≡ true
 
--- Behind n decided lines these bytes, and none before the last of them, make a run come to this. More were
--- taken behind them, and others are left.
+-- After n decided lines these bytes, and none before the last of them, make a run come to this. More were
+-- taken after them, and others are left.
 abbrev pub Settles : ℕ → Text → Text → Option Text → Ending → Type 0
 Settles n front more left ending.Done = (0 < n) × (front ≡ []) × (more ≡ []) × IsEnd left
 Settles n front more left ending.NoMemory = length front ≤ 257
@@ -91,7 +92,7 @@ pub record Went (a b : Outside) (x y : Stand) : Type 0 where
   pub wrote : Appended a.took b.took (spelled (answers_of lines))
 
 -- The lines that were decided and answered, what the run then came to, and at which stage it ended. Fewer than 4,096 bytes were
--- taken behind the byte that decided it.
+-- taken after the byte that decided it.
 pub record Decided (left left' : Option Text) (x : Stand) (e : Ending) (end : Stage) : Type 0 where
   pub lines : List DecidedLine
   pub taken : Text
@@ -135,7 +136,7 @@ IsBlamed ending.MovesFault opening c d = Rose c.moves d.moves
 IsBlamed ending.SetupFault opening c d = opening
 IsBlamed _ opening c d = Unit {0}
 
--- What the input's end is, behind n lines and so many bytes.
+-- What the input's end is, after n lines and so many bytes.
 abbrev pub EndsAt : ℕ → ℕ → Ending → Type 0
 EndsAt n len e = ((0 < n) × (len ≡ 0) × (e ≡ ending.Done)) ⊎ (((0 < len) ⊎ (n ≡ 0)) × (e ≡ ending.Script (n + 1) (len + 1)))
 

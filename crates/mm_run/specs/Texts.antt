@@ -1,4 +1,5 @@
 -- The statuses of a run, and its text.
+-- Profile, "A run".
 use Rattle.std.specs.Prelude.{◌≡◌, ◌≢◌, ◌⊎◌, ℕ, Bool, true, false, List, [], ◌∷◌, ◌++◌, map, codes, Option}
 use Rattle.std.specs.List.{flat_map}
 use Rattle.mm_types.specs.declared.answers.Answer.{Answer}
@@ -24,7 +25,7 @@ status_of (ending.TooLong line) = 8
 abbrev pub IsOrFlush : ℕ → Ending → Type 0
 IsOrFlush status e = (status ≡ status_of e) ⊎ ((status ≡ 5) ⊎ (status ≡ 6))
 
--- the text behind the answers
+-- the text after the answers
 abbrev pub last_text : Ending → Text
 last_text ending.Done = []
 last_text ending.NoMemory = []

@@ -1,4 +1,5 @@
 -- Which pages of watched regions are written, told by a list of lines and their answers alone (GetWriteWatch).
+-- Profile, "Watched regions and stacks".
 use Rattle.std.specs.Prelude.{◌≡◌, ℕ, Bool, true, false, not, ◌&&◌, ◌==◌, if◌then◌else◌, List, map, take, filter, fold}
 use Rattle.std.specs.List.{range_with_len}
 use Rattle.mm_types.specs.declared.answers.Answer.{Answer}

@@ -1,5 +1,5 @@
-ghost use Rattle.std.specs.Prelude.{◌≡◌, ◌≢◌, ◌<◌, ◌≤◌, ◌+◌, ◌*◌, ◌⊎◌, ℕ, true, false, [], ◌∷◌, ◌++◌, List, Option, length, replicate, Ok, Err, IfOk, IfErr, OnOk, OnErr, MatchOption, MatchResult, cond};
-ghost use Rattle.mm_types.specs.Outside.{Appended, Rose, HasCause};
+ghost use Rattle.std.specs.Prelude.{◌≡◌, ◌≢◌, ◌<◌, ◌≤◌, ◌+◌, ◌*◌, ◌⊎◌, ℕ, true, false, [], ◌∷◌, ◌++◌, List, Option, length, replicate, Ok, Err, IfOk, IfErr, OnOk, MatchResult, cond};
+ghost use Rattle.mm_types.specs.Outside.{Appended, Rose};
 ghost use Rattle.mm_types.specs.declared.events.Event.TheVariants as event;
 ghost use Rattle.mm_blocks.specs.Traffic.{NoneLogged, empty_block};
 ghost use Rattle.mm_make.specs.Generated.{script_of};
@@ -7,11 +7,11 @@ ghost use Rattle.mm_system.specs.Shown.{line_of, loans, behind};
 ghost use Rattle.mm_run.specs.Scenes.{Outset, NotBegun, Running, outset, scene};
 ghost use Rattle.mm_run.specs.Steps.{IsMade, Moved, Breaks};
 ghost use Rattle.mm_run.specs.Texts.{TornText};
-ghost use Rattle.mm_run.specs.Ends.{left_with, device_left};
 ghost use Rattle.mm_run.specs.Ran.{around};
 ghost use Rattle.mm_run.specs.Story.{IsBlamed, counts_with};
 ghost use Rattle.mm_run.specs.Bulk.{BulkRan, begins_ok, is_none, four_lines};
 ghost use Rattle.mm_run.specs.Batch.{IsLater, AreLater, Handled, Stopped, Finished, BatchRan};
+ghost use Rattle.mm_run.specs.Seen.{left_seen, outset_seen};
 
 use crate::decisions::decide;
 use crate::endings::Ending;
@@ -196,7 +196,7 @@ fn run_events<M: Sink, P: Blocks, F: Blocks>(
     requires files_logged { NoneLogged (F.log files.old) }
     requires paging_named { P.named paging.old ≡ [] }
     requires files_named { F.named files.old ≡ [] }
-    ensures came { (p f : ℕ) → p ≤ P.faults paging.old → f ≤ F.faults files.old → BatchRan (NotBegun (outset p f (M.taken moves.old) (M.faults moves.old))) (event.Machine machine ∷ events.now) result (left_with (M.taken moves.new) (M.faults moves.new) (device_left (P.named paging.new) (P.log paging.new) (P.blocks paging.new) (P.faults paging.new)) (device_left (F.named files.new) (F.log files.new) (F.blocks files.new) (F.faults files.new))) }
+    ensures came { (p f : ℕ) → p ≤ P.faults paging.old → f ≤ F.faults files.old → BatchRan (NotBegun (outset p f (M.taken moves.old) (M.faults moves.old))) (event.Machine machine ∷ events.now) result (left_seen M.Sink P.Blocks F.Blocks moves.new paging.new files.new) }
     ensures blame { IfErr result (λ e. (s o : ℕ) → IsBlamed e ⊥ (counts_with s o (M.faults moves.old)) (counts_with s o (M.faults moves.new))) }
     ensures moves_later { M.faults moves.old ≤ M.faults moves.new }
 {
@@ -239,7 +239,7 @@ fn start_events<M: Sink, P: Blocks, F: Blocks>(
     requires few { length events.now < 1000000 }
     requires paging_named { P.named paging.old ≡ [] }
     requires files_named { F.named files.old ≡ [] }
-    ensures came { BatchRan (NotBegun (outset (P.faults paging.old) (F.faults files.old) (M.taken moves.old) (M.faults moves.old))) (event.Machine machine ∷ events.now) result (left_with (M.taken moves.new) (M.faults moves.new) (device_left (P.named paging.new) (P.log paging.new) (P.blocks paging.new) (P.faults paging.new)) (device_left (F.named files.new) (F.log files.new) (F.blocks files.new) (F.faults files.new))) }
+    ensures came { BatchRan (NotBegun (outset_seen M.Sink P.Blocks F.Blocks moves.old paging.old files.old)) (event.Machine machine ∷ events.now) result (left_seen M.Sink P.Blocks F.Blocks moves.new paging.new files.new) }
     ensures blame { IfErr result (λ e. (s o : ℕ) → IsBlamed e (Rose (P.faults paging.old) (P.faults paging.new) ⊎ Rose (F.faults files.old) (F.faults files.new)) (counts_with s o (M.faults moves.old)) (counts_with s o (M.faults moves.new))) }
     ensures moves_later { M.faults moves.old ≤ M.faults moves.new }
 {
@@ -261,7 +261,7 @@ fn decide_script<M: Sink, P: Blocks, F: Blocks>(
     requires few { count ≤ 100000 }
     requires paging_named { P.named paging.old ≡ [] }
     requires files_named { F.named files.old ≡ [] }
-    ensures came { BatchRan (NotBegun (outset (P.faults paging.old) (F.faults files.old) (M.taken moves.old) (M.faults moves.old))) (script_of seed count) result (left_with (M.taken moves.new) (M.faults moves.new) (device_left (P.named paging.new) (P.log paging.new) (P.blocks paging.new) (P.faults paging.new)) (device_left (F.named files.new) (F.log files.new) (F.blocks files.new) (F.faults files.new))) }
+    ensures came { BatchRan (NotBegun (outset_seen M.Sink P.Blocks F.Blocks moves.old paging.old files.old)) (script_of seed count) result (left_seen M.Sink P.Blocks F.Blocks moves.new paging.new files.new) }
     ensures blame { IfErr result (λ e. (s o : ℕ) → IsBlamed e (Rose (P.faults paging.old) (P.faults paging.new) ⊎ Rose (F.faults files.old) (F.faults files.new)) (counts_with s o (M.faults moves.old)) (counts_with s o (M.faults moves.new))) }
     ensures moves_later { M.faults moves.old ≤ M.faults moves.new }
 {
@@ -327,7 +327,7 @@ pub(crate) fn bulk<O: Sink, M: Sink, P: Blocks, F: Blocks>(
     requires few { count ≤ 100000 }
     requires paging_named { P.named paging.old ≡ [] }
     requires files_named { F.named files.old ≡ [] }
-    ensures ran { (left : Option (List ℕ)) → BulkRan (around left (O.taken out.old) (left_with (M.taken moves.old) (M.faults moves.old) (device_left (P.named paging.old) (P.log paging.old) (P.blocks paging.old) (P.faults paging.old)) (device_left (F.named files.old) (F.log files.old) (F.blocks files.old) (F.faults files.old)))) (around left (O.taken out.new) (left_with (M.taken moves.new) (M.faults moves.new) (device_left (P.named paging.new) (P.log paging.new) (P.blocks paging.new) (P.faults paging.new)) (device_left (F.named files.new) (F.log files.new) (F.blocks files.new) (F.faults files.new)))) (script_of seed count) result }
+    ensures ran { (left : Option (List ℕ)) → BulkRan (around left (O.taken out.old) (left_seen M.Sink P.Blocks F.Blocks moves.old paging.old files.old)) (around left (O.taken out.new) (left_seen M.Sink P.Blocks F.Blocks moves.new paging.new files.new)) (script_of seed count) result }
     ensures read_fault { result ≢ 4 }
     ensures out_fault { result ≡ 5 → Rose (O.faults out.old) (O.faults out.new) }
     ensures moves_fault { result ≡ 6 → Rose (M.faults moves.old) (M.faults moves.new) }

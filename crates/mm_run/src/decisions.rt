@@ -1,16 +1,19 @@
-ghost use Rattle.std.specs.Prelude.{◌≡◌, ◌≢◌, ◌<◌, ◌≤◌, ◌+◌, ◌⊎◌, ℕ, true, false, List, Option, Some, None, length, drop, take, Ok, MatchOption, IfNone, IfSome, IfOk, OnOk, OnErr};
+ghost use Rattle.std.specs.Prelude.{◌≡◌, ◌≢◌, ◌<◌, ◌≤◌, ◌+◌, ◌⊎◌, ℕ, true, false, List, Option, Some, None, length, drop, take, Ok, MatchOption, IfNone, IfSome, IfOk, OnOk, OnErr, is_err};
 ghost use Rattle.mm_types.specs.Outside.{Appended, Rose, HasCause};
 ghost use Rattle.mm_types.specs.AnswerText.{spelling};
+ghost use Rattle.mm_io.specs.Io.{Wrote};
 ghost use Rattle.mm_lines.specs.Looking.{HasLine};
 ghost use Rattle.mm_script.specs.Grammar.{IsLine as IsLineFor};
 ghost use Rattle.mm_script.specs.Printed.{IsWellFormed};
 ghost use Rattle.mm_system.specs.Shown.{line_of, loans, behind};
 ghost use Rattle.mm_system.specs.Lines.{is_machine};
+ghost use Rattle.mm_core.specs.Built.{takes_memory};
 ghost use Rattle.mm_run.specs.Reading.{reading};
 ghost use Rattle.mm_run.specs.Scenes.{Scene, Running, Follows, scene};
-ghost use Rattle.mm_run.specs.Steps.{IsDecided, Moved, Breaks};
+ghost use Rattle.mm_run.specs.Steps.{Moved, Breaks};
 ghost use Rattle.mm_run.specs.Texts.{TornText};
 ghost use Rattle.mm_run.specs.Story.{Went, Came, IsBlamed, EndsAt, outside, stand, counts_with};
+ghost use Rattle.mm_run.specs.Seen.{outside_seen};
 
 use crate::endings::Ending;
 use crate::readings::read_event;
@@ -26,6 +29,27 @@ use std::alloc::Global;
 /// The lines that a script may have.
 pub(crate) const LINES: u32 = 1_000_000;
 
+/// Writes the spelling of any answer.
+fn write_spelled<O: Sink>(answer: &Answer, out: &mut O) -> Result<(), Failed>
+    ensures wrote { Wrote (O.taken out.old) (O.taken out.new) (spelling answer.now) (is_err result) }
+    ensures cause { HasCause (O.faults out.old) (O.faults out.new) result }
+{
+    let mut line = LineBuf::new();
+    spell(answer, &mut line);
+    write_all(out, line.as_slice())
+}
+
+/// Writes an answer. The commonest takes no buffer, which would be cleared.
+fn write_answer<O: Sink>(answer: &Answer, out: &mut O) -> Result<(), Failed>
+    ensures wrote { Wrote (O.taken out.old) (O.taken out.new) (spelling answer.now) (is_err result) }
+    ensures cause { HasCause (O.faults out.old) (O.faults out.new) result }
+{
+    match answer {
+        Answer::Ok => write_all(out, b"ok\n"),
+        _ => write_spelled(answer, out),
+    }
+}
+
 /// Writes an answer, and goes behind its line.
 pub(crate) fn tell<O: Sink>(
     held: &mut Held,
@@ -39,10 +63,8 @@ pub(crate) fn tell<O: Sink>(
     ensures blame { IfSome result (λ _. Rose (O.faults out.old) (O.faults out.new)) }
     ensures later { O.faults out.old ≤ O.faults out.new }
 {
-    let mut line = LineBuf::new();
-    spell(answer, &mut line);
     held.skip(len + 1);
-    match write_all(out, line.as_slice()) {
+    match write_answer(answer, out) {
         Ok(()) => None,
         Err(_) => Some(Ending::OutFault),
     }
@@ -64,6 +86,7 @@ pub(crate) fn decide<G: FlushesMoves>(
     requires noted { (behind system.old).log.failed ≡ false }
     ensures decided { IfOk result (λ a. Moved (Running (scene system.old)) event.now a (Running (scene system.new))) }
     ensures breaks { OnErr result (Breaks (scene system.old) (scene system.new)) }
+    ensures takes { OnErr result (takes_memory event.now ≡ true) }
     ensures blame { OnOk result ((behind system.new).log.failed ≡ true → Rose (behind system.old).log.faults (behind system.new).log.faults) }
     ensures later { (behind system.old).log.faults ≤ (behind system.new).log.faults }
     ensures line { OnOk result (line_of system.new ≡ n) }
@@ -192,8 +215,8 @@ fn read_line<G: FlushesMoves, S: Source, O: Sink>(
     requires paged { G.unpaged ≡ false }
     requires noted { (behind system.old).log.failed ≡ false }
     ensures went { MatchOption result
-        (Went (outside (S.left source.old) (O.taken out.old)) (outside (S.left source.new) (O.taken out.new)) (stand held.old n (Running (scene system.old))) (stand held.new (n + 1) (Running (scene system.new))))
-        (λ e. Came (outside (S.left source.old) (O.taken out.old)) (outside (S.left source.new) (O.taken out.new)) (stand held.old n (Running (scene system.old))) e (Running (scene system.new))) }
+        (Went (outside_seen S.Source O.Sink source.old out.old) (outside_seen S.Source O.Sink source.new out.new) (stand held.old n (Running (scene system.old))) (stand held.new (n + 1) (Running (scene system.new))))
+        (λ e. Came (outside_seen S.Source O.Sink source.old out.old) (outside_seen S.Source O.Sink source.new out.new) (stand held.old n (Running (scene system.old))) e (Running (scene system.new))) }
     ensures few { IfNone result (length held.new < 4096) }
     ensures count { IfNone result (line_of system.new ≡ n + 1) }
     ensures ready { IfNone result (system.new.spent ≡ false) }
@@ -249,9 +272,10 @@ fn flush<G: FlushesMoves, O: Sink>(system: &mut System<G>, out: &mut O) -> Optio
     }
 }
 
-/// Whether a whole line is among the bytes, so that none need be read before it.
-fn has_line(bytes: &[u8]) -> bool {
-    bytes.iter().any(|byte| *byte == b'\n')
+/// Whether the bytes tell what stands in front, so that none need be read before it: a whole line is among them, or they are more than
+/// a line may have. The latter is asked first, since it mostly holds and costs nothing.
+fn has_front(bytes: &[u8]) -> bool {
+    bytes.len() > 256 || bytes.iter().any(|byte| *byte == b'\n')
 }
 
 /// Flushes both sinks where more has to be read.
@@ -271,7 +295,7 @@ fn flush_before_read<G: FlushesMoves, O: Sink>(
     ensures ready { system.new.spent ≡ system.old.spent }
     ensures loans { loans system.new ≡ loans system.old }
 {
-    if has_line(held.bytes()) {
+    if has_front(held.bytes()) {
         None
     } else {
         flush(system, out)
@@ -295,8 +319,8 @@ fn decide_line<G: FlushesMoves, S: Source, O: Sink>(
     requires paged { G.unpaged ≡ false }
     requires noted { (behind system.old).log.failed ≡ false }
     ensures went { MatchOption result
-        (Went (outside (S.left source.old) (O.taken out.old)) (outside (S.left source.new) (O.taken out.new)) (stand held.old n (Running (scene system.old))) (stand held.new (n + 1) (Running (scene system.new))))
-        (λ e. Came (outside (S.left source.old) (O.taken out.old)) (outside (S.left source.new) (O.taken out.new)) (stand held.old n (Running (scene system.old))) e (Running (scene system.new))) }
+        (Went (outside_seen S.Source O.Sink source.old out.old) (outside_seen S.Source O.Sink source.new out.new) (stand held.old n (Running (scene system.old))) (stand held.new (n + 1) (Running (scene system.new))))
+        (λ e. Came (outside_seen S.Source O.Sink source.old out.old) (outside_seen S.Source O.Sink source.new out.new) (stand held.old n (Running (scene system.old))) e (Running (scene system.new))) }
     ensures few { IfNone result (length held.new < 4096) }
     ensures count { IfNone result (line_of system.new ≡ n + 1) }
     ensures ready { IfNone result (system.new.spent ≡ false) }
@@ -344,7 +368,7 @@ pub(crate) fn decide_rest<G: FlushesMoves, S: Source, O: Sink>(
     requires ready { system.old.spent ≡ false }
     requires paged { G.unpaged ≡ false }
     requires noted { (behind system.old).log.failed ≡ false }
-    ensures came { Came (outside (S.left source.old) (O.taken out.old)) (outside (S.left source.new) (O.taken out.new)) (stand held.old 1 (Running (scene system.old))) result (Running (scene system.new)) }
+    ensures came { Came (outside_seen S.Source O.Sink source.old out.old) (outside_seen S.Source O.Sink source.new out.new) (stand held.old 1 (Running (scene system.old))) result (Running (scene system.new)) }
     ensures blame { IsBlamed result ⊥ (counts_with (S.faults source.old) (O.faults out.old) (behind system.old).log.faults) (counts_with (S.faults source.new) (O.faults out.new) (behind system.new).log.faults) }
     ensures idle { S.idle source.new ≤ S.idle source.old + 1 }
     ensures source_later { S.faults source.old ≤ S.faults source.new }

@@ -8,8 +8,8 @@ ghost use Rattle.mm_system.specs.Shown.{line_of, loans, behind};
 ghost use Rattle.mm_run.specs.Reading.{reading};
 ghost use Rattle.mm_run.specs.Scenes.{Outset, NotBegun, Running, outset, scene};
 ghost use Rattle.mm_run.specs.Steps.{IsMade};
-ghost use Rattle.mm_run.specs.Ends.{left_with, device_left};
-ghost use Rattle.mm_run.specs.Story.{Came, Comes, IsBlamed, outside, stand, counts_with};
+ghost use Rattle.mm_run.specs.Story.{Came, Comes, IsBlamed, stand, counts_with};
+ghost use Rattle.mm_run.specs.Seen.{counts_seen, left_seen, outset_seen, outside_seen};
 
 use crate::decisions::{at_end, decide_rest, tell};
 use crate::endings::Ending;
@@ -80,7 +80,7 @@ fn answer_all<G: FlushesMoves, S: Source, O: Sink>(
     requires count { line_of system.old ≡ 1 }
     requires ready { system.old.spent ≡ false }
     requires paged { G.unpaged ≡ false }
-    ensures came { (o : Outset) → IsMade machine o (scene system.old) → Came (outside (S.left source.old) (O.taken out.old)) (outside (S.left source.new) (O.taken out.new)) (stand held.old 0 (NotBegun o)) result (Running (scene system.new)) }
+    ensures came { (o : Outset) → IsMade machine o (scene system.old) → Came (outside_seen S.Source O.Sink source.old out.old) (outside_seen S.Source O.Sink source.new out.new) (stand held.old 0 (NotBegun o)) result (Running (scene system.new)) }
     ensures blame { (o : Outset) → IsMade machine o (scene system.old) → o.log.failed ≡ false → IsBlamed result ⊥ (counts_with (S.faults source.old) (O.faults out.old) o.log.faults) (counts_with (S.faults source.new) (O.faults out.new) (behind system.new).log.faults) }
     ensures idle { S.idle source.new ≤ S.idle source.old + 1 }
     ensures source_later { S.faults source.old ≤ S.faults source.new }
@@ -120,8 +120,8 @@ fn run_machine<S: Source, O: Sink, M: Sink, P: Blocks, F: Blocks>(
     requires files_logged { NoneLogged (F.log files.old) }
     requires paging_named { P.named paging.old ≡ [] }
     requires files_named { F.named files.old ≡ [] }
-    ensures came { (p f : ℕ) → p ≤ P.faults paging.old → f ≤ F.faults files.old → Comes (outside (S.left source.old) (O.taken out.old)) (outside (S.left source.new) (O.taken out.new)) (stand held.old 0 (NotBegun (outset p f (M.taken moves.old) (M.faults moves.old)))) result (left_with (M.taken moves.new) (M.faults moves.new) (device_left (P.named paging.new) (P.log paging.new) (P.blocks paging.new) (P.faults paging.new)) (device_left (F.named files.new) (F.log files.new) (F.blocks files.new) (F.faults files.new))) }
-    ensures blame { IsBlamed result ⊥ (counts_with (S.faults source.old) (O.faults out.old) (M.faults moves.old)) (counts_with (S.faults source.new) (O.faults out.new) (M.faults moves.new)) }
+    ensures came { (p f : ℕ) → p ≤ P.faults paging.old → f ≤ F.faults files.old → Comes (outside_seen S.Source O.Sink source.old out.old) (outside_seen S.Source O.Sink source.new out.new) (stand held.old 0 (NotBegun (outset p f (M.taken moves.old) (M.faults moves.old)))) result (left_seen M.Sink P.Blocks F.Blocks moves.new paging.new files.new) }
+    ensures blame { IsBlamed result ⊥ (counts_seen S.Source O.Sink M.Sink source.old out.old moves.old) (counts_seen S.Source O.Sink M.Sink source.new out.new moves.new) }
     ensures idle { S.idle source.new ≤ S.idle source.old + 1 }
     ensures source_later { S.faults source.old ≤ S.faults source.new }
     ensures out_later { O.faults out.old ≤ O.faults out.new }
@@ -172,8 +172,8 @@ fn start_machine<S: Source, O: Sink, M: Sink, P: Blocks, F: Blocks>(
     requires grammar { IsLineFor (take len held.old) (event.Machine machine) }
     requires paging_named { P.named paging.old ≡ [] }
     requires files_named { F.named files.old ≡ [] }
-    ensures came { Comes (outside (S.left source.old) (O.taken out.old)) (outside (S.left source.new) (O.taken out.new)) (stand held.old 0 (NotBegun (outset (P.faults paging.old) (F.faults files.old) (M.taken moves.old) (M.faults moves.old)))) result (left_with (M.taken moves.new) (M.faults moves.new) (device_left (P.named paging.new) (P.log paging.new) (P.blocks paging.new) (P.faults paging.new)) (device_left (F.named files.new) (F.log files.new) (F.blocks files.new) (F.faults files.new))) }
-    ensures blame { IsBlamed result (Rose (P.faults paging.old) (P.faults paging.new) ⊎ Rose (F.faults files.old) (F.faults files.new)) (counts_with (S.faults source.old) (O.faults out.old) (M.faults moves.old)) (counts_with (S.faults source.new) (O.faults out.new) (M.faults moves.new)) }
+    ensures came { Comes (outside_seen S.Source O.Sink source.old out.old) (outside_seen S.Source O.Sink source.new out.new) (stand held.old 0 (NotBegun (outset_seen M.Sink P.Blocks F.Blocks moves.old paging.old files.old))) result (left_seen M.Sink P.Blocks F.Blocks moves.new paging.new files.new) }
+    ensures blame { IsBlamed result (Rose (P.faults paging.old) (P.faults paging.new) ⊎ Rose (F.faults files.old) (F.faults files.new)) (counts_seen S.Source O.Sink M.Sink source.old out.old moves.old) (counts_seen S.Source O.Sink M.Sink source.new out.new moves.new) }
     ensures idle { S.idle source.new ≤ S.idle source.old + 1 }
     ensures source_later { S.faults source.old ≤ S.faults source.new }
     ensures out_later { O.faults out.old ≤ O.faults out.new }
@@ -201,8 +201,8 @@ fn decide_first<S: Source, O: Sink, M: Sink, P: Blocks, F: Blocks>(
     requires behind { length held.old < len + 1 + 4096 }
     requires paging_named { P.named paging.old ≡ [] }
     requires files_named { F.named files.old ≡ [] }
-    ensures came { Comes (outside (S.left source.old) (O.taken out.old)) (outside (S.left source.new) (O.taken out.new)) (stand held.old 0 (NotBegun (outset (P.faults paging.old) (F.faults files.old) (M.taken moves.old) (M.faults moves.old)))) result (left_with (M.taken moves.new) (M.faults moves.new) (device_left (P.named paging.new) (P.log paging.new) (P.blocks paging.new) (P.faults paging.new)) (device_left (F.named files.new) (F.log files.new) (F.blocks files.new) (F.faults files.new))) }
-    ensures blame { IsBlamed result (Rose (P.faults paging.old) (P.faults paging.new) ⊎ Rose (F.faults files.old) (F.faults files.new)) (counts_with (S.faults source.old) (O.faults out.old) (M.faults moves.old)) (counts_with (S.faults source.new) (O.faults out.new) (M.faults moves.new)) }
+    ensures came { Comes (outside_seen S.Source O.Sink source.old out.old) (outside_seen S.Source O.Sink source.new out.new) (stand held.old 0 (NotBegun (outset_seen M.Sink P.Blocks F.Blocks moves.old paging.old files.old))) result (left_seen M.Sink P.Blocks F.Blocks moves.new paging.new files.new) }
+    ensures blame { IsBlamed result (Rose (P.faults paging.old) (P.faults paging.new) ⊎ Rose (F.faults files.old) (F.faults files.new)) (counts_seen S.Source O.Sink M.Sink source.old out.old moves.old) (counts_seen S.Source O.Sink M.Sink source.new out.new moves.new) }
     ensures idle { S.idle source.new ≤ S.idle source.old + 1 }
     ensures source_later { S.faults source.old ≤ S.faults source.new }
     ensures out_later { O.faults out.old ≤ O.faults out.new }
@@ -234,8 +234,8 @@ pub(crate) fn decide_all<S: Source, O: Sink, M: Sink, P: Blocks, F: Blocks>(
 ) -> Ending
     requires paging_named { P.named paging.old ≡ [] }
     requires files_named { F.named files.old ≡ [] }
-    ensures came { Comes (outside (S.left source.old) (O.taken out.old)) (outside (S.left source.new) (O.taken out.new)) (stand [] 0 (NotBegun (outset (P.faults paging.old) (F.faults files.old) (M.taken moves.old) (M.faults moves.old)))) result (left_with (M.taken moves.new) (M.faults moves.new) (device_left (P.named paging.new) (P.log paging.new) (P.blocks paging.new) (P.faults paging.new)) (device_left (F.named files.new) (F.log files.new) (F.blocks files.new) (F.faults files.new))) }
-    ensures blame { IsBlamed result (Rose (P.faults paging.old) (P.faults paging.new) ⊎ Rose (F.faults files.old) (F.faults files.new)) (counts_with (S.faults source.old) (O.faults out.old) (M.faults moves.old)) (counts_with (S.faults source.new) (O.faults out.new) (M.faults moves.new)) }
+    ensures came { Comes (outside_seen S.Source O.Sink source.old out.old) (outside_seen S.Source O.Sink source.new out.new) (stand [] 0 (NotBegun (outset_seen M.Sink P.Blocks F.Blocks moves.old paging.old files.old))) result (left_seen M.Sink P.Blocks F.Blocks moves.new paging.new files.new) }
+    ensures blame { IsBlamed result (Rose (P.faults paging.old) (P.faults paging.new) ⊎ Rose (F.faults files.old) (F.faults files.new)) (counts_seen S.Source O.Sink M.Sink source.old out.old moves.old) (counts_seen S.Source O.Sink M.Sink source.new out.new moves.new) }
     ensures idle { S.idle source.new ≤ S.idle source.old + 1 }
     ensures source_later { S.faults source.old ≤ S.faults source.new }
     ensures out_later { O.faults out.old ≤ O.faults out.new }

@@ -2,13 +2,13 @@ ghost use Rattle.std.specs.Prelude.{◌≡◌, ◌≢◌, ◌↔◌, ◌≤◌, 
 ghost use Rattle.mm_types.specs.Spelling.{decimal};
 ghost use Rattle.mm_types.specs.Outside.{Rose, HasCause};
 ghost use Rattle.mm_run.specs.Script.{IsScript, IsComplete, IsFault};
-ghost use Rattle.mm_run.specs.Story.{Comes, IsBlamed, IsForm, outside, stand, counts_with};
-ghost use Rattle.mm_run.specs.Scenes.{NotBegun, outset};
-ghost use Rattle.mm_run.specs.Ends.{left_with, device_left};
-ghost use Rattle.mm_run.specs.Ran.{Ran, around};
+ghost use Rattle.mm_run.specs.Story.{Comes, IsBlamed, IsForm, outside, stand};
+ghost use Rattle.mm_run.specs.Scenes.{NotBegun};
+ghost use Rattle.mm_run.specs.Ran.{Ran};
 ghost use Rattle.mm_run.specs.Texts.{last_text, WroteLast};
 ghost use Rattle.mm_make.specs.Generated.{script_of};
 ghost use Rattle.mm_run.specs.Bulk.{IsBulk, IsNoBulk, BulkRan};
+ghost use Rattle.mm_run.specs.Seen.{counts_seen, left_seen, outset_seen, outside_seen, seen};
 
 use crate::bulk::bulk;
 use crate::endings::Ending;
@@ -84,10 +84,10 @@ fn come_to<S: Source, O: Sink, M: Sink, P: Blocks, F: Blocks>(
 ) -> Ending
     requires paging_named { P.named paging.old ≡ [] }
     requires files_named { F.named files.old ≡ [] }
-    ensures came { Comes (outside (S.left source.old) (O.taken out.old)) (outside (S.left source.new) (O.taken out.new)) (stand [] 0 (NotBegun (outset (P.faults paging.old) (F.faults files.old) (M.taken moves.old) (M.faults moves.old)))) result (left_with (M.taken moves.new) (M.faults moves.new) (device_left (P.named paging.new) (P.log paging.new) (P.blocks paging.new) (P.faults paging.new)) (device_left (F.named files.new) (F.log files.new) (F.blocks files.new) (F.faults files.new))) }
+    ensures came { Comes (outside_seen S.Source O.Sink source.old out.old) (outside_seen S.Source O.Sink source.new out.new) (stand [] 0 (NotBegun (outset_seen M.Sink P.Blocks F.Blocks moves.old paging.old files.old))) result (left_seen M.Sink P.Blocks F.Blocks moves.new paging.new files.new) }
     ensures is_form { IsForm words.now → result ≢ Ending.Usage }
     ensures no_form { (IsForm words.now → ⊥) → result ≡ Ending.Usage }
-    ensures blame { IsBlamed result (Rose (P.faults paging.old) (P.faults paging.new) ⊎ Rose (F.faults files.old) (F.faults files.new)) (counts_with (S.faults source.old) (O.faults out.old) (M.faults moves.old)) (counts_with (S.faults source.new) (O.faults out.new) (M.faults moves.new)) }
+    ensures blame { IsBlamed result (Rose (P.faults paging.old) (P.faults paging.new) ⊎ Rose (F.faults files.old) (F.faults files.new)) (counts_seen S.Source O.Sink M.Sink source.old out.old moves.old) (counts_seen S.Source O.Sink M.Sink source.new out.new moves.new) }
     ensures idle { S.idle source.new ≤ S.idle source.old + 1 }
     ensures source_later { S.faults source.old ≤ S.faults source.new }
     ensures out_later { O.faults out.old ≤ O.faults out.new }
@@ -135,7 +135,7 @@ fn finish<S: Source, O: Sink, M: Sink, P: Blocks, F: Blocks>(
 ) -> u8
     requires paging_named { P.named paging.old ≡ [] }
     requires files_named { F.named files.old ≡ [] }
-    ensures ran { Ran (around (S.left source.old) (O.taken out.old) (left_with (M.taken moves.old) (M.faults moves.old) (device_left (P.named paging.old) (P.log paging.old) (P.blocks paging.old) (P.faults paging.old)) (device_left (F.named files.old) (F.log files.old) (F.blocks files.old) (F.faults files.old)))) (around (S.left source.new) (O.taken out.new) (left_with (M.taken moves.new) (M.faults moves.new) (device_left (P.named paging.new) (P.log paging.new) (P.blocks paging.new) (P.faults paging.new)) (device_left (F.named files.new) (F.log files.new) (F.blocks files.new) (F.faults files.new)))) (IsForm words.now) result }
+    ensures ran { Ran (seen S.Source O.Sink M.Sink P.Blocks F.Blocks source.old out.old moves.old paging.old files.old) (seen S.Source O.Sink M.Sink P.Blocks F.Blocks source.new out.new moves.new paging.new files.new) (IsForm words.now) result }
     ensures read_fault { result ≡ 4 → Rose (S.faults source.old) (S.faults source.new) }
     ensures out_fault { result ≡ 5 → Rose (O.faults out.old) (O.faults out.new) }
     ensures moves_fault { result ≡ 6 → Rose (M.faults moves.old) (M.faults moves.new) }
@@ -163,7 +163,7 @@ fn end<S: Source, O: Sink, M: Sink, P: Blocks, F: Blocks>(
 ) -> u8
     requires paging_named { P.named paging.old ≡ [] }
     requires files_named { F.named files.old ≡ [] }
-    ensures ran { Ran (around (S.left source.old) (O.taken out.old) (left_with (M.taken moves.old) (M.faults moves.old) (device_left (P.named paging.old) (P.log paging.old) (P.blocks paging.old) (P.faults paging.old)) (device_left (F.named files.old) (F.log files.old) (F.blocks files.old) (F.faults files.old)))) (around (S.left source.new) (O.taken out.new) (left_with (M.taken moves.new) (M.faults moves.new) (device_left (P.named paging.new) (P.log paging.new) (P.blocks paging.new) (P.faults paging.new)) (device_left (F.named files.new) (F.log files.new) (F.blocks files.new) (F.faults files.new)))) (IsForm words.now) result }
+    ensures ran { Ran (seen S.Source O.Sink M.Sink P.Blocks F.Blocks source.old out.old moves.old paging.old files.old) (seen S.Source O.Sink M.Sink P.Blocks F.Blocks source.new out.new moves.new paging.new files.new) (IsForm words.now) result }
     ensures read_fault { result ≡ 4 → Rose (S.faults source.old) (S.faults source.new) }
     ensures out_fault { result ≡ 5 → Rose (O.faults out.old) (O.faults out.new) }
     ensures moves_fault { result ≡ 6 → Rose (M.faults moves.old) (M.faults moves.new) }
@@ -196,15 +196,24 @@ pub fn run<S: Source, O: Sink, M: Sink, P: Blocks, F: Blocks>(
     requires paging_plain { P.named paging.old ≡ [] }
     requires files_plain { F.named files.old ≡ [] }
     // Which lines were decided, with which answers and moves, what the run then came to, what was written, and what is left on devices.
-    ensures ran { IsNoBulk words.now → Ran (around (S.left source.old) (O.taken out.old) (left_with (M.taken moves.old) (M.faults moves.old) (device_left (P.named paging.old) (P.log paging.old) (P.blocks paging.old) (P.faults paging.old)) (device_left (F.named files.old) (F.log files.old) (F.blocks files.old) (F.faults files.old)))) (around (S.left source.new) (O.taken out.new) (left_with (M.taken moves.new) (M.faults moves.new) (device_left (P.named paging.new) (P.log paging.new) (P.blocks paging.new) (P.faults paging.new)) (device_left (F.named files.new) (F.log files.new) (F.blocks files.new) (F.faults files.new)))) (IsForm words.now) result }
+    ensures ran { IsNoBulk words.now → Ran
+        (seen S.Source O.Sink M.Sink P.Blocks F.Blocks source.old out.old moves.old paging.old files.old)
+        (seen S.Source O.Sink M.Sink P.Blocks F.Blocks source.new out.new moves.new paging.new files.new)
+        (IsForm words.now) result }
     // Of a generated script, the same of its events.
-    ensures bulk { (seed count : ℕ) → IsBulk words.now seed count → BulkRan (around (S.left source.old) (O.taken out.old) (left_with (M.taken moves.old) (M.faults moves.old) (device_left (P.named paging.old) (P.log paging.old) (P.blocks paging.old) (P.faults paging.old)) (device_left (F.named files.old) (F.log files.old) (F.blocks files.old) (F.faults files.old)))) (around (S.left source.new) (O.taken out.new) (left_with (M.taken moves.new) (M.faults moves.new) (device_left (P.named paging.new) (P.log paging.new) (P.blocks paging.new) (P.faults paging.new)) (device_left (F.named files.new) (F.log files.new) (F.blocks files.new) (F.faults files.new)))) (script_of seed count) result }
+    ensures bulk { (seed count : ℕ) → IsBulk words.now seed count → BulkRan
+        (seen S.Source O.Sink M.Sink P.Blocks F.Blocks source.old out.old moves.old paging.old files.old)
+        (seen S.Source O.Sink M.Sink P.Blocks F.Blocks source.new out.new moves.new paging.new files.new)
+        (script_of seed count) result }
     ensures unread { (seed count : ℕ) → IsBulk words.now seed count → source.new ≡ source.old }
 
     // A script that comes to something by itself ends with that status and its whole text, unless memory or the
     // outside fails.
     ensures exact { (text : List ℕ) (lines : List (List ℕ)) (e : Ending) → S.left source.old ≡ Some text → IsForm words.now → IsScript text 0 lines e
-        → IsComplete (around (S.left source.old) (O.taken out.old) (left_with (M.taken moves.old) (M.faults moves.old) (device_left (P.named paging.old) (P.log paging.old) (P.blocks paging.old) (P.faults paging.old)) (device_left (F.named files.old) (F.log files.old) (F.blocks files.old) (F.faults files.old)))) (around (S.left source.new) (O.taken out.new) (left_with (M.taken moves.new) (M.faults moves.new) (device_left (P.named paging.new) (P.log paging.new) (P.blocks paging.new) (P.faults paging.new)) (device_left (F.named files.new) (F.log files.new) (F.blocks files.new) (F.faults files.new)))) (IsForm words.now) lines e result ⊎ IsFault result }
+        → IsComplete
+        (seen S.Source O.Sink M.Sink P.Blocks F.Blocks source.old out.old moves.old paging.old files.old)
+        (seen S.Source O.Sink M.Sink P.Blocks F.Blocks source.new out.new moves.new paging.new files.new)
+        (IsForm words.now) lines e result ⊎ IsFault result }
     ensures usage { (IsForm words.now → ⊥) → IsNoBulk words.now → (result ≡ 2) ⊎ IsFault result }
     ensures form { IsForm words.now → result ≢ 2 }
 

@@ -98,8 +98,8 @@ impl Stacks {
     ///
     /// The first that holds: `Nothing` for a thread without a stack; `AccessViolation` where the page is not committed;
     /// `GuardPage` for the guard of another page, and `StackOverflow` where the stack cannot grow, which take that guard off; the
-    /// guard page moves; `AccessViolation` where the page permits no read. After `NoMemory`, which comes only where it would move,
-    /// nothing has changed.
+    /// guard page moves; `AccessViolation` where the page permits no read. After `NoMemory` nothing
+    /// has changed.
     #[tactic(auto, using(mm_pages::proofs::Passed::turns_same))]
     pub fn probe<G: Pages>(
         &mut self,

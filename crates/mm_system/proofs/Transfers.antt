@@ -1,5 +1,5 @@
 -- What is told of the line that the world was given holds of the system's line.
-use Rattle.std.proofs.Common.{◌≡◌, ◌⊎◌, Bool, true, false, Option, Some, None, List, refl, cond, option_map, unwrap_or}
+use Rattle.std.proofs.Common.{◌≡◌, ◌⊎◌, ℕ, Bool, true, false, Option, Some, None, List, refl, cond, option_map, unwrap_or}
 use Rattle.std.specs.Prelude.{◌==◌}
 use Rattle.mm_types.specs.declared.answers.Answer.{Answer}
 use Rattle.mm_types.specs.declared.answers.Answer.TheVariants as answer
@@ -16,7 +16,7 @@ use Rattle.mm_pages.specs.Behind.{Behind}
 use Rattle.mm_paging.specs.Lines.{Line, Noted}
 use Rattle.mm_core.specs.Built.{takes_memory}
 use Rattle.mm_core.specs.Forgetting.{EndsWaits}
-use Rattle.mm_core.specs.Serving.{IsFailure, Flushed, Named, is_grow, is_fail, FailedBefore}
+use Rattle.mm_core.specs.Serving.{AskedBeside, IsFailure, Flushed, Named, is_grow, is_fail, FailedBefore}
 use Rattle.mm_system.specs.Lines.{world_line, said, written_pages, is_gone}
 
 pub same_fail : (e : Event) → is_fail (world_line e) ≡ is_fail e
@@ -42,6 +42,15 @@ module _ (watches : List WatchOf) (e : Event) (b : Answer) where
   named u paging paging' files files' = by_line e
     where
       by_line : (e : Event) → Named u (world_line e) b paging paging' files files' → Named u e (said watches e b) paging paging' files files'
+      by_line (line.Watch pid unwrites addr size count) h = tt
+      by_line (line.ResetWatch pid addr size) h = tt
+      by_line (line.Alloc pid addr size type prot) h = tt
+      by_line _ h = h
+
+  pub beside : (used : ℕ) (paging paging' files files' : DeviceOf) → AskedBeside used (world_line e) b paging paging' files files' → AskedBeside used e (said watches e b) paging paging' files files'
+  beside used paging paging' files files' = by_line e
+    where
+      by_line : (e : Event) → AskedBeside used (world_line e) b paging paging' files files' → AskedBeside used e (said watches e b) paging paging' files files'
       by_line (line.Watch pid unwrites addr size count) h = tt
       by_line (line.ResetWatch pid addr size) h = tt
       by_line (line.Alloc pid addr size type prot) h = tt

@@ -5,15 +5,15 @@ ghost use Rattle.mm_world.specs.Step.{unpaged};
 ghost use Rattle.mm_world.specs.System.{stacks_after};
 ghost use Rattle.mm_world.specs.Charge.{charge, limit};
 ghost use Rattle.mm_world.specs.Contents.{tables_of};
-ghost use Rattle.mm_paging.specs.Lines.{Noted, Broken};
 ghost use Rattle.mm_script.specs.Printed.{IsWellFormed};
 ghost use Rattle.mm_tables.specs.References.{IsTidy};
 ghost use Rattle.mm_stack.specs.Lines.{is_stack_line};
 ghost use Rattle.mm_core.specs.Built.{takes_memory};
 ghost use Rattle.mm_core.specs.Forgetting.{EndsWaits};
 ghost use Rattle.mm_core.specs.Stepping.{asks_frames};
-ghost use Rattle.mm_core.specs.Serving.{AskedFiles, AskedPaging, IsFailure, OneRose, Flushed, Named, is_grow, is_fail, FailedBefore};
-ghost use Rattle.mm_core.specs.Shown.{world as world_of, report, behind, line_of, paging_device, file_device, file_blocks, loans};
+ghost use Rattle.mm_core.specs.Told.{AsksBeside, AsksFiles, AsksNone, AsksPaging, FailsFrom, IsBroken, IsNoted, NamesCalls};
+ghost use Rattle.mm_core.specs.Serving.{IsFailure, Flushed, is_grow, is_fail};
+ghost use Rattle.mm_core.specs.Shown.{world as world_of, report, line_of, paging_device, file_device, file_blocks, loans};
 ghost use Rattle.mm_system.specs.Lines.{is_machine, world_line, given_outcome};
 
 use crate::built::{either, other_line};
@@ -45,18 +45,19 @@ fn decide_alone<G: Pages>(
     ensures unmoved { OnErr result (stacks.new ≡ stacks.old) }
     ensures within { charge (world_of world.new) ≤ limit (world_of world.new) }
     ensures lives { IsTidy (tables_of (world_of world.new)) }
-    ensures asked_files { is_fail (world_line event.now) ≡ false → OnOk result (AskedFiles (file_device world.old) (file_device world.new) (report world.new)) }
-    ensures asked_paging { is_fail (world_line event.now) ≡ false → is_grow (world_line event.now) ≡ false → OnOk result (AskedPaging (paging_device world.old) (paging_device world.new) (report world.new)) }
-    ensures named { IfOk result (λ a. Named G.unpaged (world_line event.now) a (paging_device world.old) (paging_device world.new) (file_device world.old) (file_device world.new)) }
-    ensures idle { OnErr result ((paging_device world.new ≡ paging_device world.old) × (file_device world.new ≡ file_device world.old) × (file_blocks world.new ≡ file_blocks world.old)) }
-    ensures failed { IfOk result (λ a. IsFailure a → FailedBefore (world_line event.now) (report world.old) ⊎ OneRose (paging_device world.old) (paging_device world.new) (file_device world.old) (file_device world.new)) }
+    ensures asked_files { is_fail (world_line event.now) ≡ false → OnOk result (AsksFiles world.old world.new) }
+    ensures asked_paging { is_fail (world_line event.now) ≡ false → is_grow (world_line event.now) ≡ false → OnOk result (AsksPaging world.old world.new) }
+    ensures beside { G.unpaged ≡ false → IfOk result (λ a. AsksBeside world.old (world_line event.now) a world.new) }
+    ensures named { IfOk result (λ a. NamesCalls world.old (world_line event.now) a world.new) }
+    ensures idle { OnErr result (AsksNone world.old world.new) }
+    ensures failed { IfOk result (λ a. IsFailure a → FailsFrom world.old (world_line event.now) world.new) }
     ensures unwaited { G.unpaged ≡ true → (tid : ℕ) → ((report world.old).wait tid ≡ wait.None) × ((report world.new).wait tid ≡ wait.None) }
     ensures waits { IfOk result (λ a. EndsWaits (world_of world.old) (world_line event.now) a (report world.new)) }
     ensures paging_later { (paging_device world.old).faults ≤ (paging_device world.new).faults }
     ensures files_later { (file_device world.old).faults ≤ (file_device world.new).faults }
     ensures flushed { IfOk result (λ a. Flushed (world_of world.new) (file_blocks world.new) (world_line event.now) a) }
-    ensures paged { G.unpaged ≡ false → IfOk result (λ a. Noted (world_of world.old) (report world.old) (behind world.old) (paging_device world.old) (file_device world.old) (world_line event.now) a (world_of world.new) (report world.new) (behind world.new) (paging_device world.new) (file_device world.new)) }
-    ensures broken { G.unpaged ≡ false → OnErr result (Broken (behind world.old) (behind world.new)) }
+    ensures paged { G.unpaged ≡ false → IfOk result (λ a. IsNoted world.old (world_line event.now) a world.new) }
+    ensures broken { G.unpaged ≡ false → OnErr result (IsBroken world.old world.new) }
     ensures no_memory { takes_memory (world_line event.now) ≡ false → IsOk result }
     ensures line { OnOk result (line_of world.new ≡ line) }
     ensures ready { OnOk result (world.new.spent ≡ false) }
@@ -89,18 +90,19 @@ pub(crate) fn decide<G: Pages>(
     ensures unmoved { OnErr result (stacks.new ≡ stacks.old) }
     ensures within { charge (world_of world.new) ≤ limit (world_of world.new) }
     ensures lives { IsTidy (tables_of (world_of world.new)) }
-    ensures asked_files { is_fail (world_line event.now) ≡ false → OnOk result (AskedFiles (file_device world.old) (file_device world.new) (report world.new)) }
-    ensures asked_paging { is_fail (world_line event.now) ≡ false → is_grow (world_line event.now) ≡ false → OnOk result (AskedPaging (paging_device world.old) (paging_device world.new) (report world.new)) }
-    ensures named { IfOk result (λ a. Named G.unpaged (world_line event.now) a (paging_device world.old) (paging_device world.new) (file_device world.old) (file_device world.new)) }
-    ensures idle { OnErr result ((paging_device world.new ≡ paging_device world.old) × (file_device world.new ≡ file_device world.old) × (file_blocks world.new ≡ file_blocks world.old)) }
-    ensures failed { IfOk result (λ a. IsFailure a → FailedBefore (world_line event.now) (report world.old) ⊎ OneRose (paging_device world.old) (paging_device world.new) (file_device world.old) (file_device world.new)) }
+    ensures asked_files { is_fail (world_line event.now) ≡ false → OnOk result (AsksFiles world.old world.new) }
+    ensures asked_paging { is_fail (world_line event.now) ≡ false → is_grow (world_line event.now) ≡ false → OnOk result (AsksPaging world.old world.new) }
+    ensures beside { G.unpaged ≡ false → IfOk result (λ a. AsksBeside world.old (world_line event.now) a world.new) }
+    ensures named { IfOk result (λ a. NamesCalls world.old (world_line event.now) a world.new) }
+    ensures idle { OnErr result (AsksNone world.old world.new) }
+    ensures failed { IfOk result (λ a. IsFailure a → FailsFrom world.old (world_line event.now) world.new) }
     ensures unwaited { G.unpaged ≡ true → (tid : ℕ) → ((report world.old).wait tid ≡ wait.None) × ((report world.new).wait tid ≡ wait.None) }
     ensures waits { IfOk result (λ a. EndsWaits (world_of world.old) (world_line event.now) a (report world.new)) }
     ensures paging_later { (paging_device world.old).faults ≤ (paging_device world.new).faults }
     ensures files_later { (file_device world.old).faults ≤ (file_device world.new).faults }
     ensures flushed { IfOk result (λ a. Flushed (world_of world.new) (file_blocks world.new) (world_line event.now) a) }
-    ensures paged { G.unpaged ≡ false → IfOk result (λ a. Noted (world_of world.old) (report world.old) (behind world.old) (paging_device world.old) (file_device world.old) (world_line event.now) a (world_of world.new) (report world.new) (behind world.new) (paging_device world.new) (file_device world.new)) }
-    ensures broken { G.unpaged ≡ false → OnErr result (Broken (behind world.old) (behind world.new)) }
+    ensures paged { G.unpaged ≡ false → IfOk result (λ a. IsNoted world.old (world_line event.now) a world.new) }
+    ensures broken { G.unpaged ≡ false → OnErr result (IsBroken world.old world.new) }
     ensures no_memory { takes_memory (world_line event.now) ≡ false → IsOk result }
     ensures line { OnOk result (line_of world.new ≡ line) }
     ensures ready { OnOk result (world.new.spent ≡ false) }

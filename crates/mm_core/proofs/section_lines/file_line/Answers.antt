@@ -7,7 +7,8 @@ use Rattle.mm_world.specs.Processes.{new_file}
 use Rattle.mm_world.specs.Step.{is_ok}
 use Rattle.mm_pages.specs.Store.{StoreOf}
 use Rattle.mm_tables.specs.Fits.{bytes_of}
-use Rattle.mm_core.proofs.Lines.{decided-served, faulted-answer, faulted-made, one-later, if-and, if-both, on-ok}
+use Rattle.mm_core.proofs.Beside.{beside-file}
+use Rattle.mm_core.proofs.Lines.{if-ok, decided-served, faulted-answer, faulted-made, one-later, if-and, if-both, on-ok}
 use Rattle.mm_core.proofs.Making.{in_new_file}
 use Rattle.mm_core.proofs.Files.{file-stepped}
 use Rattle.mm_types.specs.declared.moves.LineKind.TheVariants as kind
@@ -50,3 +51,10 @@ returns-clause-halted g c =
     let call = c.new_file in
     each-err call.result (
     halted_notes c.args.line kind.Call refl g.G.Pages.unpaged (g.G.Pages.store c.args.g.now) (g.G.Pages.store c.begin.new.g) (g.G.Pages.store call.new.g) (g.G.Pages.behind c.args.g.now) (g.G.Pages.behind c.begin.new.g) (g.G.Pages.behind call.new.g) c.begin.ensures.passes call.ensures.notes)
+
+pub returns-clause-beside : goal.returns-clause-beside
+returns-clause-beside g c = λ paged.
+    let call = c.new_file in
+    if-ok call.result (call.ensures.file paged) (λ a made.
+    beside-file c.args.t.now.blocks_used c.args.name.now c.args.pages c.args.byte c.args.line a (g.G.Pages.store c.args.g.now) (g.G.Pages.store c.begin.new.g) (g.G.Pages.store call.new.g)
+    c.begin.ensures.begins call.ensures.beside made)

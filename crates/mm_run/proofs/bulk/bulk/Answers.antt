@@ -8,15 +8,15 @@ use Rattle.mm_run.proofs.bulk.bulk.Goals as goal
 
 pub returns-in-Err-clause-ran : goal.returns-in-Err-clause-ran
 returns-in-Err-clause-ran g c = λ left.
-    ran_unflushed _ _ (script_of c.args.seed c.args.count) 6 _ c.flush.ensures.taken refl refl c.decide_script-decided.result c.decide_script-decided.ensures.came refl refl
+    ran_unflushed _ _ (script_of c.args.seed c.args.count) 6 _ c.flush.ensures.taken c.flush.ensures.cause.later refl refl c.decide_script-decided.result c.decide_script-decided.ensures.came refl refl
 
 pub returns-in-Ok-decided-clause-ran : goal.returns-in-Ok-decided-clause-ran
 returns-in-Ok-decided-clause-ran g c = λ left.
-    ran_all _ _ (script_of c.args.seed c.args.count) c.tell_tally.result _ c.flush.ensures.taken refl refl c.in-Ok-decided.tally c.in-Ok-decided.ensures.came c.tell_tally.ensures.told
+    ran_all _ _ (script_of c.args.seed c.args.count) c.tell_tally.result _ c.flush.ensures.taken c.flush.ensures.cause.later refl refl c.in-Ok-decided.tally c.in-Ok-decided.ensures.came c.tell_tally.ensures.told
 
 pub returns-in-Err-decided-clause-ran : goal.returns-in-Err-decided-clause-ran
 returns-in-Err-decided-clause-ran g c = λ left.
-    ran_failed _ _ (script_of c.args.seed c.args.count) c.status.result _ c.flush.ensures.taken refl refl c.in-Err-decided.ending c.in-Err-decided.ensures.came c.status.ensures refl
+    ran_failed _ _ (script_of c.args.seed c.args.count) c.status.result _ c.flush.ensures.taken c.flush.ensures.cause.later refl refl c.in-Err-decided.ending c.in-Err-decided.ensures.came c.status.ensures refl
 
 pub returns-in-Err-decided-clause-read_fault : goal.returns-in-Err-decided-clause-read_fault
 returns-in-Err-decided-clause-read_fault g c = λ q. never_read _ _ c.in-Err-decided.ending _ c.in-Err-decided.ensures.came (sym c.status.ensures ∙ q)

@@ -2,6 +2,7 @@ use Rattle.std.proofs.Common.{refl, ◌∙◌, inl, arith}
 use Rattle.mm_run.specs.declared.endings.Ending.TheVariants as ending
 use Rattle.mm_make.specs.Generated.{script_of}
 use Rattle.mm_run.specs.Scenes.{NotBegun, outset}
+use Rattle.mm_run.proofs.Stories.{log_left_at}
 use Rattle.mm_run.proofs.Batches.{stopped_here}
 use Rattle.mm_run.proofs.Drawn.{slice_later, slice_few}
 use Rattle.mm_run.proofs.bulk.decide_script.Goals as goal
@@ -12,7 +13,7 @@ returns-in-Err-clause-came g c =
     record {
       end = NotBegun o;
       finished = stopped_here (NotBegun o) (script_of c.args.seed c.args.count) ending.NoMemory (inl refl) (omega arith);
-      leaves = refl;
+      leaves = log_left_at o.log _ refl refl;
     }
 
 pub start_events-requires-clause-later : goal.start_events-requires-clause-later

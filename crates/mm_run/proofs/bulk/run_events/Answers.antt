@@ -11,6 +11,7 @@ use Rattle.mm_run.specs.Scenes.{NotBegun, Running, outset, scene}
 use Rattle.mm_run.specs.Story.{IsBlamed, counts_with}
 use Rattle.mm_run.proofs.Starting.{opened_of, is_new, is_made, first_legal, three_names}
 use Rattle.mm_run.proofs.Batches.{stopped_here}
+use Rattle.mm_run.proofs.Stories.{log_left_at}
 use Rattle.mm_run.proofs.bulk.run_events.Goals as goal
 
 pub returns-in-Err-clause-came : goal.returns-in-Err-clause-came
@@ -18,10 +19,11 @@ returns-in-Err-clause-came g c = λ p f later later'.
     let o = outset p f (g.M.Sink.taken c.args.moves.now) (g.M.Sink.faults c.args.moves.now) in
     let err = c.in-Err.ensures.err in
     let end = c.moves-1.given.1 (sym c.new-3.ensures.same_reference ∙ sym (ap (λ x. x.2.sink.ghost_name) err) ∙ sym c.finish-in-Err-2.ensures.same_reference) in
+    let sink = end ∙ c.finish-in-Err-2.ensures.sink ∙ ap (λ x. x.2.sink.now) err ∙ c.new-3.ensures.sink in
     record {
       end = NotBegun o;
       finished = stopped_here (NotBegun o) (line.Machine c.args.machine ∷ c.args.events.now) ending.NoMemory (inl refl) (omega arith);
-      leaves = sym (ap g.M.Sink.taken (end ∙ c.finish-in-Err-2.ensures.sink ∙ ap (λ x. x.2.sink.now) err ∙ c.new-3.ensures.sink));
+      leaves = log_left_at o.log _ (sym (ap g.M.Sink.taken sink)) (sym (ap g.M.Sink.faults sink));
     }
 
 pub over-requires-clause-unused : goal.over-requires-clause-unused
@@ -74,7 +76,7 @@ returns-clause-came g c = λ p f later later'.
       end = Running (scene last);
       finished = c.decide_events-decided.ensures.came o made;
       leaves = (
-        ap bm.taken left_m,
+        log_left_at (behind last).log _ (ap bm.taken left_m) (ap bm.faults left_m),
         record {
           log_is = ap (λ d. told_by (bp.named d) (bp.log d)) left_p;
           blocks_are = ap bp.blocks left_p;

@@ -1,6 +1,7 @@
 use Rattle.std.proofs.Common.{◌∷◌, refl, arith}
 use Rattle.mm_types.specs.declared.events.Event.TheVariants as line
 use Rattle.mm_run.specs.Scenes.{NotBegun, outset}
+use Rattle.mm_run.proofs.Stories.{log_left_at}
 use Rattle.mm_run.proofs.Batches.{stopped_here, blamed_opened}
 use Rattle.mm_run.proofs.bulk.start_events.Goals as goal
 
@@ -15,7 +16,7 @@ returns-in-Err-clause-came g c =
     record {
       end = NotBegun o;
       finished = stopped_here (NotBegun o) (line.Machine c.args.machine ∷ c.args.events.now) c.in-Err.ending c.in-Err.ensures.ends (omega arith);
-      leaves = refl;
+      leaves = log_left_at o.log _ refl refl;
     }
 
 pub returns-in-Ok-clause-blame : goal.returns-in-Ok-clause-blame

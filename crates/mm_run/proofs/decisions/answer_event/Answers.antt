@@ -22,4 +22,4 @@ returns-else-moves_failed-clause-went g c = λ left.
 
 pub returns-in-Err-clause-went : goal.returns-in-Err-clause-went
 returns-in-Err-clause-went g c = λ left.
-    came_broken c.args.held.now c.args.len c.args.n c.requires.line c.requires.few c.requires.behind left _ (scene c.args.system.now) (scene c.decide.new.system) c.in-Err.ensures.breaks
+    came_broken c.args.held.now c.args.len c.args.n c.requires.line c.requires.few c.requires.behind left _ (scene c.args.system.now) (scene c.decide.new.system) c.args.event.now c.requires.says c.requires.grammar c.in-Err.ensures.takes c.in-Err.ensures.breaks

@@ -1,5 +1,6 @@
-use Rattle.std.proofs.Common.{◌≡◌, ◌∙◌, sym, inl, inr, true, false, subst}
+use Rattle.std.proofs.Common.{◌≡◌, ◌∙◌, refl, sym, inl, inr, true, false, subst}
 use Rattle.std.specs.Prelude.{Bool}
+use Rattle.mm_core.specs.Built.{takes_memory}
 use Rattle.mm_core.specs.Serving.{Named}
 use Rattle.mm_system.specs.Shown.{system, report, paging_device, file_device}
 use Rattle.mm_run.proofs.Deciding.{stands, devices_hold}
@@ -31,6 +32,7 @@ returns-in-Ok-clause-decided g c =
             lives = d.lives;
             asked_paging = d.asked_paging;
             asked_files = d.asked_files;
+            beside = d.beside c.requires.paged;
             named = subst (λ (u : Bool). Named u e a (paging_device old) (paging_device new) (file_device old) (file_device new)) c.requires.paged d.named;
             few_paging = fits.named_paging;
             few_files = fits.named_file;
@@ -71,6 +73,13 @@ returns-in-Err-clause-breaks g c =
       files = d.idle.1;
       blocks = d.idle.2;
     }
+
+pub returns-in-Err-clause-takes : goal.returns-in-Err-clause-takes
+returns-in-Err-clause-takes g c = taken (takes_memory c.args.event.now) c.in-Err.ensures.no_memory
+  where
+    taken : (b : Bool) → (b ≡ false → false ≡ true) → b ≡ true
+    taken true h = refl
+    taken false h = h refl
 
 pub returns-in-Err-clause-later : goal.returns-in-Err-clause-later
 returns-in-Err-clause-later g c = (c.in-Err.ensures.broken c.requires.paged).grew.later

@@ -1,5 +1,6 @@
 use Rattle.std.proofs.Common.{◌≡◌, ◌≤◌, ◌<◌, ◌+◌, refl, sym, ap, ◌∙◌, subst, inl, arith, rules}
 use Rattle.mm_types.specs.Machine.{IsMachine}
+use Rattle.mm_types.specs.declared.events.Event.TheVariants as line
 use Rattle.mm_blocks.specs.Traffic.{NoneLogged, told_by}
 use Rattle.mm_system.specs.Shown.{system, behind}
 use Rattle.mm_moving.specs.Shown.{StateOf}
@@ -7,7 +8,7 @@ use Rattle.mm_paged.specs.Store as paged
 use Rattle.mm_run.specs.Scenes.{NotBegun, Running, outset, scene}
 use Rattle.mm_run.specs.Story.{IsBlamed, counts_with}
 use Rattle.mm_run.proofs.Starting.{opened_of, is_new, is_made, first_legal, three_names}
-use Rattle.mm_run.proofs.Stories.{comes_here, follows_here}
+use Rattle.mm_run.proofs.Stories.{comes_here, follows_here, log_left_at}
 use Rattle.mm_run.proofs.Stops.{came_memory}
 use Rattle.mm_run.proofs.machines.run_machine.Goals as goal
 
@@ -17,8 +18,9 @@ returns-in-Err-clause-came g c = λ p f later later'.
     let o = outset p f (g.M.Sink.taken c.args.moves.now) (g.M.Sink.faults c.args.moves.now) in
     let err = c.in-Err.ensures.err in
     let end = c.moves-1.given.1 (sym c.new-3.ensures.same_reference ∙ sym (ap (λ x. x.2.sink.ghost_name) err) ∙ sym c.finish-in-Err-2.ensures.same_reference) in
-    comes_here _ _ _ _ o _ (sym (ap g.M.Sink.taken (end ∙ c.finish-in-Err-2.ensures.sink ∙ ap (λ x. x.2.sink.now) err ∙ c.new-3.ensures.sink)))
-    (came_memory c.args.held.now c.args.len 0 c.requires.line small c.requires.behind _ _ (NotBegun o) (NotBegun o) (inl (follows_here (NotBegun o))))
+    let sink = end ∙ c.finish-in-Err-2.ensures.sink ∙ ap (λ x. x.2.sink.now) err ∙ c.new-3.ensures.sink in
+    comes_here _ _ _ _ o _ (sym (ap g.M.Sink.taken sink)) (sym (ap g.M.Sink.faults sink))
+    (came_memory c.args.held.now c.args.len 0 c.requires.line small c.requires.behind _ _ (NotBegun o) (NotBegun o) (line.Machine c.args.machine) c.requires.says c.requires.grammar (inl (refl, follows_here (NotBegun o))))
 
 pub over-requires-clause-unused : goal.over-requires-clause-unused
 over-requires-clause-unused g c = λ b. ap (λ (z : StateOf). z.life.added b) c.in-Ok.ensures.starts.shows
@@ -70,7 +72,7 @@ returns-clause-came g c = λ p f later later'.
       end = Running (scene last);
       came = c.answer_all-ending.ensures.came o made;
       leaves = (
-        ap bm.taken left_m,
+        log_left_at (behind last).log _ (ap bm.taken left_m) (ap bm.faults left_m),
         record {
           log_is = ap (λ d. told_by (bp.named d) (bp.log d)) left_p;
           blocks_are = ap bp.blocks left_p;

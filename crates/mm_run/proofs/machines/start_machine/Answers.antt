@@ -21,8 +21,8 @@ returns-in-Err-clause-came g c =
     let came : Came (outside left took) (outside left took) (stand c.args.held.now 0 (NotBegun o)) c.in-Err.ending (NotBegun o) =
     elim c.in-Err.ensures.ends [
       | inl memory ↦ subst (λ (e : Ending). Came (outside left took) (outside left took) (stand c.args.held.now 0 (NotBegun o)) e (NotBegun o)) (sym memory)
-          (came_memory c.args.held.now c.args.len 0 c.requires.line small c.requires.behind left took (NotBegun o) (NotBegun o) (inl (follows_here (NotBegun o))))
+          (came_memory c.args.held.now c.args.len 0 c.requires.line small c.requires.behind left took (NotBegun o) (NotBegun o) (line.Machine c.args.machine) c.requires.says c.requires.grammar (inl (refl, follows_here (NotBegun o))))
       | inr failed ↦ subst (λ (e : Ending). Came (outside left took) (outside left took) (stand c.args.held.now 0 (NotBegun o)) e (NotBegun o)) (sym failed)
           (came_setup c.args.held.now c.args.len 0 c.requires.line small c.requires.behind left took (NotBegun o) (line.Machine c.args.machine) refl c.requires.says refl)
     ] in
-    comes_here _ _ _ _ o _ refl came
+    comes_here _ _ _ _ o _ refl refl came

@@ -3,7 +3,7 @@ use Rattle.mm_types.specs.declared.events.Event.{Event}
 use Rattle.mm_world.specs.Step.{step, unpaged}
 use Rattle.mm_paging.specs.Lines.{Noted}
 use Rattle.mm_core.specs.Forgetting.{EndsWaits}
-use Rattle.mm_core.specs.Serving.{OneRose, Flushed, Named, FailedBefore, is_fail, is_grow}
+use Rattle.mm_core.specs.Serving.{AskedBeside, OneRose, Flushed, Named, FailedBefore, is_fail, is_grow}
 use Rattle.mm_core.specs.Stepping.{asks_frames}
 use Rattle.mm_core.specs.Shown.{world as world_of, report as report_of, behind as behind_of, paging_device as paging_of, file_device as files_of, file_blocks as blocks_of}
 use Rattle.mm_system.proofs.Alone.{given_alone}
@@ -39,6 +39,13 @@ returns-clause-named g c =
     let new = c.step.new.self in
     subst (λ (q : Event). Named g.G.Pages.unpaged q c.in_ok-given.given (paging_of old) (paging_of new) (files_of old) (files_of new))
     (c.either.ensures ∙ c.other_line-other.ensures) c.in_ok-given.ensures.named
+
+pub returns-clause-beside : goal.returns-clause-beside
+returns-clause-beside g c = λ pages.
+    let old = c.args.world.now in
+    let new = c.step.new.self in
+    subst (λ (q : Event). AskedBeside (world_of old).blocks_used q c.in_ok-given.given (paging_of old) (paging_of new) (files_of old) (files_of new))
+    (c.either.ensures ∙ c.other_line-other.ensures) (c.in_ok-given.ensures.beside pages)
 
 pub returns-clause-failed : goal.returns-clause-failed
 returns-clause-failed g c = λ bad.

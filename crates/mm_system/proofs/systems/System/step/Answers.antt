@@ -8,7 +8,7 @@ use Rattle.mm_types.specs.declared.events.Event.{Event}
 use Rattle.mm_watch.specs.Watches.{WatchesOf}
 use Rattle.mm_paging.specs.Lines.{Noted}
 use Rattle.mm_core.specs.Forgetting.{EndsWaits}
-use Rattle.mm_core.specs.Serving.{IsFailure, OneRose, Flushed, Named, FailedBefore}
+use Rattle.mm_core.specs.Serving.{AskedBeside, IsFailure, OneRose, Flushed, Named, FailedBefore}
 use Rattle.mm_core.specs.Stepping.{asks_frames}
 use Rattle.mm_core.specs.Shown.{world as world_of, report as report_of, behind as behind_of, paging_device as paging_of, file_device as files_of, file_blocks as blocks_of}
 use Rattle.mm_system.specs.Lines.{CanWatch}
@@ -185,6 +185,22 @@ returns-in-Ok-clause-asked_paging g c = λ none nothing.
     let b = c.in-Ok.given in
     let d = went w v c.args.self.now.watch c.take_room.new.watch new stacks left e before after a b c.in-Ok.ensures.given c.in_default.ensures.ok c.follow-answer.ensures.answer (c.follow-answer.ensures.watches w c.args.self.now.kept) c.in-Ok.ensures.stacks in
     c.in-Ok.ensures.asked_paging (transfers.same_fail e ∙ none) (transfers.same_grow e ∙ nothing)
+
+pub returns-in-Ok-clause-beside : goal.returns-in-Ok-clause-beside
+returns-in-Ok-clause-beside g c = λ pages.
+    let w = world_of c.args.self.now.world in
+    let v = world_of c.decide.new.world in
+    let watches = c.args.self.now.watch.watches in
+    let new = c.follow-answer.new.watch.watches in
+    let stacks = c.args.self.now.stacks in
+    let left = c.decide.new.stacks in
+    let before = report_of c.args.self.now.world in
+    let after = report_of c.decide.new.world in
+    let e = c.args.event.now in
+    let a = c.follow-answer.result in
+    let b = c.in-Ok.given in
+    let d = went w v c.args.self.now.watch c.take_room.new.watch new stacks left e before after a b c.in-Ok.ensures.given c.in_default.ensures.ok c.follow-answer.ensures.answer (c.follow-answer.ensures.watches w c.args.self.now.kept) c.in-Ok.ensures.stacks in
+    carry (λ e a. AskedBeside w.blocks_used e a (paging_of c.args.self.now.world) (paging_of c.decide.new.world) (files_of c.args.self.now.world) (files_of c.decide.new.world)) watches e a b d.is (transfers.beside watches e b w.blocks_used (paging_of c.args.self.now.world) (paging_of c.decide.new.world) (files_of c.args.self.now.world) (files_of c.decide.new.world)) (c.in-Ok.ensures.beside pages)
 
 pub returns-in-Ok-clause-named : goal.returns-in-Ok-clause-named
 returns-in-Ok-clause-named g c =
