@@ -28,7 +28,7 @@ pub(crate) struct Wanted {
 
 /// A store that pages.
 pub struct Paged<T: Moving> {
-    pub(crate) state: T,
+    pub state: T,
     pub(crate) extended: Option<bool>,
     pub(crate) ready: Option<Wanted>,
     pub(crate) blocks_used: u32,

@@ -80,7 +80,7 @@ pub record SlotsAgree (l : FrameLife) : Type 0 where
 
 -- ---- requests
 
--- the requests are the frames whose record has one, each once: at most depth in flight, and behind them the line's own
+-- the requests are the frames whose record has one, each once: at most depth in flight, and after them the line's own
 pub record RequestsAgree (l : FrameLife) (flight : List ℕ) (own : Option Frame) : Type 0 where
   pub one_list : l.flight ≡ requests flight own
   pub once : (f : ℕ) → times f l.flight ≡ one_if (has_request (record_at l.frames f).request)

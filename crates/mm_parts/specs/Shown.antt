@@ -64,7 +64,7 @@ paging_of d stands k = is_paging d (stands k)
 abbrev pub is_own_line : LineKind → Bool
 is_own_line k = is_access k || is_call k
 
--- the requests that stand in flight, and behind them the line's own
+-- the requests that are in flight, and after them the line's own
 abbrev pub own_request : Option Frame → List ℕ
 own_request None = []
 own_request (Some f) = f.0 ∷ []

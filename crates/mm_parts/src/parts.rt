@@ -18,7 +18,7 @@ pub struct Parts {
     pub(crate) paging_keys: u32,
     // For each block whether a key was ever added with it.
     pub(crate) added: Vec<bool>,
-    pub(crate) frames: Frames,
+    pub frames: Frames,
     pub(crate) words: Words,
     pub(crate) slots: Slots,
     pub(crate) flight: Flight,

@@ -7,3 +7,5 @@ mod bulk;
 mod rows;
 #[cfg(test)]
 mod runs;
+#[cfg(test)]
+mod two_worlds;

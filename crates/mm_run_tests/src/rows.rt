@@ -61,7 +61,7 @@ const REFUSALS: (&[u8], &[u8]) = (
     b"ok 12\nok 1\nerror 6\nerror 87\nerror 87\nerror 487\nerror 487\nok 4 0\nerror 5\nerror 1132\nerror 487\nerror 6\nok 0x00010000\nerror 87\nerror 487\nok 0x00020000\nerror 87\nerror 487\nerror 487\nok\nerror 2\n",
 );
 
-const MARKED_PAGE: (&[u8], &[u8]) = (
+pub(super) const MARKED_PAGE: (&[u8], &[u8]) = (
     b"machine 8 8 1 0\nprocess 0 8\nprocess 0 8\ncreate 1 0x2000 0x04 s\nopen 2 s\nmap 1 4 2 0 0 0\nmap 2 4 2 0 0 0\ncharge\nprotect 1 0x10000 1 0x08\ncharge\nwrite 2 0x10000 41\nread 1 0x10000 1\nwrite 1 0x10000 42\nread 2 0x10000 1\nread 1 0x10000 1\nwrite 2 0x11000 43\nread 1 0x11000 1\nprotect 1 0x10000 0x2000 0x08\ncharge\nquery 1 0x10000\nunmap 1 0x10000\ncharge\n",
     b"ok 12\nok 1\nok 2\nok 4 0\nok 4\nok 0x00010000\nok 0x00010000\nok 2 12\nok 0x00000004\nok 3 12\nok\nok 41\nok\nok 41\nok 42\nok\nok 43\nok 0x00000004\nok 4 12\nok 0x00010000 0x00010000 0x00000004 0x00001000 0x00001000 0x00000004 0x00040000\nok\nok 2 12\n",
 );
@@ -76,12 +76,12 @@ const RESERVE_SECTION_READ_VIEW: (&[u8], &[u8]) = (
     b"ok 12\nok 1\nok 4 0\nok 0x00010000\nerror 87\nok 0x00010000\nok 1 12\nok 00\nok\nok 0 12\nerror 6\n",
 );
 
-const SHARED_SECTION_TRIMMED: (&[u8], &[u8]) = (
+pub(super) const SHARED_SECTION_TRIMMED: (&[u8], &[u8]) = (
     b"machine 8 8 1 0\nprocess 0 8\nprocess 0 4\ncreate 1 0x1000 0x04 shared\nopen 2 shared\nopen 2 nothere\nmap 1 4 2 0 0 0\nmap 2 4 2 0 0 0x400000\nwrite 1 0x10000 48656C6C6F\nread 2 0x400000 5\ntrim 1 4\ntrim 2 4\nread 2 0x400000 5\ncharge\n",
     b"ok 12\nok 1\nok 2\nok 4 0\nok 4\nerror 2\nok 0x00010000\nok 0x00400000\nok\nok 48656C6C6F\nok\nok\nok 48656C6C6F\nok 1 12\n",
 );
 
-const COPY_ON_WRITE: (&[u8], &[u8]) = (
+pub(super) const COPY_ON_WRITE: (&[u8], &[u8]) = (
     b"machine 8 8 1 4\nfile data 4 65\nprocess 0 8\nprocess 0 8\ncreatefile 1 data 0x04 d\nopen 2 d\nmap 1 4 1 0 0 0\nmap 2 4 4 0 0 0\nwrite 1 0x11000 58\nread 2 0x11000 1\ntrim 1 8\nread 1 0x11000 2\nread 2 0x11000 1\nquery 1 0x11000\ncharge\n",
     b"ok 12\nok\nok 1\nok 2\nok 4 0\nok 4\nok 0x00010000\nok 0x00010000\nok\nok 42\nok\nok 5842\nok 42\nok 0x00011000 0x00010000 0x00000008 0x00001000 0x00001000 0x00000004 0x00040000\nok 4 12\n",
 );
@@ -91,7 +91,7 @@ const GROWING_PAGING_FILE: (&[u8], &[u8]) = (
     b"ok 2\nok 1\nok 0x00010000\nerror 1455\nok 5\nok 0x00020000\nok 5 5\nfull\nok 5 5\n",
 );
 
-const EXECUTION: (&[u8], &[u8]) = (
+pub(super) const EXECUTION: (&[u8], &[u8]) = (
     b"machine 8 8 1 0\nprocess 0 8\nalloc 1 0 1 0x3000 0x04\nexec 1 0x10000\nalloc 1 0x10000 1 0x1000 0x20\nexec 1 0x10FFF\nwrite 1 0x10000 00\nread 1 0x0 1\nread 1 0xFFFFFFFF 1\nfree 1 0x10000 0 0x8000\nexec 1 0x10FFF\n",
     b"ok 12\nok 1\nok 0x00010000\nraise 0xC0000005\nok 0x00010000\nok\nraise 0xC0000005\nraise 0xC0000005\nraise 0xC0000005\nok\nraise 0xC0000005\n",
 );

@@ -8,4 +8,3 @@ pub mod Storing
 pub mod Waiting
 pub mod After
 pub mod Whole
-pub mod Behind

@@ -2,4 +2,3 @@ pub mod Shown
 pub mod Tallied
 pub mod Whole
 pub mod StateShown
-pub mod Worked

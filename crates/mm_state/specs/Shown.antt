@@ -37,7 +37,7 @@ state_of s log told paging files slots blocks = record {
   blocks = blocks;
 }
 
--- the first line of this machine was made and noted behind this log, over these devices: nothing lives yet
+-- the first line of this machine was made and noted after this log, over these devices: nothing lives yet
 pub record Starts (m : MachineOf) (log : Log) (paging files : DeviceOf) (slots blocks : List (List ℕ)) (z : StateOf) : Type 0 where
   pub in_range : AreMoves (first_move m ∷ [])
   pub grew : Grew log z.log (spelled_moves (first_move m ∷ []))

@@ -20,6 +20,3 @@ mod tallies;
 mod waits;
 
 pub use states::State;
-
-#[cfg(test)]
-mod tests;

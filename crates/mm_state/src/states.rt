@@ -19,9 +19,9 @@ use std::alloc::Global;
 /// Contracts see what it shows (`StateOf`): the state of the replay with its log, the bytes of each live key, and what the line told of devices.
 #[derive(Drop)]
 pub struct State<P: Inject, F: Inject, M: Moves> {
-    pub(crate) parts: Parts,
-    pub(crate) paging: P,
-    pub(crate) files: F,
+    pub parts: Parts,
+    pub paging: P,
+    pub files: F,
     pub(crate) moves: M,
     pub(crate) told: Tallies,
     /// Where the page of a device call stands. It is kept so that none is filled with zeros at each call.

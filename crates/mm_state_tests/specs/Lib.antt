@@ -1,3 +1,4 @@
 pub mod Rows
 pub mod Swapped
 pub mod Filed
+pub mod Stored

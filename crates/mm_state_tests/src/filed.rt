@@ -1,12 +1,14 @@
 ghost use Rattle.std.specs.Prelude.{◌≡◌, OnOk, replicate};
 ghost use Rattle.std.specs.Bool.{OnTrue};
 ghost use Rattle.mm_blocks.specs.Traffic.{empty_block};
+ghost use Rattle.mm_state.specs.StateShown.{shown};
 ghost use Rattle.mm_state_tests.specs.Filed.{Opens, Filed};
 
+use crate::behind::write_block;
 use crate::devices::opened;
-use mm_blocks::{Injected, MemBlocks};
+use mm_blocks::{Inject, Injected, MemBlocks};
 use mm_io::MemSink;
-use mm_moves::Recorder;
+use mm_moves::{Moves, Recorder};
 use mm_moving::Moving;
 use mm_state::State;
 use mm_types::{
@@ -176,6 +178,34 @@ fn file<T: Moving>(state: &mut T) -> Option<Told>
     })
 }
 
+/// The block of the file's page is changed behind the state before the page has a frame. False where the device failed.
+fn change_in_block<P: Inject, F: Inject, M: Moves>(state: &mut State<P, F, M>) -> bool
+    requires { Filed 5 (shown state.old) }
+    ensures { Filed 5 (shown state.new) }
+{
+    write_block(state, Block(0), 0x77)
+}
+
+/// The copy of the page, where it is read after such a change.
+fn change_block<P: Inject, F: Inject, M: Moves>(state: &mut State<P, F, M>) -> Option<u8>
+    requires { Opens (shown state.old) }
+{
+    let Ok(()) = open_areas(state) else {
+        return None;
+    };
+    let Ok(()) = set_up(state) else {
+        return None;
+    };
+    if !change_in_block(state) {
+        return None;
+    }
+    let _begun = begin_read(state);
+    if !end_read(state).0 {
+        return None;
+    }
+    Some(copy(state))
+}
+
 /// The same on devices that were opened.
 fn run_file<'a>(
     alloc: Global,
@@ -194,6 +224,37 @@ fn run_file<'a>(
         Ok(mut state) => file(&mut state),
         Err(_) => None,
     }
+}
+
+/// The block that is changed behind the state, on devices that were opened.
+fn run_change<'a>(
+    alloc: Global,
+    paging: &'a mut MemBlocks,
+    files: &'a mut MemBlocks,
+    sink: &'a mut MemSink,
+) -> Option<u8>
+    requires slots { paging.old.blocks ≡ replicate 2 empty_block }
+    requires blocks { files.old.blocks ≡ replicate 1 empty_block }
+{
+    let machine = Machine::new(6, 2, 1, 1);
+    let paging = Injected::new(paging);
+    let files = Injected::new(files);
+    let moves = Recorder::new(sink);
+    match State::new(alloc, machine, paging, files, moves) {
+        Ok(mut state) => change_block(&mut state),
+        Err(_) => None,
+    }
+}
+
+/// The bytes of a file's page without a frame stand in its block alone: a block changed behind the state is what comes in.
+#[test]
+fn a_block_changed_on_its_device_is_read(rt: HostRuntime) -> Result<(), Fail> {
+    let mut paging = opened(rt.alloc(), 2)?;
+    let mut files = opened(rt.alloc(), 1)?;
+    let mut sink = MemSink::new(rt.alloc(), 1000, Vec::new(rt.alloc())).map_err(|_| "no room")?;
+    let byte = run_change(rt.alloc(), &mut paging, &mut files, &mut sink);
+    assert_eq!(rt; byte, Some(0x77));
+    Ok(())
 }
 
 #[test]

@@ -1,11 +1,15 @@
-//! Tests of the joined state, in a crate of their own, so that the state is proved once.
+//! Tests of the joined state, and one of the store that pages over it, in a crate of their own, so that each is proved once.
 #![tactic(auto)]
 
+#[cfg(test)]
+mod behind;
 #[cfg(test)]
 mod devices;
 #[cfg(test)]
 mod filed;
 #[cfg(test)]
 mod rewritten;
+#[cfg(test)]
+mod store;
 #[cfg(test)]
 mod swapped;

@@ -1,15 +1,17 @@
 ghost use Rattle.std.specs.Prelude.{◌≡◌, OnOk, replicate};
 ghost use Rattle.std.specs.Bool.{OnTrue};
 ghost use Rattle.mm_blocks.specs.Traffic.{empty_block};
+ghost use Rattle.mm_state.specs.StateShown.{shown};
 ghost use Rattle.mm_state_tests.specs.Swapped.{Opens, Unused, Used};
 
+use crate::behind::write_slot;
 use crate::devices::opened;
-use mm_blocks::{Injected, MemBlocks};
+use mm_blocks::{Inject, Injected, MemBlocks};
 use mm_io::MemSink;
-use mm_moves::Recorder;
+use mm_moves::{Moves, Recorder};
 use mm_moving::Moving;
 use mm_state::State;
-use mm_types::{Counts, Frame, Held, Key, LineKind, Machine, NoMemory, Pid, Place, Vpn};
+use mm_types::{Counts, Frame, Held, Key, LineKind, Machine, NoMemory, Pid, Place, Slot, Vpn};
 use std::alloc::Global;
 use std::test::Fail;
 
@@ -136,25 +138,43 @@ fn put_out<T: Moving>(state: &mut T) -> bool
     state.end_write(Frame(0))
 }
 
-/// It loses its frame, and is read in again.
+/// All pages are used, the first goes to its slot, and it loses its frame.
+fn put_all_out<T: Moving>(state: &mut T) -> bool
+    requires { Opens (T.shown state.old) }
+    ensures { OnTrue result (Used 32 (T.shown state.new)) }
+{
+    let Ok(()) = set_up(state) else {
+        return false;
+    };
+    add_more(state);
+    write_first(state);
+    use_two(state);
+    use_three(state);
+    if !put_out(state) {
+        return false;
+    }
+    state.steal();
+    true
+}
+
+/// It is read in again.
 fn bring_back<T: Moving>(state: &mut T) -> bool
-    requires { Used 31 (T.shown state.old) }
+    requires { Used 32 (T.shown state.old) }
     ensures { OnTrue result (Used 34 (T.shown state.new)) }
 {
-    state.steal();
     let f = state.start_read(Key::Private(Pid(1), Vpn(16)));
     state.end_read(f)
 }
 
-/// Its second byte.
-fn read_first<T: Moving>(state: &mut T) -> u8
+/// Its first two bytes.
+fn read_first<T: Moving>(state: &mut T) -> [u8; 2]
     requires { Used 34 (T.shown state.old) }
     ensures { Used 35 (T.shown state.new) }
 {
     state.map(Frame(0), at(16));
     let mut out = [0; 2];
     state.read(at(16), 0, &mut out);
-    out[1]
+    out
 }
 
 /// What is told in numbers.
@@ -213,7 +233,7 @@ fn first_page<T: Moving>(state: &T) -> (Held, bool, Option<Vpn>)
 /// What the state tells at the end.
 #[derive(Drop)]
 struct Told {
-    byte: u8,
+    bytes: [u8; 2],
     counts: Counts,
     numbers: [u32; 6],
     flags: [bool; 8],
@@ -225,28 +245,45 @@ struct Told {
 fn swap<T: Moving>(state: &mut T) -> Option<Told>
     requires { Opens (T.shown state.old) }
 {
-    let Ok(()) = set_up(state) else {
-        return None;
-    };
-    add_more(state);
-    write_first(state);
-    use_two(state);
-    use_three(state);
-    if !put_out(state) {
+    if !put_all_out(state) {
         return None;
     }
     if !bring_back(state) {
         return None;
     }
-    let byte = read_first(state);
+    let bytes = read_first(state);
     Some(Told {
-        byte,
+        bytes,
         counts: state.counts(),
         numbers: numbers(state),
         flags: flags(state),
         frames: frames(state),
         page: first_page(state),
     })
+}
+
+/// The first page's slot is changed behind the state while the page has no frame. False where the device failed.
+fn change_in_slot<P: Inject, F: Inject, M: Moves>(state: &mut State<P, F, M>) -> bool
+    requires { Used 32 (shown state.old) }
+    ensures { Used 32 (shown state.new) }
+{
+    write_slot(state, Slot(0), 0x77)
+}
+
+/// The first page as it is read through the state after such a change.
+fn change_slot<P: Inject, F: Inject, M: Moves>(state: &mut State<P, F, M>) -> Option<[u8; 2]>
+    requires { Opens (shown state.old) }
+{
+    if !put_all_out(state) {
+        return None;
+    }
+    if !change_in_slot(state) {
+        return None;
+    }
+    if !bring_back(state) {
+        return None;
+    }
+    Some(read_first(state))
 }
 
 /// The same on devices that were opened.
@@ -269,6 +306,37 @@ fn run_swap<'a>(
     }
 }
 
+/// The slot that is changed behind the state, on devices that were opened.
+fn run_change<'a>(
+    alloc: Global,
+    paging: &'a mut MemBlocks,
+    files: &'a mut MemBlocks,
+    sink: &'a mut MemSink,
+) -> Option<[u8; 2]>
+    requires slots { paging.old.blocks ≡ replicate 4 empty_block }
+    requires blocks { files.old.blocks ≡ replicate 0 empty_block }
+{
+    let machine = Machine::new(6, 4, 1, 0);
+    let paging = Injected::new(paging);
+    let files = Injected::new(files);
+    let moves = Recorder::new(sink);
+    match State::new(alloc, machine, paging, files, moves) {
+        Ok(mut state) => change_slot(&mut state),
+        Err(_) => None,
+    }
+}
+
+/// The bytes of a page without a frame stand in its slot alone: a slot changed behind the state is what comes back.
+#[test]
+fn a_slot_changed_on_its_device_is_read(rt: HostRuntime) -> Result<(), Fail> {
+    let mut paging = opened(rt.alloc(), 4)?;
+    let mut files = opened(rt.alloc(), 0)?;
+    let mut sink = MemSink::new(rt.alloc(), 1000, Vec::new(rt.alloc())).map_err(|_| "no room")?;
+    let bytes = run_change(rt.alloc(), &mut paging, &mut files, &mut sink);
+    assert_eq!(rt; bytes, Some([0x77, 0x77]));
+    Ok(())
+}
+
 #[test]
 fn a_page_comes_back_from_its_slot(rt: HostRuntime) -> Result<(), Fail> {
     let mut paging = opened(rt.alloc(), 4)?;
@@ -276,7 +344,7 @@ fn a_page_comes_back_from_its_slot(rt: HostRuntime) -> Result<(), Fail> {
     let mut sink = MemSink::new(rt.alloc(), 1000, Vec::new(rt.alloc())).map_err(|_| "no room")?;
     let told = run_swap(rt.alloc(), &mut paging, &mut files, &mut sink).expect(&rt, "done");
     assert_eq!(rt; sink.bytes(), LOG);
-    assert_eq!(rt; told.byte, 0x5B);
+    assert_eq!(rt; told.bytes, [0x5A, 0x5B]);
     let counts = Counts {
         zeroed: 0,
         free: 0,

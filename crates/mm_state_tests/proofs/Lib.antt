@@ -1,0 +1,4 @@
+pub mod Changed
+pub mod Untouched
+pub mod Starting
+pub mod Storing

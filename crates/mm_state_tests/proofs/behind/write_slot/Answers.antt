@@ -1,0 +1,22 @@
+use Rattle.std.proofs.Common.{replicate}
+use Rattle.std.specs.Prelude.{slice_set}
+use Rattle.std.proofs.lemmas.List.{length-replicate}
+use Rattle.mm_parts.specs.PartsShown as parts_of
+use Rattle.mm_state.proofs.Blocks.{block_written}
+use Rattle.mm_state.proofs.Whole.{block_whole}
+use Rattle.mm_state_tests.proofs.Changed.{slot_behind}
+use Rattle.mm_state_tests.proofs.behind.write_slot.Goals as goal
+
+pub invariant_of-state : goal.invariant_of-state
+invariant_of-state g c =
+    let s = c.args.state.now in
+    let u = parts_of.shown s.parts in
+    let ok = c.write_device.result in
+    let page = replicate 4096 c.args.byte in
+    let e = block_written ok _ _ (λ blocks. slice_set blocks c.args.s.0 page) c.write_device.ensures.ok c.write_device.ensures.err in
+    record {
+      located = slot_behind ok u.life u.bytes (g.P.Blocks.blocks s.paging) (g.F.Blocks.blocks s.files) s.located c.requires.none c.args.s.0 page _ e;
+      tallied = s.tallied;
+      slots_whole = block_whole ok c.args.s.0 page (length-replicate 4096 c.args.byte) _ _ e s.slots_whole;
+      blocks_whole = s.blocks_whole;
+    }
