@@ -6,7 +6,7 @@ use Rattle.mm_answer.specs.Following.{following}
 use Rattle.mm_text.proofs.Digits.{decimal_is}
 use Rattle.mm_text.proofs.Spelled.{length-digits, length-decimal, length-decimal-32, length-hex8, length-byte_pairs}
 
--- words with a space between each and the next are the first, and each other behind a space
+-- words with a space between each and the next are the first, and each other after a space
 pub spaced_is : (first : Text) (ts : List Text) → spaced first ts ≡ first ++ following ts
 spaced_is first [] = sym (append-nil first)
 spaced_is first (t ∷ ts) = ap (λ s. first ++ 0x20 ∷ s) (spaced_is t ts)

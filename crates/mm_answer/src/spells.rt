@@ -49,7 +49,7 @@ fn why_word(why: Why) -> &'static [u8]
     }
 }
 
-/// Writes decimal numbers, each behind a space.
+/// Writes decimal numbers, each after a space.
 #[tactic(auto, using(crate::proofs::Lines::steps))]
 fn put_numbers(out: &mut LineBuf, numbers: &[u32])
     requires { length out.old + 11 * length numbers.now ≤ 256 }
@@ -62,7 +62,7 @@ fn put_numbers(out: &mut LineBuf, numbers: &[u32])
     }
 }
 
-/// Writes addresses, sizes and the like, each behind a space.
+/// Writes addresses, sizes and the like, each after a space.
 #[tactic(auto, using(crate::proofs::Lines::steps))]
 fn put_fields(out: &mut LineBuf, fields: &[u32])
     requires { length out.old + 11 * length fields.now ≤ 256 }
@@ -75,7 +75,7 @@ fn put_fields(out: &mut LineBuf, fields: &[u32])
     }
 }
 
-/// A word, and decimal numbers behind it.
+/// A word, and decimal numbers after it.
 #[tactic(auto, using(crate::proofs::Lines::steps))]
 fn line_of_numbers(out: &mut LineBuf, word: &[u8], numbers: &[u32])
     requires { length out.old + (length word.now + 11 * length numbers.now) ≤ 256 }
@@ -86,7 +86,7 @@ fn line_of_numbers(out: &mut LineBuf, word: &[u8], numbers: &[u32])
     put_numbers(out, numbers);
 }
 
-/// A word, and addresses, sizes and the like behind it.
+/// A word, and addresses, sizes and the like after it.
 #[tactic(auto, using(crate::proofs::Lines::steps))]
 fn line_of_fields(out: &mut LineBuf, word: &[u8], fields: &[u32])
     requires { length out.old + (length word.now + 11 * length fields.now) ≤ 256 }

@@ -1,4 +1,5 @@
 -- What one read and one write do.
+-- Profile, "A run".
 use Rattle.std.specs.Prelude.{◌≡◌, ℕ, ◌-◌, ◌<◌, ◌≤◌, List, ◌++◌, length, take, Option, Result, Ok, Err, MatchResult, Bool, false}
 use Rattle.mm_types.specs.declared.faults.Failed.{Failed}
 use Rattle.mm_types.specs.Outside.{Took, IsEnd, Appended}

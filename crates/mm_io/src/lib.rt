@@ -60,7 +60,7 @@ pub trait Sink {
         ensures cause { HasCause (faults self.old) (faults self.new) result }
         ensures loans { loans self.new ≡ loans self.old };
 
-    /// Gives on what was taken and is still held here. What was taken stays the same, whatever the result is.
+    /// Hands on what was taken and is still held here. What was taken stays the same, whatever the result is.
     fn flush(&mut self) -> Result<(), Failed>
         ensures taken { taken self.new ≡ taken self.old }
         ensures cause { HasCause (faults self.old) (faults self.new) result }

@@ -1,18 +1,17 @@
 -- Where line feeds are.
-use Rattle.std.proofs.Common.{◌≡◌, ◌≢◌, ℕ, zero, suc, ◌+◌, ◌<◌, ◌≤◌, List, [], ◌∷◌, ◌++◌, length, take, drop, get_or, sym, ap, subst, arith, length-take, min}
+use Rattle.std.proofs.Common.{Option, Some, None, ◌≡◌, ◌≢◌, ℕ, zero, suc, ◌+◌, ◌<◌, ◌≤◌, List, [], ◌∷◌, ◌++◌, length, take, drop, get_or, sym, ap, subst, arith, length-take, min}
+use Rattle.std.specs.Cmp.{unsigned_Decides}
+use Rattle.std.proofs.lemmas.Bool.{eqb-true}
 use Rattle.std.proofs.lemmas.List.{take-append-drop}
 use Rattle.mm_lines.specs.Lines.{NoFeed, IsLine}
-use Rattle.mm_lines.specs.Looking.{IsFeedAt, HasLine, IsLong}
+use Rattle.mm_lines.specs.Looking.{IsFeedAt, FeedAt, HasLine, IsLong}
+use Rattle.memchr.specs.Find.{IsFirstByte, Passes, is_byte}
 
-pub no_feed_more : (xs : List ℕ) (i : ℕ) → i < length xs → NoFeed (take i xs) → get_or xs i 0 ≢ 10 → NoFeed (take (i + 1) xs)
-no_feed_more xs i h u v = go xs i (i + 1) (omega arith) h u v
-  where
-    go : (xs : List ℕ) (i j : ℕ) → j ≡ suc i → i < length xs → NoFeed (take i xs) → get_or xs i 0 ≢ 10 → NoFeed (take j xs)
-    go [] i j e h u v = absurd (omega arith)
-    go (x ∷ xs) i zero e h u v = absurd (omega arith)
-    go (x ∷ xs) zero (suc zero) e h u v = (v, tt)
-    go (x ∷ xs) zero (suc (suc j)) e h u v = absurd (omega arith)
-    go (x ∷ xs) (suc i) (suc j) e h u v = (u.0, go xs i j (omega arith) (omega arith) u.1 v)
+no_feed_below : (xs : List ℕ) (n : ℕ) → ((k : ℕ) → k < n → ¬ Passes (is_byte 10) xs k) → NoFeed (take n xs)
+no_feed_below [] zero f = tt
+no_feed_below [] (suc n) f = tt
+no_feed_below (x ∷ xs) zero f = tt
+no_feed_below (x ∷ xs) (suc n) f = (λ e. f 0 (omega arith) ((unsigned_Decides x 10).1 e), no_feed_below xs n (λ k l e. f (suc k) (omega arith) e))
 
 pub no_feed_all : (xs : List ℕ) (i : ℕ) → length xs ≤ i → NoFeed (take i xs) → NoFeed xs
 no_feed_all [] i h u = tt
@@ -27,7 +26,12 @@ split_at (x ∷ xs) (suc n) h e = ap (λ ys. x ∷ ys) (split_at xs n (omega ari
 pub feed_at_is : (xs : List ℕ) (n : ℕ) → n < length xs → NoFeed (take n xs) → get_or xs n 0 ≡ 10 → IsFeedAt xs n
 feed_at_is xs n h u e = record { within = h; whole = split_at xs n h e; first = u }
 
--- A line feed stands behind bytes that have none.
+-- The first byte that is a line feed is where memchr says.
+pub feed_found : (xs : List ℕ) (r : Option ℕ) → IsFirstByte (is_byte 10) xs r → FeedAt xs r
+feed_found xs None f = no_feed_all xs (length xs) (omega arith) (no_feed_below xs (length xs) (λ k l e. f k (omega arith) l e))
+feed_found xs (Some n) f = feed_at_is xs n f.0.high (no_feed_below xs n (λ k l e. f.0.before k (omega arith) l e)) (eqb-true (get_or xs n 0) 10 f.1)
+
+-- A line feed stands after bytes that have none.
 pub feed_after : (xs : List ℕ) (k n : ℕ) → NoFeed (take k xs) → n < length xs → xs ≡ take n xs ++ 10 ∷ drop (suc n) xs → k ≤ n
 feed_after [] k n u h e = absurd (omega arith)
 feed_after (x ∷ xs) zero n u h e = omega arith
@@ -53,7 +57,7 @@ feed_further xs k n f = go xs k n f.within f.whole f.first
         let f = go xs k n (omega arith) tail u.1 in
         record { within = omega (arith, f.within); whole = ap (λ ys. x ∷ ys) f.whole; first = (u.0, f.first) }
 
--- At most 4,096 bytes stand behind a front without a line feed.
+-- At most 4,096 bytes stand after a front without a line feed.
 pub record Recent (held : List ℕ) : Type 0 where
   pub front : ℕ
   pub short : front ≤ 256

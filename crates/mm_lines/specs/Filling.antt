@@ -1,4 +1,5 @@
 -- How a source's bytes come to be held.
+-- Profile, "Script".
 use Rattle.std.specs.Prelude.{◌≡◌, ℕ, ◌+◌, ◌<◌, ◌≤◌, List, [], ◌++◌, length, Option, Result, Ok, Err, Bool, true, false}
 use Rattle.mm_types.specs.declared.Failed.{Failed}
 use Rattle.mm_types.specs.Outside.{Took, IsEnd}
@@ -7,7 +8,7 @@ use Rattle.mm_lines.specs.Looking.{HasLine, IsLong}
 use Rattle.mm_lines.specs.declared.buffers.Found.{Found}
 use Rattle.mm_lines.specs.declared.buffers.Found.TheVariants as found
 
--- These bytes were taken, and are held behind the others.
+-- These bytes were taken, and are held after the others.
 pub record Filled (left left' : Option (List ℕ)) (held held' : List ℕ) : Type 0 where
   pub taken : List ℕ
   pub took : Took left left' taken
@@ -23,7 +24,7 @@ abbrev pub ReadOnce : Option (List ℕ) → Option (List ℕ) → List ℕ → L
 ReadOnce left left' held held' (Ok n) = HasRead left left' held held' n
 ReadOnce left left' held held' (Err e) = held' ≡ held
 
--- What was found in front of the bytes held, with fewer than 4,096 bytes behind what shows it.
+-- What was found in front of the bytes held, with fewer than 4,096 bytes after what shows it.
 abbrev pub Finds : Result Found Failed → Option (List ℕ) → List ℕ → Type 0
 Finds (Ok (found.Line n)) left held = HasLine held n × (length held < n + 1 + 4096)
 Finds (Ok found.Long) left held = IsLong held × (length held < 257 + 4096)

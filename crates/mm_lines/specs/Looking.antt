@@ -1,4 +1,5 @@
 -- What stands at the front of some bytes.
+-- Profile, "Script".
 use Rattle.std.specs.Prelude.{◌≡◌, ℕ, suc, ◌<◌, ◌≤◌, List, ◌∷◌, ◌++◌, length, take, drop, Option, Some, None}
 use Rattle.mm_lines.specs.Lines.{NoFeed, IsLine}
 use Rattle.mm_lines.specs.declared.looks.Look.{Look}

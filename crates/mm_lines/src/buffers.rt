@@ -2,6 +2,7 @@ ghost use Rattle.std.specs.Prelude.{◌≡◌, ◌≤◌, ◌<◌, ◌+◌, ◌-
 ghost use Rattle.mm_types.specs.Outside.{HasCause};
 ghost use Rattle.mm_io.specs.Io.{spare_read};
 ghost use Rattle.mm_lines.specs.Filling.{Filled, ReadOnce, Finds, FindsMore, spare_found, spare_more};
+ghost use Rattle.mm_lines.specs.Looking.{Looks};
 
 use crate::looks::{Look, look_at};
 use mm_io::Source;
@@ -18,7 +19,7 @@ pub enum Found {
     Line(usize),
     /// More bytes than a line may have.
     Long,
-    /// The end, behind the bytes that are held.
+    /// The end, after the bytes that are held.
     End,
 }
 
@@ -66,6 +67,13 @@ impl Held {
         &self.bytes[self.start..self.end]
     }
 
+    /// What stands in front of the bytes held, without a read.
+    pub fn look(&self) -> Look
+        ensures { Looks result self.now }
+    {
+        look_at(self.bytes())
+    }
+
     /// Lets the first n go.
     pub fn skip(&mut self, n: usize)
         requires { n ≤ length self.old }
@@ -103,7 +111,7 @@ impl Held {
         ensures loans { S.loans source.new ≡ S.loans source.old }
     {
         loop {
-            match look_at(self.bytes()) {
+            match self.look() {
                 Look::Line(n) => return Ok(Found::Line(n)),
                 Look::Long => return Ok(Found::Long),
                 Look::Open => {}

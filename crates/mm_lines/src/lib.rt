@@ -5,3 +5,4 @@ mod buffers;
 mod looks;
 
 pub use buffers::{Found, Held};
+pub use looks::Look;

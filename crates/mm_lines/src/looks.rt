@@ -1,9 +1,11 @@
 ghost use Rattle.std.specs.Prelude.{◌≡◌, ◌<◌, length};
 ghost use Rattle.mm_lines.specs.Looking.{Looks, FeedAt};
 
+use memchr::memchr;
+
 /// What stands at the front of some bytes.
 #[derive(Clone, Copy)]
-pub(crate) enum Look {
+pub enum Look {
     /// A line of so many bytes, and its line feed.
     Line(usize),
     /// More bytes than a line may have.
@@ -16,12 +18,7 @@ pub(crate) enum Look {
 fn feed_at(bytes: &[u8]) -> Option<usize>
     ensures { FeedAt bytes.now result }
 {
-    for (i, byte) in bytes.iter().enumerate() {
-        if *byte == b'\n' {
-            return Some(i);
-        }
-    }
-    None
+    memchr(b'\n', bytes)
 }
 
 pub(crate) fn look_at(bytes: &[u8]) -> Look

@@ -61,7 +61,7 @@ low_kind zero words h = refl
 low_kind (suc zero) words h = refl
 low_kind (suc (suc kind)) words h = absurd (omega arith)
 
--- a read and a write behind the draw of their kind
+-- a read and a write after the draw of their kind
 module _ (g later : Lcg) (step : later ≡ next 64 multiplier_64 g) where
   pub output_behind : (i : ℕ) → outputs later i ≡ outputs g (suc i)
   output_behind i = ap (λ (h : Lcg). outputs h i) step ∙ outputs_later g i

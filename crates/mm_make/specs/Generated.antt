@@ -1,7 +1,11 @@
 -- The events of a generated script: eleven fixed ones, and so many drawn ones.
+-- Profile, "A run".
 use Rattle.std.specs.Prelude.{ℕ, zero, suc, ◌+◌, ◌*◌, ◌%◌, nat_le, ◌==◌, if◌then◌else◌, List, [], ◌∷◌, ◌++◌, Some, None, codes}
 use Rattle.mm_types.specs.declared.events.Event.{Event}
 use Rattle.mm_types.specs.declared.events.Event.TheVariants as line
+use Rattle.mm_types.specs.Address.{page_size}
+use Rattle.mm_types.specs.Allocation.{reserve_and_commit_type}
+use Rattle.mm_types.specs.Protection.{readwrite}
 use Rattle.mm_make.specs.Outputs.{outputs, seeded, behind}
 
 -- two processes on a small machine, that share a section and the pages of a file
@@ -11,7 +15,7 @@ fixed_events =
     ∷ line.Process 8 48
     ∷ line.Process 8 48
     ∷ line.File (codes "data") 32 1
-    ∷ line.Alloc (record { 0 = 1 }) 0x0 0x80000 0x3000 0x4
+    ∷ line.Alloc (record { 0 = 1 }) 0x0 0x80000 reserve_and_commit_type readwrite
     ∷ line.Create (record { 0 = 1 }) 0x20000 0x4 (Some (codes "pool"))
     ∷ line.Open (record { 0 = 2 }) (codes "pool")
     ∷ line.Map (record { 0 = 1 }) 4 0x2 0x0 0x0 0x0
@@ -23,7 +27,7 @@ fixed_events =
 
 -- the address of the page drawn by a word, one of so many from 0x10000 on
 abbrev pub address_drawn : ℕ → ℕ → ℕ
-address_drawn word pages = 0x10000 + 4096 * (word % pages)
+address_drawn word pages = 0x10000 + page_size * (word % pages)
 
 -- a write of one byte, its page and its byte each drawn by a word
 abbrev pub write_drawn : ℕ → ℕ → ℕ → ℕ → Event
@@ -55,7 +59,7 @@ drawn_of_kind kind words =
 abbrev pub drawn : (ℕ → ℕ) → Drawn
 drawn words = drawn_of_kind (words 0 % 8) words
 
--- so many events, each drawn by the outputs behind those of the one before
+-- so many events, each drawn by the outputs after those of the one before
 unfoldable pub drawn_events : ℕ → (ℕ → ℕ) → List Event
 drawn_events zero words = []
 drawn_events (suc count) words =

@@ -1,4 +1,5 @@
 -- The outputs of the generator: PCG32 (XSH RR 64/32), stream 54.
+-- Profile, "A run".
 use Rattle.std.specs.Prelude.{ℕ, ◌+◌}
 use Rattle.rand_pcg.specs.Lcg.{Lcg, advance, started, increment_of}
 use Rattle.rand_pcg.specs.Pcg.{multiplier_64, pcg32}

@@ -1,11 +1,16 @@
-ghost use Rattle.std.specs.Prelude.{◌≡◌, ◌+◌, ◌*◌, ◌%◌, ◌<◌, ◌≤◌, ◌++◌, ◌∷◌, [], length, IfOk, vec_len, vec_capacity};
+ghost use Rattle.std.specs.Prelude.{◌≡◌, ◌+◌, ◌*◌, ◌%◌, ◌<◌, ◌≤◌, ◌++◌, ◌∷◌, [], length, codes, IfOk, vec_len, vec_capacity};
+ghost use Rattle.mm_types.specs.declared.events.Event.TheVariants as line;
+ghost use Rattle.mm_types.specs.Allocation.{reserve_and_commit_type};
+ghost use Rattle.mm_types.specs.Protection.{readwrite};
 ghost use Rattle.rand_pcg.specs.Lcg.{advance};
 ghost use Rattle.rand_pcg.specs.Pcg.{multiplier_64};
 ghost use Rattle.mm_make.specs.Outputs.{outputs};
 ghost use Rattle.mm_make.specs.Generated.{address_drawn, write_drawn, read_drawn, drawn, fixed_events, script_of};
 
 use crate::words::draw;
-use mm_types::{AccessSpec, ByteBuf, Event, Machine, Name, NoMemory, Pid};
+use mm_types::{
+    AccessSpec, AllocFlags, ByteBuf, Event, Machine, Name, NoMemory, PAGE_SIZE, Pid, Prot,
+};
 use rand_pcg::Lcg64Xsh32;
 use std::alloc::Global;
 
@@ -43,7 +48,7 @@ fn address(words: &mut Lcg64Xsh32, pages: u32) -> u32
     ensures drawn { result ≡ address_drawn (outputs words.old 0) pages }
     ensures after { words.new ≡ advance 64 multiplier_64 1 words.old }
 {
-    0x10000 + 4096 * draw(words, pages)
+    0x10000 + PAGE_SIZE * draw(words, pages)
 }
 
 /// A write of one drawn byte to a drawn page of process `pid`.
@@ -55,7 +60,11 @@ fn write(words: &mut Lcg64Xsh32, pid: u8, pages: u32) -> Event
 {
     let address = address(words, pages);
     let byte = draw(words, 256) as u8;
-    Event::Write(Pid(pid), address, one_byte(byte))
+    Event::Write {
+        pid: Pid(pid),
+        addr: address,
+        bytes: one_byte(byte),
+    }
 }
 
 /// A read of one byte of a drawn page of process `pid`.
@@ -65,7 +74,11 @@ fn read(words: &mut Lcg64Xsh32, pid: u8, pages: u32) -> Event
     ensures drawn { result ≡ read_drawn pid pages (outputs words.old 0) }
     ensures after { words.new ≡ advance 64 multiplier_64 1 words.old }
 {
-    Event::Read(Pid(pid), address(words, pages), 1)
+    Event::Read {
+        pid: Pid(pid),
+        addr: address(words, pages),
+        len: 1,
+    }
 }
 
 /// The event that the next outputs draw.
@@ -78,13 +91,16 @@ fn event(words: &mut Lcg64Xsh32) -> Event
         2 => read(words, 1, 160),
         3 => write(words, 2, 64),
         4 => read(words, 2, 64),
-        5 => Event::Trim(Pid(1 + draw(words, 2) as u8), 8),
-        6 => Event::Writer(4),
-        _ => Event::Io(1),
+        5 => Event::Trim {
+            pid: Pid(1 + draw(words, 2) as u8),
+            count: 8,
+        },
+        6 => Event::Writer { count: 4 },
+        _ => Event::Io { index: 1 },
     }
 }
 
-/// One event more, behind the others.
+/// One event more, after the others.
 fn push(events: &mut Vec<Event>, event: Event)
     requires { vec_len events.old < vec_capacity events.old }
     ensures items { events.new.items ≡ events.old.items ++ event ∷ [] }
@@ -97,6 +113,43 @@ fn push(events: &mut Vec<Event>, event: Event)
     events.push_reserved(event);
 }
 
+/// A view of a whole section, at the lowest gap.
+fn map_whole(pid: u8, handle: u32, access: u32) -> Event
+    ensures { result ≡ line.Map (record { 0 = pid }) handle access 0x0 0x0 0x0 }
+{
+    Event::Map {
+        pid: Pid(pid),
+        handle,
+        access,
+        offset: 0x0,
+        length: 0x0,
+        addr: 0x0,
+    }
+}
+
+/// The file, and the region of the first process.
+fn push_memory(events: &mut Vec<Event>)
+    requires { vec_len events.old + 2 ≤ vec_capacity events.old }
+    ensures fixed { events.new.items ≡ events.old.items ++ line.File (codes "data") 32 1 ∷ line.Alloc (record { 0 = 1 }) 0x0 0x80000 reserve_and_commit_type readwrite ∷ [] }
+    ensures len { vec_len events.new ≡ vec_len events.old + 2 }
+    ensures capacity { vec_capacity events.new ≡ vec_capacity events.old }
+{
+    let file = Event::File {
+        name: name(b"data"),
+        pages: 32,
+        byte: 1,
+    };
+    push(events, file);
+    let region = Event::Alloc {
+        pid: Pid(1),
+        addr: 0x0,
+        size: 0x80000,
+        form: AllocFlags::RESERVE.0 + AllocFlags::COMMIT.0,
+        prot: Prot::READWRITE.0,
+    };
+    push(events, region);
+}
+
 /// The events that every script begins with: two processes on a small machine, that share a section and the pages
 /// of a file.
 fn push_fixed(events: &mut Vec<Event>)
@@ -106,19 +159,31 @@ fn push_fixed(events: &mut Vec<Event>)
     ensures capacity { vec_capacity events.new ≡ vec_capacity events.old }
 {
     push(events, Event::Machine(Machine::new(64, 256, 4, 32)));
-    push(events, Event::Process(8, 48));
-    push(events, Event::Process(8, 48));
-    push(events, Event::File(name(b"data"), 32, 1));
-    push(events, Event::Alloc(Pid(1), 0x0, 0x80000, 0x3000, 0x4));
-    push(
-        events,
-        Event::Create(Pid(1), 0x20000, 0x4, Some(name(b"pool"))),
-    );
-    push(events, Event::Open(Pid(2), name(b"pool")));
-    push(events, Event::Map(Pid(1), 4, 0x2, 0x0, 0x0, 0x0));
-    push(events, Event::Map(Pid(2), 4, 0x2, 0x0, 0x0, 0x0));
-    push(events, Event::CreateFile(Pid(2), name(b"data"), 0x4, None));
-    push(events, Event::Map(Pid(2), 8, 0x1, 0x0, 0x0, 0x0));
+    push(events, Event::Process { min: 8, max: 48 });
+    push(events, Event::Process { min: 8, max: 48 });
+    push_memory(events);
+    let section = Event::Create {
+        pid: Pid(1),
+        size: 0x20000,
+        flags: Prot::READWRITE.0,
+        name: Some(name(b"pool")),
+    };
+    push(events, section);
+    let opened = Event::Open {
+        pid: Pid(2),
+        name: name(b"pool"),
+    };
+    push(events, opened);
+    push(events, map_whole(1, 4, 0x2));
+    push(events, map_whole(2, 4, 0x2));
+    let of_file = Event::CreateFile {
+        pid: Pid(2),
+        file: name(b"data"),
+        flags: Prot::READWRITE.0,
+        name: None,
+    };
+    push(events, of_file);
+    push(events, map_whole(2, 8, 0x1));
 }
 
 /// The events of a generated script (`mmsim bulk SEED COUNT`): eleven fixed ones and `count` drawn ones, by PCG32

@@ -34,11 +34,19 @@ fn outputs_are_those_of_pcg32(rt: HostRuntime) -> Result<(), Fail> {
 // A drawn event as numbers: its form, its process, its address or its count, and the byte that it writes.
 fn numbers(event: &Event) -> (char, u8, u32, u8) {
     match event {
-        Event::Write(pid, address, bytes) => ('w', pid.0, *address, bytes.as_slice()[0]),
-        Event::Read(pid, address, _) => ('r', pid.0, *address, 0),
-        Event::Trim(pid, n) => ('t', pid.0, *n, 0),
-        Event::Writer(n) => ('o', 0, *n, 0),
-        Event::Io(i) => ('i', 0, *i, 0),
+        Event::Write {
+            pid,
+            addr: address,
+            bytes,
+        } => ('w', pid.0, *address, bytes.as_slice()[0]),
+        Event::Read {
+            pid,
+            addr: address,
+            ..
+        } => ('r', pid.0, *address, 0),
+        Event::Trim { pid, count: n } => ('t', pid.0, *n, 0),
+        Event::Writer { count: n } => ('o', 0, *n, 0),
+        Event::Io { index: i } => ('i', 0, *i, 0),
         _ => ('?', 0, 0, 0),
     }
 }

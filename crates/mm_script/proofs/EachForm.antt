@@ -1,5 +1,5 @@
 -- Each form of a line: its values are those of one event, and each event is of one form.
-use Rattle.std.proofs.Common.{◌≡◌, ℕ, ◌⊎◌, List, ◌∷◌, Some, refl, inl, inr}
+use Rattle.std.proofs.Common.{◌≡◌, ℕ, ◌⊎◌, List, ◌∷◌, refl, inl, inr}
 use Rattle.mm_types.specs.declared.numbers.Pid.{Pid}
 use Rattle.mm_types.specs.declared.numbers.Tid.{Tid}
 use Rattle.mm_types.specs.declared.events.AccessSpec.TheVariants as spec
@@ -10,7 +10,7 @@ use Rattle.mm_script.specs.declared.keywords.Keyword.{Keyword}
 use Rattle.mm_script.specs.declared.keywords.Keyword.TheVariants as keyword
 use Rattle.mm_script.specs.Field.{Exactly}
 use Rattle.mm_script.specs.Grammar.{fields_of}
-use Rattle.mm_script.specs.Keywords.{text_of, keyword_of}
+use Rattle.mm_script.specs.Keywords.{text_of}
 use Rattle.mm_script.specs.Shape.{shape_of}
 use Rattle.mm_script.specs.Reading.{make_of}
 use Rattle.mm_script.proofs.Joined.{IsPlain}
@@ -21,7 +21,7 @@ begin_made : (tid : Tid) (pid : Pid) (vs : (ℕ × (ℕ × Unit {0})) ⊎ (ℕ �
 begin_made tid pid (inl vs) = refl
 begin_made tid pid (inr vs) = refl
 
--- the fields of the event that is made behind a keyword
+-- the fields of the event that is made after a keyword
 pub fields_made : (k : Keyword) (vs : Values (shape_of k)) → fields_of (made_of (shape_of k) (make_of k) vs) ≡ Exactly (text_of k) ∷ fields_for (shape_of k) vs
 fields_made keyword.Machine vs = refl
 fields_made keyword.Process vs = refl
@@ -57,7 +57,7 @@ fields_made keyword.ResetWatch vs = refl
 fields_made keyword.Stack vs = refl
 fields_made keyword.Probe vs = refl
 
--- the keyword of an event, and the values behind it
+-- the keyword of an event, and the values after it
 pub record IsOfForm (e : Event) : Type 0 where
   pub keyword : Keyword
   pub values : Values (shape_of keyword)
@@ -133,40 +133,3 @@ plain_keyword keyword.Watch = plain_all is_letter refl refl (text_of keyword.Wat
 plain_keyword keyword.ResetWatch = plain_all is_letter refl refl (text_of keyword.ResetWatch) refl
 plain_keyword keyword.Stack = plain_all is_letter refl refl (text_of keyword.Stack) refl
 plain_keyword keyword.Probe = plain_all is_letter refl refl (text_of keyword.Probe) refl
-
--- each keyword is found by its text
-pub keyword_again : (k : Keyword) → keyword_of (text_of k) ≡ Some k
-unfolding keyword_of
-keyword_again keyword.Machine = refl
-keyword_again keyword.Process = refl
-keyword_again keyword.Exit = refl
-keyword_again keyword.File = refl
-keyword_again keyword.Alloc = refl
-keyword_again keyword.Free = refl
-keyword_again keyword.Protect = refl
-keyword_again keyword.Query = refl
-keyword_again keyword.Create = refl
-keyword_again keyword.CreateFile = refl
-keyword_again keyword.Open = refl
-keyword_again keyword.Close = refl
-keyword_again keyword.Map = refl
-keyword_again keyword.Unmap = refl
-keyword_again keyword.Flush = refl
-keyword_again keyword.Read = refl
-keyword_again keyword.Write = refl
-keyword_again keyword.Exec = refl
-keyword_again keyword.Begin = refl
-keyword_again keyword.Resume = refl
-keyword_again keyword.Io = refl
-keyword_again keyword.Trim = refl
-keyword_again keyword.Age = refl
-keyword_again keyword.Writer = refl
-keyword_again keyword.Zeroer = refl
-keyword_again keyword.Fail = refl
-keyword_again keyword.Charge = refl
-keyword_again keyword.Counts = refl
-keyword_again keyword.Grow = refl
-keyword_again keyword.Watch = refl
-keyword_again keyword.ResetWatch = refl
-keyword_again keyword.Stack = refl
-keyword_again keyword.Probe = refl

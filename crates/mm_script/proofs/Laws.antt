@@ -1,8 +1,6 @@
 -- A text is read as the event that it is a line for, and otherwise its first fault is told.
-use Rattle.std.proofs.Common.{◌≡◌, ◌≤◌, ◌⊎◌, arith, List, [], ◌∷◌, ◌++◌, length, Some, Result, Ok, Err, true, false, cond, refl, sym, ap, ◌∙◌, subst, inl, inr}
-use Rattle.std.specs.Prelude.{bytes_eq, IfOk, IfErr}
-use Rattle.std.proofs.lemmas.Option.{same_Some}
-use Rattle.std.proofs.lemmas.Slice.Eq.{bytes_eq-Decides}
+use Rattle.std.proofs.Common.{◌≡◌, ◌≤◌, ◌⊎◌, arith, List, [], ◌∷◌, ◌++◌, length, Some, Result, Ok, Err, true, refl, sym, ap, ◌∙◌, subst, inl, inr}
+use Rattle.std.specs.Prelude.{IfOk, IfErr}
 use Rattle.mm_types.specs.Spelling.{Text, spaced}
 use Rattle.mm_types.specs.declared.events.Event.{Event}
 use Rattle.mm_text.specs.Word.{Word, words_of}
@@ -12,26 +10,16 @@ use Rattle.mm_script.specs.declared.keywords.Keyword.{Keyword}
 use Rattle.mm_script.specs.Field.{Field, Exactly, EachSpells}
 use Rattle.mm_script.specs.Grammar.{fields_of, are_joined, IsText, IsLine}
 use Rattle.mm_script.specs.Printed.{spaced_words}
-use Rattle.mm_script.specs.Keywords.{text_of, keyword_among, keywords_of_length, keyword_of}
+use Rattle.mm_script.specs.Keywords.{text_of, keyword_of}
 use Rattle.mm_script.specs.Shape.{shape_of}
 use Rattle.mm_script.specs.Place.{without_return, first_fault, fault_behind, fault_among, fault_place}
 use Rattle.mm_script.specs.Reading.{◌>>=◌, Rest, behind, word_as, make_of, line_of, whole_line, parse}
 use Rattle.mm_script.proofs.Binds.{bind_ok, bind_err, Missing, Bad, word_ok, word_err, word_again}
 use Rattle.mm_script.proofs.Joined.{texts, joined_words, split_words, return_cases, return_taken, plain_kept, IsPlain, ArePlain}
 use Rattle.mm_script.proofs.Shapes.{Values, made_of, fields_for, plain_words}
-use Rattle.mm_script.proofs.EachForm.{fields_made, form_of, plain_keyword, keyword_again}
+use Rattle.mm_script.proofs.EachForm.{fields_made, form_of, plain_keyword}
+use Rattle.mm_script.proofs.Found.{keyword_is, keyword_again}
 use Rattle.mm_script.proofs.Walk.{event_ok, event_again, event_err}
-
-among_is : (ks : List Keyword) (word : Text) (k : Keyword) → keyword_among ks word ≡ Some k → word ≡ text_of k
-among_is [] word k h = cc
-among_is (j ∷ ks) word k h = elim (bytes_eq word (text_of j)) as (λ b. bytes_eq word (text_of j) ≡ b → cond b (Some j) (keyword_among ks word) ≡ Some k → word ≡ text_of k) [
-  | true ↦ λ e f. (bytes_eq-Decides word (text_of j)).0 e ∙ ap text_of (same_Some j k f)
-  | false ↦ λ e f. among_is ks word k f
-] refl h
-
-keyword_is : (word : Text) (k : Keyword) → keyword_of word ≡ Some k → word ≡ text_of k
-unfolding keyword_of
-keyword_is word k h = among_is (keywords_of_length (length word)) word k h
 
 nil_cons : {A : Type 0} (x : A) (xs : List A) → [] ≡ x ∷ xs → ⊥
 nil_cons x xs h = cc

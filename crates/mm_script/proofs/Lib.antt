@@ -3,6 +3,7 @@ pub mod Joined
 pub mod Plain
 pub mod Shapes
 pub mod EachForm
+pub mod Found
 pub mod Walk
 pub mod Laws
 pub mod Given

@@ -34,7 +34,7 @@ plain_limited : (P : Type 0) (o : Option ℕ) (n : ℕ) → ((m : ℕ) → o ≡
 plain_limited P None n f h = cc
 plain_limited P (Some m) n f h = f m refl
 
--- hexadecimal digits stand behind plain bytes
+-- hexadecimal digits stand after plain bytes
 plain_hex : (cs ds : Text) → hex_digits cs ≡ Some ds → IsPlain ds → IsPlain cs
 plain_hex [] ds h p = tt
 plain_hex (a ∷ []) ds h p = cc

@@ -1,4 +1,4 @@
--- The words behind a keyword are read as the fields of one event, or the first fault is told.
+-- The words after a keyword are read as the fields of one event, or the first fault is told.
 use Rattle.std.proofs.Common.{◌≡◌, ◌+◌, List, [], ◌∷◌, Some, None, Ok, Err, Bool, true, false, cond, refl, sym, ap, ◌∙◌, subst, inl, inr}
 use Rattle.std.specs.Prelude.{is_some, bytes_eq, codes}
 use Rattle.std.proofs.lemmas.Bool.{cond-true}

@@ -1,4 +1,4 @@
--- A place between the words of a line.
+-- A place between the words of a line: a tool of proof.
 use Rattle.std.specs.Prelude.{◌≡◌, ℕ, ◌+◌, ◌^◌, ◌≤◌, ◌<◌, [], ◌∷◌, length, Result, MatchResult}
 use Rattle.std.specs.Borrow.{Bor}
 use Rattle.mm_types.specs.Spelling.{Text}
@@ -26,6 +26,6 @@ pub record TakesWord (old : Rest) (text : Text) (new : Rest) : Type 0 where
   pub end : new.end ≡ old.end
   pub number : new.number ≡ old.number + 1
 
--- the next word, or the fault behind the line's end
+-- the next word, or the fault after the line's end
 abbrev pub Takes : Rest → Result (Bor Text) LineFault → Rest → Type 0
 Takes old result new = MatchResult result (λ w. TakesWord old w.now new) (λ f. (old.left ≡ []) × (f ≡ fault_at old.end old.number))

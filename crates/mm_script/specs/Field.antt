@@ -1,4 +1,5 @@
 -- What a word of a line stands for.
+-- Profile, "Script".
 use Rattle.std.specs.Prelude.{◌≡◌, ℕ, ◌≤◌, List, [], ◌∷◌, Option, Some, None, codes}
 use Rattle.mm_types.specs.Spelling.{Text}
 use Rattle.mm_text.specs.Field.{number_of, bytes_of, name_of}

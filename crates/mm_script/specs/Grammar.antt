@@ -1,4 +1,5 @@
 -- The grammar: which lines stand for which event, with one rule for each form of a line.
+-- Profile, "Script".
 use Rattle.std.specs.Prelude.{◌≡◌, ℕ, ◌+◌, ◌*◌, ◌%◌, Bool, true, nat_le, if◌then◌else◌, List, [], ◌∷◌, ◌++◌, length, codes, ◌⊎◌, IsTrue}
 use Rattle.mm_types.specs.Spelling.{Text, spaced}
 use Rattle.mm_types.specs.declared.numbers.Pid.{Pid}
@@ -10,6 +11,7 @@ use Rattle.mm_types.specs.declared.devices.Direction.TheVariants as direction
 use Rattle.mm_types.specs.declared.events.AccessSpec.TheVariants as spec
 use Rattle.mm_types.specs.declared.events.Event.{Event}
 use Rattle.mm_types.specs.declared.events.Event.TheVariants as line
+use Rattle.mm_types.specs.Address.{page_size}
 use Rattle.mm_script.specs.Field.{Field, Exactly, Decimal, Hex, Bytes, Named, NamedOrDash, EachSpells}
 
 abbrev pub pid_field : Pid → Field
@@ -73,7 +75,7 @@ fields_of (line.Probe tid addr) = Exactly (codes "probe") ∷ tid_field tid ∷ 
 
 -- bytes from an address on that lie inside one page
 abbrev pub lies_in_page : ℕ → ℕ → Bool
-lies_in_page addr len = nat_le (addr % 4096 + len) 4096
+lies_in_page addr len = nat_le (addr % page_size + len) page_size
 
 -- what an event's fields have to meet together
 abbrev pub are_joined : Event → Bool

@@ -1,5 +1,6 @@
 -- The first words of lines.
-use Rattle.std.specs.Prelude.{ℕ, List, [], ◌∷◌, length, Option, Some, None, bytes_eq, ◌==◌, if◌then◌else◌, codes}
+-- Profile, "Script".
+use Rattle.std.specs.Prelude.{List, [], ◌∷◌, Option, Some, None, bytes_eq, if◌then◌else◌, codes}
 use Rattle.mm_types.specs.Spelling.{Text}
 use Rattle.mm_script.specs.declared.keywords.Keyword.{Keyword}
 use Rattle.mm_script.specs.declared.keywords.Keyword.TheVariants as keyword
@@ -44,26 +45,9 @@ abbrev pub keyword_among : List Keyword → Text → Option Keyword
 keyword_among [] word = None
 keyword_among (k ∷ ks) word = if bytes_eq word (text_of k) then Some k else keyword_among ks word
 
-abbrev pub four_letter_keywords : List Keyword
-four_letter_keywords = keyword.Exit ∷ keyword.File ∷ keyword.Free ∷ keyword.Open ∷ keyword.Read ∷ keyword.Exec ∷ keyword.Trim ∷ keyword.Fail ∷ keyword.Grow ∷ []
-
-abbrev pub five_letter_keywords : List Keyword
-five_letter_keywords = keyword.Alloc ∷ keyword.Query ∷ keyword.Close ∷ keyword.Unmap ∷ keyword.Flush ∷ keyword.Write ∷ keyword.Begin ∷ keyword.Watch ∷ keyword.Stack ∷ keyword.Probe ∷ []
-
-abbrev pub six_letter_keywords : List Keyword
-six_letter_keywords = keyword.Create ∷ keyword.Resume ∷ keyword.Writer ∷ keyword.Zeroer ∷ keyword.Charge ∷ keyword.Counts ∷ []
-
-abbrev pub other_keywords : List Keyword
-other_keywords = keyword.Io ∷ keyword.Map ∷ keyword.Age ∷ keyword.Machine ∷ keyword.Process ∷ keyword.Protect ∷ keyword.CreateFile ∷ keyword.ResetWatch ∷ []
-
--- the keywords of a length, and some others, so that a word is compared with few
-abbrev pub keywords_of_length : ℕ → List Keyword
-keywords_of_length n =
-    if n == 4 then four_letter_keywords
-    else if n == 5 then five_letter_keywords
-    else if n == 6 then six_letter_keywords
-    else other_keywords
+abbrev pub keywords : List Keyword
+keywords = keyword.Machine ∷ keyword.Process ∷ keyword.Exit ∷ keyword.File ∷ keyword.Alloc ∷ keyword.Free ∷ keyword.Protect ∷ keyword.Query ∷ keyword.Create ∷ keyword.CreateFile ∷ keyword.Open ∷ keyword.Close ∷ keyword.Map ∷ keyword.Unmap ∷ keyword.Flush ∷ keyword.Read ∷ keyword.Write ∷ keyword.Exec ∷ keyword.Begin ∷ keyword.Resume ∷ keyword.Io ∷ keyword.Trim ∷ keyword.Age ∷ keyword.Writer ∷ keyword.Zeroer ∷ keyword.Fail ∷ keyword.Charge ∷ keyword.Counts ∷ keyword.Grow ∷ keyword.Watch ∷ keyword.ResetWatch ∷ keyword.Stack ∷ keyword.Probe ∷ []
 
 -- the keyword that a word is
 unfoldable pub keyword_of : Text → Option Keyword
-keyword_of word = keyword_among (keywords_of_length (length word)) word
+keyword_of word = keyword_among keywords word

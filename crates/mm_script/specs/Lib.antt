@@ -2,6 +2,7 @@ pub mod Field
 pub mod Grammar
 pub mod Printed
 pub mod Keywords
+pub mod Sorted
 pub mod Shape
 pub mod Place
 pub mod Reading

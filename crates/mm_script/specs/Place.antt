@@ -1,4 +1,5 @@
 -- The place of a line's first fault.
+-- Profile, "Script".
 use Rattle.std.specs.Prelude.{ℕ, ◌+◌, ◌-◌, ◌==◌, if◌then◌else◌, List, [], ◌∷◌, length, Option, Some, None, is_some, bytes_eq, codes}
 use Rattle.mm_types.specs.Spelling.{Text}
 use Rattle.mm_text.specs.Word.{Word, words_of}
@@ -18,14 +19,14 @@ without_return (c ∷ d ∷ cs) = c ∷ without_return (d ∷ cs)
 abbrev pub fault_at : ℕ → ℕ → LineFault
 fault_at from number = record { column = from + 1; word = number }
 
--- The place of a joint condition: the frames of a machine, right behind `machine `, and else the last word, which begins
+-- The place of a joint condition: the frames of a machine, right after `machine `, and else the last word, which begins
 -- at this place, one word before this number.
 abbrev pub joint_fault : Keyword → ℕ → ℕ → LineFault
 joint_fault keyword.Machine last number = fault_at 8 2
 joint_fault _ last number = fault_at last (number - 1)
 
 -- The words that are left are tested from left to right, each by its form and range; the first of them has this number, the
--- word before it began at `last`, and the line ends at `end`. A missing word stands behind the line's end, a word too many at
+-- word before it began at `last`, and the line ends at `end`. A missing word stands after the line's end, a word too many at
 -- its own place, and where all words are good the joint condition fails.
 abbrev pub first_fault : Keyword → Shape → List Word → (end number last : ℕ) → LineFault
 first_fault k End [] end number last = joint_fault k last number

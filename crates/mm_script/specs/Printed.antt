@@ -1,4 +1,5 @@
 -- The shortest line of an event.
+-- Profile, "Script".
 use Rattle.std.specs.Prelude.{◌≡◌, ℕ, ◌≤◌, ◌<◌, ◌^◌, List, [], ◌∷◌, length, map, Some, None, codes, IsTrue}
 use Rattle.std.specs.List.{AllByRecursion}
 use Rattle.mm_types.specs.Spelling.{Text, decimal, byte_pairs, spaced}

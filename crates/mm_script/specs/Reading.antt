@@ -1,4 +1,5 @@
 -- Reading a line from left to right: its event, or its first fault.
+-- Profile, "Script".
 use Rattle.std.specs.Prelude.{◌≡◌, ℕ, ◌+◌, if◌then◌else◌, List, [], ◌∷◌, length, Option, Some, None, Result, Ok, Err}
 use Rattle.mm_types.specs.Spelling.{Text}
 use Rattle.mm_types.specs.declared.devices.Direction.{Direction}
@@ -27,7 +28,7 @@ pub record Rest : Type 0 where
   pub number : ℕ
   pub last : ℕ
 
--- what is left behind a word
+-- what is left after a word
 abbrev pub behind : Rest → Word → List Word → Rest
 behind rest w ws = record { left = ws; end = rest.end; number = rest.number + 1; last = w.from }
 
@@ -39,7 +40,7 @@ abbrev pub first_read : {A : Type 0} → (Text → Option A) → Rest → List W
 first_read reads rest [] = Err (fault_at rest.end rest.number)
 first_read reads rest (w ∷ ws) = word_read (reads w.text) rest w ws
 
--- The next word, read so; the fault stands at it, or behind the line's end where no word is left.
+-- The next word, read so; the fault stands at it, or after the line's end where no word is left.
 unfoldable pub word_as : {A : Type 0} → (Text → Option A) → Rest → Result (A × Rest) LineFault
 word_as reads rest = first_read reads rest rest.left
 
@@ -69,7 +70,7 @@ event_in k (Then kind s) make rest = word_as (read kind) rest >>= λ x. event_in
 event_in k (ReadOrWrite s t) make rest =
     word_as (read DirectionWord) rest >>= λ x. by_direction x.0 (event_in k s make.0 x.1) (event_in k t make.1 x.1)
 
--- the event of the values that stand behind a keyword
+-- the event of the values that stand after a keyword
 abbrev pub make_of : (k : Keyword) → Makes (shape_of k) Event
 make_of keyword.Machine = λ frames slots depth blocks. line.Machine (record { frames = frames; slots = slots; depth = depth; blocks = blocks })
 make_of keyword.Process = λ min max. line.Process min max
@@ -105,7 +106,7 @@ make_of keyword.ResetWatch = λ pid addr size. line.ResetWatch pid addr size
 make_of keyword.Stack = λ tid pid reserve commit. line.Stack tid pid reserve commit
 make_of keyword.Probe = λ tid addr. line.Probe tid addr
 
--- the event of the words behind a keyword
+-- the event of the words after a keyword
 unfoldable pub line_of : Keyword → Rest → Result Event LineFault
 line_of k rest = event_in k (shape_of k) (make_of k) rest
 

@@ -1,4 +1,5 @@
 -- What the words of a line have to be, one after another.
+-- Profile, "Script".
 use Rattle.std.specs.Prelude.{ℕ, Bool, nat_le, ◌&&◌, ◌==◌, if◌then◌else◌, List, Option, Some, None, option_map, option_and_then, bytes_eq, codes}
 use Rattle.mm_types.specs.Spelling.{Text}
 use Rattle.mm_types.specs.declared.numbers.Pid.{Pid}
@@ -75,7 +76,7 @@ read NameOrDash word = name_or_dash word
 read DeviceWord word = device_of word
 read DirectionWord word = direction_of word
 
--- the words behind a keyword: what stands behind `read` differs from what stands behind `write`
+-- the words after a keyword: what stands after `read` differs from what stands after `write`
 pub data Shape : Type 0 where
   End : Shape
   Then : Kind → Shape → Shape

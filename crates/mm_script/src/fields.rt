@@ -48,7 +48,7 @@ impl<'a> Fields<'a> {
         }
     }
 
-    /// The next word; the fault stands behind the line's end where no word is left. Either way one word more is counted.
+    /// The next word; the fault stands after the line's end where no word is left. Either way one word more is counted.
     fn next(&mut self) -> Result<&'a [u8], LineFault>
         requires few { self.old.number < MOST_WORDS }
         ensures word { Takes self.old result self.new }

@@ -1,5 +1,6 @@
-ghost use Rattle.std.specs.Prelude.{◌≡◌};
-ghost use Rattle.mm_script.specs.Keywords.{keyword_of, keyword_among, four_letter_keywords, five_letter_keywords, six_letter_keywords, other_keywords};
+ghost use Rattle.std.specs.Prelude.{◌≡◌, length};
+ghost use Rattle.mm_script.specs.Keywords.{keyword_of, keyword_among};
+ghost use Rattle.mm_script.specs.Sorted.{keywords_of_length, four_letter_keywords, five_letter_keywords, six_letter_keywords, other_keywords};
 
 /// The first word of a line.
 #[derive(Clone, Copy, PartialEq, Eq, Debug)]
@@ -41,16 +42,22 @@ pub enum Keyword {
 
 impl Keyword {
     /// The keyword that a word is.
-    #[tactic(auto, unfolding(crate::specs::Keywords::keyword_of))]
     pub fn of(word: &[u8]) -> Option<Keyword>
         ensures { result ≡ keyword_of word.now }
     {
-        match word.len() {
-            4 => four_letters(word),
-            5 => five_letters(word),
-            6 => six_letters(word),
-            _ => other(word),
-        }
+        by_length(word)
+    }
+}
+
+/// The keyword that a word is, sought among those of its length.
+fn by_length(word: &[u8]) -> Option<Keyword>
+    ensures { result ≡ keyword_among (keywords_of_length (length word.now)) word.now }
+{
+    match word.len() {
+        4 => four_letters(word),
+        5 => five_letters(word),
+        6 => six_letters(word),
+        _ => other(word),
     }
 }
 
@@ -58,6 +65,9 @@ impl Keyword {
 fn four_letters(word: &[u8]) -> Option<Keyword>
     ensures { result ≡ keyword_among four_letter_keywords word.now }
 {
+    if word == b"read".as_slice() {
+        return Some(Keyword::Read);
+    }
     if word == b"exit".as_slice() {
         return Some(Keyword::Exit);
     }
@@ -69,9 +79,6 @@ fn four_letters(word: &[u8]) -> Option<Keyword>
     }
     if word == b"open".as_slice() {
         return Some(Keyword::Open);
-    }
-    if word == b"read".as_slice() {
-        return Some(Keyword::Read);
     }
     if word == b"exec".as_slice() {
         return Some(Keyword::Exec);
@@ -92,6 +99,9 @@ fn four_letters(word: &[u8]) -> Option<Keyword>
 fn five_letters(word: &[u8]) -> Option<Keyword>
     ensures { result ≡ keyword_among five_letter_keywords word.now }
 {
+    if word == b"write".as_slice() {
+        return Some(Keyword::Write);
+    }
     if word == b"alloc".as_slice() {
         return Some(Keyword::Alloc);
     }
@@ -106,9 +116,6 @@ fn five_letters(word: &[u8]) -> Option<Keyword>
     }
     if word == b"flush".as_slice() {
         return Some(Keyword::Flush);
-    }
-    if word == b"write".as_slice() {
-        return Some(Keyword::Write);
     }
     if word == b"begin".as_slice() {
         return Some(Keyword::Begin);
@@ -129,14 +136,14 @@ fn five_letters(word: &[u8]) -> Option<Keyword>
 fn six_letters(word: &[u8]) -> Option<Keyword>
     ensures { result ≡ keyword_among six_letter_keywords word.now }
 {
+    if word == b"writer".as_slice() {
+        return Some(Keyword::Writer);
+    }
     if word == b"create".as_slice() {
         return Some(Keyword::Create);
     }
     if word == b"resume".as_slice() {
         return Some(Keyword::Resume);
-    }
-    if word == b"writer".as_slice() {
-        return Some(Keyword::Writer);
     }
     if word == b"zeroer".as_slice() {
         return Some(Keyword::Zeroer);

@@ -16,8 +16,8 @@ use crate::fields::Fields;
 use crate::keywords::Keyword;
 use mm_types::Event;
 
-/// The words behind a keyword.
-fn fields_behind(keyword: Keyword, fields: &mut Fields) -> Result<Event, LineFault>
+/// The words after a keyword.
+fn fields_after(keyword: Keyword, fields: &mut Fields) -> Result<Event, LineFault>
     requires { fields.old.number ≡ 2 }
     ensures { result ≡ line_of keyword fields.old }
 {
@@ -76,7 +76,7 @@ fn parse(line: &[u8]) -> Result<Event, LineFault>
 {
     let mut fields = Fields::new(without_return(line));
     let keyword = fields.keyword()?;
-    fields_behind(keyword, &mut fields)
+    fields_after(keyword, &mut fields)
 }
 
 /// The event of a line, from its bytes before the line feed; one carriage return at their end is taken off. `Err` exactly

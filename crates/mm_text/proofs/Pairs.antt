@@ -7,7 +7,7 @@ use Rattle.std.proofs.lemmas.Bool.{and_right, lt-leb}
 use Rattle.mm_types.specs.Spelling.{Text}
 use Rattle.mm_text.specs.Field.{pair_of, byte_before, pairs_of, few_bytes, bytes_of}
 
--- bytes behind those that were read
+-- bytes after those that were read
 abbrev pub behind : List ℕ → Option (List ℕ) → Option (List ℕ)
 behind done None = None
 behind done (Some bs) = Some (done ++ bs)

@@ -7,7 +7,7 @@ use Rattle.std.proofs.lemmas.Nat.{mul-le}
 use Rattle.mm_types.specs.Spelling.{Text}
 use Rattle.mm_text.specs.Field.{digit_value, value_in, are_digits, digits_in, below_limit, limited}
 
--- the value of digits behind others of the value n, where all are digits and the value stays below the limit
+-- the value of digits after others of the value n, where all are digits and the value stays below the limit
 abbrev pub scan : ℕ → ℕ → Text → Option ℕ
 scan base n [] = below_limit n
 scan base n (c ∷ cs) = cond (nat_lt (digit_value c) base) (scan base (n * base + digit_value c) cs) None

@@ -1,4 +1,5 @@
 -- What a word can be: a number, bytes, a name.
+-- Profile, "Script".
 use Rattle.std.specs.Prelude.{ℕ, ◌+◌, ◌-◌, ◌*◌, ◌^◌, Bool, false, ◌&&◌, ◌||◌, nat_le, nat_lt, ◌==◌, if◌then◌else◌, List, [], ◌∷◌, length, Option, Some, None, option_map, option_and_then}
 use Rattle.std.specs.List.{list_all}
 use Rattle.mm_types.specs.Spelling.{Text}
@@ -11,7 +12,7 @@ digit_value c =
     else if nat_le 0x61 c && nat_le c 0x66 then c - 0x57
     else 16
 
--- the value of digits in a base, behind digits of the value n
+-- the value of digits in a base, after digits of the value n
 abbrev pub value_in : ℕ → ℕ → Text → ℕ
 value_in base n [] = n
 value_in base n (c ∷ cs) = value_in base (n * base + digit_value c) cs
@@ -24,7 +25,7 @@ abbrev pub digits_in : ℕ → ℕ → Text → Option ℕ
 digits_in base most cs =
     if nat_le 1 (length cs) && nat_le (length cs) most && are_digits base cs then Some (value_in base 0 cs) else None
 
--- what stands behind `0x`
+-- what stands after `0x`
 abbrev pub hex_digits : Text → Option Text
 hex_digits [] = None
 hex_digits (a ∷ []) = None
@@ -36,7 +37,7 @@ below_limit n = if nat_lt n (2 ^ 32) then Some n else None
 abbrev pub limited : Option ℕ → Option ℕ
 limited n = option_and_then below_limit n
 
--- up to 8 hexadecimal digits behind `0x`, or else up to 10 decimal digits
+-- up to 8 hexadecimal digits after `0x`, or else up to 10 decimal digits
 abbrev pub number_in : Text → Option Text → Option ℕ
 number_in cs (Some digits) = digits_in 16 8 digits
 number_in cs None = digits_in 10 10 cs
@@ -73,7 +74,7 @@ is_letter c = (nat_le 0x41 c && nat_le c 0x5A) || (nat_le 0x61 c && nat_le c 0x7
 abbrev pub is_name_byte : ℕ → Bool
 is_name_byte c = is_letter c || (nat_le 0x30 c && nat_le c 0x39) || (c == 0x5F) || (c == 0x2E) || (c == 0x2D)
 
--- a letter, and bytes of a name behind it
+-- a letter, and bytes of a name after it
 abbrev pub is_name : Text → Bool
 is_name [] = false
 is_name (c ∷ cs) = is_letter c && list_all is_name_byte cs

@@ -1,4 +1,5 @@
 -- A word by its place.
+-- Profile, "Script".
 use Rattle.std.specs.Prelude.{slice_range}
 use Rattle.mm_types.specs.Spelling.{Text}
 use Rattle.mm_text.specs.Word.{Word}

@@ -1,4 +1,5 @@
 -- Numbers in as few digits as there can be.
+-- Profile, "Answers".
 use Rattle.std.specs.Prelude.{ℕ, zero, suc, ◌/◌, ◌%◌, nat_lt, if◌then◌else◌, [], ◌∷◌, ◌++◌, codes}
 use Rattle.mm_types.specs.Spelling.{Text, glyph}
 

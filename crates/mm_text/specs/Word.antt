@@ -1,4 +1,5 @@
 -- The words of a line.
+-- Profile, "Script".
 use Rattle.std.specs.Prelude.{ℕ, ◌+◌, nat_le, ◌==◌, if◌then◌else◌, List, [], ◌∷◌, ◌++◌, length, drop}
 use Rattle.mm_types.specs.Spelling.{Text}
 
@@ -18,7 +19,7 @@ words_from from text (c ∷ cs) =
 abbrev pub words_of : Text → List Word
 words_of line = words_from 0 [] line
 
--- the words of a line that begin at a place or behind it; there is none behind the line's end
+-- the words of a line that begin at a place or after it; there is none after the line's end
 abbrev pub rest_from : ℕ → Text → List Word
 rest_from at line = if nat_le at (length line) then words_from at [] (drop at line) else []
 

@@ -17,7 +17,7 @@ fn digit(byte: u8) -> u8
     }
 }
 
-/// What stands behind `0x`, where a word begins so.
+/// What stands after `0x`, where a word begins so.
 fn hex_digits(word: &[u8]) -> Option<&[u8]>
     ensures { option_map (λ x. x.now) result ≡ hex_digits word.now }
 {
@@ -122,7 +122,7 @@ fn are_name_bytes(bytes: &[u8]) -> bool
     bytes.iter().all(|byte| is_name_byte(*byte))
 }
 
-/// Whether a word is a letter, and letters, digits, `_`, `.` or `-` behind it.
+/// Whether a word is a letter, and letters, digits, `_`, `.` or `-` after it.
 #[tactic(auto, using(crate::proofs::Made::made))]
 fn is_name(word: &[u8]) -> bool
     ensures { result ≡ is_name word.now }
@@ -133,7 +133,7 @@ fn is_name(word: &[u8]) -> bool
     }
 }
 
-/// The name that a word is: a letter, and at most 31 letters, digits, `_`, `.` or `-` behind it, in ASCII; `None` where
+/// The name that a word is: a letter, and at most 31 letters, digits, `_`, `.` or `-` after it, in ASCII; `None` where
 /// it is not that.
 #[tactic(auto, using(crate::proofs::Made::made))]
 pub fn name(word: &[u8]) -> Option<Name>

@@ -4,7 +4,7 @@ ghost use Rattle.mm_text.specs.Place.{word_at};
 
 use std::marker::Model;
 
-/// The place of a word in a line: from its first byte up to the byte behind it, counted from 0.
+/// The place of a word in a line: from its first byte up to the byte after it, counted from 0.
 #[derive(Clone, Copy, PartialEq, Eq, Debug)]
 pub struct Span {
     pub from: u32,

@@ -1,6 +1,6 @@
 -- Finite maps from numbers.
 use Rattle.std.proofs.Common.{◌≡◌, ℕ, Option, Some, None, refl, ap, ◌∙◌}
-use Rattle.std.specs.Prelude.{Bool, true, false, cond, ◌==◌, is_some}
+use Rattle.std.specs.Prelude.{Bool, true, false, cond, ◌==◌, is_some, ◌+◌, ◌-◌}
 use Rattle.std.specs.Cmp.{unsigned_tied, nat_cmp_total}
 use Rattle.std.specs.Ordering.{nat_cmp}
 use Rattle.std.specs.FinMap as finite
@@ -21,3 +21,9 @@ some_of_cond false x o h = h
 
 pub insert_keeps : {X : Type 0} (m : FinMap nat_cmp X) (j : ℕ) (x : X) (k : ℕ) → is_some (finite.get m k) ≡ true → is_some (finite.get (finite.insert m j x) k) ≡ true
 insert_keeps m j x k h = ap is_some (get-insert m j x k) ∙ some_of_cond (k == j) x (finite.get m k) h
+
+pub len_less : {X : Type 0} (m : FinMap nat_cmp X) (k : ℕ) (x : X) → finite.get m k ≡ Some x → finite.len (finite.remove m k) ≡ finite.len m - 1
+len_less {X} m k x h = finite.len-remove nat_cmp_total m k ∙ ap (λ (o : Option X). cond (is_some o) (finite.len m - 1) (finite.len m)) h
+
+pub len_more : {X : Type 0} (m : FinMap nat_cmp X) (k : ℕ) (x : X) → finite.get m k ≡ None → finite.len (finite.insert m k x) ≡ finite.len m + 1
+len_more {X} m k x h = finite.len-insert nat_cmp_total m k x ∙ ap (λ (o : Option X). cond (is_some o) (finite.len m) (finite.len m + 1)) h

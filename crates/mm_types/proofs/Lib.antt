@@ -1,3 +1,7 @@
+pub mod Booleans
+pub mod Options
+pub mod Naturals
+pub mod Lists
 pub mod Bytes
 pub mod Cells
 pub mod Finite

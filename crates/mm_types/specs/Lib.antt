@@ -1,8 +1,9 @@
 pub mod Address
+pub mod Allocation
+pub mod Protection
+pub mod Machine
 pub mod Outside
 pub mod Padded
-pub mod Machine
-pub mod Protection
 pub mod Spelling
 pub mod AnswerText
 pub mod Table

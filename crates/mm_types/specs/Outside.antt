@@ -1,4 +1,5 @@
 -- Words for sources, sinks and devices.
+-- Profile, "A run".
 use Rattle.std.specs.Borrow.{GName}
 use Rattle.std.specs.Prelude.{◌≡◌, ℕ, ◌+◌, ◌-◌, ◌^◌, ◌≤◌, min, List, [], ◌++◌, Option, Some, None, Result, OnErr}
 
@@ -29,7 +30,7 @@ abbrev pub IsEnd : Option (List ℕ) → Type 0
 IsEnd None = Unit {0}
 IsEnd (Some bytes) = bytes ≡ []
 
--- These bytes came behind those taken before, where that is told.
+-- These bytes came after those taken before, where that is told.
 abbrev pub Appended : Option (List ℕ) → Option (List ℕ) → List ℕ → Type 0
 Appended None None bytes = Unit {0}
 Appended None (Some b) bytes = ⊥

@@ -1,79 +1,193 @@
 use crate::{ByteBuf, Device, Direction, Machine, Name, Pid, Tid};
 
-/// What a thread's access does: at an address, so many bytes, or these bytes.
+/// What a thread's access does: reads so many bytes from an address on, or writes these bytes there.
 #[derive(Drop)]
 pub enum AccessSpec {
-    Read(u32, u32),
-    Write(u32, ByteBuf),
+    Read { addr: u32, len: u32 },
+    Write { addr: u32, bytes: ByteBuf },
 }
 
 /// A line of a script, with its fields in order.
+///
+/// Addresses, sizes, lengths, `reserve` and `commit` are bytes; `pages`, `min` and `max` count pages; `form` is the allocation type of
+/// VirtualAlloc or the free type of VirtualFree.
 #[derive(Drop)]
 pub enum Event {
     /// `machine <frames> <slots> <depth> <blocks>`
     Machine(Machine),
     /// `process <min> <max>`
-    Process(u32, u32),
+    Process {
+        min: u32,
+        max: u32,
+    },
     /// `exit <pid>`
-    Exit(Pid),
+    Exit {
+        pid: Pid,
+    },
     /// `file <name> <pages> <byte>`
-    File(Name, u32, u8),
+    File {
+        name: Name,
+        pages: u32,
+        byte: u8,
+    },
     /// `alloc <pid> <addr> <size> <type> <prot>`
-    Alloc(Pid, u32, u32, u32, u32),
+    Alloc {
+        pid: Pid,
+        addr: u32,
+        size: u32,
+        form: u32,
+        prot: u32,
+    },
     /// `free <pid> <addr> <size> <type>`
-    Free(Pid, u32, u32, u32),
+    Free {
+        pid: Pid,
+        addr: u32,
+        size: u32,
+        form: u32,
+    },
     /// `protect <pid> <addr> <size> <prot>`
-    Protect(Pid, u32, u32, u32),
+    Protect {
+        pid: Pid,
+        addr: u32,
+        size: u32,
+        prot: u32,
+    },
     /// `query <pid> <addr>`
-    Query(Pid, u32),
+    Query {
+        pid: Pid,
+        addr: u32,
+    },
     /// `create <pid> <size> <flags> <name|->`
-    Create(Pid, u32, u32, Option<Name>),
+    Create {
+        pid: Pid,
+        size: u32,
+        flags: u32,
+        name: Option<Name>,
+    },
     /// `createfile <pid> <file name> <flags> <name|->`
-    CreateFile(Pid, Name, u32, Option<Name>),
+    CreateFile {
+        pid: Pid,
+        file: Name,
+        flags: u32,
+        name: Option<Name>,
+    },
     /// `open <pid> <name>`
-    Open(Pid, Name),
+    Open {
+        pid: Pid,
+        name: Name,
+    },
     /// `close <pid> <handle>`
-    Close(Pid, u32),
+    Close {
+        pid: Pid,
+        handle: u32,
+    },
     /// `map <pid> <handle> <access> <offset> <length> <addr>`
-    Map(Pid, u32, u32, u32, u32, u32),
+    Map {
+        pid: Pid,
+        handle: u32,
+        access: u32,
+        offset: u32,
+        length: u32,
+        addr: u32,
+    },
     /// `unmap <pid> <addr>`
-    Unmap(Pid, u32),
+    Unmap {
+        pid: Pid,
+        addr: u32,
+    },
     /// `flush <pid> <addr> <size>`
-    Flush(Pid, u32, u32),
+    Flush {
+        pid: Pid,
+        addr: u32,
+        size: u32,
+    },
     /// `read <pid> <addr> <len>`
-    Read(Pid, u32, u32),
+    Read {
+        pid: Pid,
+        addr: u32,
+        len: u32,
+    },
     /// `write <pid> <addr> <bytes>`
-    Write(Pid, u32, ByteBuf),
+    Write {
+        pid: Pid,
+        addr: u32,
+        bytes: ByteBuf,
+    },
     /// `exec <pid> <addr>`
-    Exec(Pid, u32),
+    Exec {
+        pid: Pid,
+        addr: u32,
+    },
     /// `begin <tid> <pid> read <addr> <len>`, `begin <tid> <pid> write <addr> <bytes>`
-    Begin(Tid, Pid, AccessSpec),
+    Begin {
+        tid: Tid,
+        pid: Pid,
+        access: AccessSpec,
+    },
     /// `resume <tid>`
-    Resume(Tid),
-    /// `io <i>`
-    Io(u32),
+    Resume {
+        tid: Tid,
+    },
+    /// `io <i>`: the request that was issued as the `index`-th of those in flight, from 1
+    Io {
+        index: u32,
+    },
     /// `trim <pid> <n>`
-    Trim(Pid, u32),
+    Trim {
+        pid: Pid,
+        count: u32,
+    },
     /// `age <pid>`
-    Age(Pid),
+    Age {
+        pid: Pid,
+    },
     /// `writer <n>`
-    Writer(u32),
+    Writer {
+        count: u32,
+    },
     /// `zeroer <n>`
-    Zeroer(u32),
+    Zeroer {
+        count: u32,
+    },
     /// `fail <paging|file> <read|write> <k> <n>`
-    Fail(Device, Direction, u32, u32),
+    Fail {
+        device: Device,
+        direction: Direction,
+        nth: u32,
+        count: u32,
+    },
     /// `charge`
     Charge,
     /// `counts`
     Counts,
     /// `grow <n>`
-    Grow(u32),
+    Grow {
+        slots: u32,
+    },
     /// `watch <pid> <flag> <addr> <size> <count>`
-    Watch(Pid, bool, u32, u32, u32),
+    Watch {
+        pid: Pid,
+        reset: bool,
+        addr: u32,
+        size: u32,
+        count: u32,
+    },
     /// `resetwatch <pid> <addr> <size>`
-    ResetWatch(Pid, u32, u32),
+    ResetWatch {
+        pid: Pid,
+        addr: u32,
+        size: u32,
+    },
     /// `stack <tid> <pid> <reserve> <commit>`
-    Stack(Tid, Pid, u32, u32),
+    Stack {
+        tid: Tid,
+        pid: Pid,
+        reserve: u32,
+        commit: u32,
+    },
     /// `probe <tid> <addr>`
-    Probe(Tid, u32),
+    Probe {
+        tid: Tid,
+        addr: u32,
+    },
 }

@@ -14,6 +14,7 @@ mod machines;
 mod moves;
 mod numbers;
 mod protections;
+mod sizes;
 mod texts;
 mod views;
 
@@ -29,5 +30,8 @@ pub use machines::Machine;
 pub use moves::{LineKind, Move, Stored};
 pub use numbers::{Area, Block, Frame, Key, Pid, Place, SectionId, Slot, Tid, Vpn};
 pub use protections::{Access, AllocFlags, Prot, permits};
+pub use sizes::{
+    END_OF_USER_PAGES, FIRST_USER_PAGE, GRANULE_PAGES, GRANULE_SIZE, PAGE_SIZE, THREADS,
+};
 pub use texts::{ByteBuf, Name, PageList};
 pub use views::{Kind, View, ViewAccess};

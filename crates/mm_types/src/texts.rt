@@ -156,7 +156,7 @@ impl PageList {
         }
     }
 
-    /// One address more, behind the others.
+    /// One address more, after the others.
     pub fn push(&mut self, address: u32)
         requires { length self.old < 16 }
         ensures { self.new ≡ self.old ++ address ∷ [] }

@@ -54,8 +54,8 @@ pub fn begin(out: &mut LineBuf, tid: Tid, pid: Pid, access: &AccessSpec)
     ensures { out.new ≡ out.old ++ printed (line.Begin tid pid access.now) }
 {
     match access {
-        AccessSpec::Read(addr, len) => begin_read(out, tid, pid, *addr, *len),
-        AccessSpec::Write(addr, bytes) => begin_write(out, tid, pid, *addr, bytes),
+        AccessSpec::Read { addr, len } => begin_read(out, tid, pid, *addr, *len),
+        AccessSpec::Write { addr, bytes } => begin_write(out, tid, pid, *addr, bytes),
     }
 }
 

@@ -7,28 +7,28 @@ use mm_text::LineBuf;
 use mm_types::{Pid, Tid};
 
 /// The line of `alloc`.
-pub fn alloc(out: &mut LineBuf, pid: Pid, addr: u32, size: u32, kind: u32, prot: u32)
+pub fn alloc(out: &mut LineBuf, pid: Pid, addr: u32, size: u32, form: u32, prot: u32)
     requires { length out.old ≤ 96 }
-    ensures { out.new ≡ out.old ++ printed (line.Alloc pid addr size kind prot) }
+    ensures { out.new ≡ out.old ++ printed (line.Alloc pid addr size form prot) }
 {
     out.push_slice(b"alloc");
     put_small(out, pid.0);
     put_hex(out, addr);
     put_hex(out, size);
-    put_hex(out, kind);
+    put_hex(out, form);
     put_hex(out, prot);
 }
 
 /// The line of `free`.
-pub fn free(out: &mut LineBuf, pid: Pid, addr: u32, size: u32, kind: u32)
+pub fn free(out: &mut LineBuf, pid: Pid, addr: u32, size: u32, form: u32)
     requires { length out.old ≤ 96 }
-    ensures { out.new ≡ out.old ++ printed (line.Free pid addr size kind) }
+    ensures { out.new ≡ out.old ++ printed (line.Free pid addr size form) }
 {
     out.push_slice(b"free");
     put_small(out, pid.0);
     put_hex(out, addr);
     put_hex(out, size);
-    put_hex(out, kind);
+    put_hex(out, form);
 }
 
 /// The line of `protect`.

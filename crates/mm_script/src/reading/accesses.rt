@@ -8,14 +8,14 @@ ghost use Rattle.mm_script.specs.Reading.{event_in, line_of};
 
 use crate::LineFault;
 use crate::fields::Fields;
-use mm_types::{AccessSpec, Direction, Event, Pid, Tid};
+use mm_types::{AccessSpec, Direction, Event, PAGE_SIZE, Pid, Tid};
 
 /// Whether bytes from an address on lie inside one page.
 fn lies_in_page(addr: u32, len: u32) -> bool
     requires { len < 4096 }
     ensures { result ≡ lies_in_page addr len }
 {
-    addr % 4096 + len <= 4096
+    addr % PAGE_SIZE + len <= PAGE_SIZE
 }
 
 /// `read <pid> <addr> <len>`
@@ -31,7 +31,7 @@ pub fn read(fields: &mut Fields) -> Result<Event, LineFault>
     if !lies_in_page(addr, len) {
         return Err(fields.fault());
     }
-    Ok(Event::Read(pid, addr, len))
+    Ok(Event::Read { pid, addr, len })
 }
 
 /// `write <pid> <addr> <bytes>`
@@ -47,7 +47,7 @@ pub fn write(fields: &mut Fields) -> Result<Event, LineFault>
     if !lies_in_page(addr, bytes.as_slice().len() as u32) {
         return Err(fields.fault());
     }
-    Ok(Event::Write(pid, addr, bytes))
+    Ok(Event::Write { pid, addr, bytes })
 }
 
 /// `exec <pid> <addr>`
@@ -59,7 +59,7 @@ pub fn exec(fields: &mut Fields) -> Result<Event, LineFault>
     let pid = fields.pid()?;
     let addr = fields.number()?;
     fields.end()?;
-    Ok(Event::Exec(pid, addr))
+    Ok(Event::Exec { pid, addr })
 }
 
 /// `resume <tid>`
@@ -70,7 +70,7 @@ pub fn resume(fields: &mut Fields) -> Result<Event, LineFault>
 {
     let tid = fields.tid()?;
     fields.end()?;
-    Ok(Event::Resume(tid))
+    Ok(Event::Resume { tid })
 }
 
 /// `begin <tid> <pid> read <addr> <len>`, `begin <tid> <pid> write <addr> <bytes>`
@@ -87,7 +87,7 @@ pub fn begin(fields: &mut Fields) -> Result<Event, LineFault>
     }
 }
 
-/// The words of a read that is begun, behind `read`.
+/// The words of a read that is begun, after `read`.
 fn begin_read(fields: &mut Fields, tid: Tid, pid: Pid) -> Result<Event, LineFault>
     requires { fields.old.number ≡ 5 }
     ensures { result ≡ event_in keyword.Begin (Then AnyNumber (Then (Number 1 64) End)) (λ addr len. line.Begin tid pid (spec.Read addr len)) fields.old }
@@ -98,10 +98,14 @@ fn begin_read(fields: &mut Fields, tid: Tid, pid: Pid) -> Result<Event, LineFaul
     if !lies_in_page(addr, len) {
         return Err(fields.fault());
     }
-    Ok(Event::Begin(tid, pid, AccessSpec::Read(addr, len)))
+    Ok(Event::Begin {
+        tid,
+        pid,
+        access: AccessSpec::Read { addr, len },
+    })
 }
 
-/// The words of a write that is begun, behind `write`.
+/// The words of a write that is begun, after `write`.
 fn begin_write(fields: &mut Fields, tid: Tid, pid: Pid) -> Result<Event, LineFault>
     requires { fields.old.number ≡ 5 }
     ensures { result ≡ event_in keyword.Begin (Then AnyNumber (Then ByteWord End)) (λ addr bytes. line.Begin tid pid (spec.Write addr bytes)) fields.old }
@@ -112,5 +116,9 @@ fn begin_write(fields: &mut Fields, tid: Tid, pid: Pid) -> Result<Event, LineFau
     if !lies_in_page(addr, bytes.as_slice().len() as u32) {
         return Err(fields.fault());
     }
-    Ok(Event::Begin(tid, pid, AccessSpec::Write(addr, bytes)))
+    Ok(Event::Begin {
+        tid,
+        pid,
+        access: AccessSpec::Write { addr, bytes },
+    })
 }

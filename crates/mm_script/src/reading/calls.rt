@@ -15,10 +15,16 @@ pub fn alloc(fields: &mut Fields) -> Result<Event, LineFault>
     let pid = fields.pid()?;
     let addr = fields.number()?;
     let size = fields.number()?;
-    let kind = fields.number()?;
+    let form = fields.number()?;
     let prot = fields.number()?;
     fields.end()?;
-    Ok(Event::Alloc(pid, addr, size, kind, prot))
+    Ok(Event::Alloc {
+        pid,
+        addr,
+        size,
+        form,
+        prot,
+    })
 }
 
 /// `free <pid> <addr> <size> <type>`
@@ -30,9 +36,14 @@ pub fn free(fields: &mut Fields) -> Result<Event, LineFault>
     let pid = fields.pid()?;
     let addr = fields.number()?;
     let size = fields.number()?;
-    let kind = fields.number()?;
+    let form = fields.number()?;
     fields.end()?;
-    Ok(Event::Free(pid, addr, size, kind))
+    Ok(Event::Free {
+        pid,
+        addr,
+        size,
+        form,
+    })
 }
 
 /// `protect <pid> <addr> <size> <prot>`
@@ -46,7 +57,12 @@ pub fn protect(fields: &mut Fields) -> Result<Event, LineFault>
     let size = fields.number()?;
     let prot = fields.number()?;
     fields.end()?;
-    Ok(Event::Protect(pid, addr, size, prot))
+    Ok(Event::Protect {
+        pid,
+        addr,
+        size,
+        prot,
+    })
 }
 
 /// `query <pid> <addr>`
@@ -58,7 +74,7 @@ pub fn query(fields: &mut Fields) -> Result<Event, LineFault>
     let pid = fields.pid()?;
     let addr = fields.number()?;
     fields.end()?;
-    Ok(Event::Query(pid, addr))
+    Ok(Event::Query { pid, addr })
 }
 
 /// `watch <pid> <flag> <addr> <size> <count>`
@@ -73,7 +89,13 @@ pub fn watch(fields: &mut Fields) -> Result<Event, LineFault>
     let size = fields.number()?;
     let count = fields.number_in(1, 16)?;
     fields.end()?;
-    Ok(Event::Watch(pid, flag, addr, size, count))
+    Ok(Event::Watch {
+        pid,
+        reset: flag,
+        addr,
+        size,
+        count,
+    })
 }
 
 /// `resetwatch <pid> <addr> <size>`
@@ -86,7 +108,7 @@ pub fn reset_watch(fields: &mut Fields) -> Result<Event, LineFault>
     let addr = fields.number()?;
     let size = fields.number()?;
     fields.end()?;
-    Ok(Event::ResetWatch(pid, addr, size))
+    Ok(Event::ResetWatch { pid, addr, size })
 }
 
 /// `stack <tid> <pid> <reserve> <commit>`
@@ -100,7 +122,12 @@ pub fn stack(fields: &mut Fields) -> Result<Event, LineFault>
     let reserve = fields.number()?;
     let commit = fields.number()?;
     fields.end()?;
-    Ok(Event::Stack(tid, pid, reserve, commit))
+    Ok(Event::Stack {
+        tid,
+        pid,
+        reserve,
+        commit,
+    })
 }
 
 /// `probe <tid> <addr>`
@@ -112,5 +139,5 @@ pub fn probe(fields: &mut Fields) -> Result<Event, LineFault>
     let tid = fields.tid()?;
     let addr = fields.number()?;
     fields.end()?;
-    Ok(Event::Probe(tid, addr))
+    Ok(Event::Probe { tid, addr })
 }

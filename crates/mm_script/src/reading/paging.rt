@@ -14,7 +14,7 @@ pub fn io(fields: &mut Fields) -> Result<Event, LineFault>
 {
     let i = fields.number_in(1, 64)?;
     fields.end()?;
-    Ok(Event::Io(i))
+    Ok(Event::Io { index: i })
 }
 
 /// `trim <pid> <n>`
@@ -26,7 +26,7 @@ pub fn trim(fields: &mut Fields) -> Result<Event, LineFault>
     let pid = fields.pid()?;
     let n = fields.number_in(0, 1_000_000)?;
     fields.end()?;
-    Ok(Event::Trim(pid, n))
+    Ok(Event::Trim { pid, count: n })
 }
 
 /// `age <pid>`
@@ -37,7 +37,7 @@ pub fn age(fields: &mut Fields) -> Result<Event, LineFault>
 {
     let pid = fields.pid()?;
     fields.end()?;
-    Ok(Event::Age(pid))
+    Ok(Event::Age { pid })
 }
 
 /// `writer <n>`
@@ -48,7 +48,7 @@ pub fn writer(fields: &mut Fields) -> Result<Event, LineFault>
 {
     let n = fields.number_in(0, 1_000_000)?;
     fields.end()?;
-    Ok(Event::Writer(n))
+    Ok(Event::Writer { count: n })
 }
 
 /// `zeroer <n>`
@@ -59,7 +59,7 @@ pub fn zeroer(fields: &mut Fields) -> Result<Event, LineFault>
 {
     let n = fields.number_in(0, 1_000_000)?;
     fields.end()?;
-    Ok(Event::Zeroer(n))
+    Ok(Event::Zeroer { count: n })
 }
 
 /// `charge`

@@ -17,7 +17,12 @@ pub fn create(fields: &mut Fields) -> Result<Event, LineFault>
     let flags = fields.number()?;
     let name = fields.name_or_dash()?;
     fields.end()?;
-    Ok(Event::Create(pid, size, flags, name))
+    Ok(Event::Create {
+        pid,
+        size,
+        flags,
+        name,
+    })
 }
 
 /// `createfile <pid> <file name> <flags> <name|->`
@@ -31,7 +36,12 @@ pub fn create_file(fields: &mut Fields) -> Result<Event, LineFault>
     let flags = fields.number()?;
     let name = fields.name_or_dash()?;
     fields.end()?;
-    Ok(Event::CreateFile(pid, file, flags, name))
+    Ok(Event::CreateFile {
+        pid,
+        file,
+        flags,
+        name,
+    })
 }
 
 /// `open <pid> <name>`
@@ -43,7 +53,7 @@ pub fn open(fields: &mut Fields) -> Result<Event, LineFault>
     let pid = fields.pid()?;
     let name = fields.name()?;
     fields.end()?;
-    Ok(Event::Open(pid, name))
+    Ok(Event::Open { pid, name })
 }
 
 /// `close <pid> <handle>`
@@ -55,7 +65,7 @@ pub fn close(fields: &mut Fields) -> Result<Event, LineFault>
     let pid = fields.pid()?;
     let handle = fields.number_in(0, u32::MAX)?;
     fields.end()?;
-    Ok(Event::Close(pid, handle))
+    Ok(Event::Close { pid, handle })
 }
 
 /// `map <pid> <handle> <access> <offset> <length> <addr>`
@@ -71,7 +81,14 @@ pub fn map(fields: &mut Fields) -> Result<Event, LineFault>
     let length = fields.number()?;
     let addr = fields.number()?;
     fields.end()?;
-    Ok(Event::Map(pid, handle, access, offset, length, addr))
+    Ok(Event::Map {
+        pid,
+        handle,
+        access,
+        offset,
+        length,
+        addr,
+    })
 }
 
 /// `unmap <pid> <addr>`
@@ -83,7 +100,7 @@ pub fn unmap(fields: &mut Fields) -> Result<Event, LineFault>
     let pid = fields.pid()?;
     let addr = fields.number()?;
     fields.end()?;
-    Ok(Event::Unmap(pid, addr))
+    Ok(Event::Unmap { pid, addr })
 }
 
 /// `flush <pid> <addr> <size>`
@@ -96,5 +113,5 @@ pub fn flush(fields: &mut Fields) -> Result<Event, LineFault>
     let addr = fields.number()?;
     let size = fields.number()?;
     fields.end()?;
-    Ok(Event::Flush(pid, addr, size))
+    Ok(Event::Flush { pid, addr, size })
 }

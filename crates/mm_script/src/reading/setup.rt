@@ -18,7 +18,7 @@ pub fn machine(fields: &mut Fields) -> Result<Event, LineFault>
     let blocks = fields.number_in(0, 65_536)?;
     fields.end()?;
     if 2 * depth + 4 > frames {
-        // The frames word stands right behind `machine `.
+        // The frames word stands right after `machine `.
         return Err(LineFault { column: 9, word: 2 });
     }
     Ok(Event::Machine(Machine::new(frames, slots, depth, blocks)))
@@ -36,7 +36,7 @@ pub fn process(fields: &mut Fields) -> Result<Event, LineFault>
     if min > max {
         return Err(fields.fault());
     }
-    Ok(Event::Process(min, max))
+    Ok(Event::Process { min, max })
 }
 
 /// `exit <pid>`
@@ -47,7 +47,7 @@ pub fn exit(fields: &mut Fields) -> Result<Event, LineFault>
 {
     let pid = fields.pid()?;
     fields.end()?;
-    Ok(Event::Exit(pid))
+    Ok(Event::Exit { pid })
 }
 
 /// `file <name> <pages> <byte>`
@@ -60,7 +60,7 @@ pub fn file(fields: &mut Fields) -> Result<Event, LineFault>
     let pages = fields.number_in(1, 65_536)?;
     let byte = fields.byte()?;
     fields.end()?;
-    Ok(Event::File(name, pages, byte))
+    Ok(Event::File { name, pages, byte })
 }
 
 /// `grow <n>`
@@ -71,7 +71,7 @@ pub fn grow(fields: &mut Fields) -> Result<Event, LineFault>
 {
     let n = fields.number_in(1, 262_144)?;
     fields.end()?;
-    Ok(Event::Grow(n))
+    Ok(Event::Grow { slots: n })
 }
 
 /// `fail <paging|file> <read|write> <k> <n>`
@@ -85,5 +85,10 @@ pub fn fail(fields: &mut Fields) -> Result<Event, LineFault>
     let k = fields.number_in(1, 1_000_000)?;
     let n = fields.number_in(1, 1_000_000)?;
     fields.end()?;
-    Ok(Event::Fail(device, direction, k, n))
+    Ok(Event::Fail {
+        device,
+        direction,
+        nth: k,
+        count: n,
+    })
 }

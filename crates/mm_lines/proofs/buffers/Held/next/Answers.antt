@@ -1,4 +1,4 @@
-use Rattle.std.proofs.Common.{ℕ, List, arith, ◌∙◌, subst}
+use Rattle.std.proofs.Common.{arith, ◌∙◌}
 use Rattle.mm_lines.specs.Lines.{IsLine}
 use Rattle.mm_lines.specs.Looking.{HasLine}
 use Rattle.mm_lines.proofs.Feeds.{recent_line}
@@ -7,13 +7,13 @@ use Rattle.mm_lines.proofs.buffers.Held.next.Goals as goal
 
 pub returns-in-Line-clause-finds : goal.returns-in-Line-clause-finds
 returns-in-Line-clause-finds g c =
-    let line : HasLine c.loop-n.self c.in-Line.n = subst (λ (xs : List ℕ). HasLine xs c.in-Line.n) c.bytes.ensures c.in-Line.ensures in
+    let line : HasLine c.loop-n.self c.in-Line.n = c.in-Line.ensures in
     (line, recent_line _ _ c.loop-n.invariant.recent line)
 
 pub loop-n-preserved : goal.loop-n-preserved
 loop-n-preserved g c =
     let i = c.loop-n.invariant in
-    let opened : IsLine c.loop-n.self = subst IsLine c.bytes.ensures c.in-Open.ensures in
+    let opened : IsLine c.loop-n.self = c.in-Open.ensures in
     let read = c.in_ok-read_more.ensures in
     record {
       filled = filled_then _ _ _ _ _ _ i.filled read.filled;

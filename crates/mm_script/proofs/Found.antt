@@ -1,0 +1,76 @@
+-- The keyword that a word is, sought among all or among those of its length.
+use Rattle.std.proofs.Common.{◌≡◌, List, [], ◌∷◌, length, Option, Some, None, true, false, cond, refl, sym, ap, ◌∙◌}
+use Rattle.std.specs.Prelude.{bytes_eq}
+use Rattle.std.proofs.lemmas.Option.{same_Some}
+use Rattle.std.proofs.lemmas.Slice.Eq.{bytes_eq-Decides}
+use Rattle.mm_types.specs.Spelling.{Text}
+use Rattle.mm_script.specs.declared.keywords.Keyword.{Keyword}
+use Rattle.mm_script.specs.declared.keywords.Keyword.TheVariants as keyword
+use Rattle.mm_script.specs.Keywords.{text_of, keyword_among, keywords, keyword_of}
+use Rattle.mm_script.specs.Sorted.{keywords_of_length}
+
+among_is : (ks : List Keyword) (word : Text) (k : Keyword) → keyword_among ks word ≡ Some k → word ≡ text_of k
+among_is [] word k h = cc
+among_is (j ∷ ks) word k h = elim (bytes_eq word (text_of j)) as (λ b. bytes_eq word (text_of j) ≡ b → cond b (Some j) (keyword_among ks word) ≡ Some k → word ≡ text_of k) [
+  | true ↦ λ e f. (bytes_eq-Decides word (text_of j)).0 e ∙ ap text_of (same_Some j k f)
+  | false ↦ λ e f. among_is ks word k f
+] refl h
+
+-- the keyword among those of the word's length
+abbrev sought : Text → Option Keyword
+sought word = keyword_among (keywords_of_length (length word)) word
+
+-- each keyword is found by its text, both ways
+both_ways : (k : Keyword) → (keyword_among keywords (text_of k) ≡ Some k) × (sought (text_of k) ≡ Some k)
+both_ways keyword.Machine = (refl, refl)
+both_ways keyword.Process = (refl, refl)
+both_ways keyword.Exit = (refl, refl)
+both_ways keyword.File = (refl, refl)
+both_ways keyword.Alloc = (refl, refl)
+both_ways keyword.Free = (refl, refl)
+both_ways keyword.Protect = (refl, refl)
+both_ways keyword.Query = (refl, refl)
+both_ways keyword.Create = (refl, refl)
+both_ways keyword.CreateFile = (refl, refl)
+both_ways keyword.Open = (refl, refl)
+both_ways keyword.Close = (refl, refl)
+both_ways keyword.Map = (refl, refl)
+both_ways keyword.Unmap = (refl, refl)
+both_ways keyword.Flush = (refl, refl)
+both_ways keyword.Read = (refl, refl)
+both_ways keyword.Write = (refl, refl)
+both_ways keyword.Exec = (refl, refl)
+both_ways keyword.Begin = (refl, refl)
+both_ways keyword.Resume = (refl, refl)
+both_ways keyword.Io = (refl, refl)
+both_ways keyword.Trim = (refl, refl)
+both_ways keyword.Age = (refl, refl)
+both_ways keyword.Writer = (refl, refl)
+both_ways keyword.Zeroer = (refl, refl)
+both_ways keyword.Fail = (refl, refl)
+both_ways keyword.Charge = (refl, refl)
+both_ways keyword.Counts = (refl, refl)
+both_ways keyword.Grow = (refl, refl)
+both_ways keyword.Watch = (refl, refl)
+both_ways keyword.ResetWatch = (refl, refl)
+both_ways keyword.Stack = (refl, refl)
+both_ways keyword.Probe = (refl, refl)
+
+same_ways : (word : Text) (a b : Option Keyword) → keyword_among keywords word ≡ a → sought word ≡ b → b ≡ a
+same_ways word (Some k) b p q = sym q ∙ ap sought (among_is keywords word k p) ∙ (both_ways k).1
+same_ways word None None p q = refl
+same_ways word None (Some k) p q =
+    let bad : None ≡ Some k = sym p ∙ ap (keyword_among keywords) (among_is (keywords_of_length (length word)) word k q) ∙ (both_ways k).0 in
+    cc
+
+pub found_sorted : (word : Text) (r : Option Keyword) → r ≡ keyword_among (keywords_of_length (length word)) word → r ≡ keyword_of word
+unfolding keyword_of
+found_sorted word r h = h ∙ same_ways word (keyword_among keywords word) (sought word) refl refl
+
+pub keyword_is : (word : Text) (k : Keyword) → keyword_of word ≡ Some k → word ≡ text_of k
+unfolding keyword_of
+keyword_is word k h = among_is keywords word k h
+
+pub keyword_again : (k : Keyword) → keyword_of (text_of k) ≡ Some k
+unfolding keyword_of
+keyword_again k = (both_ways k).0
