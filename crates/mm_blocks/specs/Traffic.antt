@@ -6,18 +6,19 @@ use Rattle.mm_types.specs.declared.devices.Direction.{Direction}
 use Rattle.mm_types.specs.declared.devices.Direction.TheVariants as direction
 use Rattle.mm_types.specs.declared.faults.OpenFault.{OpenFault}
 use Rattle.mm_types.specs.declared.faults.OpenFault.TheVariants as fault
+use Rattle.mm_types.specs.Address.{page_size}
 use Rattle.mm_blocks.specs.declared.device_calls.DeviceCall.{DeviceCall}
 use Rattle.mm_blocks.specs.declared.device_calls.NamedCalls.{NamedCalls}
 
 -- what a block holds before its first write
 abbrev pub empty_block : List ℕ
-empty_block = replicate 4096 0
+empty_block = replicate page_size 0
 
 -- a read or a write of block i with this outcome
 abbrev pub made_call : {T E : Type 0} → Direction → ℕ → Result T E → DeviceCall
 made_call d i r = record { direction = d; block = i; succeeded = is_ok r }
 
--- These calls came behind those in the log. A device may stop telling its log, and tells it again only when it is opened.
+-- These calls came after those in the log. A device may stop telling its log, and tells it again only when it is opened.
 abbrev pub Logged : Option (List DeviceCall) → Option (List DeviceCall) → List DeviceCall → Type 0
 Logged None None calls = Unit {0}
 Logged None (Some b) calls = ⊥

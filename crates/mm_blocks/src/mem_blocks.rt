@@ -14,7 +14,7 @@ use mm_types::{Direction, Failed, NoMemory, OpenFault};
 use std::alloc::Global;
 
 /// Blocks in memory (own). Its calls are numbered from 1, `open` and `extend` too; those in a list fail, and
-/// no other but for want of memory in `open` and `extend`. It tells its log as long as at most so many
+/// none but out of memory in `open` and `extend`. It tells its log as long as at most so many
 /// reads and writes were made since `open` as it was made with room for. Reads and writes take no memory.
 #[derive(Drop)]
 pub struct MemBlocks {

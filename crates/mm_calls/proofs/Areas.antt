@@ -1,5 +1,5 @@
 -- Views lie within their sections, and their areas are there.
-use Rattle.std.proofs.Common.{◌≡◌, ◌≤◌, ◌<◌, ◌+◌, ◌-◌, ℕ, zero, suc, Some, option_map, List, [], ◌∷◌, refl, ap, arith, length, slice_get, unwrap_or}
+use Rattle.std.proofs.Common.{◌≡◌, ◌≤◌, ◌<◌, ◌+◌, ◌-◌, ℕ, zero, suc, Some, option_map, List, [], ◌∷◌, refl, ap, arith, length, slice_get, unwrap_or, false, None, is_some, Option}
 use Rattle.mm_types.specs.declared.views.View.{View}
 use Rattle.mm_types.specs.declared.views.Kind.TheVariants as kind
 use Rattle.mm_types.specs.Address.{Range}
@@ -10,6 +10,7 @@ use Rattle.mm_world.specs.WellFormed.{WellFormed, RegionRefers, ViewFits}
 use Rattle.mm_world.proofs.Each.{each-at}
 use Rattle.mm_spaces.specs.Tables.{found_info}
 use Rattle.mm_calls.proofs.Around.{around, told_is}
+use Rattle.mm_sections.specs.Pages.{number_of_block}
 
 module _ {B : Type 0} where
   area_there : (areas : List (AreaOf B)) (area : ℕ) → area < length areas → slice_get areas area ≡ Some (unwrap_or (slice_get areas area) no_area)
@@ -65,3 +66,8 @@ tells_view t pid p range pages v lives h e =
       index = omega (arith, base);
       within = omega (arith, s.within, base);
     }
+
+-- no block was told
+pub no_block : (o : Option ℕ) → is_some (option_map number_of_block o) ≡ false → o ≡ None
+no_block None e = refl
+no_block (Some n) e = cc

@@ -1,9 +1,9 @@
 -- The region around a range, and the one that begins at an address.
-use Rattle.std.proofs.Common.{◌≡◌, ◌≤◌, ◌-◌, ℕ, zero, suc, Bool, true, false, Option, Some, None, List, [], ◌∷◌, refl, sym, ◌∙◌, ap, subst, cond, arith, slice_get, is_some, nat_le, nat_lt, ◌&&◌, option_map, take, drop, count_by}
+use Rattle.std.proofs.Common.{◌≡◌, ◌≤◌, ◌-◌, ℕ, zero, suc, Bool, true, false, Option, Some, None, List, [], ◌∷◌, refl, sym, ◌∙◌, ap, subst, cond, arith, slice_get, is_some, nat_le, ◌&&◌, option_map, take, drop, count_by}
 use Rattle.std.specs.Prelude.{◌==◌}
-use Rattle.std.proofs.lemmas.Bool.{leb-true, le-leb}
+use Rattle.std.proofs.lemmas.Bool.{leb-true}
 use Rattle.mm_types.specs.declared.views.Kind.{Kind}
-use Rattle.mm_types.specs.Address.{Range, address_of, end_of, end_of_user_pages, first_user_page, holds_page, lies_within}
+use Rattle.mm_types.specs.Address.{Range, address_of, end_of, end_of_user_pages, first_user_page, lies_within}
 use Rattle.mm_world.specs.World.{WorldOf, ProcessOf, RegionOf, RowOf, pages_of}
 use Rattle.mm_world.specs.Find.{Found, first_where, one_later, process_of, region_around, is_private}
 use Rattle.mm_world.specs.Free.{private_at, private_around}
@@ -13,20 +13,7 @@ use Rattle.mm_world.proofs.Finding.{found_stands}
 use Rattle.mm_world.proofs.LaidOut.{and-true, laid_at}
 use Rattle.mm_spaces.specs.declared.spaces.RegionInfo.{RegionInfo}
 use Rattle.mm_spaces.specs.Tables.{found_info, owned_in, rows_of}
-use Rattle.mm_calls.proofs.Tests.{both}
-
--- a range within a region's pages
-pub record Inside (range pages : Range) : Type 0 where
-  pub low : pages.first ≤ range.first
-  pub high : end_of range ≤ end_of pages
-
-inside : (range pages : Range) → lies_within range pages ≡ true → Inside range pages
-inside range pages e =
-    let h = and-true (nat_le pages.first range.first) (nat_le (end_of range) (end_of pages)) e in
-    record { low = leb-true _ _ h.0; high = leb-true _ _ h.1 }
-
-held : (range pages : Range) → Inside range pages → 1 ≤ range.count → holds_page pages range.first ≡ true
-held range pages h some = both (nat_le pages.first range.first) (nat_lt range.first (end_of pages)) (le-leb _ _ h.low) (le-leb _ _ (omega (arith, h.high, some)))
+use Rattle.mm_world.proofs.Ranges.{inside, holds_first, Inside, lies}
 
 module _ {B : Type 0} where
   abbrev pub has_own : RowOf B → Bool
@@ -68,14 +55,14 @@ module _ {B : Type 0} where
     is_around : is_some (region_around p.regions range) ≡ true
     is_around =
         found_there (λ (r : RegionOf B). lies_within range (pages_of r)) p.regions i r at
-        (both (nat_le r.base range.first) (nat_le (end_of range) (end_of (pages_of r))) (le-leb _ _ inner.low) (le-leb _ _ inner.high))
+        (lies range (pages_of r) inner)
 
     by_found : (o : Option (Found (RegionOf B))) → region_around p.regions range ≡ o → is_some o ≡ true → region_around p.regions range ≡ Some (record { place = i; thing = r })
     by_found None e there = cc
     by_found (Some q) e there =
         let a = around p.regions range q e in
         let place : q.place ≡ i =
-        same_place w pid range.first q.place i p q.thing r h lives a.at at (held range (pages_of q.thing) a.inside some) (held range (pages_of r) inner some) in
+        same_place w pid range.first q.place i p q.thing r h lives a.at at (holds_first range (pages_of q.thing) a.inside some) (holds_first range (pages_of r) inner some) in
         let things : Some q.thing ≡ Some r = sym a.at ∙ ap (slice_get p.regions) place ∙ at in
         let thing : q.thing ≡ r = cc in
         e ∙ (λ j. Some (record { place = place j; thing = thing j }))

@@ -19,7 +19,8 @@ use Rattle.mm_world.proofs.Charges.{charge-set_region, sum_by-put, sum_by-split}
 use Rattle.mm_sections.specs.Pages.{uncommitted_in}
 use Rattle.mm_spaces.specs.Tables.{owned_in, rows_of, unmarked_in}
 use Rattle.mm_tables.specs.Fits.{marks_in, new_marks}
-use Rattle.mm_calls.proofs.Around.{Inside, IsAround, around, has_own, in_range}
+use Rattle.mm_calls.proofs.Around.{IsAround, around, has_own, in_range}
+use Rattle.mm_world.proofs.Ranges.{Inside}
 
 abbrev one_if : Bool → ℕ
 one_if b = cond b 1 0

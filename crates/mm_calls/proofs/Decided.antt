@@ -20,7 +20,7 @@ use Rattle.mm_tables.specs.Fits.{new_marks}
 use Rattle.mm_calls.proofs.Areas.{in_section, range_in_section}
 use Rattle.mm_calls.proofs.Around.{around}
 use Rattle.mm_calls.proofs.Counts.{commit_charge, protect_charge, area_charge_more, no_marks}
-use Rattle.mm_calls.proofs.Outcomes.{at_met, at_unmet, at_found, at_room, at_limit}
+use Rattle.mm_world.proofs.Outcomes.{at_met, at_unmet, at_found, at_room, at_limit}
 
 module _ (t : Tables) (pid : ℕ) (p : ProcessOf (Unit {0})) (range : Range) (prot n : ℕ) (lives : process_of t pid ≡ Some p) (r : Found (RegionOf (Unit {0}))) (found : region_around p.regions range ≡ Some r) where
   -- ---- commit in a private region

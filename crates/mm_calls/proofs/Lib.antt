@@ -1,5 +1,3 @@
-pub mod Tests
-pub mod Outcomes
 pub mod Around
 pub mod Counts
 pub mod Decided

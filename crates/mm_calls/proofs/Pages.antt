@@ -1,5 +1,5 @@
 -- What is told of a page.
-use Rattle.std.proofs.Common.{◌≡◌, ◌<◌, ◌-◌, ℕ, zero, suc, true, Option, Some, None, List, [], ◌∷◌, refl, sym, ◌∙◌, ap, arith, length, slice_get, is_some, nat_le, nat_lt, option_map}
+use Rattle.std.proofs.Common.{◌≡◌, ◌-◌, ℕ, true, Option, Some, None, List, refl, sym, ◌∙◌, ap, arith, is_some, nat_le, nat_lt, option_map}
 use Rattle.std.specs.Prelude.{option_and_then}
 use Rattle.std.proofs.lemmas.Bool.{leb-true}
 use Rattle.mm_types.specs.declared.views.Kind.{Kind}
@@ -11,11 +11,7 @@ use Rattle.mm_world.proofs.Finding.{found_stands}
 use Rattle.mm_world.proofs.LaidOut.{and-true, less}
 use Rattle.mm_spaces.specs.declared.spaces.PageRow.{PageRow}
 use Rattle.mm_spaces.specs.Tables.{page_row, told_row}
-
-is_there : {A : Type 0} (xs : List A) (k : ℕ) → k < length xs → is_some (slice_get xs k) ≡ true
-is_there [] k h = absurd (omega arith)
-is_there (x ∷ xs) zero h = refl
-is_there (x ∷ xs) (suc k) h = is_there xs k (omega arith)
+use Rattle.mm_types.proofs.Lists.{is_there}
 
 row_there : (rs : List (RegionOf (Unit {0}))) (page : ℕ) (r : Found (RegionOf (Unit {0}))) → region_with rs page ≡ Some r → is_some (row_at r.thing page) ≡ true
 row_there rs page r e =

@@ -1,4 +1,5 @@
 -- The moves of a `grow` line, by what it answers.
+-- Profile, "Logs of moves".
 use Rattle.std.specs.Prelude.{ℕ, List, Result, Ok, Err}
 use Rattle.mm_types.specs.declared.answers.Answer.{Answer}
 use Rattle.mm_types.specs.declared.answers.Answer.TheVariants as answer

@@ -12,11 +12,11 @@ ghost use Rattle.mm_pages.specs.Passing.{PassesIn};
 ghost use Rattle.mm_spaces.specs.Tables.{found_info};
 ghost use Rattle.mm_tables.specs.Fits.{Fits, Settled};
 
-use crate::parameters::{PAGE_SIZE, new_pages};
+use crate::parameters::new_pages;
 use mm_pages::Pages;
 use mm_spaces::PageRange;
 use mm_tables::Tables;
-use mm_types::{Answer, Code, Kind, NoMemory, Pid, View};
+use mm_types::{Answer, Code, Kind, NoMemory, PAGE_SIZE, Pid, View};
 use std::alloc::Global;
 
 /// Reserves pages of a living process, and commits them where the type says so.

@@ -14,13 +14,13 @@ ghost use Rattle.mm_tables.specs.Fits.{Fits, Called, beside, is_uncommitted, new
 use crate::allocations::{commit, reserve};
 use crate::frees::{decommit_range, decommit_region, release};
 use crate::parameters::{
-    RELEASE_TYPE, are_alloc_parameters, are_free_parameters, are_protect_parameters, is_reserving,
+    are_alloc_parameters, are_free_parameters, are_protect_parameters, is_reserving,
 };
 use crate::protections::protect_range;
 use mm_pages::Pages;
 use mm_spaces::PageRange;
 use mm_tables::Tables;
-use mm_types::{Answer, Code, NoMemory, Pid};
+use mm_types::{AllocFlags, Answer, Code, NoMemory, Pid};
 use std::alloc::Global;
 
 /// `alloc` (VirtualAlloc): reserves pages, commits reserved ones, or both. The answer is the address of the first.
@@ -92,7 +92,7 @@ pub fn vfree<G: Pages>(
     if !are_free_parameters(size, kind) {
         return Answer::Error(Code::InvalidParameter);
     }
-    if kind == RELEASE_TYPE {
+    if kind == AllocFlags::RELEASE.0 {
         release(t, g, pid, addr)
     } else if size == 0 {
         decommit_region(t, g, pid, addr)

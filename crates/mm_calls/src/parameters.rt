@@ -7,23 +7,7 @@ ghost use Rattle.mm_world.specs.Rows.{is_protection_among, private_protections, 
 ghost use Rattle.mm_tables.specs.Fits.{new_pages};
 
 use mm_spaces::PageRange;
-
-pub(crate) const PAGE_SIZE: u32 = 4096;
-
-/// PAGE_WRITECOPY.
-pub(crate) const WRITECOPY: u32 = 0x08;
-
-/// MEM_COMMIT.
-const COMMIT_TYPE: u32 = 0x1000;
-
-/// MEM_RESERVE.
-const RESERVE_TYPE: u32 = 0x2000;
-
-/// MEM_DECOMMIT.
-const DECOMMIT_TYPE: u32 = 0x4000;
-
-/// MEM_RELEASE.
-pub(crate) const RELEASE_TYPE: u32 = 0x8000;
+use mm_types::{AllocFlags, END_OF_USER_PAGES, FIRST_USER_PAGE, Prot};
 
 /// PAGE_NOACCESS with PAGE_GUARD, which no page can have.
 const GUARDED_NO_ACCESS: u32 = 0x101;
@@ -32,8 +16,10 @@ const GUARDED_NO_ACCESS: u32 = 0x101;
 fn is_private_protection(prot: u32) -> bool
     ensures { result ≡ is_protection_among private_protections prot }
 {
-    matches!(prot % 0x100, 0x01 | 0x02 | 0x04 | 0x10 | 0x20 | 0x40)
-        && prot < 0x200
+    matches!(
+        prot % Prot::GUARD.0,
+        0x01 | 0x02 | 0x04 | 0x10 | 0x20 | 0x40
+    ) && prot < 0x200
         && prot != GUARDED_NO_ACCESS
 }
 
@@ -42,7 +28,7 @@ fn is_protection(prot: u32) -> bool
     ensures { result ≡ is_protection_among all_protections prot }
 {
     matches!(
-        prot % 0x100,
+        prot % Prot::GUARD.0,
         0x01 | 0x02 | 0x04 | 0x08 | 0x10 | 0x20 | 0x40 | 0x80
     ) && prot < 0x200
         && prot != GUARDED_NO_ACCESS
@@ -52,7 +38,9 @@ fn is_protection(prot: u32) -> bool
 pub(crate) fn are_alloc_parameters(size: u32, kind: u32, prot: u32) -> bool
     ensures { result ≡ are_alloc_parameters size kind prot }
 {
-    (kind == COMMIT_TYPE || kind == RESERVE_TYPE || kind == COMMIT_TYPE + RESERVE_TYPE)
+    (kind == AllocFlags::COMMIT.0
+        || kind == AllocFlags::RESERVE.0
+        || kind == AllocFlags::COMMIT.0 + AllocFlags::RESERVE.0)
         && size != 0
         && is_private_protection(prot)
 }
@@ -61,14 +49,14 @@ pub(crate) fn are_alloc_parameters(size: u32, kind: u32, prot: u32) -> bool
 pub(crate) fn is_reserving(addr: u32, kind: u32) -> bool
     ensures { result ≡ is_reserving addr kind }
 {
-    addr == 0 || kind != COMMIT_TYPE
+    addr == 0 || kind != AllocFlags::COMMIT.0
 }
 
 /// Whether a `free` with these can be tried.
 pub(crate) fn are_free_parameters(size: u32, kind: u32) -> bool
     ensures { result ≡ are_free_parameters size kind }
 {
-    kind == DECOMMIT_TYPE || kind == RELEASE_TYPE && size == 0
+    kind == AllocFlags::DECOMMIT.0 || kind == AllocFlags::RELEASE.0 && size == 0
 }
 
 /// Whether a `protect` with these can be tried.
@@ -82,12 +70,16 @@ pub(crate) fn are_protect_parameters(size: u32, prot: u32) -> bool
 pub(crate) fn is_user_page(page: u32) -> bool
     ensures { result ≡ is_user_page page }
 {
-    0x10 <= page && page < 0x7FFF0
+    FIRST_USER_PAGE <= page && page < END_OF_USER_PAGES
 }
 
 /// How many pages of a new region are committed.
 pub(crate) fn new_pages(kind: u32, range: PageRange) -> u32
     ensures { result ≡ new_pages kind range }
 {
-    if kind == RESERVE_TYPE { 0 } else { range.count }
+    if kind == AllocFlags::RESERVE.0 {
+        0
+    } else {
+        range.count
+    }
 }

@@ -12,11 +12,10 @@ ghost use Rattle.mm_pages.specs.Housekeeping.{Turn, Turns};
 ghost use Rattle.mm_pages.specs.Passing.{PassesIn};
 ghost use Rattle.mm_tables.specs.Fits.{Fits, Settled, new_marks};
 
-use crate::parameters::WRITECOPY;
 use mm_pages::Pages;
 use mm_spaces::{AddressSpace, PageRange};
 use mm_tables::Tables;
-use mm_types::{Answer, Code, Kind, NoMemory, Pid};
+use mm_types::{Answer, Code, Kind, NoMemory, Pid, Prot};
 
 /// Gives pages of a living process another protection, which a page can have.
 #[tactic(auto, using(mm_pages::proofs::Passed::turns_same))]
@@ -88,7 +87,7 @@ fn marks(space: &AddressSpace, range: PageRange, kind: Kind, prot: u32) -> u32
     ensures none { (base_of prot == 0x08) ≡ false → result ≡ 0 }
 {
     match kind {
-        Kind::View(_) if prot % 0x100 == WRITECOPY => space.unmarked(range),
+        Kind::View(_) if prot % Prot::GUARD.0 == Prot::WRITECOPY.0 => space.unmarked(range),
         _ => 0,
     }
 }

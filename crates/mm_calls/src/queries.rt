@@ -4,9 +4,9 @@ ghost use Rattle.mm_world.specs.World.{ProcessOf};
 ghost use Rattle.mm_world.specs.Find.{process_of, region_with};
 ghost use Rattle.mm_world.specs.Query.{query, page_info};
 
-use crate::parameters::{PAGE_SIZE, is_user_page};
+use crate::parameters::is_user_page;
 use mm_tables::Tables;
-use mm_types::{Answer, Code, Kind, Pid, QueryInfo};
+use mm_types::{Answer, Code, Kind, PAGE_SIZE, Pid, QueryInfo};
 
 /// `query` (VirtualQuery): what is told of the pages that are alike from the one of the address on. Nothing changes.
 ///

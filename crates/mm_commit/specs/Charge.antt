@@ -1,4 +1,5 @@
 -- Commit charge beside the commit limit.
+-- Profile, "Machine, addresses, limits".
 use Rattle.std.specs.Prelude.{ℕ}
 
 -- how many pages are charged, and how many can be

@@ -1,6 +1,7 @@
 -- The lines `read`, `write` and `exec`, by what the tables have and by how the store answered.
-use Rattle.std.proofs.Common.{◌≡◌, ℕ, ◌+◌, Bool, true, false, Option, Some, None, refl, sym, ◌∙◌, ap, subst, cond, unwrap_or, arith, ◌||◌}
+use Rattle.std.proofs.Common.{◌≡◌, ℕ, ◌+◌, Bool, true, false, Option, Some, None, refl, sym, ◌∙◌, ap, subst, cond, unwrap_or, arith}
 use Rattle.std.specs.Prelude.{Result, Ok, Err, IsOk, OnOk, OnErr}
+use Rattle.mm_types.proofs.Booleans.{or_left, or_right}
 use Rattle.mm_types.specs.declared.answers.Answer.{Answer}
 use Rattle.mm_types.specs.declared.answers.Answer.TheVariants as answer
 use Rattle.mm_types.specs.declared.codes.Code.{Code}
@@ -53,15 +54,9 @@ fine_access w pid addr what = search (tables, fine_refused, fine_at) depth 12
 
 -- ---- how a permitted access ended
 
-or_right : (a b : Bool) → a ≡ false → b ≡ true → (a || b) ≡ true
-or_right a b e f = (λ i. e i || f i)
-
-or_left : (a b : Bool) → a ≡ true → (a || b) ≡ true
-or_left a b e = ap (λ a. a || b) e
-
 fails : {T : Type 0} (n : Need) (later : Report) (result : Result T PageFault) (x : PageFault) → result ≡ Err x → Ends n later result → access_fails n later ≡ true
 fails n later result fault.Read is ends = or_left (read_failed n later) (search_failed n later) (ends.read is)
-fails n later result fault.NoFrame is ends = let h = ends.no_frame is in or_right (read_failed n later) (search_failed n later) h.0 h.1
+fails n later result fault.NoFrame is ends = let h = ends.no_frame is in or_right (read_failed n later) (search_failed n later) h.1
 
 never : {A : Type 0} (b : Bool) → b ≡ true → b ≡ false → A
 never true e f = cc

@@ -1,5 +1,5 @@
 -- The piece of the log of a line that accesses a page is what is noted of a line: no key goes in an access.
-use Rattle.std.proofs.Common.{◌≡◌, ℕ, List, [], ◌∷◌, Bool, true, false, Option, Some, None, refl, sym, ap, ◌∙◌, subst, inl}
+use Rattle.std.proofs.Common.{◌≡◌, ℕ, List, [], ◌∷◌, Bool, false, Option, Some, None, refl, sym, ap, ◌∙◌, subst, inl}
 use Rattle.mm_types.specs.declared.answers.Answer.{Answer}
 use Rattle.mm_types.specs.declared.events.Event.{Event}
 use Rattle.mm_types.specs.declared.moves.Move.{Move}
@@ -16,8 +16,11 @@ use Rattle.mm_pages.specs.Told.{told_of, told_through, paging_traffic, file_traf
 use Rattle.mm_pages.specs.Passing.{PassesIn}
 use Rattle.mm_pages.specs.Accesses.{Aim, AccessMove, walk_from}
 use Rattle.mm_paging.specs.Kinds.{kind_of_line, aim_of}
-use Rattle.mm_paging.specs.Lines.{AccessesBy, Does, with_line}
+use Rattle.mm_paging.specs.Lines.{AccessesBy, Does, asks_beside, with_line}
+use Rattle.mm_pages.specs.declared.pages.Pages.{Ghosts as PagesGhosts}
+use Rattle.mm_world.specs.Contents.{Tables}
 use Rattle.mm_core.specs.Lining.{Lined}
+use Rattle.mm_core.specs.Over.{MarkedOver, PassesOver, world_over}
 use Rattle.mm_core.specs.Noting.{keeps_keys, Each, Went, Tells}
 use Rattle.mm_core.proofs.Begun.{paged}
 
@@ -45,7 +48,7 @@ access_keeps plain None r after b ms c h = subst (Each keeps_keys) (sym h) tt
 access_keeps plain (Some a) r after b ms c h = through_keeps a (walk_from b) ms h.made.each
 
 -- a line whose moves are those of an access, if any
-pub marked_lined : (plain : Bool) (w : World) (e : Event) (n : ℕ) (a : Answer) (v : World) (u : Bool) (s z : StoreOf) (b c : Behind) → ((x : Behind) (ms : List Move) → Does w e a v z.report x ms c → AccessesBy plain (aim_of w x.life e) a z.report x ms c) → PassesIn u (Lined w e n a v z.report) s z b c → u ≡ false
+marked_lined : (plain : Bool) (w : World) (e : Event) (n : ℕ) (a : Answer) (v : World) (u : Bool) (s z : StoreOf) (b c : Behind) → ((x : Behind) (ms : List Move) → Does w e a v z.report x ms c → AccessesBy plain (aim_of w x.life e) a z.report x ms c) → PassesIn u (Lined w e n a v z.report) s z b c → u ≡ false
     → Went false (move.At n (kind_of_line w e a)) (λ ms. Tells n (kind_of_line w e a) e w a v z.report b ms c) s z b c
 marked_lined plain w e n a v u s z b c accesses p paging =
     let q = paged u (Lined w e n a v z.report) s z b c paging p in
@@ -72,3 +75,16 @@ marked_lined plain w e n a v u s z b c accesses p paging =
         files_are = q.files_are ∙ ap (file_traffic b.life) is;
       };
     }
+
+-- such a line over a store, told of the line that it is
+module _ {G : Type 0} (p : PagesGhosts G) where
+  pub access_marked : (plain : Bool) (e f : Event) → f ≡ e → asks_beside e ≡ false → (n : ℕ) (t : Tables) (x : G) (a : Answer) (after : Tables) (y : G)
+      → ((d : Behind) (ms : List Move) → Does (world_over p t x) e a (world_over p after y) (p.store y).report d ms (p.behind y) → AccessesBy plain (aim_of (world_over p t x) d.life e) a (p.store y).report d ms (p.behind y))
+      → PassesOver p (Lined (world_over p t x) e n a (world_over p after y) (p.store y).report) x y → MarkedOver p f n t x a after y
+  access_marked plain e f is bare n t x a after y accesses passes =
+      let kind = kind_of_line (world_over p t x) e a in
+      let tells = λ (ms : List Move). Tells n kind e (world_over p t x) a (world_over p after y) (p.store y).report (p.behind x) ms (p.behind y) in
+      subst (λ (l : Event). MarkedOver p l n t x a after y) (sym is)
+      (λ paging.
+      subst (λ (b : Bool). Went b (move.At n kind) tells (p.store x) (p.store y) (p.behind x) (p.behind y)) (sym bare)
+      (marked_lined plain (world_over p t x) e n a (world_over p after y) p.unpaged (p.store x) (p.store y) (p.behind x) (p.behind y) accesses passes paging))

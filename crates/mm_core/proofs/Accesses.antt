@@ -24,7 +24,7 @@ use Rattle.mm_tables.specs.declared.looks.CommittedRow.{CommittedRow}
 use Rattle.mm_tables.specs.Looks.{is_own}
 use Rattle.mm_core.specs.Accessing.{Refuses, Admits}
 use Rattle.mm_world.proofs.Finding.{found_stands, IsCommitted, committed_is, HomeCases, IsOwn, IsShared, home_cases}
-use Rattle.mm_world.proofs.LaidOut.{and-true}
+use Rattle.mm_types.proofs.Booleans.{parts}
 use Rattle.mm_core.proofs.Rows.{Lives}
 use Rattle.mm_core.proofs.With.{committed_with, home_with, process-with, committed-with, guard_off-with, shared-with}
 use Rattle.mm_core.proofs.Writing.{written-with, copied-with, shared-written}
@@ -98,7 +98,7 @@ module _ (t : Tables) (b : Key → Page) (pid addr : ℕ) (what : Attempt) where
       low : c.region.thing.base ≤ page_of addr
       low =
           let h = committed_is t p.regions (page_of addr) c committed in
-          leb-true _ _ (and-true (nat_le c.region.thing.base (page_of addr)) (nat_lt (page_of addr) (end_of (pages_of c.region.thing))) (found_stands _ p.regions c.region h.region).passes).0
+          leb-true _ _ (parts (nat_le c.region.thing.base (page_of addr)) (nat_lt (page_of addr) (end_of (pages_of c.region.thing))) (found_stands _ p.regions c.region h.region).passes).0
 
       abbrev by_guard : Bool → OutcomeOf Page
       by_guard guard =
@@ -299,6 +299,6 @@ is-copying t pid page p c committed e =
     by_home (home_cases t (page - c.region.thing.base) c.region.thing.kind c.row.own c.home h.home_there)
   where
     by_home : HomeCases t (page - c.region.thing.base) c.region.thing.kind c.row.own c.home → IsCopying c
-    by_home (IsShared v u is none there at_home) = record { view = v; is = is; none = none; marked = (and-true c.row.marked (not (is_own c.home)) e).0 }
+    by_home (IsShared v u is none there at_home) = record { view = v; is = is; none = none; marked = (parts c.row.marked (not (is_own c.home)) e).0 }
     by_home (IsOwn u own at_home) =
         let never : false ≡ true = sym (and_false c.row.marked) ∙ sym (ap (λ home. c.row.marked && not (is_own home)) at_home) ∙ e in cc

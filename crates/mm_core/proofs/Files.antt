@@ -30,7 +30,8 @@ use Rattle.mm_world.proofs.Across.{flush_across}
 use Rattle.mm_world.proofs.AcrossFile.{new_file_across}
 use Rattle.mm_world.proofs.Each.{each-at}
 use Rattle.mm_world.proofs.Finding.{found_stands}
-use Rattle.mm_world.proofs.LaidOut.{and-true, less}
+use Rattle.mm_types.proofs.Booleans.{parts}
+use Rattle.mm_types.proofs.Naturals.{less}
 use Rattle.mm_world.proofs.Natural.{first-map}
 use Rattle.mm_blocks.specs.Devices.{DeviceOf}
 use Rattle.mm_pages.specs.Store.{StoreOf}
@@ -155,16 +156,16 @@ module _ (t : Tables) (c : Key → Option Page) (sound : WellFormed t) (tidy : I
 
   within-by : (r : RegionOf (Unit {0})) (addr size page : ℕ) (small : Bool) → (size == 0) ≡ small → lies_within (range_of addr (cond small 1 size)) (pages_of r) ≡ true → holds_page (cond small (record { first = page_of addr; count = end_of (pages_of r) - page_of addr }) (range_of addr size)) page ≡ true → Within r page
   within-by r addr size page true is lies holds =
-      let l = and-true (nat_le r.base (page_of addr)) (nat_le (end_of (range_of addr 1)) (end_of (pages_of r))) lies in
-      let h = and-true (nat_le (page_of addr) page) (nat_lt page (page_of addr + (end_of (pages_of r) - page_of addr))) holds in
+      let l = parts (nat_le r.base (page_of addr)) (nat_le (end_of (range_of addr 1)) (end_of (pages_of r))) lies in
+      let h = parts (nat_le (page_of addr) page) (nat_lt page (page_of addr + (end_of (pages_of r) - page_of addr))) holds in
       let base : r.base ≤ page_of addr = leb-true _ _ l.0 in
       let end : end_of (range_of addr 1) ≤ end_of (pages_of r) = leb-true _ _ l.1 in
       let from : page_of addr ≤ page = leb-true _ _ h.0 in
       let below : page < page_of addr + (end_of (pages_of r) - page_of addr) = less _ _ h.1 in
       record { low = omega (arith, base, from); high = omega (arith, base, from, end, below) }
   within-by r addr size page false is lies holds =
-      let l = and-true (nat_le r.base (page_of addr)) (nat_le (end_of (range_of addr size)) (end_of (pages_of r))) lies in
-      let h = and-true (nat_le (page_of addr) page) (nat_lt page (end_of (range_of addr size))) holds in
+      let l = parts (nat_le r.base (page_of addr)) (nat_le (end_of (range_of addr size)) (end_of (pages_of r))) lies in
+      let h = parts (nat_le (page_of addr) page) (nat_lt page (end_of (range_of addr size))) holds in
       let base : r.base ≤ page_of addr = leb-true _ _ l.0 in
       let end : end_of (range_of addr size) ≤ end_of (pages_of r) = leb-true _ _ l.1 in
       let from : page_of addr ≤ page = leb-true _ _ h.0 in
@@ -176,7 +177,7 @@ module _ (t : Tables) (c : Key → Option Page) (sound : WellFormed t) (tidy : I
     at-page p r v page first lives found is inside block =
         let index = v.first + (page - r.thing.base) in
         let stands = found_stands _ p.regions r found in
-        let passes = and-true (not (is_private r.thing.kind)) (lies_within (range_of addr (cond (size == 0) 1 size)) (pages_of r.thing)) stands.passes in
+        let passes = parts (not (is_private r.thing.kind)) (lies_within (range_of addr (cond (size == 0) 1 size)) (pages_of r.thing)) stands.passes in
         let at = within-by r.thing addr size page (size == 0) refl passes.1 inside in
         let refers = each-at (RegionRefers t) p.regions r.place r.thing ((sound.references.processes pid p lives).views) stands.there in
         let view = refers v is in

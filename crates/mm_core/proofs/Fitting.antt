@@ -12,19 +12,19 @@ use Rattle.mm_world.specs.Contents.{Tables}
 use Rattle.mm_pages.specs.Store.{StoreOf, changed, same_place, own_key}
 use Rattle.mm_pages.specs.Reports.{fetched, rearranged, Served}
 use Rattle.mm_tables.specs.Fits.{Fits, key_at, copied}
-use Rattle.mm_world.proofs.LaidOut.{and-true}
+use Rattle.mm_types.proofs.Booleans.{parts}
 use Rattle.mm_core.proofs.Serving.{all-named}
 
 -- ---- keys and places
 
 pub same_key-is : (j k : Key) → same_key j k ≡ true → j ≡ k
 same_key-is (key.Private p v) (key.Private q w) e =
-    let h = and-true _ _ e in
+    let h = parts _ _ e in
     let pids = (unsigned_Decides p.0 q.0).0 h.0 in
     let pages = (unsigned_Decides v.0 w.0).0 h.1 in
     λ i. key.Private (record { 0 = pids i }) (record { 0 = pages i })
 same_key-is (key.Shared a i) (key.Shared b j) e =
-    let h = and-true _ _ e in
+    let h = parts _ _ e in
     let areas = (unsigned_Decides a.0 b.0).0 h.0 in
     let indices = (unsigned_Decides i j).0 h.1 in
     λ k. key.Shared (record { 0 = areas k }) (indices k)
@@ -33,7 +33,7 @@ same_key-is (key.Shared a i) (key.Private q w) e = cc
 
 pub same_place-is : (a b : Place) → same_place a b ≡ true → a ≡ b
 same_place-is a b e =
-    let h = and-true _ _ e in
+    let h = parts _ _ e in
     let pids = (unsigned_Decides a.pid.0 b.pid.0).0 h.0 in
     let pages = (unsigned_Decides a.vpn.0 b.vpn.0).0 h.1 in
     λ i. record { pid = record { 0 = pids i }; vpn = record { 0 = pages i } }

@@ -23,8 +23,6 @@ pub mod AccessPieces
 pub mod AccessForms
 pub mod LineForms
 pub mod ThreadForms
-pub mod AccessKeys
-pub mod LineNotes
 pub mod AccessPassed
 pub mod ThreadPassed
 pub mod Turned

@@ -14,6 +14,7 @@ use Rattle.mm_types.specs.declared.moves.Move.TheVariants as move
 use Rattle.mm_types.specs.declared.numbers.Pid.{Pid}
 use Rattle.mm_types.specs.declared.numbers.Place.{Place}
 use Rattle.mm_types.specs.Address.{page_of}
+use Rattle.mm_types.proofs.Options.{some_found}
 use Rattle.mm_life.specs.Life.{FrameLife}
 use Rattle.mm_life.specs.Effect.{after_move}
 use Rattle.mm_life.specs.Replay.{Replays}
@@ -175,15 +176,6 @@ module _ (w : World) (e : Event) (n : ℕ) (why : Why) (v : World) (after : Repo
       ∙ ap (λ (x : Waiting). changed ◌==◌ (waits_through ys b.waits) tid x) (begun-awaits why q.aimed c.life (c.life.stands q.aimed.need.key))
       ∙ sym (waits_are false w e n (answer.Pending why) v after pid addr what form b y c xs ys rep p tid waited q.aimed (waits_through ys b.waits) c.life q.is))
 
--- of an option that is one
-record Thing {A : Type 0} (o : Option A) : Type 0 where
-  pub thing : A
-  pub is : o ≡ Some thing
-
-some_of : {A : Type 0} (o : Option A) → is_some o ≡ true → Thing o
-some_of None e = cc
-some_of (Some x) e = record { thing = x; is = refl }
-
 -- ---- a line that accesses none: it is refused, its process does not live, or its thread is busy or keeps nothing
 
 module _ (plain : Bool) (w : World) (e : Event) (n : ℕ) (r : Answer) (v : World) (after : Report) (does : (b : Behind) (c : Behind) → AccessesBy plain (aim_of w b.life e) r after b [] c → Does w e r v after b [] c) (ages : (b : Behind) → ages_of_line w e r b [] ≡ place_had (aim_of w b.life e) r b.ages) (needless : (l : FrameLife) → aim_of w l e ≡ None) where
@@ -260,8 +252,8 @@ module _ (u : Bool) (w : World) (e : Event) (n : ℕ) (v : World) (s m z : Store
       passes_then u (OneMove (move.At n (kind_of_line w e r))) (Forgets tid) (Lined w e n r v z.report) s m z b y c
       (record {
         join = λ b y c xs ys rep p q.
-            let o = some_of (aim_at w y.life pid addr what) (permitted y.life) in
-            lined_failed false w e n r v z.report pid addr what form b y c xs ys rep p tid waited (λ bad. cc) lost settled o.thing o.is q;
+            let o = some_found (aim_at w y.life pid addr what) (permitted y.life) in
+            lined_failed false w e n r v z.report pid addr what form b y c xs ys rep p tid waited (λ bad. cc) lost settled o.0 o.1 q;
       }) p q
 
   -- and no access, but a wait that is forgotten

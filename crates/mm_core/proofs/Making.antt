@@ -12,7 +12,8 @@ use Rattle.mm_world.specs.World.{WorldOf, ProcessOf, RegionOf, AreaOf, SectionOf
 use Rattle.mm_world.specs.Find.{Found, process_of, set_process, set_regions, set_area}
 use Rattle.mm_world.specs.Keys.{Committed, committed_at, set_row, guard_off}
 use Rattle.mm_world.specs.Outcome.{OutcomeOf, done, refused}
-use Rattle.mm_world.specs.Alloc.{alloc, commit_in, commit_type}
+use Rattle.mm_types.specs.Allocation.{commit_type}
+use Rattle.mm_world.specs.Alloc.{alloc, commit_in}
 use Rattle.mm_world.specs.Free.{free}
 use Rattle.mm_world.specs.Protect.{protect}
 use Rattle.mm_world.specs.Query.{query}

@@ -212,7 +212,7 @@ module _ (n : ℕ) (k : LineKind) (e : Event) (w : World) (a : Answer) (v : Worl
         waits = ap (λ (x : Behind). x.waits) same ∙ sym (plain.waits b.waits c.life);
       }) p
 
--- ---- a line that wanted memory
+-- ---- a line that ran out of memory
 
 halted : (beside : Bool) (n : ℕ) (k : LineKind) (s z : StoreOf) (b c : Behind) → is_later k ≡ true → Went beside (move.At n k) (AllTurn Makes) s z b c → Halted n b c
 halted beside n k s z b c later h =

@@ -23,7 +23,7 @@ use Rattle.mm_world.specs.World.{Page, World, KeptOf}
 use Rattle.mm_world.specs.Keys.{content_of, is_file_key}
 use Rattle.mm_world.specs.Step.{kept_by}
 use Rattle.mm_world.specs.Contents.{Tables, world_with}
-use Rattle.mm_world.proofs.LaidOut.{and-true}
+use Rattle.mm_types.proofs.Booleans.{parts}
 use Rattle.mm_pages.specs.Store.{StoreOf}
 use Rattle.mm_pages.specs.Behind.{Behind}
 use Rattle.mm_pages.specs.Standing.{Stands, StandsIn}
@@ -34,7 +34,7 @@ use Rattle.mm_tables.specs.Fits.{Fits, bytes_of, is_paging}
 use Rattle.mm_core.specs.Deciding.{Keeps}
 use Rattle.mm_core.specs.Noting.{is_later, IsOneWay, IsCut, Marked, MarkedIn, Halted, HaltedIn}
 use Rattle.mm_core.proofs.Alike.{live-with, row_key-with}
-use Rattle.mm_core.proofs.Keys.{SomeOf, some-of}
+use Rattle.mm_types.proofs.Options.{some_found}
 use Rattle.mm_core.proofs.Turned.{keys_made, keys_gone, none_made}
 
 -- ---- an `at` leaves keys as they are
@@ -121,14 +121,14 @@ module _ (t : Tables) (c : Key → Option Page) (s : StoreOf) (b : Behind) (fits
   listed_in : (k : Key) → b.life.paging k ≡ true → is_some (content_of w k) ≡ true
   listed_in k e =
       let listed : is_paging t k ≡ true = sym (fits.paging k) ∙ sym (h.paging k) ∙ e in
-      live-with t (bytes_of c) k ∙ (and-true (is_some (content_of t k)) (not (is_file_key t k)) listed).0
+      live-with t (bytes_of c) k ∙ (parts (is_some (content_of t k)) (not (is_file_key t k)) listed).0
 
   agrees : Agrees w s.report b
   agrees = record {
     keys = lives_in;
     places = λ p f valid.
-        let k = some-of (s.names p) (h.valid p f valid) in
-        (k.thing, (row_key-with t (bytes_of c) p ∙ fits.named p k.thing k.is, h.named p f valid ∙ k.is));
+        let k = some_found (s.names p) (h.valid p f valid) in
+        (k.0, (row_key-with t (bytes_of c) p ∙ fits.named p k.0 k.1, h.named p f valid ∙ k.1));
     counts = h.counts;
     whereabouts = h.whereabouts;
     waits = h.waits;
@@ -178,7 +178,7 @@ pub line-noted : (u : Bool) (e : Event) (n : ℕ) (t : Tables) (old : Key → Op
 line-noted u e n t old s b a after new z c paging next fits keeps h h' m =
     noted_by e a t old s b after new z c fits (stands u old s b paging h) keeps.fits (stands u new z c paging h') n next (m paging)
 
--- ---- a line that wanted memory
+-- ---- a line that ran out of memory
 
 module _ (old new : Key → Option Page) (s z : StoreOf) (b c : Behind) (same : new ≡ old) (h : Stands old s b) (h' : Stands new z c) where
   cut_short : (n : ℕ) (piece : List Move) → Replays piece b.life c.life → IsCut n piece → (piece ≡ []) ⊎ ((k : LineKind) × (piece ≡ move.At n k ∷ []))
@@ -200,7 +200,7 @@ module _ (old new : Key → Option Page) (s z : StoreOf) (b c : Behind) (same : 
 pub line-broken : (u : Bool) (n : ℕ) (old new : Key → Option Page) (s z : StoreOf) (b c : Behind) → u ≡ false → n ≡ s.line + 1 → new ≡ old → StandsIn u old s b → StandsIn u new z c → HaltedIn u n b c → Broken b c
 line-broken u n old new s z b c paging next same h h' m = broken_by old new s z b c same (stands u old s b paging h) (stands u new z c paging h') n next (m paging)
 
--- of both that hold where memory was wanted
+-- of both that hold where memory ran out
 pub if-errs : {T E : Type 0} {P Q R : Type 0} (r : Result T E) → OnErr r P → OnErr r Q → (P → Q → R) → OnErr r R
 if-errs (Ok x) p q f = tt
 if-errs (Err e) p q f = f p q

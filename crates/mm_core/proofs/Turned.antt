@@ -1,6 +1,6 @@
 -- Keys that come to be in a line, and keys that go.
-use Rattle.std.proofs.Common.{◌≡◌, ◌<◌, ◌≤◌, ℕ, List, [], ◌∷◌, Bool, true, false, Option, Some, None, refl, sym, ap, ◌∙◌, subst, cond, is_some, inl, inr, arith}
-use Rattle.std.specs.Prelude.{IsTrue, not, ◌&&◌, ◌||◌, ◌⊎◌}
+use Rattle.std.proofs.Common.{◌≡◌, ℕ, List, [], ◌∷◌, Bool, true, false, Option, Some, None, refl, sym, ap, ◌∙◌, cond, is_some, arith}
+use Rattle.std.specs.Prelude.{IsTrue, not, ◌&&◌, ◌||◌}
 use Rattle.mm_types.specs.declared.frames.Backing.{Backing}
 use Rattle.mm_types.specs.declared.frames.Backing.TheVariants as backing
 use Rattle.mm_types.specs.declared.frames.Held.{Held}
@@ -14,6 +14,8 @@ use Rattle.mm_types.specs.declared.numbers.Frame.{Frame}
 use Rattle.mm_types.specs.declared.numbers.Key.{Key}
 use Rattle.mm_types.specs.declared.numbers.Key.TheVariants as key
 use Rattle.mm_types.specs.declared.numbers.Place.{Place}
+use Rattle.mm_types.proofs.Booleans.{not_then, not_left, not_third}
+use Rattle.mm_types.proofs.Options.{none_of}
 use Rattle.mm_life.specs.Life.{FrameLife, is_live, is_dead, same_key, is_shared}
 use Rattle.mm_life.specs.Legal.{is_call, is_unbind, is_unmapped}
 use Rattle.mm_life.specs.Effect.{after_move, after_add, dropped_at, homed, home_at, after_unmap_at}
@@ -26,15 +28,10 @@ use Rattle.mm_pages.specs.Housekeeping.{Makes, Ends, AllTurn, Turns, Exactly}
 use Rattle.mm_pages.specs.Passing.{Passes}
 use Rattle.mm_paging.specs.Lines.{TurnsOne, TurnsKeys}
 use Rattle.mm_core.specs.Noting.{keeps_keys, takes_away, Each}
-use Rattle.mm_core.proofs.Keys.{none-of}
 
 same_again : (k : Key) → same_key k k ≡ true
 same_again (key.Private p v) = grind arith
 same_again (key.Shared a i) = grind arith
-
-not_then : (a b : Bool) → (a ≡ true → b ≡ true) → b ≡ false → a ≡ false
-not_then true b h e = let t = h refl in cc
-not_then false b h e = refl
 
 -- ---- a key that stands elsewhere lives on
 
@@ -93,22 +90,15 @@ added_lives : (l : FrameLife) (k : Key) (b : Option Block) → is_live (after_ad
 added_lives l k None = ap (λ c. not (is_dead (cond c held.Zero (l.stands k)))) (same_again k)
 added_lives l k (Some b) = ap (λ c. not (is_dead (cond c (held.Block b) (l.stands k)))) (same_again k)
 
-first_not : (a b c : Bool) → IsTrue (not a && b && c) → a ≡ false
-first_not true b c h = cc
-first_not false b c h = refl
-
-third_not : (p q a b c : Bool) → IsTrue (p && q && not a && b && c) → a ≡ false
-third_not p q a b c h = grind (arith, h)
-
 dead_before : (l : FrameLife) (k : Key) (b : Option Block) (ms : List Move) (m : FrameLife) → Replays (move.Add k b ∷ ms) l m → is_live l k ≡ false
-dead_before l k None ms m r = first_not (is_live l k) _ _ r.0
-dead_before l k (Some b) ms m r = third_not (is_call l.kind) (is_shared k) (is_live l k) _ _ r.0
+dead_before l k None ms m r = not_left (is_live l k) _ _ r.0
+dead_before l k (Some b) ms m r = not_third (is_call l.kind) (is_shared k) (is_live l k) _ _ r.0
 
 module _ (w v : World) (o : FrameLife) (m : FrameLife) (before : (k : Key) → is_live o k ≡ is_some (content_of w k)) (after : (k : Key) → is_live m k ≡ is_some (content_of v k)) where
   made_one : (x : Move) (ms : List Move) (l : FrameLife) → ((q : Key) → is_live o q ≡ true → is_live l q ≡ true) → Replays (x ∷ ms) l m → Each keeps_keys (x ∷ ms) → TurnsOne w v x
   made_one (move.At n k) ms l h r a = tt
   made_one (move.Add k b) ms l h r a = (
-    none-of (content_of w k) (sym (before k) ∙ not_then (is_live o k) (is_live l k) (h k) (dead_before l k b ms m r)),
+    none_of (content_of w k) (sym (before k) ∙ not_then (is_live o k) (is_live l k) (h k) (dead_before l k b ms m r)),
     sym (after k) ∙ lives_on ms (after_add l k b) m r.1 a.1 k (added_lives l k b),
   )
   made_one (move.Drop k) ms l h r a = let bad = a.0 in cc
@@ -194,7 +184,7 @@ module _ (w v : World) (o : FrameLife) (m : FrameLife) (before : (k : Key) → o
   gone_one : (x : Move) (ms : List Move) (l : FrameLife) → ((q : Key) → l.paging q ≡ true → o.paging q ≡ true) → Replays (x ∷ ms) l m → Each takes_away (x ∷ ms) → TurnsOne w v x
   gone_one (move.Drop k) ms l h r a = (
     before k (h k (listed_before l k ms m r)),
-    none-of (content_of v k) (sym (after k) ∙ stays_dead ms (dropped_at (l.stands k) l k) m r.1 a.1 k (dropped_dies (l.stands k) l k)),
+    none_of (content_of v k) (sym (after k) ∙ stays_dead ms (dropped_at (l.stands k) l k) m r.1 a.1 k (dropped_dies (l.stands k) l k)),
   )
   gone_one (move.Unmap p) ms l h r a = tt
   gone_one _ ms l h r a = let bad = a.0 in cc

@@ -1,9 +1,8 @@
 -- Accesses of threads: ready, or waiting.
 use Rattle.mm_types.specs.Machine.{MachineOf}
-use Rattle.std.proofs.Common.{◌≡◌, ◌⊎◌, ℕ, ◌+◌, List, Bool, true, false, Option, Some, None, refl, sym, ◌∙◌, ap, subst, inl, inr, is_some, option_map, cond}
+use Rattle.std.proofs.Common.{◌≡◌, ◌⊎◌, ℕ, List, Bool, true, false, Option, Some, None, refl, sym, ◌∙◌, ap, subst, inl, inr, is_some, option_map, cond}
 use Rattle.std.specs.Prelude.{◌==◌}
 use Rattle.std.specs.Cmp.{unsigned_Decides}
-use Rattle.std.specs.Prelude.{Result, Ok, Err}
 use Rattle.mm_types.specs.declared.answers.Answer.{Answer}
 use Rattle.mm_types.specs.declared.answers.Why.{Why}
 use Rattle.mm_types.specs.declared.numbers.Key.{Key}
@@ -15,7 +14,7 @@ use Rattle.mm_world.specs.Failure.{Need, pending, access_fails}
 use Rattle.mm_world.specs.Report.{Report}
 use Rattle.mm_world.specs.Step.{need_at}
 use Rattle.mm_pages.specs.Store.{StoreOf, changed, same_place}
-use Rattle.mm_pages.specs.Reports.{Served, IsBegun, started, begun}
+use Rattle.mm_pages.specs.Reports.{Served, started, begun}
 use Rattle.mm_types.specs.declared.answers.Wait.{Wait}
 use Rattle.mm_types.specs.declared.answers.Wait.TheVariants as wait
 use Rattle.mm_world.specs.Failure.{wait_failed}
@@ -46,12 +45,6 @@ module _ (s z : StoreOf) (e : z ≡ started s z) where
       served_nothing s z (ap (λ (s : StoreOf). s.paging_device) e) (ap (λ (s : StoreOf). s.file_device) e)
       (ap (λ (s : StoreOf). s.report.paging_reads) e) (ap (λ (s : StoreOf). s.report.paging_writes) e)
       (ap (λ (s : StoreOf). s.report.file_reads) e) (ap (λ (s : StoreOf). s.report.file_writes) e)
-
-  pub begun_started : IsBegun s.report → IsBegun z.report
-  begun_started b = record {
-    no_failed_read = ap (λ (s : StoreOf). s.report.last_failed_read) e ∙ b.no_failed_read;
-    no_failed_write = ap (λ (s : StoreOf). s.report.search_writes) e ∙ b.no_failed_write;
-  }
 
   pub keeps_started : (t : Tables) (c : Key → Option Page) (place : Place) (k : Key) → Keeps t c s → key_at t place ≡ Some k → (z.names ≡ s.names) ⊎ (z.names ≡ changed same_place s.names place (Some k)) → Keeps t c z
   keeps_started t c place k keeps at names =

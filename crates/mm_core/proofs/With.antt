@@ -14,7 +14,7 @@ use Rattle.mm_world.specs.Keys.{Home, Own, InSection, Committed, home_in, commit
 use Rattle.mm_world.specs.Contents.{Tables, row_with, rows_with, region_with_bytes, process_with, processes_with, pages_with, area_with, areas_with, world_with}
 use Rattle.mm_world.proofs.Natural.{first-map}
 use Rattle.mm_world.proofs.Finding.{found_stands}
-use Rattle.mm_world.proofs.LaidOut.{and-true}
+use Rattle.mm_types.proofs.Booleans.{parts}
 
 module _ (b : Key → Page) where
   abbrev pub found_with : ℕ → Found (RegionOf (Unit {0})) → Found (RegionOf Page)
@@ -109,7 +109,7 @@ module _ (b : Key → Page) where
       by_home (Some home) = refl
 
   begins : (page : ℕ) (rs : List (RegionOf (Unit {0}))) (r : Found (RegionOf (Unit {0}))) → region_with rs page ≡ Some r → r.thing.base ≤ page
-  begins page rs r e = leb-true _ _ (and-true (nat_le r.thing.base page) (nat_lt page (end_of (pages_of r.thing))) (found_stands _ rs r e).passes).0
+  begins page rs r e = leb-true _ _ (parts (nat_le r.thing.base page) (nat_lt page (end_of (pages_of r.thing))) (found_stands _ rs r e).passes).0
 
   pub committed-with : (t : Tables) (pid page : ℕ) (rs : List (RegionOf (Unit {0}))) → committed_at (world_with t b) (map (region_with_bytes b pid) rs) page ≡ option_map (committed_with pid page) (committed_at t rs page)
   committed-with t pid page rs =

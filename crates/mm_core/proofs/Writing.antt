@@ -13,7 +13,9 @@ use Rattle.mm_world.specs.Keys.{Committed, committed_at, private_key, shared_key
 use Rattle.mm_world.specs.Contents.{Tables, row_with, rows_with, region_with_bytes, process_with, processes_with, pages_with, area_with, areas_with, world_with}
 use Rattle.mm_world.specs.WellFormed.{LaidOut, Spaces}
 use Rattle.mm_world.proofs.Finding.{found_stands, numbered_there, committed_is}
-use Rattle.mm_world.proofs.LaidOut.{laid_at, and-true, less}
+use Rattle.mm_types.proofs.Booleans.{parts}
+use Rattle.mm_types.proofs.Naturals.{less}
+use Rattle.mm_world.proofs.LaidOut.{laid_at}
 use Rattle.mm_core.proofs.With.{found_with, get-areas}
 
 pub shared_itself : (area index : ℕ) → same_key (shared_key area index) (shared_key area index) ≡ true
@@ -156,7 +158,7 @@ module _ (b c : Key → Page) (pid page : ℕ) (others : (k : Key) → same_key 
       let h = committed_is t p.regions page d committed in
       let r = d.region.thing in
       let stands = found_stands _ p.regions d.region h.region in
-      let inside = and-true (nat_le r.base page) (nat_lt page (end_of (pages_of r))) stands.passes in
+      let inside = parts (nat_le r.base page) (nat_lt page (end_of (pages_of r))) stands.passes in
       let low : r.base ≤ page = leb-true _ _ inside.0 in
       let high : page < r.base + length r.rows = less _ _ inside.1 in
       let rows : rows_with c pid r.base r.rows ≡ set (rows_with b pid r.base r.rows) (page - r.base) (row_with c pid page d.row) =
@@ -175,7 +177,7 @@ module _ (b c : Key → Page) (pid page : ℕ) (others : (k : Key) → same_key 
       let h = committed_is t p.regions page d committed in
       let r = d.region.thing in
       let stands = found_stands _ p.regions d.region h.region in
-      let inside = and-true (nat_le r.base page) (nat_lt page (end_of (pages_of r))) stands.passes in
+      let inside = parts (nat_le r.base page) (nat_lt page (end_of (pages_of r))) stands.passes in
       let low : r.base ≤ page = leb-true _ _ inside.0 in
       let high : page < r.base + length r.rows = less _ _ inside.1 in
       let changed : RegionOf (Unit {0}) = record r { rows = set r.rows (page - r.base) new } in

@@ -1,4 +1,5 @@
 -- How an access of one line stands in the tables.
+-- Profile, "Accesses".
 use Rattle.std.specs.Prelude.{◌≡◌, ℕ, Bool, true, false, Some, None}
 use Rattle.mm_types.specs.declared.answers.Answer.{Answer}
 use Rattle.mm_types.specs.declared.answers.Answer.TheVariants as answer

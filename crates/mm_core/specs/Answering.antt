@@ -1,4 +1,5 @@
 -- The moves of an access, over a store that pages, as the definitions of a line ask for them.
+-- Profile, "Logs of moves".
 use Rattle.std.specs.Prelude.{◌≡◌, ℕ, true, false, List, Option, Some, None, count_by, ◌==◌, Result, Ok, Err}
 use Rattle.mm_types.specs.declared.answers.Answer.{Answer}
 use Rattle.mm_types.specs.declared.answers.Why.{Why}

@@ -1,8 +1,9 @@
 -- Which lines are built, and which lines may take memory.
+-- Profile, "Script".
 use Rattle.std.specs.Prelude.{Bool, true, false, not, ◌==◌}
 use Rattle.mm_types.specs.declared.events.Event.{Event}
 use Rattle.mm_types.specs.declared.events.Event.TheVariants as line
-use Rattle.mm_types.specs.Protection.{base_of}
+use Rattle.mm_types.specs.Protection.{base_of, writecopy}
 use Rattle.mm_world.specs.System.{is_watched_type}
 
 abbrev pub is_built : Event → Bool
@@ -41,7 +42,7 @@ abbrev pub takes_memory : Event → Bool
 takes_memory (line.Process min max) = true
 takes_memory (line.File name pages byte) = true
 takes_memory (line.Alloc pid addr size type prot) = true
-takes_memory (line.Protect pid addr size prot) = base_of prot == 0x08
+takes_memory (line.Protect pid addr size prot) = base_of prot == writecopy
 takes_memory (line.Create pid size flags name) = true
 takes_memory (line.CreateFile pid file flags name) = true
 takes_memory (line.Open pid name) = true

@@ -1,8 +1,8 @@
 -- What one line does to the tables, to the bytes and to the store.
+-- Profile, "A run".
 use Rattle.std.specs.Prelude.{◌≡◌, ◌≤◌, ◌⊎◌, ℕ, Bool, true, false, Option}
 use Rattle.mm_types.specs.declared.answers.Answer.{Answer}
 use Rattle.mm_types.specs.declared.events.Event.{Event}
-use Rattle.mm_types.specs.declared.events.Event.TheVariants as event
 use Rattle.mm_types.specs.declared.moves.LineKind.{LineKind}
 use Rattle.mm_types.specs.declared.moves.LineKind.TheVariants as kind_of
 use Rattle.mm_types.specs.declared.numbers.Key.{Key}
@@ -70,48 +70,3 @@ pub record Idle (t : Tables) (old : Key → Option Page) (s : StoreOf) (after : 
   pub paging : z.paging_device ≡ s.paging_device
   pub files : z.file_device ≡ s.file_device
   pub blocks : z.file_blocks ≡ s.file_blocks
-
--- ---- the lines, by what they go by
-
-abbrev pub is_memory_line : Event → Bool
-is_memory_line (event.Process min max) = true
-is_memory_line (event.Exit pid) = true
-is_memory_line (event.Alloc pid addr size type prot) = true
-is_memory_line (event.Free pid addr size type) = true
-is_memory_line (event.Protect pid addr size prot) = true
-is_memory_line (event.Query pid addr) = true
-is_memory_line event.Charge = true
-is_memory_line (event.Grow n) = true
-is_memory_line _ = false
-
-abbrev pub is_section_line : Event → Bool
-is_section_line (event.File name pages byte) = true
-is_section_line (event.Create pid size flags name) = true
-is_section_line (event.CreateFile pid file flags name) = true
-is_section_line (event.Open pid name) = true
-is_section_line (event.Close pid handle) = true
-is_section_line _ = false
-
-abbrev pub is_view_line : Event → Bool
-is_view_line (event.Map pid handle access offset len addr) = true
-is_view_line (event.Unmap pid addr) = true
-is_view_line (event.Flush pid addr size) = true
-is_view_line _ = false
-
-abbrev pub is_access_line : Event → Bool
-is_access_line (event.Read pid addr len) = true
-is_access_line (event.Write pid addr bytes) = true
-is_access_line (event.Exec pid addr) = true
-is_access_line (event.Begin tid pid what) = true
-is_access_line (event.Resume tid) = true
-is_access_line _ = false
-
-abbrev pub is_paging_line : Event → Bool
-is_paging_line (event.Trim pid n) = true
-is_paging_line (event.Age pid) = true
-is_paging_line (event.Zeroer n) = true
-is_paging_line (event.Writer n) = true
-is_paging_line (event.Io i) = true
-is_paging_line event.Counts = true
-is_paging_line (event.Fail device direction k n) = true
-is_paging_line _ = false

@@ -1,4 +1,5 @@
 -- A line's piece of the log, over a store that pages.
+-- Profile, "Logs of moves".
 use Rattle.std.specs.Prelude.{◌≡◌, ℕ, List, ◌∷◌}
 use Rattle.mm_types.specs.declared.answers.Answer.{Answer}
 use Rattle.mm_types.specs.declared.events.Event.{Event}

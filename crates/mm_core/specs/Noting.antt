@@ -1,4 +1,5 @@
 -- What a line notes: its `at` and the moves after it, before what its store keeps at all times is put beside them.
+-- Profile, "Logs of moves".
 use Rattle.std.specs.Prelude.{◌≡◌, ◌⊎◌, ℕ, Bool, true, false, List, [], ◌∷◌, Option, if◌then◌else◌, nat_lt, ◌==◌, ◌&&◌}
 use Rattle.mm_types.specs.declared.answers.Answer.{Answer}
 use Rattle.mm_types.specs.declared.events.Event.{Event}

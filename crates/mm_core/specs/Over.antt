@@ -1,4 +1,5 @@
 -- The words of lines, said of tables and of the store beside them.
+-- Profile, "A run".
 use Rattle.std.specs.Prelude.{ℕ, List, Option}
 use Rattle.mm_types.specs.declared.answers.Answer.{Answer}
 use Rattle.mm_types.specs.declared.events.Event.{Event}

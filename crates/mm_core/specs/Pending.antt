@@ -1,4 +1,5 @@
 -- Accesses of threads, which may have to wait.
+-- Profile, "Accesses".
 use Rattle.std.specs.Prelude.{◌≡◌, ℕ, Bool, true, false, Option, Some, None}
 use Rattle.mm_types.specs.declared.answers.Answer.{Answer}
 use Rattle.mm_types.specs.declared.answers.Why.{Why}

@@ -1,4 +1,5 @@
 -- What a line does to devices, and what it leaves in blocks.
+-- Profile, "A run".
 use Rattle.std.specs.Prelude.{◌≡◌, ◌≤◌, ◌⊎◌, ℕ, ◌+◌, ◌-◌, Bool, true, false, List, ◌++◌, map, Option, Some, None, slice_get}
 use Rattle.mm_types.specs.declared.answers.Answer.{Answer}
 use Rattle.mm_types.specs.declared.answers.Answer.TheVariants as answer

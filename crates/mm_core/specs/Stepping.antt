@@ -1,4 +1,5 @@
 -- A line was decided as the definition of worlds says.
+-- Profile, "A run".
 use Rattle.std.specs.Prelude.{◌≡◌, ◌≢◌, Bool, true, false}
 use Rattle.mm_types.specs.declared.answers.Answer.{Answer}
 use Rattle.mm_types.specs.declared.answers.Answer.TheVariants as answer

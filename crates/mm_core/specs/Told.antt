@@ -1,4 +1,5 @@
 -- What is told of a line, by the worlds over a store before it and after it.
+-- Profile, "A run".
 use Rattle.std.specs.Prelude.{◌≡◌, ◌⊎◌, ℕ}
 use Rattle.mm_types.specs.declared.answers.Answer.{Answer}
 use Rattle.mm_types.specs.declared.events.Event.{Event}

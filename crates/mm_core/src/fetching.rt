@@ -1,6 +1,7 @@
 ghost use Rattle.std.specs.Prelude.{◌≡◌, ◌≤◌, ◌+◌, ◌%◌, true, false, Some, None, IsOk, IfOk, OnOk, OnErr, length, take, drop};
 ghost use Rattle.mm_types.specs.declared.protections.Access.TheVariants as access_kind;
 ghost use Rattle.mm_types.specs.Address.{page_of, page_size};
+ghost use Rattle.mm_types.specs.Protection.{readwrite};
 ghost use Rattle.mm_world.specs.World.{ProcessOf};
 ghost use Rattle.mm_world.specs.Find.{process_of};
 ghost use Rattle.mm_world.specs.Failure.{same_key};
@@ -17,7 +18,7 @@ ghost use Rattle.mm_core.specs.Over.{FitsOver, PassesOver};
 
 use mm_pages::Pages;
 use mm_tables::{CommittedRow, Tables};
-use mm_types::{ByteBuf, Key, PageFault, Pid, Place, Vpn};
+use mm_types::{ByteBuf, Key, PAGE_SIZE, PageFault, Pid, Place, Vpn};
 
 /// The page of an address, as a place of a process.
 pub(crate) fn place_of(pid: Pid, addr: u32) -> Place
@@ -25,7 +26,7 @@ pub(crate) fn place_of(pid: Pid, addr: u32) -> Place
 {
     Place {
         pid,
-        vpn: Vpn(addr / 4096),
+        vpn: Vpn(addr / PAGE_SIZE),
     }
 }
 
@@ -33,14 +34,14 @@ pub(crate) fn place_of(pid: Pid, addr: u32) -> Place
 fn own_key_of(pid: Pid, addr: u32) -> Key
     ensures { result ≡ private_key pid.0 (page_of addr) }
 {
-    Key::Private(pid, Vpn(addr / 4096))
+    Key::Private(pid, Vpn(addr / PAGE_SIZE))
 }
 
 /// Where in its page an address lies.
 fn offset_of(addr: u32) -> u16
     ensures { result ≡ addr % page_size }
 {
-    (addr % 4096) as u16
+    (addr % PAGE_SIZE) as u16
 }
 
 /// Reads bytes of a key from an address on, at its page.
@@ -156,7 +157,7 @@ fn copy<G: Pages>(
     requires may { MayAccess (G.store g.old) (place_at pid (page_of addr)) (copying row.key (place_at pid (page_of addr))) }
     requires begun { IsBegun (G.store g.old).report }
     ensures copied { OnOk result (G.contents g.new ≡ changed same_key (G.contents g.old) (private_key pid.0 (page_of addr)) (G.contents g.old row.key)) }
-    ensures row { OnOk result ((p : ProcessOf (Unit {0})) (c : Committed (Unit {0})) → process_of t.old pid.0 ≡ Some p → committed_at t.old p.regions (page_of addr) ≡ Some c → t.new ≡ set_row t.old pid.0 p c.region (page_of addr) (record c.row { own = Some tt; prot = 0x04 })) }
+    ensures row { OnOk result ((p : ProcessOf (Unit {0})) (c : Committed (Unit {0})) → process_of t.old pid.0 ≡ Some p → committed_at t.old p.regions (page_of addr) ≡ Some c → t.new ≡ set_row t.old pid.0 p c.region (page_of addr) (record c.row { own = Some tt; prot = readwrite })) }
     ensures kept { OnErr result ((t.new ≡ t.old) × (G.contents g.new ≡ G.contents g.old)) }
     ensures at { OnOk result (key_at t.new (place_at pid (page_of addr)) ≡ Some (private_key pid.0 (page_of addr))) }
     ensures ready { OnOk result (IsReady (G.store g.new) (place_at pid (page_of addr)) (touch (private_key pid.0 (page_of addr)))) }
@@ -172,7 +173,7 @@ fn copy<G: Pages>(
     ensures loans { G.loans g.new ≡ G.loans g.old }
 {
     g.copy(place_of(pid, addr), row.key, own_key_of(pid, addr))?;
-    t.copy_page(pid, addr / 4096);
+    t.copy_page(pid, addr / PAGE_SIZE);
     Ok(())
 }
 
@@ -195,7 +196,7 @@ pub(crate) fn put_copy<G: Pages>(
     requires few { length bytes.now ≤ 64 }
     requires inside { addr % 4096 + length bytes.now ≤ 4096 }
     ensures written { OnOk result (G.contents g.new ≡ changed same_key (changed same_key (G.contents g.old) (private_key pid.0 (page_of addr)) (G.contents g.old row.key)) (private_key pid.0 (page_of addr)) (Some (written (bytes_of (G.contents g.old) row.key) (addr % page_size) bytes.now))) }
-    ensures row { OnOk result ((p : ProcessOf (Unit {0})) (c : Committed (Unit {0})) → process_of t.old pid.0 ≡ Some p → committed_at t.old p.regions (page_of addr) ≡ Some c → t.new ≡ set_row t.old pid.0 p c.region (page_of addr) (record c.row { own = Some tt; prot = 0x04 })) }
+    ensures row { OnOk result ((p : ProcessOf (Unit {0})) (c : Committed (Unit {0})) → process_of t.old pid.0 ≡ Some p → committed_at t.old p.regions (page_of addr) ≡ Some c → t.new ≡ set_row t.old pid.0 p c.region (page_of addr) (record c.row { own = Some tt; prot = readwrite })) }
     ensures kept { OnErr result ((t.new ≡ t.old) × (G.contents g.new ≡ G.contents g.old)) }
     ensures ends { Ends (copying row.key (place_at pid (page_of addr))) (G.store g.new).report result }
     ensures fits { FitsOver G.Pages t.new g.new }

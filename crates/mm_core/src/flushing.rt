@@ -8,7 +8,7 @@ use mm_types::Failed;
 impl<G: FlushesMoves> World<G> {
     ghost use Rattle.mm_core.specs.Shown.{world, report, behind, line_of, paging_device, file_device, file_blocks, loans};
 
-    /// Gives on the moves that were noted, so that whoever reads their log sees those of all lines decided so far. Nothing changes
+    /// Hands on the moves that were noted, so that whoever reads their log sees those of all lines decided so far. Nothing changes
     /// but the log's count of faults. `Failed` comes only where that rose; the moves stay noted then, and whether the log has failed
     /// stays as it was. It may be asked of a world that is spent.
     pub fn flush_moves(&mut self) -> Result<(), Failed>

@@ -5,10 +5,7 @@ ghost use Rattle.mm_core.specs.Noting.{IdlesIn, IdlesBut};
 
 use mm_pages::Pages;
 use mm_tables::Tables;
-use mm_types::{Pid, Tid};
-
-/// How many threads there are.
-const THREADS: u16 = 256;
+use mm_types::{Pid, THREADS, Tid};
 
 /// Whether a thread keeps an access of the process.
 fn keeps_of(t: &Tables, tid: Tid, pid: Pid) -> bool

@@ -15,7 +15,7 @@ ghost use Rattle.mm_core.specs.Accessing.{Refuses, Admits};
 ghost use Rattle.mm_core.specs.Deciding.{Keeps};
 
 use mm_tables::{CommittedRow, Tables};
-use mm_types::{Access, Answer, Pid, Raise, permits};
+use mm_types::{Access, Answer, PAGE_SIZE, Pid, Raise, permits};
 
 /// The alarm of a committed page of a living process whose guard is on; from then on it is off.
 fn alarm(t: &mut Tables, pid: Pid, page: u32) -> Answer
@@ -44,7 +44,7 @@ pub(crate) fn admit(
     ensures unchanged { OnOk result (t.new ≡ t.old) }
     ensures keeps { (contents : Key → Option Page) (s : StoreOf) → Keeps t.old contents s → Keeps t.new contents s }
 {
-    let page = addr / 4096;
+    let page = addr / PAGE_SIZE;
     let row = match t.committed_row(pid, page) {
         Some(row) => row,
         None => return Err(Answer::Raised(Raise::AccessViolation)),

@@ -48,8 +48,8 @@ fn access_on<G: Pages>(
     ensures loans { G.loans g.new ≡ G.loans g.old }
 {
     match what {
-        AccessSpec::Read(addr, len) => read_access(t, g, tid, pid, *addr, *len, failed),
-        AccessSpec::Write(addr, bytes) => write_access(t, g, tid, pid, *addr, bytes, failed),
+        AccessSpec::Read { addr, len } => read_access(t, g, tid, pid, *addr, *len, failed),
+        AccessSpec::Write { addr, bytes } => write_access(t, g, tid, pid, *addr, bytes, failed),
     }
 }
 

@@ -240,6 +240,3 @@ impl<G: Pages> World<G> {
         result
     }
 }
-
-#[cfg(test)]
-mod tests;

@@ -7,9 +7,9 @@ ghost use Rattle.mm_types.specs.Outside.{HasCause};
 use mm_pages::Pages;
 use mm_types::Failed;
 
-/// A store of pages that gives on the moves it has noted when it is asked to.
+/// A store of pages that hands on the moves it has noted when it is asked to.
 pub trait FlushesMoves: Pages {
-    /// Gives on the moves that were noted. Nothing changes but the log's count of faults. `Failed` comes only where that rose; the
+    /// Hands on the moves that were noted. Nothing changes but the log's count of faults. `Failed` comes only where that rose; the
     /// moves stay noted then, and whether the log has failed stays as it was.
     fn flush_moves(&mut self) -> Result<(), Failed>
         ensures contents { Self.contents self.new ≡ Self.contents self.old }

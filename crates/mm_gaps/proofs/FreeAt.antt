@@ -6,6 +6,7 @@ use Rattle.std.proofs.lemmas.Bool.{leb-true, leb-false, lt-ltb, le-ltb, le-leb, 
 use Rattle.mm_types.specs.Address.{Range, end_of, end_of_user_pages, first_user_page, holds_page, meets, is_free}
 use Rattle.mm_types.specs.declared.numbers.Vpn.{Vpn}
 use Rattle.mm_gaps.specs.Ranges.{LieApart, range_at, is_begun_at, pages_of}
+use Rattle.mm_types.proofs.Booleans.{or_false}
 
 -- whether the range begins at the page
 abbrev pub begins_at : ℕ → Option Range → Bool
@@ -16,10 +17,6 @@ begins_at first (Some r) = r.first == first
 abbrev pub begins_from : ℕ → Option Range → Bool
 begins_from page None = true
 begins_from page (Some r) = nat_le page r.first
-
-or_false : (b : Bool) → (b || false) ≡ b
-or_false true = refl
-or_false false = refl
 
 not_begun_above : (first low : ℕ) (xs : List Range) → LieApart low xs → first < low → is_begun_at first xs ≡ false
 not_begun_above first low [] p h = refl
@@ -38,7 +35,7 @@ begun_is first low (x ∷ xs) p =
           ap (λ b. b || is_begun_at first xs) (ne_eqb x.first first (omega (arith, below))) ∙ begun_is first (end_of x) xs p.1)
     ] refl
 
-met_above : (r : Range) (low : ℕ) (xs : List Range) → LieApart low xs → end_of r ≤ low → list_any (meets r) xs ≡ false
+pub met_above : (r : Range) (low : ℕ) (xs : List Range) → LieApart low xs → end_of r ≤ low → list_any (meets r) xs ≡ false
 met_above r low [] p h = refl
 met_above r low (x ∷ xs) p h =
     ap (λ b. b || list_any (meets r) xs) (and_right (ltb r.first (end_of x)) (ltb x.first (end_of r)) (le-ltb x.first (end_of r) (omega (arith, p.0.from, h))))
@@ -104,10 +101,6 @@ mapped_begins_at first (Some r) next count e = ap (λ p. first_or 0 p == first) 
 pub mapped_begins_from : (page : ℕ) (o : Option Range) (next : Vpn) (count : ℕ) → option_map pages_of o ≡ Some (next, count) → begins_from page o ≡ nat_le page next.0
 mapped_begins_from page None next count e = cc
 mapped_begins_from page (Some r) next count e = ap (λ p. nat_le page (first_or 0 p)) e
-
-pub none_is : {A : Type 0} (o : Option A) → is_some o ≡ false → o ≡ None
-none_is None e = refl
-none_is (Some x) e = cc
 
 pub not_not : (b : Bool) → not (not b) ≡ b
 not_not true = refl

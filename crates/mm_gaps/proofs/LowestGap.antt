@@ -2,11 +2,12 @@
 use Rattle.std.proofs.Common.{◌≡◌, inl, inr, ℕ, zero, suc, ◌+◌, ◌*◌, ◌/◌, ◌≤◌, ◌<◌, Bool, true, false, cond, not, leb, ltb, ◌&&◌, ◌||◌, List, [], ◌∷◌, Option, Some, None, option_map, refl, sym, ap, ◌∙◌, arith}
 use Rattle.std.specs.Prelude.{nat_le}
 use Rattle.std.specs.List.{list_any}
-use Rattle.std.proofs.lemmas.Bool.{le-leb, lt-leb, leb-true, leb-false, lt-ltb, le-ltb, cases_lt, and_parts, and_right}
+use Rattle.std.proofs.lemmas.Bool.{le-leb, lt-leb, leb-true, leb-false, lt-ltb, le-ltb, cases_lt, and_parts}
 use Rattle.mm_types.specs.Address.{Range, end_of, end_of_user_pages, first_user_page, granules, granule_pages, granule_range, meets, is_free, least_from, lowest_gap}
 use Rattle.mm_types.proofs.Least.{least_from-is, least_from-none}
 use Rattle.mm_gaps.specs.Ranges.{FollowsFrom, LieApart, range_at}
 use Rattle.mm_gaps.specs.Room.{aligned, room, fit}
+use Rattle.mm_gaps.proofs.FreeAt.{met_above}
 
 -- whether `count` pages from the granule on end with the user pages and meet no range
 abbrev pub is_open : List Range → ℕ → ℕ → Bool
@@ -15,13 +16,6 @@ is_open taken count g = nat_le (g * granule_pages + count) end_of_user_pages && 
 abbrev pub Outcome : ℕ → List Range → ℕ → Option ℕ → Type 0
 Outcome low taken count None = (k : ℕ) → low ≤ k * granule_pages → is_open taken count k ≡ false
 Outcome low taken count (Some page) = (g : ℕ) × (page ≡ g * granule_pages) × (low ≤ g * granule_pages) × (is_open taken count g ≡ true) × ((k : ℕ) → low ≤ k * granule_pages → k < g → is_open taken count k ≡ false)
-
-none_met : (r : Range) (low : ℕ) (xs : List Range) → LieApart low xs → end_of r ≤ low → list_any (meets r) xs ≡ false
-none_met r low [] p h = refl
-none_met r low (x ∷ xs) p h =
-    let past : ltb x.first (end_of r) ≡ false = le-ltb x.first (end_of r) (omega (arith, p.0.from, h)) in
-    let here : (ltb r.first (end_of x) && ltb x.first (end_of r)) ≡ false = and_right (ltb r.first (end_of x)) (ltb x.first (end_of r)) past in
-    ap (λ b. b || list_any (meets r) xs) here ∙ none_met r (end_of x) xs p.1 (omega (arith, p.0.from, h))
 
 open_from : (taken : List Range) (count g : ℕ) → g * granule_pages + count ≤ end_of_user_pages → list_any (meets (granule_range count g)) taken ≡ false → is_open taken count g ≡ true
 open_from taken count g h e = rw (le-leb (g * granule_pages + count) end_of_user_pages h, e)
@@ -87,7 +81,7 @@ fit_outcome low (x ∷ xs) count some p =
     elim (leb count (room low x.first)) as (λ b. leb count (room low x.first) ≡ b → Outcome low (x ∷ xs) count (cond b (Some (aligned low)) (fit (end_of x) xs end_of_user_pages count))) [
       | true ↦ λ e. (let h : count ≤ room low x.first = leb-true count (room low x.first) e in
           at_first low (x ∷ xs) count some (omega (arith, h, some, p.0.within, p.0.some))
-          (none_met (granule_range count ((low + 15) / granule_pages)) x.first (x ∷ xs) (record { from = omega arith; some = p.0.some; within = p.0.within }, p.1) (omega (arith, h, some))))
+          (met_above (granule_range count ((low + 15) / granule_pages)) x.first (x ∷ xs) (record { from = omega arith; some = p.0.some; within = p.0.within }, p.1) (omega (arith, h, some))))
       | false ↦ λ e. later_outcome low count x xs (fit (end_of x) xs end_of_user_pages count) (leb-false count (room low x.first) e) some p.0 (fit_outcome (end_of x) xs count some p.1)
     ] refl
 

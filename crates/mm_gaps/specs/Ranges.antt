@@ -1,4 +1,5 @@
 -- Ranges of user pages that lie apart, in rising order.
+-- Profile, "Machine, addresses, limits".
 use Rattle.std.specs.Prelude.{ℕ, ◌≤◌, ◌<◌, Bool, nat_lt, ◌==◌, if◌then◌else◌, List, [], ◌∷◌}
 use Rattle.std.specs.List.{list_any}
 use Rattle.mm_types.specs.Address.{Range, end_of, end_of_user_pages}

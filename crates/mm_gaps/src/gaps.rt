@@ -3,9 +3,9 @@ ghost use Rattle.mm_types.specs.Address.{holds_page, is_free, first_user_page, l
 ghost use Rattle.mm_gaps.specs.Ranges.{GapsOf, LieApart, range_at, add_range, remove_range, is_begun_at, page_number, pages_of};
 ghost use Rattle.mm_gaps.specs.Visits.{VisitsFew};
 
-use crate::trees::{END, FIRST, Node, Tree};
+use crate::trees::{Node, Tree};
 use crate::{Ledger, Steps};
-use mm_types::{NoMemory, Vpn};
+use mm_types::{END_OF_USER_PAGES, FIRST_USER_PAGE, NoMemory, Vpn};
 use std::alloc::Global;
 use std::marker::Model;
 use std::mem;
@@ -105,7 +105,10 @@ impl Gaps {
         requires { 0 < n }
         ensures { result ≡ is_free self.now.ranges (range_at first.0 n) }
     {
-        if first.0 < FIRST || first.0 > END || n > END - first.0 {
+        if first.0 < FIRST_USER_PAGE
+            || first.0 > END_OF_USER_PAGES
+            || n > END_OF_USER_PAGES - first.0
+        {
             return false;
         }
         if self.at(first).is_some() {
@@ -135,7 +138,10 @@ impl Gaps {
         ensures few { VisitsFew L.stepped steps.old.ledger steps.new.ledger (length self.now.ranges) }
         ensures apart { LieApart first_user_page self.now.ranges }
     {
-        match self.tree.lowest_gap(FIRST, END, n, steps) {
+        match self
+            .tree
+            .lowest_gap(FIRST_USER_PAGE, END_OF_USER_PAGES, n, steps)
+        {
             None => None,
             Some(page) => Some(Vpn(page)),
         }

@@ -6,15 +6,9 @@ ghost use Rattle.mm_gaps.specs.Shape.{IsShaped, IsFork, IsBalanced, DifferByAtMo
 ghost use Rattle.mm_gaps.specs.Nodes.{range_in, kept_over, IsSpan, IsNode};
 
 use crate::{Ledger, Steps, Uncounted};
-use mm_types::Vpn;
+use mm_types::{END_OF_USER_PAGES, Vpn};
 use std::marker::Model;
 use std::mem;
-
-/// The first user page.
-pub const FIRST: u32 = 0x10;
-
-/// The page that the user pages end at.
-pub const END: u32 = 0x7FFF0;
 
 /// Ranges in order, as a balanced tree.
 #[cycle(tree)]
@@ -52,7 +46,7 @@ impl Span {
     /// What is kept where there are no ranges.
     const NONE: Span = Span {
         lowest: 0,
-        highest: END,
+        highest: END_OF_USER_PAGES,
         gap: 0,
         height: 0,
     };

@@ -37,7 +37,7 @@ pub replayed : (xs : List Move) (l : FrameLife) → FrameLife
 replayed [] l = l
 replayed (x ∷ xs) l = replayed xs (after_move l x)
 
-told_then : (xs ys : List Move) (l m : FrameLife) (r : Told) → Replays xs l m → told_through l (xs ++ ys) r ≡ told_through m ys (told_through l xs r)
+pub told_then : (xs ys : List Move) (l m : FrameLife) (r : Told) → Replays xs l m → told_through l (xs ++ ys) r ≡ told_through m ys (told_through l xs r)
 told_then [] ys l m r e = ap (λ (k : FrameLife). told_through k ys r) (sym e)
 told_then (x ∷ xs) ys l m r h = told_then xs ys (after_move l x) m (told_after l x r) h.1
 
@@ -75,11 +75,11 @@ passes_then false P Q R s y z b c d j p q = passes_both P Q R s y z b c d j p q
 
 -- ---- calls that make pages, calls that end them
 
-all_turn_then : (t : Turn) (xs ys : List Move) → AllTurn t xs → AllTurn t ys → AllTurn t (xs ++ ys)
+pub all_turn_then : (t : Turn) (xs ys : List Move) → AllTurn t xs → AllTurn t ys → AllTurn t (xs ++ ys)
 all_turn_then t [] ys p q = q
 all_turn_then t (x ∷ xs) ys p q = (p.0, all_turn_then t xs ys p.1 q)
 
-moved_then : (b c d : Behind) (xs ys : List Move) → ByMoves b xs c → ByMoves c ys d → ByMoves b (xs ++ ys) d
+pub moved_then : (b c d : Behind) (xs ys : List Move) → ByMoves b xs c → ByMoves c ys d → ByMoves b (xs ++ ys) d
 moved_then b c d xs ys p q = record {
   waits = q.waits ∙ ap (waits_through ys) p.waits ∙ sym (waits_then xs ys b.waits);
   ages = q.ages ∙ ap (ages_through ys) p.ages ∙ sym (ages_then xs ys b.ages);
@@ -90,15 +90,15 @@ with-some-then : (o : Option ℕ) (ps qs : List ℕ) → with_some o (ps ++ qs) 
 with-some-then None ps qs = refl
 with-some-then (Some p) ps qs = refl
 
-gone_then : (xs ys : List Move) → pages_gone (xs ++ ys) ≡ pages_gone xs ++ pages_gone ys
+pub gone_then : (xs ys : List Move) → pages_gone (xs ++ ys) ≡ pages_gone xs ++ pages_gone ys
 gone_then [] ys = refl
 gone_then (x ∷ xs) ys = ap (with_some (page_gone x)) (gone_then xs ys) ∙ with-some-then (page_gone x) (pages_gone xs) (pages_gone ys)
 
-rises_wider : (from low to high : ℕ) (ps : List ℕ) → low ≤ from → to ≤ high → Rises from to ps → Rises low high ps
+pub rises_wider : (from low to high : ℕ) (ps : List ℕ) → low ≤ from → to ≤ high → Rises from to ps → Rises low high ps
 rises_wider from low to high [] l h r = tt
 rises_wider from low to high (p ∷ ps) l h r = (omega (arith, l, r.0), omega (arith, h, r.1), rises_wider p p to high ps (omega arith) h r.2)
 
-rises_then : (from mid to : ℕ) (ps qs : List ℕ) → from ≤ mid → mid ≤ to → Rises from mid ps → Rises mid to qs → Rises from to (ps ++ qs)
+pub rises_then : (from mid to : ℕ) (ps qs : List ℕ) → from ≤ mid → mid ≤ to → Rises from mid ps → Rises mid to qs → Rises from to (ps ++ qs)
 rises_then from mid to [] qs l h p q = rises_wider mid from to to qs l (omega arith) q
 rises_then from mid to (x ∷ ps) qs l h p q = (p.0, omega (arith, h, p.1), rises_then x mid to ps qs (omega (arith, p.1)) h p.2 q)
 
@@ -119,37 +119,44 @@ makes_then u s y z b c d p q = passes_then u (Turns Makes) (Turns Makes) (Turns 
 pub ends_join : (held : Place → Bool) (from mid to : ℕ) → from ≤ mid → mid ≤ to → Joins (Turns (Ends held from mid)) (Turns (Ends held mid to)) (Turns (Ends held from to))
 ends_join held from mid to l h = record {
   join = λ b c d xs ys r p q. record {
-    all = all_turn_then (Ends held from to) xs ys (ends_all held from mid from to xs p.all) (ends_all held mid to from to ys q.all);
+    all = all_turn_then (Ends held from to) xs ys p.all q.all;
     order = subst (Rises from to) (sym (gone_then xs ys)) (rises_then from mid to (pages_gone xs) (pages_gone ys) l h p.order q.order);
     moved = moved_then b c d xs ys p.moved q.moved;
     slots = q.slots ∙ p.slots;
   };
 }
-  where
-    ends_one : (held : Place → Bool) (a b c e : ℕ) (m : Move) → is_turn (Ends held a b) m ≡ is_turn (Ends held c e) m
-    ends_one held a b c e (move.At n k) = refl
-    ends_one held a b c e (move.Add k o) = refl
-    ends_one held a b c e (move.Drop k) = refl
-    ends_one held a b c e (move.Clear f) = refl
-    ends_one held a b c e (move.Steal f) = refl
-    ends_one held a b c e (move.Give f k) = refl
-    ends_one held a b c e (move.Read f k) = refl
-    ends_one held a b c e (move.Got f) = refl
-    ends_one held a b c e (move.Bad f) = refl
-    ends_one held a b c e (move.Map f p) = refl
-    ends_one held a b c e (move.Unmap p) = refl
-    ends_one held a b c e (move.Soil f) = refl
-    ends_one held a b c e (move.Write f s) = refl
-    ends_one held a b c e (move.Wrote f) = refl
-    ends_one held a b c e (move.Lost f) = refl
-
-    ends_all : (held : Place → Bool) (a b c e : ℕ) (ms : List Move) → AllTurn (Ends held a b) ms → AllTurn (Ends held c e) ms
-    ends_all held a b c e [] p = tt
-    ends_all held a b c e (m ∷ ms) p = (sym (ends_one held a b c e m) ∙ p.0, ends_all held a b c e ms p.1)
 
 -- pages go in both calls, of any store: those of the first stand before those of the second
 pub ends_then : (u : Bool) (held : Place → Bool) (from mid to : ℕ) (s y z : StoreOf) (b c d : Behind) → from ≤ mid → mid ≤ to → PassesIn u (Turns (Ends held from mid)) s y b c → PassesIn u (Turns (Ends held mid to)) y z c d → PassesIn u (Turns (Ends held from to)) s z b d
 ends_then u held from mid to s y z b c d l h p q = passes_then u (Turns (Ends held from mid)) (Turns (Ends held mid to)) (Turns (Ends held from to)) s y z b c d (ends_join held from mid to l h) p q
+
+-- where no page goes, none goes from anywhere to anywhere
+none_rises : (from to : ℕ) (ps : List ℕ) → Rises 0 0 ps → Rises from to ps
+none_rises from to [] r = tt
+none_rises from to (p ∷ ps) r = absurd (omega (arith, r.1))
+
+pub ends_anywhere : (u : Bool) (held : Place → Bool) (from to : ℕ) (s z : StoreOf) (b c : Behind) → PassesIn u (Turns (Ends held 0 0)) s z b c → PassesIn u (Turns (Ends held from to)) s z b c
+ends_anywhere true held from to s z b c p = p
+ends_anywhere false held from to s z b c p = record {
+  moves = p.moves;
+  in_range = p.in_range;
+  grew = p.grew;
+  replays = p.replays;
+  that = record { all = p.that.all; order = none_rises from to (pages_gone p.moves) p.that.order; moved = p.that.moved; slots = p.that.slots };
+  report = p.report;
+  paging_calls = p.paging_calls;
+  paging = p.paging;
+  paging_are = p.paging_are;
+  file_calls = p.file_calls;
+  files = p.files;
+  files_are = p.files_are;
+}
+
+-- two calls that make any kind of turn
+pub idle_then : (u : Bool) (turn : Turn) (s y z : StoreOf) (b c d : Behind) → ((turn : Turn) → PassesIn u (Turns turn) s y b c) → ((turn : Turn) → PassesIn u (Turns turn) y z c d) → PassesIn u (Turns turn) s z b d
+idle_then u Makes s y z b c d p q = makes_then u s y z b c d (p Makes) (q Makes)
+idle_then u (Ends held from to) s y z b c d p q =
+    ends_anywhere u held from to s z b d (ends_then u held 0 0 0 s y z b c d (omega arith) (omega arith) (p (Ends held 0 0)) (q (Ends held 0 0)))
 
 -- no call
 pub turns_nothing : (u : Bool) (t : Turn) (s z : StoreOf) (b c : Behind) → c ≡ b → told_of z.report ≡ told_of s.report → z.paging_device ≡ s.paging_device → z.file_device ≡ s.file_device → PassesIn u (Turns t) s z b c

@@ -1,4 +1,5 @@
 -- The moves that an access makes.
+-- Profile, "Which frame moves, and when".
 use Rattle.std.specs.Prelude.{◌≡◌, ◌⊎◌, ◌≤◌, ℕ, Bool, true, false, not, is_some, List, [], ◌∷◌, count_by, Some, None, option_map, unwrap_or, ◌==◌, Result, Ok, Err}
 use Rattle.mm_types.specs.declared.faults.PageFault.{PageFault}
 use Rattle.mm_types.specs.declared.faults.PageFault.TheVariants as fault
@@ -39,7 +40,7 @@ is_had l (held.Block b) = false
 is_had l held.Zero = false
 is_had l held.Dead = false
 
--- a `give` or a `read` behind it takes the frame
+-- a `give` or a `read` after it takes the frame
 abbrev pub IsTaken : Frame → List Move → Type 0
 IsTaken f [] = ⊥
 IsTaken f (move.Give g k ∷ ms) = (g ≡ f) ⊎ IsTaken f ms

@@ -1,4 +1,5 @@
 -- The moves that the other calls of a store make.
+-- Profile, "Which frame moves, and when".
 use Rattle.std.specs.Prelude.{◌≡◌, ◌≤◌, ◌<◌, ℕ, Option, None, ◌-◌, Bool, true, false, List, [], ◌∷◌, ◌++◌, length, min, replicate, slice_get, Some, Result, Ok, Err}
 use Rattle.mm_types.specs.declared.moves.LineKind.TheVariants as kind
 use Rattle.mm_types.specs.declared.faults.GrowFault.{GrowFault}

@@ -58,7 +58,7 @@ abbrev pub last_write : Bool → ℕ → List DeviceCall
 last_write true block = []
 last_write false block = record { direction = way.Write; block = block; succeeded = false } ∷ []
 
--- in rising order, up to the first write that fails; none where memory was wanted
+-- in rising order, up to the first write that fails; none where memory ran out
 pub record WritesFile (first n : ℕ) (ok : Bool) (s z : StoreOf) : Type 0 where
   pub whole : ℕ
   pub calls : List Call

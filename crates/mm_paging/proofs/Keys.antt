@@ -14,6 +14,7 @@ use Rattle.mm_life.specs.Legal.{is_call, may_copy, is_legal_add}
 use Rattle.mm_life.specs.Effect.{after_move, after_add}
 use Rattle.mm_life.specs.Replay.{Replays}
 use Rattle.mm_pages.specs.Housekeeping.{Makes, AllTurn}
+use Rattle.mm_types.proofs.Booleans.{not_left, not_third, not_then}
 
 same_again : (k : Key) → same_key k k ≡ true
 same_again (key.Private p v) = grind arith
@@ -31,13 +32,6 @@ or_kept : (c b : Bool) → b ≡ true → (if c then true else b) ≡ true
 or_kept true b e = refl
 or_kept false b e = e
 
-not_left : (a b c : Bool) → IsTrue (not a && b && c) → a ≡ false
-not_left true b c h = cc
-not_left false b c h = refl
-
-not_third : (p q a b c : Bool) → IsTrue (p && q && not a && b && c) → a ≡ false
-not_third p q a b c h = grind (arith, h)
-
 dead_at : (l : FrameLife) (k : Key) (b : Option Block) → IsTrue (is_legal_add l k b) → is_live l k ≡ false
 dead_at l k None h = not_left (is_live l k) _ _ h
 dead_at l k (Some b) h = not_third (is_call l.kind) (is_shared k) (is_live l k) _ _ h
@@ -54,10 +48,6 @@ MadeOne l m _ = Unit {0}
 abbrev pub MadeAll : FrameLife → FrameLife → List Move → Type 0
 MadeAll l m [] = Unit {0}
 MadeAll l m (x ∷ xs) = MadeOne l m x × MadeAll l m xs
-
-not_then : (a b : Bool) → (a ≡ true → b ≡ true) → b ≡ false → a ≡ false
-not_then true b h e = let t = h refl in cc
-not_then false b h e = refl
 
 made : (ms : List Move) (o l m : FrameLife) → ((q : Key) → is_live o q ≡ true → is_live l q ≡ true) → Replays ms l m → AllTurn Makes ms → MadeAll o m ms
 made [] o l m h r a = tt

@@ -1,4 +1,5 @@
 -- What a line does to the life of the frames, by the worlds and the reports before and after it.
+-- Profile, "Which frame moves, and when".
 use Rattle.std.specs.Prelude.{◌≡◌, ◌≢◌, ◌⊎◌, ℕ, ◌+◌, ◌-◌, ◌==◌, Bool, true, false, not, ◌&&◌, if◌then◌else◌, is_some, List, [], ◌∷◌, map, Option, Some, None, option_map, option_and_then, unwrap_or}
 use Rattle.mm_types.specs.declared.answers.Answer.{Answer}
 use Rattle.mm_types.specs.declared.answers.Answer.TheVariants as answer
@@ -82,7 +83,7 @@ abbrev pub is_failed : Answer → Bool
 is_failed (answer.Raised raise.InPageError) = true
 is_failed _ = false
 
--- what it leaves: a place that was had is valid; one that wanted a frame and got none leaves hardly a place valid
+-- what it leaves: a place that was had is valid; one that found no frame leaves hardly a place valid
 pub record Accesses (plain : Bool) (a : Aim) (r : Answer) (after : Report) (b : Behind) (moves : List Move) (c : Behind) : Type 0 where
   pub made : AccessMoves a b moves
   pub valid : is_had r ≡ true → is_valid c.life a.place ≡ true
@@ -121,7 +122,7 @@ flushed_keys w pid addr size =
     (option_and_then (λ p. option_map (λ r. flushed_in w addr size r.thing.kind r) (flushed_view p.regions addr size)) (process_of w pid))
     []
 
--- ---- what the moves behind a line's `at` are
+-- ---- what the moves after a line's `at` are
 
 abbrev pub Trimming : Bool → Pid → ℕ → Behind → List Move → Behind → Type 0
 Trimming true pid n b moves c = Trims pid n b moves c
@@ -221,7 +222,7 @@ asks_beside _ = false
 abbrev pub with_line : Move → Behind → Behind
 with_line m b = record b { life = after_move b.life m }
 
--- A line, with its piece of the log: its `at`, and its moves behind it.
+-- A line, with its piece of the log: its `at`, and its moves after it.
 pub record Line (w : World) (before : Report) (b : Behind) (paging files : DeviceOf) (e : Event) (a : Answer) (piece : List Move) (v : World) (after : Report) (c : Behind) (paging' files' : DeviceOf) : Type 0 where
   pub moves : List Move
   pub begins : piece ≡ move.At (b.life.line + 1) (kind_of_line w e a) ∷ moves
@@ -241,7 +242,7 @@ pub record Noted (w : World) (before : Report) (b : Behind) (paging files : Devi
   pub replays : Replays piece b.life c.life
   pub line : Line w before b paging files e a piece v after c paging' files'
 
--- A line that wanted memory: its `at` alone, of whatever kind, or none.
+-- A line that ran out of memory: its `at` alone, of whatever kind, or none.
 pub record Broken (b c : Behind) : Type 0 where
   pub piece : List Move
   pub in_range : AreMoves piece

@@ -1,4 +1,5 @@
 -- What a run over a store that pages shows at a moment, its first move, and what its devices hold at its end.
+-- Profile, "A run".
 use Rattle.std.specs.Prelude.{◌≡◌, true, List}
 use Rattle.mm_types.specs.declared.moves.Move.{Move}
 use Rattle.mm_types.specs.declared.moves.Move.TheVariants as move

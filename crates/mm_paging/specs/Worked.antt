@@ -1,4 +1,5 @@
 -- Worked lines.
+-- Profile, "Logs of moves".
 use Rattle.std.specs.Prelude.{ℕ, true, false, List, [], ◌∷◌, take, unwrap_or, Option, None, Some}
 use Rattle.mm_types.specs.declared.numbers.Area.{Area}
 use Rattle.mm_types.specs.declared.moves.Move.{Move}

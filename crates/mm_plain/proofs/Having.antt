@@ -11,6 +11,7 @@ use Rattle.mm_pages.specs.Conditions.{touch, copying}
 use Rattle.mm_pages.specs.Reports.{Ends}
 use Rattle.mm_pages.specs.Store.{own_key, changed}
 use Rattle.mm_plain.specs.Shown.{whereabouts_of, unpaged_report}
+use Rattle.mm_world.proofs.KindsAndKeys.{same_again}
 
 had_here : (p : Option Page) → IsSome p → not (has_frame (option_map (λ _. InFrame) p)) ≡ false
 had_here (Some p) h = refl
@@ -53,10 +54,6 @@ live_by false p q h k = k
 -- a key that is live is so after another was changed to a page
 pub changed_live : (d : Key → Option Page) (k q : Key) (v : Option Page) → IsSome v → IsSome (d q) → IsSome (changed same_key d k v q)
 changed_live d k q v h g = live_by (same_key q k) v (d q) h g
-
-same_again : (k : Key) → same_key k k ≡ true
-same_again (key.Private p v) = grind arith
-same_again (key.Shared a i) = grind arith
 
 pub changed_here : (d : Key → Option Page) (k : Key) (v : Option Page) → IsSome v → IsSome (changed same_key d k v k)
 changed_here d k v h = subst (λ b. IsSome (if b then v else d k)) (sym (same_again k)) h

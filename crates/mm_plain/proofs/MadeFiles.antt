@@ -5,6 +5,7 @@ use Rattle.std.proofs.lemmas.List.{length_push}
 use Rattle.mm_types.proofs.Cells.{same_or_not}
 use Rattle.mm_plain.specs.declared.file_pages.FilePage.{FilePage}
 use Rattle.mm_plain.specs.Files.{IsMade, made_page}
+use Rattle.mm_types.proofs.Lists.{get_last}
 
 pub get_before : {A : Type 0} (xs ys : List A) (i : ℕ) → i < length xs → slice_get (xs ++ ys) i ≡ slice_get xs i
 get_before [] ys i h = absurd (omega arith)
@@ -16,10 +17,6 @@ get_behind [] ys i = let e : 0 + i ≡ i = omega arith in ap (λ (k : ℕ). slic
 get_behind (x ∷ xs) ys i =
     let e : suc (length xs) + i ≡ suc (length xs + i) = omega arith in
     ap (λ (k : ℕ). slice_get (x ∷ (xs ++ ys)) k) e ∙ get_behind xs ys i
-
-get_last : {A : Type 0} (xs : List A) (x : A) → slice_get (xs ++ x ∷ []) (length xs) ≡ Some x
-get_last [] x = refl
-get_last (y ∷ xs) x = get_last xs x
 
 pub made_none : (byte : ℕ) → IsMade [] 0 byte
 made_none byte = record { long = refl; each = λ i h. absurd (omega arith) }

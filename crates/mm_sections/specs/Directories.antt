@@ -1,4 +1,5 @@
 -- The sections and the files of a machine.
+-- Profile, "Regions, rows, sections".
 use Rattle.std.specs.Prelude.{ℕ, ◌+◌, ◌-◌, nat_lt, if◌then◌else◌, List, map, Option, Some, None, option_map}
 use Rattle.mm_sections.specs.declared.directories.Section.{Section}
 use Rattle.mm_types.specs.declared.numbers.SectionId.{SectionId}

@@ -1,4 +1,5 @@
 -- The handles of one process.
+-- Profile, "Regions, rows, sections".
 use Rattle.std.specs.Prelude.{ℕ, ◌/◌, ◌%◌, ◌==◌, if◌then◌else◌, Option, None}
 use Rattle.mm_types.specs.declared.numbers.SectionId.{SectionId}
 use Rattle.mm_world.specs.World.{Numbered, numbered}

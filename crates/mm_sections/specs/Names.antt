@@ -1,4 +1,5 @@
 -- How the names of sections and of files are kept beside the tables.
+-- Profile, "Regions, rows, sections".
 use Rattle.std.specs.Prelude.{◌≡◌, ◌≤◌, ℕ, true, Bool, if◌then◌else◌, nat_lt, Option, Some, None, option_map, bytes_eq}
 use Rattle.std.specs.HashMap.{HashMap, get}
 use Rattle.mm_types.specs.declared.numbers.SectionId.{SectionId}

@@ -1,7 +1,6 @@
 -- The region around a range is the region of each page of the range, also after its rows are changed.
-use Rattle.std.proofs.Common.{◌≡◌, ℕ, zero, suc, ◌+◌, ◌≤◌, ◌<◌, Bool, true, false, cond, List, [], ◌∷◌, length, Option, Some, None, refl, sym, ap, ◌∙◌, subst, arith, slice_get, slice_set, is_some, option_map, nat_le, nat_lt}
+use Rattle.std.proofs.Common.{◌≡◌, ℕ, zero, suc, ◌+◌, ◌≤◌, Bool, true, false, cond, List, [], ◌∷◌, length, Option, Some, None, refl, sym, ap, ◌∙◌, subst, arith, slice_get, slice_set, is_some, option_map}
 use Rattle.std.specs.Prelude.{All}
-use Rattle.std.proofs.lemmas.Bool.{leb-true, le-leb, ltb-true, lt-ltb, and_parts, and_from}
 use Rattle.std.proofs.lemmas.List.Elements.{All-head, All-tail}
 use Rattle.mm_types.specs.Address.{Range, end_of, holds_page, lies_within}
 use Rattle.mm_gaps.specs.Ranges.{LieApart}
@@ -12,35 +11,10 @@ use Rattle.mm_world.specs.Find.{Found, one_later, region_with, region_around}
 use Rattle.mm_world.proofs.Finding.{found_stands}
 use Rattle.mm_spaces.specs.Shown.{region_of, shown}
 use Rattle.mm_spaces.proofs.Shows.{later, shown_pages}
-
--- a page of a range, in numbers
-pub record Among (r : Range) (page : ℕ) : Type 0 where
-  pub low : r.first ≤ page
-  pub high : page < end_of r
-
-pub among : (r : Range) (page : ℕ) → holds_page r page ≡ true → Among r page
-among r page e =
-    let both = and_parts (nat_le r.first page) (nat_lt page (end_of r)) e in
-    record { low = leb-true r.first page both.0; high = ltb-true page (end_of r) both.1 }
-
-pub from_among : (r : Range) (page : ℕ) → Among r page → holds_page r page ≡ true
-from_among r page a = and_from (nat_le r.first page) (nat_lt page (end_of r)) (le-leb r.first page a.low) (lt-ltb page (end_of r) a.high)
-
-pub record Inside (inner outer : Range) : Type 0 where
-  pub low : outer.first ≤ inner.first
-  pub high : end_of inner ≤ end_of outer
-
-pub inside : (inner outer : Range) → lies_within inner outer ≡ true → Inside inner outer
-inside inner outer e =
-    let both = and_parts (nat_le outer.first inner.first) (nat_le (end_of inner) (end_of outer)) e in
-    record { low = leb-true outer.first inner.first both.0; high = leb-true (end_of inner) (end_of outer) both.1 }
+use Rattle.mm_world.proofs.Ranges.{inside, Inside, Within, holds, holds_not}
 
 behind : (r : Range) (page : ℕ) → end_of r ≤ page → holds_page r page ≡ false
-behind r page low = by_test (holds_page r page) refl
-  where
-    by_test : (b : Bool) → holds_page r page ≡ b → b ≡ false
-    by_test true e = absurd (omega (arith, low, (among r page e).high))
-    by_test false e = refl
+behind r page low = holds_not r page (λ w. absurd (omega (arith, low, w.high)))
 
 module _ {B : Type 0} where
   -- the regions begin at `low` or later, each behind the end of the one before
@@ -60,7 +34,7 @@ module _ {B : Type 0} where
   is_around rs range r e = inside range (pages_of r.thing) (found_stands _ rs r e).passes
 
   -- some region has each page of the range, wherever regions lie
-  pub some_with : (rs : List (RegionOf B)) (range : Range) (page : ℕ) (r : Found (RegionOf B)) → region_around rs range ≡ Some r → Among range page → is_some (region_with rs page) ≡ true
+  pub some_with : (rs : List (RegionOf B)) (range : Range) (page : ℕ) (r : Found (RegionOf B)) → region_around rs range ≡ Some r → Within range page → is_some (region_with rs page) ≡ true
   some_with [] range page r e a = cc
   some_with (x ∷ rs) range page r e a = by_test (lies_within range (pages_of x)) refl e (λ f is. some_with rs range page f is a)
     where
@@ -75,20 +49,20 @@ module _ {B : Type 0} where
       by_test : (b : Bool) → lies_within range (pages_of x) ≡ b → cond b (Some (at_first x)) (option_map one_later (region_around rs range)) ≡ Some r → ((f : Found (RegionOf B)) → region_around rs range ≡ Some f → is_some (region_with rs page) ≡ true) → is_some (region_with (x ∷ rs) page) ≡ true
       by_test true t k rest =
           let i = inside range (pages_of x) t in
-          let held = from_among (pages_of x) page (record { low = omega (arith, a.low, i.low); high = omega (arith, a.high, i.high) }) in
+          let held = holds (pages_of x) page (omega (arith, a.low, i.low)) (omega (arith, a.high, i.high)) in
           ap (λ (b : Bool). is_some (cond b (Some (at_first x)) (option_map one_later (region_with rs page)))) held
       by_test false f k rest =
           let l = later (region_around rs range) r k in
           or_later (holds_page (pages_of x) page) (rest l.found l.is)
 
-  pub with_around : (low : ℕ) (rs : List (RegionOf B)) (range : Range) (page : ℕ) (r : Found (RegionOf B)) → Rising low rs → region_around rs range ≡ Some r → Among range page → region_with rs page ≡ Some r
+  pub with_around : (low : ℕ) (rs : List (RegionOf B)) (range : Range) (page : ℕ) (r : Found (RegionOf B)) → Rising low rs → region_around rs range ≡ Some r → Within range page → region_with rs page ≡ Some r
   with_around low [] range page r h e a = cc
   with_around low (x ∷ rs) range page r h e a = by_test (lies_within range (pages_of x)) refl e (λ f is. with_around (end_of (pages_of x)) rs range page f h.1 is a)
     where
       by_test : (b : Bool) → lies_within range (pages_of x) ≡ b → cond b (Some (at_first x)) (option_map one_later (region_around rs range)) ≡ Some r → ((f : Found (RegionOf B)) → region_around rs range ≡ Some f → region_with rs page ≡ Some f) → region_with (x ∷ rs) page ≡ Some r
       by_test true t k rest =
           let i = inside range (pages_of x) t in
-          let held = from_among (pages_of x) page (record { low = omega (arith, a.low, i.low); high = omega (arith, a.high, i.high) }) in
+          let held = holds (pages_of x) page (omega (arith, a.low, i.low)) (omega (arith, a.high, i.high)) in
           ap (λ (b : Bool). cond b (Some (at_first x)) (option_map one_later (region_with rs page))) held ∙ k
       by_test false f k rest =
           let l = later (region_around rs range) r k in

@@ -1,28 +1,29 @@
 -- What a change makes of the regions that are kept.
-use Rattle.std.proofs.Common.{◌≡◌, ℕ, ◌+◌, ◌%◌, ◌≤◌, Bool, true, false, cond, List, [], ◌∷◌, length, map, replicate, Option, Some, None, option_map, refl, sym, ap, ◌∙◌, subst, arith, nat_lt, nat_le, ◌&&◌, not, slice_get}
+use Rattle.std.proofs.Common.{◌≡◌, ℕ, ◌+◌, ◌%◌, ◌≤◌, Bool, true, false, cond, List, [], ◌∷◌, length, map, replicate, Option, Some, None, option_map, refl, sym, ap, ◌∙◌, subst, arith, nat_le, ◌&&◌, not, slice_get}
 use Rattle.std.specs.Prelude.{find, remove, ◌==◌}
-use Rattle.std.specs.List.{list_any, position_or_len}
+use Rattle.std.specs.List.{position_or_len}
 use Rattle.std.specs.Cmp.{unsigned_Decides}
 use Rattle.std.proofs.lemmas.Bool.{eqb-true, ne_eqb, eqb-false, le-leb}
 use Rattle.std.proofs.lemmas.Option.{slice_get-map}
 use Rattle.mm_types.specs.declared.views.View.{View}
 use Rattle.mm_types.specs.declared.views.ViewAccess.{ViewAccess}
 use Rattle.mm_types.specs.declared.views.Kind.TheVariants as kind
-use Rattle.mm_types.specs.Address.{Range, is_free, meets, are_user_pages, page_of, address_of, granule_pages, first_user_page}
+use Rattle.mm_types.specs.Address.{Range, is_free, page_of, address_of, granule_pages, first_user_page}
 use Rattle.mm_types.specs.Protection.{base_of}
 use Rattle.mm_vad.specs.declared.pages.Row.{Row}
 use Rattle.mm_vad.specs.declared.regions.Region.{Region}
 use Rattle.mm_vad.specs.Regions as vad
 use Rattle.mm_world.specs.World.{RegionOf, RowOf, SectionOf, pages_of}
 use Rattle.mm_world.specs.Find.{Found, first_where, region_with, add_region, ranges_of}
-use Rattle.mm_world.specs.Alloc.{new_row, private_region, reserve_type}
+use Rattle.mm_types.specs.Allocation.{reserve_type}
+use Rattle.mm_world.specs.Alloc.{new_row, private_region}
 use Rattle.mm_world.specs.Contents.{blank}
 use Rattle.mm_world.specs.Rows.{is_one_of, is_protection_among, private_protections, reserved_row, commit}
 use Rattle.mm_world.specs.Views.{view_region, first_protection, is_copy}
 use Rattle.mm_world.specs.WellFormed.{Each, IsSpace, RowsFit, RowFits, PrivateRowFits, ViewRowFits}
 use Rattle.mm_world.proofs.Natural.{map-replicate}
 use Rattle.mm_world.proofs.Each.{each-remove, each-replicate}
-use Rattle.mm_world.proofs.LaidOut.{and-true, laid_remove, IsPlaced}
+use Rattle.mm_world.proofs.LaidOut.{and-true, laid_remove, free_of}
 use Rattle.mm_world.proofs.RowsFit.{reserved_fits, commit_fits, new_view_fits}
 use Rattle.mm_world.proofs.Spaces.{space_add}
 use Rattle.mm_spaces.specs.Shown.{row_of, region_of, shown}
@@ -31,13 +32,9 @@ use Rattle.mm_spaces.specs.Kept.{both_where, is_based}
 use Rattle.mm_spaces.proofs.Shows.{shown_pages}
 use Rattle.mm_spaces.proofs.OfPage.{kept_if, both_based, based_of_page}
 use Rattle.mm_spaces.proofs.Carried.{Whole, place_of, first_shown, ranges_shown, add_shown, remove_shown}
+use Rattle.mm_spaces.proofs.RowsKept.{base_allowed}
 
 -- ---- a new private region
-
-allowed : (prot : ℕ) → is_protection_among private_protections prot ≡ true → is_one_of private_protections (base_of prot) ≡ true
-allowed prot e =
-    (and-true (is_one_of private_protections (base_of prot)) (nat_lt prot 0x200)
-    (and-true (is_one_of private_protections (base_of prot) && nat_lt prot 0x200) (not (prot == 0x101)) e).0).0
 
 new_row_fits : (alloc_type prot : ℕ) → is_one_of private_protections (base_of prot) ≡ true → PrivateRowFits (new_row blank alloc_type prot)
 new_row_fits alloc_type prot e = by_type (alloc_type == reserve_type)
@@ -62,22 +59,13 @@ module _ (alloc_type prot : ℕ) (range : Range) (rows : List Row) (row : Row) (
   pub made_fits : is_protection_among private_protections prot ≡ true → RowsFit (region_of (region_by range.first range.count prot rows))
   made_fits e =
       subst (λ (r : RegionOf (Unit {0})). RowsFit r) (sym region_made)
-      (each-replicate (RowFits kind.Private) range.count _ (new_row_fits alloc_type prot (allowed prot e)))
+      (each-replicate (RowFits kind.Private) range.count _ (new_row_fits alloc_type prot (base_allowed prot e)))
 
 -- ---- one region more
 
 pub free_among : (vs : List Region) (r : Region) → Whole vs → IsWhole r → is_free (ranges_of (shown vs)) (pages_of (region_of r)) ≡ true → is_free (vad.ranges_of vs) (vad.pages_of r) ≡ true
 free_among vs r whole w e =
     sym (ap (λ taken. is_free taken (pages_of (region_of r))) (ranges_shown vs whole) ∙ ap (is_free (vad.ranges_of vs)) (shown_pages r w.rows)) ∙ e
-
-free_parts : (taken : List Range) (range : Range) → range.first % granule_pages ≡ 0 → is_free taken range ≡ true → IsPlaced taken range
-free_parts taken range granule e =
-    let h = and-true (are_user_pages range) (not (list_any (meets range) taken)) e in
-    record { on_granule = granule; user = h.0; free = not-false (list_any (meets range) taken) h.1 }
-  where
-    not-false : (b : Bool) → not b ≡ true → b ≡ false
-    not-false true e = cc
-    not-false false e = refl
 
 pub record CanAdd (new : RegionOf (Unit {0})) (rs : List (RegionOf (Unit {0}))) : Type 0 where
   pub free : is_free (ranges_of rs) (pages_of new) ≡ true
@@ -95,7 +83,7 @@ kept_add vs after r k can e whole =
     let rs = shown vs in
     let is : shown after ≡ add_region new rs = ap shown e ∙ add_shown vs r in
     record {
-      sound = subst IsSpace (sym is) (space_add new rs (pages_of new) (free_parts (ranges_of rs) (pages_of new) can.granule can.free) refl refl can.some can.fit k.sound);
+      sound = subst IsSpace (sym is) (space_add new rs (pages_of new) (free_of (ranges_of rs) (pages_of new) can.granule can.free) refl refl can.some can.fit k.sound);
       whole = whole;
     }
 

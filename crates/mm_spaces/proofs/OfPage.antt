@@ -1,12 +1,13 @@
 -- Searches in regions that are laid out: a test that only the region with one page can pass.
 use Rattle.std.proofs.Common.{◌≡◌, ℕ, ◌<◌, ◌≤◌, Bool, true, false, cond, List, [], ◌∷◌, length, Option, Some, None, option_map, refl, sym, ap, ◌∙◌, arith, nat_lt, nat_le, ◌&&◌}
-use Rattle.std.proofs.lemmas.Bool.{leb-true, le-leb, eqb-true}
+use Rattle.std.proofs.lemmas.Bool.{leb-true, eqb-true}
 use Rattle.mm_types.specs.Address.{Range, holds_page, lies_within, end_of, page_of, address_of}
 use Rattle.mm_world.specs.World.{RegionOf, pages_of}
 use Rattle.mm_world.specs.Find.{Found, first_where, one_later, region_with, region_around}
 use Rattle.mm_world.specs.WellFormed.{LaidOut}
 use Rattle.mm_world.proofs.LaidOut.{and-true, less}
 use Rattle.mm_spaces.specs.Kept.{both_where, surrounds, is_based}
+use Rattle.mm_world.proofs.Ranges.{holds}
 
 -- what was found, where it passes one more test
 abbrev pub kept_if : {A : Type 0} → (A → Bool) → Option (Found A) → Option (Found A)
@@ -17,18 +18,11 @@ kept_later : {A : Type 0} (t : A → Bool) (o : Option (Found A)) → kept_if t 
 kept_later t None = refl
 kept_later t (Some f) = elim (t f.thing) as (λ b. cond b (Some (one_later f)) None ≡ option_map one_later (cond b (Some f) None)) [ true ↦ refl | false ↦ refl ]
 
-both-true : (a b : Bool) → a ≡ true → b ≡ true → (a && b) ≡ true
-both-true true b e f = f
-both-true false b e f = cc
-
 pub holds_from : (r : Range) (page : ℕ) → holds_page r page ≡ true → r.first ≤ page
 holds_from r page e = leb-true _ _ (and-true (nat_le r.first page) (nat_lt page (end_of r)) e).0
 
 pub holds_below : (r : Range) (page : ℕ) → holds_page r page ≡ true → page < end_of r
 holds_below r page e = less _ _ (and-true (nat_le r.first page) (nat_lt page (end_of r)) e).1
-
-pub holds_by : (r : Range) (page : ℕ) → r.first ≤ page → page < end_of r → holds_page r page ≡ true
-holds_by r page low high = both-true (nat_le r.first page) (nat_lt page (end_of r)) (le-leb _ _ low) (le-leb _ _ high)
 
 module _ {B : Type 0} where
   -- only a region that holds the page passes
@@ -67,7 +61,7 @@ module _ {B : Type 0} where
       first_of_page (λ r. lies_within range (pages_of r)) range.first from rs
       (λ r has e.
       let k = and-true (nat_le r.base range.first) (nat_le (end_of range) (end_of (pages_of r))) e in
-      holds_by (pages_of r) range.first (leb-true _ _ k.0) (omega (arith, leb-true _ _ k.1, some)))
+      holds (pages_of r) range.first (leb-true _ _ k.0) (omega (arith, leb-true _ _ k.1, some)))
       h
 
 -- ---- a second test beside
@@ -78,7 +72,7 @@ module _ (t : RegionOf (Unit {0}) → Bool) where
       first_of_page (λ x. t x && surrounds range x) range.first from rs
       (λ r has e.
       let k = and-true (nat_le r.base range.first) (nat_le (end_of range) (end_of (pages_of r))) (and-true (t r) (surrounds range r) e).1 in
-      holds_by (pages_of r) range.first (leb-true _ _ k.0) (omega (arith, leb-true _ _ k.1, some)))
+      holds (pages_of r) range.first (leb-true _ _ k.0) (omega (arith, leb-true _ _ k.1, some)))
       h
 
   pub both_based : (from : ℕ) (rs : List (RegionOf (Unit {0}))) (addr : ℕ) → LaidOut from rs → both_where t (is_based addr) rs ≡ kept_if (λ x. t x && is_based addr x) (region_with rs (page_of addr))
@@ -86,7 +80,7 @@ module _ (t : RegionOf (Unit {0}) → Bool) where
       first_of_page (λ x. t x && is_based addr x) (page_of addr) from rs
       (λ r has e.
       let k = eqb-true (address_of r.base) addr (and-true (t r) (is_based addr r) e).1 in
-      holds_by (pages_of r) (page_of addr) (omega (arith, k)) (omega (arith, k, has)))
+      holds (pages_of r) (page_of addr) (omega (arith, k)) (omega (arith, k, has)))
       h
 
 pub based_of_page : (from : ℕ) (rs : List (RegionOf (Unit {0}))) (addr : ℕ) → LaidOut from rs → first_where (is_based addr) rs ≡ kept_if (is_based addr) (region_with rs (page_of addr))
@@ -94,5 +88,5 @@ based_of_page from rs addr h =
     first_of_page (is_based addr) (page_of addr) from rs
     (λ r has e.
     let k = eqb-true (address_of r.base) addr e in
-    holds_by (pages_of r) (page_of addr) (omega (arith, k)) (omega (arith, k, has)))
+    holds (pages_of r) (page_of addr) (omega (arith, k)) (omega (arith, k, has)))
     h

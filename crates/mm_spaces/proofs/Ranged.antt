@@ -17,7 +17,8 @@ use Rattle.mm_spaces.specs.declared.rows.RowChange.{RowChange}
 use Rattle.mm_spaces.specs.Shown.{region_of, shown}
 use Rattle.mm_spaces.specs.RowChanges.{changed, RowChanged, IsInRegion, range_at}
 use Rattle.mm_spaces.proofs.Shows.{shown_pages}
-use Rattle.mm_spaces.proofs.Around.{among, is_around, some_with, with_around, around_set, rising_shown}
+use Rattle.mm_spaces.proofs.Around.{is_around, some_with, with_around, around_set, rising_shown}
+use Rattle.mm_world.proofs.Ranges.{within}
 
 -- ---- a range of a list
 
@@ -129,5 +130,5 @@ user_page low (x ∷ xs) page h a e = by_test (holds_page (pages_of (region_of x
     by_test : (b : Bool) → holds_page (pages_of (region_of x)) page ≡ b → is_some (cond b (Some (record { place = 0; thing = region_of x })) (option_map one_later (region_with (shown xs) page))) ≡ true → (is_some (region_with (shown xs) page) ≡ true → page < end_of_user_pages) → page < end_of_user_pages
     by_test true t k rest =
         let ends : end_of (pages_of (region_of x)) ≡ end_of (kept_pages x) = ap end_of (shown_pages x (All-head (λ (g : Region). length g.rows ≡ g.pages) x xs a)) in
-        omega (arith, (among (pages_of (region_of x)) page t).high, h.0.within, ends)
+        omega (arith, (within (pages_of (region_of x)) page t).high, h.0.within, ends)
     by_test false f k rest = rest (by_later (region_with (shown xs) page) k)

@@ -4,7 +4,6 @@ use Rattle.std.specs.Prelude.{find, All}
 use Rattle.std.proofs.lemmas.List.{length-map, map-set}
 use Rattle.std.proofs.lemmas.List.Elements.{All-head, All-tail}
 use Rattle.std.proofs.lemmas.Option.{slice_get-map}
-use Rattle.mm_types.specs.declared.views.Kind.{Kind}
 use Rattle.mm_types.specs.declared.views.Kind.TheVariants as kind
 use Rattle.mm_types.specs.Address.{Range, holds_page}
 use Rattle.mm_vad.specs.declared.pages.Row.{Row}
@@ -13,7 +12,7 @@ use Rattle.mm_vad.specs.Regions.{holds, region_at, set_row, with_row}
 use Rattle.mm_vad.specs.Regions.{pages_of as kept_pages}
 use Rattle.mm_vad.proofs.Held.{set_here, set_later}
 use Rattle.mm_world.specs.World.{RowOf, RegionOf, pages_of}
-use Rattle.mm_world.specs.Find.{Found, one_later, region_with, is_private}
+use Rattle.mm_world.specs.Find.{Found, one_later, region_with}
 use Rattle.mm_world.specs.Rows.{row_at}
 use Rattle.mm_spaces.specs.declared.rows.RowChange.{RowChange}
 use Rattle.mm_spaces.specs.Shown.{row_of, region_of, shown}
@@ -36,10 +35,6 @@ pub record Later {A : Type 0} (o : Option (Found A)) (r : Found A) : Type 0 wher
 pub later : {A : Type 0} (o : Option (Found A)) (r : Found A) → option_map one_later o ≡ Some r → Later o r
 later None r e = cc
 later (Some f) r e = record { found = f; is = refl; same = cc }
-
-pub private_kind : (k : Kind) → is_private k ≡ true → k ≡ kind.Private
-private_kind kind.Private e = refl
-private_kind (kind.View v) e = cc
 
 pub shown_pages : (g : Region) → length g.rows ≡ g.pages → pages_of (region_of g) ≡ kept_pages g
 shown_pages g whole = ap (λ (n : ℕ). record { first = g.base.0; count = n }) (length-map g.rows (row_of g.kind) ∙ whole)

@@ -24,8 +24,9 @@ use Rattle.mm_spaces.specs.Shown.{row_of, region_of, shown}
 use Rattle.mm_spaces.specs.Finds.{IsKept}
 use Rattle.mm_spaces.proofs.Carried.{Whole, place_of, with_shown, map_drop}
 use Rattle.mm_spaces.specs.Kept.{IsAt}
-use Rattle.mm_spaces.proofs.Shows.{private_kind}
 use Rattle.mm_spaces.proofs.Kept.{found_has, is_at, private_low}
+use Rattle.mm_world.proofs.KindsAndKeys.{private_kind}
+use Rattle.mm_types.proofs.Booleans.{and_true, and_false}
 
 -- ---- the next region
 
@@ -91,14 +92,6 @@ state_by committed prot guard = row_state {B = Unit {0}} committed (record { pro
 abbrev look_by : Bool → ℕ → Bool → Look
 look_by committed prot guard = cond committed (record { committed = true; prot = prot; guard = guard }) (record { committed = false; prot = 0; guard = false })
 
-and-true_right : (b : Bool) → (b && true) ≡ b
-and-true_right true = refl
-and-true_right false = refl
-
-and-false_right : (b : Bool) → (b && false) ≡ false
-and-false_right true = refl
-and-false_right false = refl
-
 same_sum : (a b : ℕ) → (a + 0x100 == b + 0x100) ≡ (a == b)
 same_sum a b =
     elim (a == b) as (λ z. (a == b) ≡ z → (a + 0x100 == b + 0x100) ≡ z) [
@@ -111,10 +104,10 @@ state_is row = elim row.committed as (λ b. row_state b (row_of kind.Private row
 
 -- pages look alike where they are in one state
 alike_by : (ca cb ga gb : Bool) (pa pb : ℕ) → (ca ≡ true → pa < 0x100) → (cb ≡ true → pb < 0x100) → same_state (state_by ca pa ga) (state_by cb pb gb) ≡ same_look (look_by ca pa ga) (look_by cb pb gb)
-alike_by true true true true pa pb la lb = same_sum pa pb ∙ sym (and-true_right (pa == pb))
-alike_by true true true false pa pb la lb = ne_eqb (pa + 0x100) pb (λ i. omega (arith, i, lb refl)) ∙ sym (and-false_right (pa == pb))
-alike_by true true false true pa pb la lb = ne_eqb pa (pb + 0x100) (λ i. omega (arith, i, la refl)) ∙ sym (and-false_right (pa == pb))
-alike_by true true false false pa pb la lb = sym (and-true_right (pa == pb))
+alike_by true true true true pa pb la lb = same_sum pa pb ∙ sym (and_true (pa == pb))
+alike_by true true true false pa pb la lb = ne_eqb (pa + 0x100) pb (λ i. omega (arith, i, lb refl)) ∙ sym (and_false (pa == pb))
+alike_by true true false true pa pb la lb = ne_eqb pa (pb + 0x100) (λ i. omega (arith, i, la refl)) ∙ sym (and_false (pa == pb))
+alike_by true true false false pa pb la lb = sym (and_true (pa == pb))
 alike_by true false ga gb pa pb la lb = refl
 alike_by false true ga gb pa pb la lb = refl
 alike_by false false ga gb pa pb la lb = refl

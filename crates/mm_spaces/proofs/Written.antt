@@ -17,9 +17,10 @@ use Rattle.mm_spaces.specs.Tables.{owned_in, rows_in, rows_of, page_row, told_ro
 use Rattle.mm_spaces.specs.declared.rows.RowChange.{RowChange}
 use Rattle.mm_spaces.specs.RowChanges.{RowChanged, RowsChanged, owns}
 use Rattle.mm_spaces.proofs.Shows.{there}
-use Rattle.mm_spaces.proofs.Around.{among}
 use Rattle.mm_spaces.proofs.Kept.{has_row}
 use Rattle.mm_spaces.proofs.RowsKept.{Regions, CanChange, sound_rows, sound_row}
+use Rattle.mm_types.proofs.Booleans.{one_at_most}
+use Rattle.mm_world.proofs.Ranges.{within}
 
 -- ---- a range
 
@@ -58,14 +59,10 @@ kept_rows vs after c range k some can changed whole =
 one_more : (p : RowOf (Unit {0}) → Bool) (x : RowOf (Unit {0})) (xs : List (RowOf (Unit {0}))) → count_by p (x ∷ xs) ≡ cond (p x) 1 0 + count_by p xs
 one_more p x xs = sum_by-cons (λ (r : RowOf (Unit {0})). cond (p r) 1 0) x xs
 
-at_most_one : (b : Bool) → cond b 1 0 ≤ 1
-at_most_one true = omega arith
-at_most_one false = omega arith
-
 counted_below : (p : RowOf (Unit {0}) → Bool) (n : ℕ) (xs : List (RowOf (Unit {0}))) → count_by p (take n xs) ≤ n
 counted_below p zero xs = omega arith
 counted_below p (suc n) [] = omega arith
-counted_below p (suc n) (x ∷ xs) = omega (arith, one_more p x (take n xs), counted_below p n xs, at_most_one (p x))
+counted_below p (suc n) (x ∷ xs) = omega (arith, one_more p x (take n xs), counted_below p n xs, one_at_most (p x))
 
 counted_all : (p : RowOf (Unit {0}) → Bool) (n : ℕ) (xs : List (RowOf (Unit {0}))) → count_by p (take n xs) ≡ n → list_all p (take n xs) ≡ true
 counted_all p zero xs e = refl
@@ -95,7 +92,7 @@ pub record RowThere (rs : Regions) (page : ℕ) : Type 0 where
 pub row_of_page : (rs : Regions) (page : ℕ) → is_some (region_with rs page) ≡ true → RowThere rs page
 row_of_page rs page some =
     let r = there (region_with rs page) some in
-    let a = among (pages_of r.thing.thing) page (found_stands (λ (x : RegionOf (Unit {0})). holds_page (pages_of x) page) rs r.thing r.is).passes in
+    let a = within (pages_of r.thing.thing) page (found_stands (λ (x : RegionOf (Unit {0})). holds_page (pages_of x) page) rs r.thing r.is).passes in
     let row = has_row r.thing.thing.rows (page - r.thing.thing.base) (omega (arith, a.low, a.high)) in
     record { found = r.thing; row = row.0; there = r.is; row_there = row.1 }
 

@@ -1,4 +1,5 @@
 -- What look-ups find in an address space.
+-- Profile, "Regions, rows, sections".
 use Rattle.std.specs.Prelude.{◌≡◌, ◌<◌, ◌≤◌, ℕ, ◌+◌, ◌-◌, Bool, ◌&&◌, ◌==◌, if◌then◌else◌, List, Option, Some, None, length}
 use Rattle.mm_types.specs.Address.{Range, lies_within, address_of, page_of, end_of_user_pages}
 use Rattle.mm_vad.specs.declared.regions.Region.{Region}

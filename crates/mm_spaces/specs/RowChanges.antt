@@ -1,4 +1,5 @@
 -- What calls make of the rows of a range that lies in a region.
+-- Profile, "Calls".
 use Rattle.std.specs.Prelude.{◌≡◌, ℕ, ◌-◌, Bool, false, true, is_some, List, Some, slice_set}
 use Rattle.mm_types.specs.declared.views.Kind.{Kind}
 use Rattle.mm_types.specs.Address.{Range}
@@ -7,6 +8,7 @@ use Rattle.mm_world.specs.Find.{Found, region_with, region_around}
 use Rattle.mm_world.specs.Rows.{row_at, reserved_row, commit, protected, change_rows}
 use Rattle.mm_spaces.specs.declared.rows.RowChange.{RowChange}
 use Rattle.mm_spaces.specs.declared.rows.RowChange.TheVariants as change
+use Rattle.mm_types.specs.Protection.{readwrite}
 
 -- a row after the change, in a region of this kind
 abbrev pub changed : RowChange → Kind → RowOf (Unit {0}) → RowOf (Unit {0})
@@ -14,7 +16,7 @@ changed (change.Commit prot) kind = commit tt prot
 changed change.Decommit kind = λ row. reserved_row
 changed (change.Protect prot) kind = protected kind prot
 changed change.GuardOff kind = λ row. record row { guard = false }
-changed change.Copy kind = λ row. record row { own = Some tt; prot = 0x04 }
+changed change.Copy kind = λ row. record row { own = Some tt; prot = readwrite }
 
 -- all pages of the range lie in one region
 abbrev pub IsInRegion : List (RegionOf (Unit {0})) → Range → Type 0

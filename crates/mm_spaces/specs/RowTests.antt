@@ -1,4 +1,5 @@
 -- What is asked of the rows of a range.
+-- Profile, "Calls".
 use Rattle.std.specs.Prelude.{Bool, not, is_some}
 use Rattle.mm_types.specs.declared.views.Kind.{Kind}
 use Rattle.mm_types.specs.Protection.{base_of}

@@ -1,4 +1,5 @@
 -- The regions of an address space as the definitions of worlds have them, read off those that `mm_vad` keeps.
+-- Profile, "Regions, rows, sections".
 use Rattle.std.specs.Prelude.{Bool, if◌then◌else◌, List, map, Some, None}
 use Rattle.mm_types.specs.declared.views.Kind.{Kind}
 use Rattle.mm_types.specs.declared.views.Kind.TheVariants as kind

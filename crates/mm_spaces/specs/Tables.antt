@@ -1,4 +1,5 @@
 -- The regions of one process as contracts see them, and what is read off them.
+-- Profile, "Regions, rows, sections".
 use Rattle.std.specs.Prelude.{ℕ, ◌-◌, not, is_some, List, [], take, drop, count_by, Option, Some, None, option_map, option_and_then}
 use Rattle.mm_types.specs.Address.{Range}
 use Rattle.mm_world.specs.World.{RowOf, RegionOf, pages_of}

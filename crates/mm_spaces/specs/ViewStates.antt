@@ -1,4 +1,5 @@
 -- What is told of the pages of a view, whose control area has these pages.
+-- Profile, "Answers".
 use Rattle.std.specs.Prelude.{ℕ, ◌+◌, Bool, is_some, List, [], ◌∷◌, map}
 use Rattle.mm_types.specs.declared.views.View.{View}
 use Rattle.mm_types.specs.declared.views.Kind.TheVariants as kind

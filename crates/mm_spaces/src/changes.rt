@@ -10,9 +10,7 @@ ghost use Rattle.mm_spaces.specs.Tables.{owned_in};
 
 use crate::rows::{RowChange, change_row, change_rows};
 use crate::{AddressSpace, NewRegion, PageRange};
-use mm_types::{NoMemory, Vpn};
-
-const PAGE_SIZE: u32 = 4096;
+use mm_types::{NoMemory, PAGE_SIZE, Vpn};
 
 // Below every region.
 const LOWEST: Vpn = Vpn(0);

@@ -12,5 +12,5 @@ mod spaces;
 mod view_states;
 
 pub use new_regions::NewRegion;
-pub use ranges::PageRange;
+pub use ranges::{PageRange, pages_for};
 pub use spaces::{AddressSpace, PageRow, RegionInfo};

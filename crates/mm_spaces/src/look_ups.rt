@@ -8,12 +8,10 @@ ghost use Rattle.mm_spaces.specs.Tables.{info_of};
 ghost use Rattle.mm_spaces.specs.Kept.{IsAt, IsAround, NoneAround, IsBased, NoneBased};
 
 use crate::{AddressSpace, PageRange, RegionInfo};
-use mm_types::{Kind, Vpn};
+use mm_types::{Kind, PAGE_SIZE, Vpn};
 use mm_vad::Region;
 
-const PAGE_SIZE: u32 = 4096;
-
-// The page behind the last of a region.
+// The page after the last of a region.
 fn end_of_region(region: &Region) -> u64
     ensures { result ≡ region.now.base.0 + region.now.pages }
 {

@@ -10,13 +10,10 @@ ghost use Rattle.mm_spaces.specs.Shown.{row_of};
 ghost use Rattle.mm_types.specs.declared.views.Kind.TheVariants as kind;
 
 use crate::PageRange;
-use mm_types::{Kind, NoMemory, Prot, View, ViewAccess, Vpn};
+use mm_types::{AllocFlags, Kind, NoMemory, Prot, View, ViewAccess, Vpn};
 use mm_vad::{Region, Row, Rows};
 use std::alloc::Global;
 use std::marker::Model;
-
-// MEM_RESERVE without MEM_COMMIT.
-const RESERVE_TYPE: u32 = 0x2000;
 
 /// A region with its rows, ready to be added to an address space.
 #[derive(Drop)]
@@ -40,7 +37,7 @@ impl Model for NewRegion {
 fn new_row(alloc_type: u32, prot: u32) -> Row
     ensures { row_of kind.Private result ≡ new_row blank alloc_type prot }
 {
-    if alloc_type == RESERVE_TYPE {
+    if alloc_type == AllocFlags::RESERVE.0 {
         Row {
             committed: false,
             prot: Prot(0),
@@ -51,8 +48,8 @@ fn new_row(alloc_type: u32, prot: u32) -> Row
     } else {
         Row {
             committed: true,
-            prot: Prot(prot % 0x100),
-            guard: prot / 0x100 == 1,
+            prot: Prot(prot % Prot::GUARD.0),
+            guard: prot / Prot::GUARD.0 == 1,
             copied: false,
             marked: false,
         }
@@ -64,9 +61,9 @@ fn first_prot(access: ViewAccess) -> u32
     ensures { result ≡ first_protection access }
 {
     match access {
-        ViewAccess::Read => 0x02,
-        ViewAccess::Write => 0x04,
-        ViewAccess::Copy => 0x08,
+        ViewAccess::Read => Prot::READONLY.0,
+        ViewAccess::Write => Prot::READWRITE.0,
+        ViewAccess::Copy => Prot::WRITECOPY.0,
     }
 }
 

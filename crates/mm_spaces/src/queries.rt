@@ -10,20 +10,14 @@ ghost use Rattle.mm_spaces.specs.Kept.{IsAt};
 use crate::AddressSpace;
 use crate::view_states::{run_in_view, state_in_view, told_of_row};
 use mm_sections::SectionPages;
-use mm_types::{Kind, QueryInfo, Vpn};
+use mm_types::{END_OF_USER_PAGES, Kind, PAGE_SIZE, Prot, QueryInfo, Vpn};
 use mm_vad::Region;
-
-const PAGE_SIZE: u32 = 4096;
-
-const END_OF_USER_PAGES: u32 = 0x7FFF0;
 
 const FREE: u32 = 0x10000;
 
 const PRIVATE: u32 = 0x20000;
 
 const MAPPED: u32 = 0x40000;
-
-const NO_ACCESS: u32 = 0x01;
 
 impl AddressSpace {
     /// What VirtualQuery tells of a user page that is free or lies in a private region: of a page in a region the longest run of
@@ -107,12 +101,12 @@ impl AddressSpace {
             alloc_prot: 0,
             size: (self.next_base(page) - page) * PAGE_SIZE,
             state: FREE,
-            prot: NO_ACCESS,
+            prot: Prot::NOACCESS.0,
             kind: 0,
         }
     }
 
-    // Where the next region begins behind the page, or the user pages end.
+    // Where the next region begins after the page, or the user pages end.
     fn next_base(&self, page: u32) -> u32
         requires { is_user_page page ≡ true }
         ensures next { result ≡ next_base self.now.regions page }

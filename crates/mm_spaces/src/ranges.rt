@@ -1,14 +1,8 @@
 ghost use Rattle.std.specs.Prelude.{◌≡◌, ◌+◌, ◌-◌, ◌/◌, ◌≤◌};
 ghost use Rattle.mm_types.specs.Address.{range_of, granule_range_of, end_of, pages_for};
 
+use mm_types::{GRANULE_PAGES, GRANULE_SIZE, PAGE_SIZE};
 use std::marker::Model;
-
-// Addresses are 32 bits, but the sum of one and a size may be larger.
-const PAGE_SIZE: u64 = 4096;
-
-const GRANULE_SIZE: u32 = 65536;
-
-const GRANULE_PAGES: u32 = 16;
 
 /// Some pages in a row, at least one.
 #[derive(Clone, Copy, PartialEq, Eq, Debug)]
@@ -32,12 +26,12 @@ impl Model for PageRange {
     ghost inverse = { λ d. record { first = d.first; count = d.count } };
 }
 
-// The page after the one of the last of `size` bytes.
+// The page after the one of the last of `size` bytes. The sum of an address and a size may be larger than any address.
 fn end_page(addr: u32, size: u32) -> u32
     requires some { 1 ≤ size }
     ensures { result ≡ (addr + size - 1) / 4096 + 1 }
 {
-    ((u64::from(addr) + u64::from(size) - 1) / PAGE_SIZE) as u32 + 1
+    ((u64::from(addr) + u64::from(size) - 1) / u64::from(PAGE_SIZE)) as u32 + 1
 }
 
 impl PageRange {
@@ -46,7 +40,7 @@ impl PageRange {
         requires some { 1 ≤ size }
         ensures { result ≡ range_of addr size }
     {
-        let first = addr / 4096;
+        let first = addr / PAGE_SIZE;
         PageRange {
             first,
             count: end_page(addr, size) - first,
@@ -65,7 +59,7 @@ impl PageRange {
         }
     }
 
-    /// The page behind the last.
+    /// The page after the last.
     pub(crate) fn end(self) -> u64
         ensures end { result ≡ end_of self }
         ensures some { 1 ≤ self.count }
@@ -75,10 +69,10 @@ impl PageRange {
 }
 
 /// How many pages `size` bytes take.
-pub(crate) fn pages_for_bytes(size: u32) -> u32
-    requires some { 1 ≤ size }
+pub fn pages_for(size: u32) -> u32
     ensures pages { result ≡ pages_for size }
-    ensures some { 1 ≤ result }
+    ensures some { 1 ≤ size → 1 ≤ result }
+    ensures few { result ≤ 0x100000 }
 {
-    ((u64::from(size) + 4095) / PAGE_SIZE) as u32
+    ((u64::from(size) + 4095) / u64::from(PAGE_SIZE)) as u32
 }

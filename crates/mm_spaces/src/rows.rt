@@ -11,10 +11,6 @@ ghost use Rattle.mm_spaces.specs.RowChanges.{changed, RowChanged, RowsChanged, I
 use mm_types::{Kind, Prot, View, Vpn};
 use mm_vad::{Row, Space};
 
-const READ_WRITE: u32 = 0x04;
-
-const WRITE_COPY: u32 = 0x08;
-
 /// What a call makes of the row of a page. Protections are as callers give them: a base protection, with
 /// PAGE_GUARD (0x100) or without.
 #[derive(Clone, Copy)]
@@ -34,13 +30,13 @@ pub(crate) enum RowChange {
 fn base_protection(prot: u32) -> Prot
     ensures { result.0 ≡ base_of prot }
 {
-    Prot(prot % 0x100)
+    Prot(prot % Prot::GUARD.0)
 }
 
 fn is_guarded(prot: u32) -> bool
     ensures { result ≡ has_guard prot }
 {
-    prot / 0x100 == 1
+    prot / Prot::GUARD.0 == 1
 }
 
 // The row, with bytes of its own.
@@ -63,8 +59,12 @@ fn with_bytes(region_kind: Kind, row: Row) -> Row
 fn marked_protection(copied: bool, base: u32) -> u32
     ensures { result ≡ marked_prot copied base }
 {
-    if base == READ_WRITE || base == WRITE_COPY {
-        if copied { READ_WRITE } else { WRITE_COPY }
+    if base == Prot::READWRITE.0 || base == Prot::WRITECOPY.0 {
+        if copied {
+            Prot::READWRITE.0
+        } else {
+            Prot::WRITECOPY.0
+        }
     } else {
         base
     }
@@ -74,8 +74,8 @@ fn marked_protection(copied: bool, base: u32) -> u32
 fn protected_in_view(view: View, row: Row, prot: u32) -> Row
     ensures { row_of (kind.View view) result ≡ protected (kind.View view) prot (row_of (kind.View view) row) }
 {
-    let base = prot % 0x100;
-    let marked = row.marked || base == WRITE_COPY;
+    let base = prot % Prot::GUARD.0;
+    let marked = row.marked || base == Prot::WRITECOPY.0;
     Row {
         prot: Prot(if marked {
             marked_protection(row.copied, base)
@@ -133,7 +133,7 @@ impl RowChange {
             RowChange::Copy => with_bytes(
                 region_kind,
                 Row {
-                    prot: Prot(READ_WRITE),
+                    prot: Prot(Prot::READWRITE.0),
                     ..row
                 },
             ),

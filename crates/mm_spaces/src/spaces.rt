@@ -16,16 +16,14 @@ ghost use Rattle.mm_spaces.specs.RowTests.{passes};
 
 use crate::PageRange;
 use crate::look_ups::{info_of_region, is_private};
-use crate::ranges::pages_for_bytes;
+use crate::ranges::pages_for;
 use crate::row_tests::{RowTest, count_rows, do_rows_pass, has_own};
 use crate::view_states::{are_pages_committed, protection_of_row};
 use mm_sections::SectionPages;
-use mm_types::{Kind, Prot, Vpn};
+use mm_types::{Kind, PAGE_SIZE, Prot, Vpn};
 use mm_vad::Space;
 use std::alloc::Global;
 use std::marker::Model;
-
-const PAGE_SIZE: u32 = 4096;
 
 // Below every region.
 const LOWEST: Vpn = Vpn(0);
@@ -100,11 +98,7 @@ impl AddressSpace {
         ensures found { result ≡ placed (ranges_of self.now.regions) addr (granule_range_of addr size) (pages_for size) }
         ensures free { IfSome result (λ r. (are_user_pages r ≡ true) × (1 ≤ r.count) × (r.first % 16 ≡ 0) × (is_free (ranges_of self.now.regions) r ≡ true)) }
     {
-        self.placed(
-            addr,
-            PageRange::from_granule(addr, size),
-            pages_for_bytes(size),
-        )
+        self.placed(addr, PageRange::from_granule(addr, size), pages_for(size))
     }
 
     /// Where `count` pages are to lie, at least one: for address 0 from the lowest granule whose pages are free, else from

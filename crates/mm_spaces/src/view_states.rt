@@ -9,14 +9,8 @@ ghost use Rattle.mm_spaces.specs.Shown.{row_of};
 ghost use Rattle.mm_spaces.specs.ViewStates.{is_area_page, view_state, states_in, told};
 
 use mm_sections::SectionPages;
-use mm_types::View;
+use mm_types::{AllocFlags, Prot, View};
 use mm_vad::{Row, Rows};
-
-const GUARD: u32 = 0x100;
-
-const COMMITTED: u32 = 0x1000;
-
-const RESERVED: u32 = 0x2000;
 
 /// What is told of a page: its state (MEM_COMMIT or MEM_RESERVE) and its protection, guard included.
 #[derive(Clone, Copy)]
@@ -39,7 +33,7 @@ pub(crate) fn protection_of_row(row: Row) -> u32
     ensures { result ≡ with_guard row.prot.0 row.guard }
 {
     if row.guard {
-        row.prot.0 + GUARD
+        row.prot.0 + Prot::GUARD.0
     } else {
         row.prot.0
     }
@@ -52,12 +46,12 @@ pub(crate) fn told_of_row(row: Row, committed: bool) -> ToldState
 {
     if committed {
         ToldState {
-            state: COMMITTED,
+            state: AllocFlags::COMMIT.0,
             prot: protection_of_row(row),
         }
     } else {
         ToldState {
-            state: RESERVED,
+            state: AllocFlags::RESERVE.0,
             prot: 0,
         }
     }

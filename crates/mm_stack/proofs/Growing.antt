@@ -6,7 +6,8 @@ use Rattle.mm_types.specs.declared.answers.Answer.{Answer}
 use Rattle.mm_types.specs.Address.{Range, address_of, range_of, holds_page, end_of, first_user_page, end_of_user_pages}
 use Rattle.mm_world.specs.World.{ProcessOf, RegionOf, pages_of}
 use Rattle.mm_world.specs.Find.{process_of}
-use Rattle.mm_world.specs.Alloc.{alloc, commit_pages, commit_type}
+use Rattle.mm_types.specs.Allocation.{commit_type}
+use Rattle.mm_world.specs.Alloc.{alloc, commit_pages}
 use Rattle.mm_world.specs.Charge.{charge, limit}
 use Rattle.mm_world.specs.Contents.{Tables, blank}
 use Rattle.mm_world.specs.Keys.{Committed, committed_at, guard_off}

@@ -24,7 +24,9 @@ use Rattle.mm_world.proofs.Finding.{numbered_inside}
 use Rattle.mm_world.proofs.LaidOut.{and-true, or-false}
 use Rattle.mm_stack.specs.Growth.{ProbeIn, probed, has_grown, growths, NothingLeft, Overflows}
 use Rattle.mm_stack.proofs.Making.{at_dead, at_busy, at_few, at_no_gap, at_past, at_made}
-use Rattle.mm_stack.proofs.Touching.{at_nobody, at_ended, at_bare, chosen, reached, at_overflow, none_is, stays}
+use Rattle.mm_stack.proofs.Touching.{at_nobody, at_ended, at_bare, chosen, reached, at_overflow, stays}
+use Rattle.mm_types.proofs.Options.{none_is}
+use Rattle.mm_types.proofs.Booleans.{one_at_most}
 
 pub same_number : (a b : ℕ) → (a == b) ≡ true → a ≡ b
 same_number a b e = (unsigned_Decides a b).0 e
@@ -97,10 +99,6 @@ module _ (w : World) (stacks : Numbered StackOf) (tid addr : ℕ) (s : StackOf) 
 abbrev one_if : Bool → ℕ
 one_if b = cond b 1 0
 
-at_most_one : (b : Bool) → one_if b ≤ 1
-at_most_one true = omega arith
-at_most_one false = omega arith
-
 same_guard : (s : StackOf) → has_grown (Some s) (Some s) ≡ false
 same_guard s = ap not (is_same s.guard_page s.guard_page refl)
 
@@ -136,7 +134,7 @@ module _ (stacks : Numbered StackOf) (tid : Tid) (s : StackOf) (p : ProbeIn) (ps
       let now : numbered (probed stacks tid p) tid.0 ≡ Some lower = ap (λ (z : Numbered StackOf). numbered z tid.0) z ∙ get_or-set_same stacks tid.0 (Some lower) None (numbered_inside stacks tid.0 s has) in
       let page : page_of (address_of (s.guard_page - 1)) ≡ s.guard_page - 1 = omega arith in
       let after_it : growths (probed stacks tid p) tid ps + s.base + 1 ≤ page_of (address_of (s.guard_page - 1)) = rest (probed stacks tid p) lower now (omega (arith, more, page)) in
-      omega (arith, more, page, after_it, at_most_one (has_grown (numbered stacks tid.0) (numbered (probed stacks tid p) tid.0)))
+      omega (arith, more, page, after_it, one_at_most (has_grown (numbered stacks tid.0) (numbered (probed stacks tid p) tid.0)))
 
 pub bounded : (stacks : Numbered StackOf) (tid : Tid) (s : StackOf) (probes : List ProbeIn) → numbered stacks tid.0 ≡ Some s → s.base < s.guard_page → growths stacks tid probes + s.base + 1 ≤ s.guard_page
 bounded stacks tid s [] has above = omega (arith, above)

@@ -5,7 +5,6 @@ pub mod Making
 pub mod Touching
 pub mod Growths
 pub mod Succeeding
-pub mod Idle
 pub mod Created
 pub mod Growing
 pub mod Probed

@@ -16,8 +16,8 @@ use Rattle.mm_world.specs.Stack.{StackOf, stack, made, stack_region, reserve_pag
 use Rattle.mm_world.proofs.Charges.{charge-set_regions}
 use Rattle.mm_world.proofs.LaidOut.{and-true}
 use Rattle.mm_tables.proofs.Lists.{count-replicate}
-use Rattle.mm_calls.proofs.Outcomes.{at_alive, at_met, at_unmet, at_found, at_missing, at_room, at_limit}
-use Rattle.mm_calls.proofs.Tests.{not_true}
+use Rattle.mm_world.proofs.Outcomes.{at_alive, at_met, at_unmet, at_found, at_missing, at_room, at_limit}
+use Rattle.mm_types.proofs.Booleans.{not_true}
 
 module _ {B : Type 0} (fill : ℕ → B) where
   -- the pages that are committed, and the guard page

@@ -1,5 +1,5 @@
 -- What a `probe` line comes to, from what the tables told of the page.
-use Rattle.std.proofs.Common.{◌≡◌, ◌≢◌, ◌-◌, ℕ, Bool, true, false, not, Option, Some, refl, sym, ◌∙◌, ap}
+use Rattle.std.proofs.Common.{◌≡◌, ◌≢◌, ◌-◌, ℕ, true, false, Option, Some, refl, sym, ◌∙◌, ap}
 use Rattle.std.specs.Prelude.{◌==◌}
 use Rattle.mm_types.specs.declared.answers.Answer.{Answer}
 use Rattle.mm_types.specs.declared.answers.Answer.TheVariants as answer
@@ -17,13 +17,9 @@ use Rattle.mm_tables.specs.declared.looks.CommittedRow.{CommittedRow}
 use Rattle.mm_tables.specs.Fits.{Fits, Settled}
 use Rattle.mm_tables.specs.Looks.{committed_row}
 use Rattle.mm_tables.proofs.Carried.{carries_same}
-use Rattle.mm_calls.proofs.Tests.{not_true}
 use Rattle.mm_stack.proofs.Growths.{is_same, same_number}
 use Rattle.mm_stack.proofs.Touching.{IsTold, told, at_other, at_overflow, at_growth}
-
-pub not_false : (b : Bool) → not b ≡ false → b ≡ true
-not_false true e = refl
-not_false false e = cc
+use Rattle.mm_types.proofs.Booleans.{not_true}
 
 -- a guard is off, and the store is as before
 pub settled_off : (v : Tables) (c : Key → Option Page) (s : StoreOf) → Fits v c s → Settled v c c s s

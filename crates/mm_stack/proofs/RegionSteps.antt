@@ -7,7 +7,7 @@ use Rattle.mm_types.specs.declared.views.Kind.TheVariants as kind
 use Rattle.mm_types.specs.Address.{Range, is_free, end_of, end_of_user_pages}
 use Rattle.mm_world.specs.World.{RegionOf, RowOf, ProcessOf, pages_of}
 use Rattle.mm_world.specs.Find.{Found, process_of, region_around, ranges_of, change_range, set_regions, set_region, add_region, is_private}
-use Rattle.mm_world.specs.Alloc.{reserve_type}
+use Rattle.mm_types.specs.Allocation.{reserve_type}
 use Rattle.mm_world.specs.Charge.{charge}
 use Rattle.mm_world.specs.Contents.{Tables, blank}
 use Rattle.mm_world.specs.Rows.{reserved_row, commit, change_rows}
@@ -19,12 +19,13 @@ use Rattle.mm_spaces.specs.Tables.{owned_in}
 use Rattle.mm_tables.proofs.OneProcess.{process_set_same, process_is}
 use Rattle.mm_tables.proofs.Regional as regional
 use Rattle.mm_tables.proofs.Rows as rows
-use Rattle.mm_calls.proofs.Around.{Inside, around, around_is, has_own}
+use Rattle.mm_calls.proofs.Around.{around, around_is, has_own}
 use Rattle.mm_calls.proofs.Counts.{commit_charge}
 use Rattle.mm_stack.specs.Regions.{IsReserved, IsUncommitted, reserved_region}
 use Rattle.mm_stack.proofs.Making.{user_end}
 use Rattle.mm_stack.proofs.Joined.{Lasts, lasts_regions}
 use Rattle.mm_stack.proofs.RowLists.{top_changed, one_changed, one_there, none_of_equal, set-insert, get-insert}
+use Rattle.mm_world.proofs.Ranges.{Inside}
 
 abbrev Row : Type 0
 Row = RowOf (Unit {0})

@@ -12,7 +12,8 @@ use Rattle.mm_types.specs.declared.views.Kind.TheVariants as kind
 use Rattle.mm_types.specs.Address.{Range, address_of, range_of, holds_page}
 use Rattle.mm_world.specs.World.{World, Page, ProcessOf, RegionOf, filled, pages_of}
 use Rattle.mm_world.specs.Find.{Found, process_of, region_around, set_region, is_private}
-use Rattle.mm_world.specs.Alloc.{alloc, commit_in, commit_type}
+use Rattle.mm_types.specs.Allocation.{commit_type}
+use Rattle.mm_world.specs.Alloc.{alloc, commit_in}
 use Rattle.mm_world.specs.Charge.{charge, limit}
 use Rattle.mm_world.specs.Keys.{Home, Committed, committed_at, home_in, guard_off}
 use Rattle.mm_world.specs.Outcome.{OutcomeOf, done, within_limit}
@@ -30,11 +31,12 @@ use Rattle.mm_tables.proofs.Lists.{count-next}
 use Rattle.mm_tables.proofs.OneProcess.{process_set_same}
 use Rattle.mm_tables.proofs.Regions.{holds}
 use Rattle.mm_tables.proofs.Rows as rows
-use Rattle.mm_calls.proofs.Around.{Inside, around_is, has_own, in_range}
-use Rattle.mm_calls.proofs.Outcomes.{at_found, at_room}
+use Rattle.mm_calls.proofs.Around.{around_is, has_own, in_range}
 use Rattle.mm_stack.specs.Growth.{StandsIn}
 use Rattle.mm_stack.proofs.Growths.{is_same, not_next}
 use Rattle.mm_stack.proofs.Touching.{alloc_commits}
+use Rattle.mm_world.proofs.Outcomes.{at_found, at_room}
+use Rattle.mm_world.proofs.Ranges.{Inside}
 
 -- a world in which a guard is off is well formed
 guard_keeps : (w : World) (pid : ℕ) (p : ProcessOf Page) (c : Committed Page) (page : ℕ) → process_of w pid ≡ Some p → committed_at w p.regions page ≡ Some c → WellFormed w → WellFormed (guard_off w pid p c page)

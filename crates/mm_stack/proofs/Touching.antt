@@ -12,7 +12,8 @@ use Rattle.mm_world.specs.World.{Page, WorldOf, ProcessOf, Numbered, numbered}
 use Rattle.mm_world.specs.Find.{process_of}
 use Rattle.mm_world.specs.Keys.{Committed, committed_at, guard_off}
 use Rattle.mm_world.specs.Outcome.{OutcomeOf, done}
-use Rattle.mm_world.specs.Alloc.{alloc, reserve, commit_pages, commit_type}
+use Rattle.mm_types.specs.Allocation.{commit_type}
+use Rattle.mm_world.specs.Alloc.{alloc, reserve, commit_pages}
 use Rattle.mm_world.specs.Contents.{Tables}
 use Rattle.mm_world.specs.Stack.{StackOf, probe, probe_of, probe_in, probe_at, grown, is_overflow, moved}
 use Rattle.mm_world.proofs.Finding.{numbered_there}
@@ -23,8 +24,8 @@ use Rattle.mm_tables.specs.Fits.{Settled, Carries}
 use Rattle.mm_tables.specs.Looks.{committed_row, told_row}
 use Rattle.mm_tables.proofs.EndingFits.{beside_then}
 use Rattle.mm_tables.proofs.Settled.{roomier_beside}
-use Rattle.mm_calls.proofs.Outcomes.{at_alive}
 use Rattle.mm_stack.proofs.RowLists.{set-here}
+use Rattle.mm_world.proofs.Outcomes.{at_alive}
 
 module _ {B : Type 0} (fill : ℕ → B) (w : WorldOf B) (stacks : Numbered StackOf) (tid addr : ℕ) where
   pub at_nobody : numbered stacks tid ≡ None → probe fill w stacks tid addr ≡ done answer.Nothing w
@@ -109,10 +110,6 @@ untold t pid page p lives =
     by_row : (o : Option (Committed (Unit {0}))) → is_none (option_map (told_row pid page) o) ≡ is_none o
     by_row None = refl
     by_row (Some c) = refl
-
-pub none_is : {A : Type 0} (o : Option A) → is_none o ≡ true → o ≡ None
-none_is None e = refl
-none_is (Some x) e = cc
 
 -- ---- growth
 

@@ -1,4 +1,5 @@
 -- Lines that make a stack or grow one.
+-- Profile, "Watched regions and stacks".
 use Rattle.std.specs.Prelude.{Bool, true, false}
 use Rattle.mm_types.specs.declared.events.Event.{Event}
 use Rattle.mm_types.specs.declared.events.Event.TheVariants as line

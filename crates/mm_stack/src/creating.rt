@@ -12,12 +12,12 @@ ghost use Rattle.mm_tables.specs.Fits.{Fits, Called, beside};
 
 use crate::Stacks;
 use crate::new_regions::make_region;
-use crate::sizes::{PAGE_SIZE, commit_pages, reserve_pages};
+use crate::sizes::{commit_pages, reserve_pages};
 use crate::thread_stacks::ThreadStack;
 use mm_pages::Pages;
 use mm_spaces::PageRange;
 use mm_tables::Tables;
-use mm_types::{Answer, Code, NoMemory, Pid, Tid};
+use mm_types::{Answer, Code, NoMemory, PAGE_SIZE, Pid, Tid};
 use std::alloc::Global;
 
 impl Stacks {

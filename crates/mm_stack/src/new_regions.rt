@@ -15,17 +15,8 @@ ghost use Rattle.mm_stack.specs.Regions.{IsUncommitted, IsReserved, reserved_reg
 use mm_pages::Pages;
 use mm_spaces::PageRange;
 use mm_tables::Tables;
-use mm_types::{NoMemory, Pid};
+use mm_types::{AllocFlags, NoMemory, Pid, Prot};
 use std::alloc::Global;
-
-/// MEM_RESERVE.
-const RESERVE_TYPE: u32 = 0x2000;
-
-/// PAGE_READWRITE.
-const READ_WRITE: u32 = 0x04;
-
-/// PAGE_READWRITE with PAGE_GUARD.
-const GUARDED: u32 = 0x104;
 
 /// Commits pages of a private region of which none is committed; there is room for them.
 fn commit_new<G: Pages>(t: &mut Tables, g: &mut G, pid: Pid, range: PageRange, prot: u32)
@@ -65,9 +56,15 @@ fn commit_ends<G: Pages>(t: &mut Tables, g: &mut G, pid: Pid, range: PageRange, 
 {
     t.sound();
     let guard = guard_of(range, top);
-    commit_new(t, g, pid, pages(guard + 1, top), READ_WRITE);
+    commit_new(t, g, pid, pages(guard + 1, top), Prot::READWRITE.0);
     t.sound();
-    commit_new(t, g, pid, pages(guard, 1), GUARDED);
+    commit_new(
+        t,
+        g,
+        pid,
+        pages(guard, 1),
+        Prot::READWRITE.0 + Prot::GUARD.0,
+    );
 }
 
 /// Reserves free pages for a stack, and takes room for `n` keys more, which the limit allows. After `NoMemory` tables and bytes are as
@@ -98,7 +95,14 @@ fn reserve_region<G: Pages>(
 {
     let (charge, _) = t.charge();
     g.reserve(charge + n)?;
-    t.reserve(alloc, g, pid, range, RESERVE_TYPE, READ_WRITE)?;
+    t.reserve(
+        alloc,
+        g,
+        pid,
+        range,
+        AllocFlags::RESERVE.0,
+        Prot::READWRITE.0,
+    )?;
     Ok(())
 }
 

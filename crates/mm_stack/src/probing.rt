@@ -15,16 +15,12 @@ ghost use Rattle.mm_pages.specs.Passing.{PassesIn};
 ghost use Rattle.mm_tables.specs.Fits.{Fits, Settled, Called, beside};
 
 use crate::Stacks;
-use crate::sizes::PAGE_SIZE;
 use crate::thread_stacks::ThreadStack;
 use mm_calls::commit;
 use mm_pages::Pages;
 use mm_spaces::PageRange;
 use mm_tables::Tables;
-use mm_types::{Access, Answer, NoMemory, Raise, Tid, permits};
-
-/// PAGE_READWRITE with PAGE_GUARD.
-const GUARDED: u32 = 0x104;
+use mm_types::{Access, Answer, NoMemory, PAGE_SIZE, Prot, Raise, Tid, permits};
 
 /// Whether a stack cannot grow any more: the page below its guard page is its lowest one, or is not committed and the charge is the
 /// limit.
@@ -67,7 +63,7 @@ fn grow<G: Pages>(t: &mut Tables, g: &mut G, stack: &ThreadStack) -> Result<(), 
     let guard_page = stack.guard_page;
     t.take_guard_off(stack.pid, guard_page);
     let next = PageRange::of((guard_page - 1) * PAGE_SIZE, 1);
-    let Ok(_) = commit(t, g, stack.pid, next, GUARDED) else {
+    let Ok(_) = commit(t, g, stack.pid, next, Prot::READWRITE.0 + Prot::GUARD.0) else {
         unreachable!()
     };
     Ok(())

@@ -6,15 +6,8 @@ ghost use Rattle.mm_world.specs.Stack.{without, is_stack_at, is_stack_in};
 ghost use Rattle.mm_world.specs.System.{stacks_after};
 ghost use Rattle.mm_stack.specs.Lines.{is_stack_line};
 
-use crate::sizes::PAGE_SIZE;
-use mm_types::{Answer, Event, Pid, Tid};
+use mm_types::{AllocFlags, Answer, Event, PAGE_SIZE, Pid, THREADS, Tid};
 use std::marker::Model;
-
-/// How many threads there are.
-const THREADS: usize = 256;
-
-/// MEM_RELEASE.
-const RELEASE_TYPE: u32 = 0x8000;
 
 /// The stack of a thread: a process, the lowest page, and the guard page, which stands above it.
 #[derive(Clone, Copy, PartialEq, Eq, Debug)]
@@ -141,7 +134,7 @@ impl Stacks {
     {
         match answer {
             Answer::Ok => {
-                if kind == RELEASE_TYPE {
+                if kind == AllocFlags::RELEASE.0 {
                     self.ended(pid, addr);
                 }
             }
@@ -165,8 +158,13 @@ impl Stacks {
         ensures followed { self.new ≡ stacks_after self.old event.now answer.now }
     {
         match event {
-            Event::Free(pid, addr, size, kind) => self.freed(*pid, *addr, *size, *kind, answer),
-            Event::Exit(pid) => self.exited(*pid, answer),
+            Event::Free {
+                pid,
+                addr,
+                size,
+                form: kind,
+            } => self.freed(*pid, *addr, *size, *kind, answer),
+            Event::Exit { pid } => self.exited(*pid, answer),
             _ => {}
         }
     }

@@ -16,7 +16,8 @@ use Rattle.mm_world.specs.Outcome.{OutcomeOf, done, refused}
 use Rattle.mm_world.specs.Keys.{Home, Own, InSection, Committed, committed_at, guard_off, set_row, set_shared}
 use Rattle.mm_world.specs.Rows.{change_rows}
 use Rattle.mm_world.specs.Alloc.{alloc, commit_in}
-use Rattle.mm_world.specs.Free.{free, decommit, release_type, private_at}
+use Rattle.mm_types.specs.Allocation.{release_type}
+use Rattle.mm_world.specs.Free.{free, decommit, private_at}
 use Rattle.mm_world.specs.Protect.{protect}
 use Rattle.mm_world.specs.Query.{query}
 use Rattle.mm_world.specs.Sections.{create, create_file, open_section, close, handle_or, new_section, next_handle, settle}
@@ -27,7 +28,7 @@ use Rattle.mm_world.specs.Step.{begin, resume, store_line}
 use Rattle.mm_world.specs.Watch.{WatchOf, watched_range}
 use Rattle.mm_world.proofs.Tables.{Holds, tables}
 use Rattle.mm_world.proofs.Finding.{found_stands, committed_is}
-use Rattle.mm_world.proofs.LaidOut.{and-true}
+use Rattle.mm_types.proofs.Booleans.{parts}
 use Rattle.mm_world.proofs.RowsFit.{length-change_range}
 use Rattle.mm_watch.proofs.Apart.{equals}
 use Rattle.mm_system.specs.Live.{is_same_range, is_private_region, holds_private, is_live}
@@ -102,15 +103,15 @@ module _ {B : Type 0} (ends : Answer → WatchOf → Bool) where
   -- a region with another base than the one that is released
   other_base : (x : WatchOf) (r : RegionOf B) (b : Bool) → is_private_region (watched_range x) r ≡ b → (r.base ≡ x.base → ⊥) → b ≡ false
   other_base x r true e other =
-      let same = and-true (is_private r.kind) (is_same_range (pages_of r) (watched_range x)) e in
-      let both = and-true (r.base == x.base) (length r.rows == length x.written) same.1 in
+      let same = parts (is_private r.kind) (is_same_range (pages_of r) (watched_range x)) e in
+      let both = parts (r.base == x.base) (length r.rows == length x.written) same.1 in
       absurd (other (equals r.base x.base both.0))
   other_base x r false e other = refl
 
   by_released : (w : WorldOf B) (pid : ℕ) (p : ProcessOf B) (addr : ℕ) (r : Found (RegionOf B)) → process_of w pid ≡ Some p → private_at p.regions addr ≡ Some r → ((x : WatchOf) → x.pid ≡ pid → address_of x.base ≡ addr → ends answer.Ok x ≡ true) → Holds (KeepsLive w) (done answer.Ok (set_regions w pid p (remove p.regions r.place)))
   by_released w pid p addr r lives found gone =
       let stands = found_stands _ p.regions r found in
-      let at : address_of r.thing.base ≡ addr = equals (address_of r.thing.base) addr (and-true (is_private r.thing.kind) (address_of r.thing.base == addr) stands.passes).1 in
+      let at : address_of r.thing.base ≡ addr = equals (address_of r.thing.base) addr (parts (is_private r.thing.kind) (address_of r.thing.base == addr) stands.passes).1 in
       by_put w pid p (Some (record p { regions = remove p.regions r.place })) answer.Ok lives (λ x e same h.
       any_remove (is_private_region (watched_range x)) p.regions r.place r.thing stands.there
       (other_base x r.thing _ refl (λ here. let bad : true ≡ false = sym (gone x same (ap address_of (sym here) ∙ at)) ∙ e in cc))
@@ -158,7 +159,7 @@ module _ {B : Type 0} (ends : Answer → WatchOf → Bool) where
   by_unmapped : (w : WorldOf B) (pid : ℕ) (p : ProcessOf B) (addr : ℕ) (r : Found (RegionOf B)) (a : Answer) → process_of w pid ≡ Some p → view_at p.regions addr ≡ Some r → Holds (KeepsLive w) (done a (set_regions w pid p (remove p.regions r.place)))
   by_unmapped w pid p addr r a lives found =
       let stands = found_stands _ p.regions r found in
-      let shared = not-true (is_private r.thing.kind) (and-true (not (is_private r.thing.kind)) (address_of r.thing.base == addr) stands.passes).0 in
+      let shared = not-true (is_private r.thing.kind) (parts (not (is_private r.thing.kind)) (address_of r.thing.base == addr) stands.passes).0 in
       by_put w pid p (Some (record p { regions = remove p.regions r.place })) a lives (λ x e same h.
       any_remove (is_private_region (watched_range x)) p.regions r.place r.thing stands.there (view_is_none (watched_range x) r.thing shared) h)
 

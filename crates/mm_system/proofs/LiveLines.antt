@@ -1,6 +1,7 @@
 -- The same of each line.
-use Rattle.std.proofs.Common.{◌≡◌, ℕ, Bool, true, false, Option, Some, None, refl, ◌∙◌, ap, ◌&&◌}
+use Rattle.std.proofs.Common.{◌≡◌, ℕ, true, Option, Some, None, refl, ◌&&◌}
 use Rattle.std.specs.Prelude.{◌==◌}
+use Rattle.mm_types.proofs.Booleans.{all_three}
 use Rattle.mm_types.specs.declared.answers.Answer.{Answer}
 use Rattle.mm_types.specs.declared.answers.Answer.TheVariants as answer
 use Rattle.mm_types.specs.declared.events.Event.{Event}
@@ -9,7 +10,7 @@ use Rattle.mm_types.specs.Address.{address_of}
 use Rattle.mm_world.specs.World.{World, filled}
 use Rattle.mm_world.specs.Outcome.{done}
 use Rattle.mm_world.specs.Access.{ReadOf, WriteOf, Execute}
-use Rattle.mm_world.specs.Free.{release_type}
+use Rattle.mm_types.specs.Allocation.{release_type}
 use Rattle.mm_world.specs.Report.{Report}
 use Rattle.mm_world.specs.Step.{unpaged, told, step, stepped, world_told, kept_by}
 use Rattle.mm_world.specs.Watch.{WatchOf, is_watch_at}
@@ -18,12 +19,8 @@ use Rattle.mm_watch.specs.Told.{line_ends}
 use Rattle.mm_watch.proofs.Apart.{equal}
 use Rattle.mm_system.proofs.LiveCalls.{KeepsLive, by_same, in_alloc, in_free, in_protect, in_query, in_create, in_create_file, in_open, in_close, in_map, in_unmap, in_flush, in_exit, in_new_process, in_new_file, in_take_fail, in_grow, in_access, in_begin, in_resume, in_store_line}
 
-all_true : (a b c : Bool) → a ≡ true → b ≡ true → c ≡ true → (a && (b && c)) ≡ true
-all_true true b c e f g = ap (λ b. b && c) f ∙ g
-all_true false b c e f g = cc
-
 released : (pid addr type : ℕ) → (type == release_type) ≡ true → (x : WatchOf) → x.pid ≡ pid → address_of x.base ≡ addr → ((type == release_type) && is_watch_at pid addr x) ≡ true
-released pid addr type is x here at = all_true (type == release_type) (x.pid == pid) (address_of x.base == addr) is (equal x.pid pid here) (equal (address_of x.base) addr at)
+released pid addr type is x here at = all_three (type == release_type) (x.pid == pid) (address_of x.base == addr) is (equal x.pid pid here) (equal (address_of x.base) addr at)
 
 in_unpaged : (w : World) (e : Event) → Holds (KeepsLive (line_ends e) w) (unpaged w e)
 in_unpaged w (line.Machine m) = by_same _ w w _ refl

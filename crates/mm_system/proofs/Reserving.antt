@@ -1,9 +1,11 @@
 -- An `alloc` that reserves makes a private region of the pages that were free, and its answer tells which.
-use Rattle.std.proofs.Common.{◌≡◌, ℕ, zero, suc, ◌+◌, ◌<◌, ◌≤◌, Bool, true, false, Option, Some, None, List, [], ◌∷◌, inl, inr, refl, sym, ◌∙◌, ap, subst, cond, arith, length, ◌&&◌, ◌||◌, not, option_map, nat_le}
+use Rattle.std.proofs.Common.{◌≡◌, ℕ, ◌+◌, ◌<◌, ◌≤◌, Bool, true, false, Option, Some, None, List, [], ◌∷◌, inl, inr, refl, sym, ◌∙◌, ap, subst, cond, arith, length, ◌&&◌, ◌||◌, not, option_map, nat_le}
 use Rattle.std.specs.Prelude.{◌==◌}
 use Rattle.std.specs.List.{list_any}
 use Rattle.std.proofs.lemmas.Bool.{leb-true}
 use Rattle.std.proofs.lemmas.List.{get_or-set_same, length-replicate}
+use Rattle.mm_types.proofs.Booleans.{both, parts}
+use Rattle.mm_types.proofs.Naturals.{not_zero}
 use Rattle.mm_types.specs.declared.answers.Answer.TheVariants as answer
 use Rattle.mm_types.specs.declared.codes.Code.{Code}
 use Rattle.mm_types.specs.Address.{Range, end_of, meets, address_of, page_of, pages_for, granule_range_of, lowest_gap, is_free, end_of_user_pages, first_user_page}
@@ -16,7 +18,7 @@ use Rattle.mm_world.specs.System.{reserved_range}
 use Rattle.mm_world.specs.Watch.{WatchOf, watched_range}
 use Rattle.mm_world.proofs.Tables.{Holds, tables}
 use Rattle.mm_world.proofs.Finding.{numbered_inside}
-use Rattle.mm_world.proofs.LaidOut.{placed_is, PlacedAt, and-true, or-false}
+use Rattle.mm_world.proofs.LaidOut.{placed_is, PlacedAt, or-false}
 use Rattle.mm_watch.specs.Watches.{meets_watch, is_unwatched}
 use Rattle.mm_watch.proofs.Apart.{equals, equal}
 use Rattle.mm_system.specs.Live.{is_same_range, is_private_region, holds_private, is_live, are_live}
@@ -47,17 +49,9 @@ reserved_is taken addr size range e = by_address (addr == 0) e
 
 -- ---- the region
 
-both-true : (a b : Bool) → a ≡ true → b ≡ true → (a && b) ≡ true
-both-true true b e f = f
-both-true false b e f = cc
-
-not_zero : (n : ℕ) → not (n == 0) ≡ true → 1 ≤ n
-not_zero zero e = cc
-not_zero (suc n) e = omega arith
-
 some_bytes : (size type prot : ℕ) → are_alloc_parameters size type prot ≡ true → 1 ≤ size
 some_bytes size type prot e =
-    not_zero size (and-true (is_one_of alloc_types type) (not (size == 0)) (and-true (is_one_of alloc_types type && not (size == 0)) (is_protection_among private_protections prot) e).0).1
+    not_zero size (parts (is_one_of alloc_types type) (not (size == 0)) (parts (is_one_of alloc_types type && not (size == 0)) (is_protection_among private_protections prot) e).0).1
 
 some_pages : (addr size : ℕ) (taken : List Range) (range : Range) → 1 ≤ size → PlacedAt taken (granule_range_of addr size) (pages_for size) range → 0 < range.count
 some_pages addr size taken range some placed_at =
@@ -67,7 +61,7 @@ some_pages addr size taken range some placed_at =
     ]
 
 same_itself : (range : Range) → is_same_range range range ≡ true
-same_itself range = both-true (range.first == range.first) (range.count == range.count) (equal range.first range.first refl) (equal range.count range.count refl)
+same_itself range = both (range.first == range.first) (range.count == range.count) (equal range.first range.first refl) (equal range.count range.count refl)
 
 module _ {B : Type 0} where
   -- the range was free in a process, and is a private region of it now
@@ -99,7 +93,7 @@ module _ {B : Type 0} where
         let at = placed_is (ranges_of p.regions) addr (granule_range_of addr size) (pages_for size) range (omega arith) found in
         let new = private_region fill type prot range in
         let q : ProcessOf B = record p { regions = add_region new p.regions } in
-        let user = and-true (nat_le first_user_page range.first) (nat_le (end_of range) end_of_user_pages) at.placed.user in
+        let user = parts (nat_le first_user_page range.first) (nat_le (end_of range) end_of_user_pages) at.placed.user in
         let some = some_pages addr size (ranges_of p.regions) range (some_bytes size type prot params) at in
         record {
           some = some;
@@ -139,10 +133,10 @@ module _ {B : Type 0} (w : WorldOf B) (pid : ℕ) (p : ProcessOf B) (lives : pro
     where
       by_region : (b : Bool) → is_private_region (watched_range a) r ≡ b → (b || list_any (is_private_region (watched_range a)) rs) ≡ true → meets range (pages_of r) ≡ false → (list_any (is_private_region (watched_range a)) rs ≡ true → meets range (watched_range a) ≡ false) → meets range (watched_range a) ≡ false
       by_region true is held none later =
-          let same = and-true (is_private r.kind) (is_same_range (pages_of r) (watched_range a)) is in
-          let parts = and-true (r.base == a.base) (length r.rows == length a.written) same.1 in
-          let base : r.base ≡ a.base = equals r.base a.base parts.0 in
-          let size : length r.rows ≡ length a.written = equals (length r.rows) (length a.written) parts.1 in
+          let same = parts (is_private r.kind) (is_same_range (pages_of r) (watched_range a)) is in
+          let ends = parts (r.base == a.base) (length r.rows == length a.written) same.1 in
+          let base : r.base ≡ a.base = equals r.base a.base ends.0 in
+          let size : length r.rows ≡ length a.written = equals (length r.rows) (length a.written) ends.1 in
           ap (λ (q : Range). meets range q) (λ i. record { first = sym base i; count = sym size i }) ∙ none
       by_region false is held none later = later held
 
@@ -155,8 +149,8 @@ module _ {B : Type 0} (w : WorldOf B) (pid : ℕ) (p : ProcessOf B) (lives : pro
   none_meets : (watches : List WatchOf) → list_any (meets range) (ranges_of p.regions) ≡ false → are_live w watches ≡ true → list_any (meets_watch pid range) watches ≡ false
   none_meets [] free live = refl
   none_meets (a ∷ rest) free live =
-      let both = and-true (is_live w a) (are_live w rest) live in
-      ap (λ (b : Bool). b || list_any (meets_watch pid range) rest) (one_apart a (a.pid == pid) refl free both.0) ∙ none_meets rest free both.1
+      let halves = parts (is_live w a) (are_live w rest) live in
+      ap (λ (b : Bool). b || list_any (meets_watch pid range) rest) (one_apart a (a.pid == pid) refl free halves.0) ∙ none_meets rest free halves.1
 
 pub makes_apart : {B : Type 0} (w v : WorldOf B) (pid : ℕ) (range : Range) (watches : List WatchOf) → Makes w v pid range → are_live w watches ≡ true → is_unwatched watches pid range ≡ true
 makes_apart w v pid range watches h live = ap not (none_meets w pid h.process h.lives range watches h.free live)

@@ -8,7 +8,7 @@ use Rattle.mm_types.specs.Address.{address_of, page_of}
 use Rattle.mm_world.specs.World.{World, WorldOf, ProcessOf, Page, Numbered, numbered, filled}
 use Rattle.mm_world.specs.Find.{process_of}
 use Rattle.mm_world.specs.Keys.{Committed, committed_at, guard_off}
-use Rattle.mm_world.specs.Alloc.{commit_type}
+use Rattle.mm_types.specs.Allocation.{commit_type}
 use Rattle.mm_world.specs.Report.{Report}
 use Rattle.mm_world.specs.Stack.{StackOf, stack, made, probe, probe_at, probe_in, probe_of, grown}
 use Rattle.mm_world.specs.Watch.{WatchOf}

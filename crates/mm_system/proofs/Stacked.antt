@@ -1,5 +1,5 @@
 -- Each stack keeps its region: what lines leave of it, and the region that a new one gets.
-use Rattle.std.proofs.Common.{◌≡◌, ◌≤◌, ◌<◌, ℕ, zero, suc, ◌+◌, ◌-◌, Bool, true, false, Option, Some, None, List, [], ◌∷◌, refl, sym, ◌∙◌, ap, subst, cond, arith, length, map, set, replicate, get_or, ◌&&◌, ◌||◌, nat_le, nat_lt, not, option_map}
+use Rattle.std.proofs.Common.{◌≡◌, ◌≤◌, ◌<◌, ℕ, zero, suc, ◌+◌, ◌-◌, Bool, true, false, Option, Some, None, List, [], ◌∷◌, refl, sym, ◌∙◌, ap, subst, cond, arith, length, map, set, replicate, ◌&&◌, ◌||◌, nat_le, nat_lt, not, option_map}
 use Rattle.std.specs.Prelude.{◌==◌}
 use Rattle.std.specs.List.{list_any}
 use Rattle.std.proofs.lemmas.Bool.{leb-true, le-leb, lt-ltb, ltb-true, ltb-false}
@@ -12,7 +12,7 @@ use Rattle.mm_types.specs.declared.events.Event.TheVariants as line
 use Rattle.mm_types.specs.Address.{Range, holds_page, address_of, page_of}
 use Rattle.mm_world.specs.World.{Page, World, WorldOf, ProcessOf, RegionOf, Numbered, numbered, pages_of, filled}
 use Rattle.mm_world.specs.Find.{process_of, set_regions, add_region, is_private}
-use Rattle.mm_world.specs.Free.{release_type}
+use Rattle.mm_types.specs.Allocation.{release_type}
 use Rattle.mm_world.specs.Keys.{Committed, committed_at, guard_off}
 use Rattle.mm_world.specs.Outcome.{OutcomeOf, done, refused}
 use Rattle.mm_world.specs.Report.{Report}
@@ -21,19 +21,15 @@ use Rattle.mm_world.specs.System.{stacks_after}
 use Rattle.mm_world.specs.Watch.{WatchOf}
 use Rattle.mm_world.proofs.Tables.{Holds, tables}
 use Rattle.mm_world.proofs.Finding.{numbered_inside}
-use Rattle.mm_world.proofs.LaidOut.{and-true}
+use Rattle.mm_types.proofs.Booleans.{both, parts, or_left, or_right}
 use Rattle.mm_world.proofs.WellFormed.{stack_length}
 use Rattle.mm_watch.specs.Told.{line_ends}
 use Rattle.mm_watch.proofs.Apart.{equal, equals}
 use Rattle.mm_system.specs.Lines.{world_line, given_outcome}
 use Rattle.mm_system.specs.Live.{is_private_region, is_same_range, holds_private, is_live, is_stack_region, holds_stack, is_stacked, is_place, are_stacked}
-use Rattle.mm_system.proofs.Regions.{or-right, or-left, any_inserted}
+use Rattle.mm_system.proofs.Regions.{any_inserted}
 use Rattle.mm_system.proofs.Reserving.{page_back}
 use Rattle.mm_system.proofs.StackCalls.{grown_keeps, given_live}
-
-both-true : (a b : Bool) → a ≡ true → b ≡ true → (a && b) ≡ true
-both-true true b e f = f
-both-true false b e f = cc
 
 -- ---- a stack's region, as one that a watched region might have
 
@@ -49,8 +45,8 @@ lowered s guard = record { pid = s.pid; base = s.base; guard_page = guard }
 
 holds_lower : (first count page lower : ℕ) → first ≤ lower → lower ≤ page → holds_page (record { first = first; count = count }) page ≡ true → holds_page (record { first = first; count = count }) lower ≡ true
 holds_lower first count page lower low below e =
-    let both = and-true (nat_le first page) (nat_lt page (first + count)) e in
-    both-true (nat_le first lower) (nat_lt lower (first + count)) (le-leb first lower low) (lt-ltb lower (first + count) (let h = ltb-true page (first + count) both.1 in omega (arith, h, below)))
+    let halves = parts (nat_le first page) (nat_lt page (first + count)) e in
+    both (nat_le first lower) (nat_lt lower (first + count)) (le-leb first lower low) (lt-ltb lower (first + count) (let h = ltb-true page (first + count) halves.1 in omega (arith, h, below)))
 
 -- an answer with an address
 abbrev is_at : Answer → Bool
@@ -69,18 +65,18 @@ module _ {B : Type 0} where
 
   region_pages : (s : StackOf) (r : RegionOf B) (rest : List (RegionOf B)) → is_stack_region s r ≡ true → HasPages s (r ∷ rest)
   region_pages s r rest e =
-      let private = and-true (is_private r.kind) ((r.base == s.base) && holds_page (pages_of r) s.guard_page) e in
-      let at = and-true (r.base == s.base) (holds_page (pages_of r) s.guard_page) private.1 in
+      let private = parts (is_private r.kind) ((r.base == s.base) && holds_page (pages_of r) s.guard_page) e in
+      let at = parts (r.base == s.base) (holds_page (pages_of r) s.guard_page) private.1 in
       record {
         count = length r.rows;
         holds = ap (λ (n : ℕ). holds_page (record { first = n; count = length r.rows }) s.guard_page) (sym (equals r.base s.base at.0)) ∙ at.1;
-        private = or-left (is_private_region (range_from s (length r.rows)) r) (list_any (is_private_region (range_from s (length r.rows))) rest)
-            (both-true (is_private r.kind) (is_same_range (pages_of r) (range_from s (length r.rows))) private.0
-            (both-true (r.base == s.base) (length r.rows == length r.rows) at.0 (equal (length r.rows) (length r.rows) refl)));
+        private = or_left (is_private_region (range_from s (length r.rows)) r) (list_any (is_private_region (range_from s (length r.rows))) rest)
+            (both (is_private r.kind) (is_same_range (pages_of r) (range_from s (length r.rows))) private.0
+            (both (r.base == s.base) (length r.rows == length r.rows) at.0 (equal (length r.rows) (length r.rows) refl)));
       }
 
   later_pages : (s : StackOf) (r : RegionOf B) (rest : List (RegionOf B)) → HasPages s rest → HasPages s (r ∷ rest)
-  later_pages s r rest h = record { count = h.count; holds = h.holds; private = or-right (is_private_region (range_from s h.count) r) (list_any (is_private_region (range_from s h.count)) rest) h.private }
+  later_pages s r rest h = record { count = h.count; holds = h.holds; private = or_right (is_private_region (range_from s h.count) r) (list_any (is_private_region (range_from s h.count)) rest) h.private }
 
   has_pages : (s : StackOf) (rs : List (RegionOf B)) → list_any (is_stack_region s) rs ≡ true → HasPages s rs
   has_pages s [] e = cc
@@ -93,10 +89,10 @@ module _ {B : Type 0} where
   -- the other way round
   pages_region : (s : StackOf) (n : ℕ) (r : RegionOf B) → holds_page (range_from s n) s.guard_page ≡ true → is_private_region (range_from s n) r ≡ true → is_stack_region s r ≡ true
   pages_region s n r holds e =
-      let private = and-true (is_private r.kind) (is_same_range (pages_of r) (range_from s n)) e in
-      let same = and-true (r.base == s.base) (length r.rows == n) private.1 in
-      both-true (is_private r.kind) ((r.base == s.base) && holds_page (pages_of r) s.guard_page) private.0
-      (both-true (r.base == s.base) (holds_page (pages_of r) s.guard_page) same.0
+      let private = parts (is_private r.kind) (is_same_range (pages_of r) (range_from s n)) e in
+      let same = parts (r.base == s.base) (length r.rows == n) private.1 in
+      both (is_private r.kind) ((r.base == s.base) && holds_page (pages_of r) s.guard_page) private.0
+      (both (r.base == s.base) (holds_page (pages_of r) s.guard_page) same.0
       (ap (λ (m : ℕ). holds_page (record { first = m; count = length r.rows }) s.guard_page) (equals r.base s.base same.0)
       ∙ ap (λ (m : ℕ). holds_page (record { first = s.base; count = m }) s.guard_page) (equals (length r.rows) n same.1) ∙ holds))
 
@@ -105,8 +101,8 @@ module _ {B : Type 0} where
   any_to f g to (r ∷ rest) e = by_first (f r) refl (any_to f g to rest) e
     where
       by_first : (b : Bool) → f r ≡ b → (list_any f rest ≡ true → list_any g rest ≡ true) → (b || list_any f rest) ≡ true → (g r || list_any g rest) ≡ true
-      by_first true is later e = or-left (g r) (list_any g rest) (to r is)
-      by_first false is later e = or-right (g r) (list_any g rest) (later e)
+      by_first true is later e = or_left (g r) (list_any g rest) (to r is)
+      by_first false is later e = or_right (g r) (list_any g rest) (later e)
 
   stack_held : (s : StackOf) (o : Option (ProcessOf B)) (n : ℕ) → holds_page (range_from s n) s.guard_page ≡ true → holds_private (range_from s n) o ≡ true → holds_stack s o ≡ true
   stack_held s None n holds e = e
@@ -127,17 +123,17 @@ module _ {B : Type 0} where
 
     pub stays : is_stacked w s ≡ true → is_stacked v s ≡ true
     stays e =
-        let both = and-true (nat_lt s.base s.guard_page) (holds_stack s (process_of w s.pid)) e in
-        both-true (nat_lt s.base s.guard_page) (holds_stack s (process_of v s.pid)) both.0 (held_still (process_of w s.pid) refl both.1)
+        let halves = parts (nat_lt s.base s.guard_page) (holds_stack s (process_of w s.pid)) e in
+        both (nat_lt s.base s.guard_page) (holds_stack s (process_of v s.pid)) halves.0 (held_still (process_of w s.pid) refl halves.1)
 
   -- ---- a guard page that moves down, but not to the base page
 
   region_lower : (s : StackOf) (guard : ℕ) (r : RegionOf B) → s.base ≤ guard → guard ≤ s.guard_page → is_stack_region s r ≡ true → is_stack_region (lowered s guard) r ≡ true
   region_lower s guard r low below e =
-      let private = and-true (is_private r.kind) ((r.base == s.base) && holds_page (pages_of r) s.guard_page) e in
-      let at = and-true (r.base == s.base) (holds_page (pages_of r) s.guard_page) private.1 in
-      both-true (is_private r.kind) ((r.base == s.base) && holds_page (pages_of r) guard) private.0
-      (both-true (r.base == s.base) (holds_page (pages_of r) guard) at.0
+      let private = parts (is_private r.kind) ((r.base == s.base) && holds_page (pages_of r) s.guard_page) e in
+      let at = parts (r.base == s.base) (holds_page (pages_of r) s.guard_page) private.1 in
+      both (is_private r.kind) ((r.base == s.base) && holds_page (pages_of r) guard) private.0
+      (both (r.base == s.base) (holds_page (pages_of r) guard) at.0
       (holds_lower r.base (length r.rows) s.guard_page guard (subst (λ (n : ℕ). n ≤ guard) (sym (equals r.base s.base at.0)) low) below at.1))
 
   held_lower : (s : StackOf) (guard : ℕ) (o : Option (ProcessOf B)) → s.base ≤ guard → guard ≤ s.guard_page → holds_stack s o ≡ true → holds_stack (lowered s guard) o ≡ true
@@ -146,8 +142,8 @@ module _ {B : Type 0} where
 
   lower_stacked : (v : WorldOf B) (s : StackOf) (guard : ℕ) → s.base < guard → guard ≤ s.guard_page → is_stacked v s ≡ true → is_stacked v (lowered s guard) ≡ true
   lower_stacked v s guard low below e =
-      let both = and-true (nat_lt s.base s.guard_page) (holds_stack s (process_of v s.pid)) e in
-      both-true (nat_lt s.base guard) (holds_stack (lowered s guard) (process_of v s.pid)) (lt-ltb s.base guard low) (held_lower s guard (process_of v s.pid) (omega (arith, low)) below both.1)
+      let halves = parts (nat_lt s.base s.guard_page) (holds_stack s (process_of v s.pid)) e in
+      both (nat_lt s.base guard) (holds_stack (lowered s guard) (process_of v s.pid)) (lt-ltb s.base guard low) (held_lower s guard (process_of v s.pid) (omega (arith, low)) below halves.1)
 
   -- ---- a new stack
 
@@ -174,14 +170,14 @@ module _ {B : Type 0} where
       new_region : is_stack_region new (stack_region fill base r c) ≡ true
       new_region =
           let enough = leb-true (c + 2) r fits in
-          both-true (base == base) (holds_page (pages_of (stack_region fill base r c)) guard) (equal base base refl)
+          both (base == base) (holds_page (pages_of (stack_region fill base r c)) guard) (equal base base refl)
           (ap (λ (n : ℕ). holds_page (record { first = base; count = n }) guard) (stack_length fill base r c enough)
-          ∙ both-true (nat_le base guard) (nat_lt guard (base + r)) (le-leb base guard (omega (arith, enough))) (lt-ltb guard (base + r) (omega (arith, enough))))
+          ∙ both (nat_le base guard) (nat_lt guard (base + r)) (le-leb base guard (omega (arith, enough))) (lt-ltb guard (base + r) (omega (arith, enough))))
 
       new_stacked : is_stacked v new ≡ true
       new_stacked =
           let enough = leb-true (c + 2) r fits in
-          both-true (nat_lt base guard) (holds_stack new (process_of v pid)) (lt-ltb base guard (omega (arith, enough)))
+          both (nat_lt base guard) (holds_stack new (process_of v pid)) (lt-ltb base guard (omega (arith, enough)))
           (ap (λ (o : Option (ProcessOf B)). holds_stack new o) (get_or-set_same w.processes pid (Some (record p { regions = add_region (stack_region fill base r c) p.regions })) None (numbered_inside w.processes pid p lives))
           ∙ any_inserted (is_stack_region new) p.regions _ (stack_region fill base r c) new_region)
 
@@ -224,8 +220,8 @@ module _ {B : Type 0} where
 
       below_guard : (next : ℕ) → (next == s.base) ≡ false → next ≡ s.guard_page - 1 → (s.base < next) × (next ≤ s.guard_page)
       below_guard next other is =
-          let both = and-true (nat_lt s.base s.guard_page) (holds_stack s (process_of w s.pid)) stacked in
-          let above = ltb-true s.base s.guard_page both.0 in
+          let halves = parts (nat_lt s.base s.guard_page) (holds_stack s (process_of w s.pid)) stacked in
+          let above = ltb-true s.base s.guard_page halves.0 in
           let apart : next ≡ s.base → ⊥ = λ e. (let bad : true ≡ false = sym (equal next s.base e) ∙ other in cc) in
           let least : s.base ≤ next = omega (arith, above, is) in
           (by_less (nat_lt s.base next) refl least apart, omega (arith, is))
@@ -270,15 +266,15 @@ module _ {B : Type 0} where
 module _ (w : World) where
   one_of : (stacks : Numbered StackOf) (tid : ℕ) → are_stacked w stacks ≡ true → is_place w (numbered stacks tid) ≡ true
   one_of [] tid e = refl
-  one_of (s ∷ rest) zero e = (and-true (is_place w s) (are_stacked w rest) e).0
-  one_of (s ∷ rest) (suc tid) e = one_of rest tid (and-true (is_place w s) (are_stacked w rest) e).1
+  one_of (s ∷ rest) zero e = (parts (is_place w s) (are_stacked w rest) e).0
+  one_of (s ∷ rest) (suc tid) e = one_of rest tid (parts (is_place w s) (are_stacked w rest) e).1
 
   one_set : (stacks : Numbered StackOf) (tid : ℕ) (s : Option StackOf) → is_place w s ≡ true → are_stacked w stacks ≡ true → are_stacked w (set stacks tid s) ≡ true
   one_set [] tid s h e = e
-  one_set (x ∷ rest) zero s h e = both-true (is_place w s) (are_stacked w rest) h (and-true (is_place w x) (are_stacked w rest) e).1
+  one_set (x ∷ rest) zero s h e = both (is_place w s) (are_stacked w rest) h (parts (is_place w x) (are_stacked w rest) e).1
   one_set (x ∷ rest) (suc tid) s h e =
-      let both = and-true (is_place w x) (are_stacked w rest) e in
-      both-true (is_place w x) (are_stacked w (set rest tid s)) both.0 (one_set rest tid s h both.1)
+      let halves = parts (is_place w x) (are_stacked w rest) e in
+      both (is_place w x) (are_stacked w (set rest tid s)) halves.0 (one_set rest tid s h halves.1)
 
 module _ (w v : World) where
   place_kept : (s : Option StackOf) → ((s : StackOf) → is_stacked w s ≡ true → is_stacked v s ≡ true) → is_place w s ≡ true → is_place v s ≡ true
@@ -288,8 +284,8 @@ module _ (w v : World) where
   all_kept : (stacks : Numbered StackOf) → ((s : StackOf) → is_stacked w s ≡ true → is_stacked v s ≡ true) → are_stacked w stacks ≡ true → are_stacked v stacks ≡ true
   all_kept [] keeps e = refl
   all_kept (s ∷ rest) keeps e =
-      let both = and-true (is_place w s) (are_stacked w rest) e in
-      both-true (is_place v s) (are_stacked v rest) (place_kept s keeps both.0) (all_kept rest keeps both.1)
+      let halves = parts (is_place w s) (are_stacked w rest) e in
+      both (is_place v s) (are_stacked v rest) (place_kept s keeps halves.0) (all_kept rest keeps halves.1)
 
   place_left : (ends : StackOf → Bool) (s : Option StackOf) → ((s : StackOf) → ends s ≡ false → is_stacked w s ≡ true → is_stacked v s ≡ true) → is_place w s ≡ true → is_place v (without ends s) ≡ true
   place_left ends None keeps e = refl
@@ -302,8 +298,8 @@ module _ (w v : World) where
   all_left : (ends : StackOf → Bool) (stacks : Numbered StackOf) → ((s : StackOf) → ends s ≡ false → is_stacked w s ≡ true → is_stacked v s ≡ true) → are_stacked w stacks ≡ true → are_stacked v (map (without ends) stacks) ≡ true
   all_left ends [] keeps e = refl
   all_left ends (s ∷ rest) keeps e =
-      let both = and-true (is_place w s) (are_stacked w rest) e in
-      both-true (is_place v (without ends s)) (are_stacked v (map (without ends) rest)) (place_left ends s keeps both.0) (all_left ends rest keeps both.1)
+      let halves = parts (is_place w s) (are_stacked w rest) e in
+      both (is_place v (without ends s)) (are_stacked v (map (without ends) rest)) (place_left ends s keeps halves.0) (all_left ends rest keeps halves.1)
 
 -- ---- a line
 

@@ -14,14 +14,14 @@ use Rattle.mm_types.specs.Address.{Range, page_of, pages_for, granule_range_of, 
 use Rattle.mm_world.specs.World.{Page, World, KeptOf, Numbered, filled}
 use Rattle.mm_world.specs.Find.{process_of}
 use Rattle.mm_world.specs.Alloc.{alloc, is_reserving}
-use Rattle.mm_world.specs.Free.{release_type}
+use Rattle.mm_types.specs.Allocation.{release_type}
 use Rattle.mm_world.specs.Outcome.{OutcomeOf, done}
 use Rattle.mm_world.specs.Report.{Report}
 use Rattle.mm_world.specs.Stack.{StackOf}
 use Rattle.mm_world.specs.Step.{kept_by}
 use Rattle.mm_world.specs.System.{watches_after, is_watched_type, reserved_range, written_by, written_by_kept}
 use Rattle.mm_world.specs.Watch.{WatchOf, watched_range, begun, mark_written, set_written, one_page, unwrite, keep_watches, is_watch_at, is_watch_in}
-use Rattle.mm_world.proofs.LaidOut.{and-true}
+use Rattle.mm_types.proofs.Booleans.{both, parts, or_right}
 use Rattle.mm_world.proofs.RowsFit.{length-change_range}
 use Rattle.mm_watch.specs.Told.{line_ends}
 use Rattle.mm_watch.specs.Watches.{WatchesOf}
@@ -29,45 +29,40 @@ use Rattle.mm_watch.proofs.Apart.{equals}
 use Rattle.mm_system.specs.Lines.{world_line, given_outcome, said, CanWatch, HasRoom, with_room, pages_asked}
 use Rattle.mm_system.specs.Live.{holds_private, is_live, are_live}
 use Rattle.mm_system.specs.Writes.{writes_of, writes_after}
-use Rattle.mm_system.proofs.Regions.{or-right}
 use Rattle.mm_system.proofs.Reserving.{Makes, makes_apart, in_alloc}
 use Rattle.mm_system.proofs.StackCalls.{given_live, given_writes}
 
 -- ---- lists
 
-both-true : (a b : Bool) → a ≡ true → b ≡ true → (a && b) ≡ true
-both-true true b e f = f
-both-true false b e f = cc
-
 module _ {A : Type 0} (test : A → Bool) where
   all_append : (xs ys : List A) → list_all test xs ≡ true → list_all test ys ≡ true → list_all test (xs ++ ys) ≡ true
   all_append [] ys h k = k
   all_append (x ∷ xs) ys h k =
-      let both = and-true (test x) (list_all test xs) h in
-      both-true (test x) (list_all test (xs ++ ys)) both.0 (all_append xs ys both.1 k)
+      let halves = parts (test x) (list_all test xs) h in
+      both (test x) (list_all test (xs ++ ys)) halves.0 (all_append xs ys halves.1 k)
 
   all_map : (f : A → A) → ((x : A) → test x ≡ true → test (f x) ≡ true) → (xs : List A) → list_all test xs ≡ true → list_all test (map f xs) ≡ true
   all_map f keeps [] h = refl
   all_map f keeps (x ∷ xs) h =
-      let both = and-true (test x) (list_all test xs) h in
-      both-true (test (f x)) (list_all test (map f xs)) (keeps x both.0) (all_map f keeps xs both.1)
+      let halves = parts (test x) (list_all test xs) h in
+      both (test (f x)) (list_all test (map f xs)) (keeps x halves.0) (all_map f keeps xs halves.1)
 
 module _ (w v : World) where
   all_same : (watches : List WatchOf) → ((x : WatchOf) → is_live w x ≡ true → is_live v x ≡ true) → are_live w watches ≡ true → are_live v watches ≡ true
   all_same [] keeps h = refl
   all_same (x ∷ xs) keeps h =
-      let both = and-true (is_live w x) (are_live w xs) h in
-      both-true (is_live v x) (are_live v xs) (keeps x both.0) (all_same xs keeps both.1)
+      let halves = parts (is_live w x) (are_live w xs) h in
+      both (is_live v x) (are_live v xs) (keeps x halves.0) (all_same xs keeps halves.1)
 
   all_kept : (ends : WatchOf → Bool) (watches : List WatchOf) → ((x : WatchOf) → ends x ≡ false → is_live w x ≡ true → is_live v x ≡ true) → are_live w watches ≡ true → are_live v (keep_watches ends watches) ≡ true
   all_kept ends [] keeps h = refl
   all_kept ends (x ∷ xs) keeps h =
-      let both = and-true (is_live w x) (are_live w xs) h in
-      by_end (ends x) refl both.0 (all_kept ends xs keeps both.1)
+      let halves = parts (is_live w x) (are_live w xs) h in
+      by_end (ends x) refl halves.0 (all_kept ends xs keeps halves.1)
     where
       by_end : (b : Bool) → ends x ≡ b → is_live w x ≡ true → are_live v (keep_watches ends xs) ≡ true → are_live v (cond b (keep_watches ends xs) (x ∷ keep_watches ends xs)) ≡ true
       by_end true e h k = k
-      by_end false e h k = both-true (is_live v x) (are_live v (keep_watches ends xs)) (keeps x e h) k
+      by_end false e h k = both (is_live v x) (are_live v (keep_watches ends xs)) (keeps x e h) k
 
 -- ---- written pages change no range
 
@@ -113,7 +108,7 @@ module _ (w v : World) (watches : List WatchOf) (live : are_live w watches ≡ t
       range = reserved_range addr size base
 
       by_type : (b : Bool) → (b ≡ true → holds_private range (process_of v pid.0) ≡ true) → are_live v (cond b (watches ++ begun pid.0 range ∷ []) watches) ≡ true
-      by_type true made = all_append (is_live v) watches (begun pid.0 range ∷ []) (all_same w v watches (λ x h. keeps x refl h) live) (both-true (is_live v (begun pid.0 range)) true (begun_live v pid.0 range (made refl)) refl)
+      by_type true made = all_append (is_live v) watches (begun pid.0 range ∷ []) (all_same w v watches (λ x h. keeps x refl h) live) (both (is_live v (begun pid.0 range)) true (begun_live v pid.0 range (made refl)) refl)
       by_type false made = all_same w v watches (λ x h. keeps x refl h) live
   live_after (line.Free pid addr size type) answer.Ok keeps made = by_type (type == release_type) keeps
     where
@@ -146,11 +141,11 @@ watched_cases : (type addr : ℕ) → is_watched_type type ≡ true → is_reser
 watched_cases type addr e = by_first (0x202000 == type) refl e
   where
     by_second : (b : Bool) → (0x203000 == type) ≡ b → (b || false) ≡ true → is_reserving addr (type - 0x200000) ≡ true
-    by_second true is h = subst (λ (t : ℕ). is_reserving addr (t - 0x200000) ≡ true) (equals 0x203000 type is) (or-right (addr == 0) true refl)
+    by_second true is h = subst (λ (t : ℕ). is_reserving addr (t - 0x200000) ≡ true) (equals 0x203000 type is) (or_right (addr == 0) true refl)
     by_second false is h = cc
 
     by_first : (b : Bool) → (0x202000 == type) ≡ b → (b || ((0x203000 == type) || false)) ≡ true → is_reserving addr (type - 0x200000) ≡ true
-    by_first true is h = subst (λ (t : ℕ). is_reserving addr (t - 0x200000) ≡ true) (equals 0x202000 type is) (or-right (addr == 0) true refl)
+    by_first true is h = subst (λ (t : ℕ). is_reserving addr (t - 0x200000) ≡ true) (equals 0x202000 type is) (or_right (addr == 0) true refl)
     by_first false is h = by_second (0x203000 == type) refl h
 
 reserving : (type addr : ℕ) (b : Bool) → is_watched_type type ≡ b → b ≡ true → is_reserving addr (cond b (type - 0x200000) type) ≡ true

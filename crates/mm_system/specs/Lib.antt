@@ -2,4 +2,3 @@ pub mod Live
 pub mod Writes
 pub mod Lines
 pub mod Shown
-pub mod Told

@@ -1,4 +1,5 @@
 -- The lines of a system: by which line the world decides each, and what a line of watched regions answers.
+-- Profile, "Watched regions and stacks".
 use Rattle.std.specs.Prelude.{ℕ, ◌+◌, ◌≤◌, ◌<◌, ◌≡◌, Bool, true, false, ◌==◌, if◌then◌else◌, List, map, option_map, unwrap_or}
 use Rattle.mm_types.specs.declared.answers.Answer.{Answer}
 use Rattle.mm_types.specs.declared.answers.Answer.TheVariants as answer

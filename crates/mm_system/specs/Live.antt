@@ -1,4 +1,5 @@
 -- Watched regions and stacks are private regions of processes that live.
+-- Profile, "Watched regions and stacks".
 use Rattle.std.specs.Prelude.{Bool, true, false, ◌&&◌, ◌==◌, nat_lt, List, Option, Some, None}
 use Rattle.std.specs.List.{list_any, list_all}
 use Rattle.mm_types.specs.Address.{Range, holds_page}

@@ -1,4 +1,5 @@
 -- What a system over a store shows: the world of the definitions with what stands beside it, and what its store shows beside.
+-- Profile, "A run".
 use Rattle.std.specs.Prelude.{ℕ, List}
 use Rattle.mm_types.specs.Outside.{Loans}
 use Rattle.mm_world.specs.World.{Page, World, Numbered}

@@ -1,4 +1,5 @@
 -- The writes that threads keep, by the page that each is to.
+-- Profile, "Watched regions and stacks".
 use Rattle.std.specs.Prelude.{ℕ, ◌==◌, if◌then◌else◌, List, map, Option, Some, None, slice_set}
 use Rattle.mm_types.specs.declared.answers.Answer.{Answer}
 use Rattle.mm_types.specs.declared.answers.Answer.TheVariants as answer

@@ -3,16 +3,13 @@ ghost use Rattle.mm_types.specs.declared.events.Event.{Event};
 ghost use Rattle.mm_world.specs.System.{is_watched_type};
 ghost use Rattle.mm_system.specs.Lines.{world_line};
 
-use mm_types::Event;
+use mm_types::{AllocFlags, Event};
 
-/// MEM_WRITE_WATCH, together with MEM_RESERVE.
-const WATCHED: u32 = 0x202000;
+/// The type of a watched region that is reserved alone.
+const WATCHED: u32 = AllocFlags::RESERVE.0 + AllocFlags::WRITE_WATCH.0;
 
-/// The same, with MEM_COMMIT.
-const WATCHED_AND_COMMITTED: u32 = 0x203000;
-
-/// What the types of watched regions have beside the plain ones.
-const WATCH: u32 = 0x200000;
+/// The type of one that is committed too.
+const WATCHED_AND_COMMITTED: u32 = WATCHED + AllocFlags::COMMIT.0;
 
 /// Whether an `alloc` of this type makes a watched region.
 pub(crate) fn is_watched_type(form: u32) -> bool
@@ -26,12 +23,27 @@ pub(crate) fn other_line(event: &Event) -> Option<Event>
     ensures { unwrap_or result event.now ≡ world_line event.now }
 {
     match event {
-        Event::Watch(pid, _, addr, _, _) | Event::ResetWatch(pid, addr, _) => {
-            Some(Event::Query(*pid, *addr))
+        Event::Watch { pid, addr, .. } | Event::ResetWatch { pid, addr, .. } => {
+            Some(Event::Query {
+                pid: *pid,
+                addr: *addr,
+            })
         }
-        Event::Alloc(pid, addr, size, form, prot) => {
+        Event::Alloc {
+            pid,
+            addr,
+            size,
+            form,
+            prot,
+        } => {
             if is_watched_type(*form) {
-                Some(Event::Alloc(*pid, *addr, *size, *form - WATCH, *prot))
+                Some(Event::Alloc {
+                    pid: *pid,
+                    addr: *addr,
+                    size: *size,
+                    form: *form - AllocFlags::WRITE_WATCH.0,
+                    prot: *prot,
+                })
             } else {
                 None
             }

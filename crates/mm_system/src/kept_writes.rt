@@ -2,12 +2,8 @@ ghost use Rattle.std.specs.Prelude.{◌≡◌, ◌<◌, map, replicate, slice_se
 ghost use Rattle.mm_types.specs.declared.events.Event.TheVariants as line;
 ghost use Rattle.mm_system.specs.Writes.{page_written, unless_in, writes_after};
 
-use mm_types::{AccessSpec, Answer, Event, Pid, Place, Tid, Vpn};
+use mm_types::{AccessSpec, Answer, Event, PAGE_SIZE, Pid, Place, THREADS, Tid, Vpn};
 use std::marker::Model;
-
-const THREADS: usize = 256;
-
-const PAGE_SIZE: u32 = 4096;
 
 /// Of each thread, the page that the access writes which it keeps.
 ///
@@ -31,8 +27,8 @@ fn page_written(pid: Pid, access: &AccessSpec) -> Option<Place>
     ensures { result ≡ page_written pid.0 access.now }
 {
     match access {
-        AccessSpec::Read(..) => None,
-        AccessSpec::Write(addr, _) => Some(Place {
+        AccessSpec::Read { .. } => None,
+        AccessSpec::Write { addr, .. } => Some(Place {
             pid,
             vpn: Vpn(*addr / PAGE_SIZE),
         }),
@@ -130,9 +126,9 @@ impl KeptWrites {
         ensures { self.new ≡ writes_after self.old event.now answer.now }
     {
         match event {
-            Event::Begin(tid, pid, access) => self.began(*tid, *pid, access, answer),
-            Event::Resume(tid) => self.resumed(*tid, answer),
-            Event::Exit(pid) => self.exited(*pid, answer),
+            Event::Begin { tid, pid, access } => self.began(*tid, *pid, access, answer),
+            Event::Resume { tid } => self.resumed(*tid, answer),
+            Event::Exit { pid } => self.exited(*pid, answer),
             _ => {}
         }
     }

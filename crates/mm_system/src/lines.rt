@@ -110,10 +110,13 @@ pub(crate) fn decide<G: Pages>(
     ensures loans { loans world.new ≡ loans world.old }
 {
     match event {
-        Event::Stack(tid, pid, reserve, commit) => world.create_stack(
-            alloc, line, stacks, *tid, *pid, *reserve, *commit,
-        ),
-        Event::Probe(tid, addr) => world.probe_stack(line, stacks, *tid, *addr),
+        Event::Stack {
+            tid,
+            pid,
+            reserve,
+            commit,
+        } => world.create_stack(alloc, line, stacks, *tid, *pid, *reserve, *commit),
+        Event::Probe { tid, addr } => world.probe_stack(line, stacks, *tid, *addr),
         _ => decide_alone(world, stacks, alloc, line, event),
     }
 }

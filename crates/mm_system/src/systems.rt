@@ -49,7 +49,7 @@ pub struct System<G: Pages> {
 }
 
 impl<G: Pages> System<G> {
-    ghost use Rattle.mm_system.specs.Told.{AsksBeside, AsksFiles, AsksNone, AsksPaging, FailsFrom, IsBroken, IsNoted, NamesCalls};
+    ghost use Rattle.mm_core.specs.Told.{AsksBeside, AsksFiles, AsksNone, AsksPaging, FailsFrom, IsBroken, IsNoted, NamesCalls};
     ghost use Rattle.mm_system.specs.Shown.{world, watches, stacks, system, report, line_of, paging_device, file_device, file_blocks, loans};
 
     /// The system after the `machine` line, over a new store of that machine.
@@ -112,7 +112,7 @@ impl<G: Pages> System<G> {
     ///
     /// `NoMemory` comes only from the lines from which it comes of a world, and from `stack` and `probe`. Then the system is as
     /// it was, and no further line can be decided. An `alloc` of a watched region takes the room for its written pages first,
-    /// so that in such a line want of memory may come before a refusal. `watch` and `resetwatch` take no memory.
+    /// so that such a line may run out of memory before a check that would refuse it. `watch` and `resetwatch` take no memory.
     ///
     /// Over a store that pages, the line's piece of the log of moves is its `at` and the moves that its form allows (`paged`);
     /// after `NoMemory` it is an `at` alone, or empty (`broken`).
@@ -131,19 +131,19 @@ impl<G: Pages> System<G> {
         ensures leaves { IfOk result (λ a. SystemLeaves (system self.old) event.now (record { answer = a; system = system self.new })) }
         ensures within { charge (world self.new) ≤ limit (world self.new) }
         ensures lives { IsTidy (tables_of (world self.new)) }
-        ensures asked_files { is_fail event.now ≡ false → OnOk result (AsksFiles self.old self.new) }
-        ensures asked_paging { is_fail event.now ≡ false → is_grow event.now ≡ false → OnOk result (AsksPaging self.old self.new) }
-        ensures beside { G.unpaged ≡ false → IfOk result (λ a. AsksBeside self.old event.now a self.new) }
-        ensures named { IfOk result (λ a. NamesCalls self.old event.now a self.new) }
-        ensures idle { OnErr result (AsksNone self.old self.new) }
-        ensures failed { IfOk result (λ a. IsFailure a → FailsFrom self.old event.now self.new) }
+        ensures asked_files { is_fail event.now ≡ false → OnOk result (AsksFiles self.old.world self.new.world) }
+        ensures asked_paging { is_fail event.now ≡ false → is_grow event.now ≡ false → OnOk result (AsksPaging self.old.world self.new.world) }
+        ensures beside { G.unpaged ≡ false → IfOk result (λ a. AsksBeside self.old.world event.now a self.new.world) }
+        ensures named { IfOk result (λ a. NamesCalls self.old.world event.now a self.new.world) }
+        ensures idle { OnErr result (AsksNone self.old.world self.new.world) }
+        ensures failed { IfOk result (λ a. IsFailure a → FailsFrom self.old.world event.now self.new.world) }
         ensures unwaited { G.unpaged ≡ true → (tid : ℕ) → ((report self.old).wait tid ≡ wait.None) × ((report self.new).wait tid ≡ wait.None) }
         ensures waits { IfOk result (λ a. EndsWaits (world self.old) event.now a (report self.new)) }
         ensures paging_later { (paging_device self.old).faults ≤ (paging_device self.new).faults }
         ensures files_later { (file_device self.old).faults ≤ (file_device self.new).faults }
         ensures flushed { IfOk result (λ a. Flushed (world self.new) (file_blocks self.new) event.now a) }
-        ensures paged { G.unpaged ≡ false → IfOk result (λ a. IsNoted self.old event.now a self.new) }
-        ensures broken { G.unpaged ≡ false → OnErr result (IsBroken self.old self.new) }
+        ensures paged { G.unpaged ≡ false → IfOk result (λ a. IsNoted self.old.world event.now a self.new.world) }
+        ensures broken { G.unpaged ≡ false → OnErr result (IsBroken self.old.world self.new.world) }
         ensures no_memory { takes_memory event.now ≡ false → IsOk result }
         ensures line { OnOk result (line_of self.new ≡ line) }
         ensures ready { OnOk result (self.new.spent ≡ false) }
@@ -170,6 +170,3 @@ impl<G: Pages> System<G> {
         }
     }
 }
-
-#[cfg(test)]
-mod tests;

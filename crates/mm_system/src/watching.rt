@@ -13,16 +13,11 @@ ghost use Rattle.mm_core.specs.Built.{takes_memory};
 use crate::built::is_watched_type;
 use crate::kept_writes::KeptWrites;
 use mm_spaces::PageRange;
-use mm_types::{AccessSpec, Answer, Code, Event, NoMemory, Pid, Place, Tid, Vpn};
+use mm_types::{
+    AccessSpec, AllocFlags, Answer, Code, Event, GRANULE_PAGES, GRANULE_SIZE, NoMemory, PAGE_SIZE,
+    Pid, Place, Tid, Vpn,
+};
 use mm_watch::Watch;
-
-const PAGE_SIZE: u32 = 4096;
-
-const GRANULE_SIZE: u32 = 65536;
-
-const GRANULE_PAGES: u32 = 16;
-
-const RELEASE: u32 = 0x8000;
 
 /// How many pages an `alloc` that reserves asks for.
 fn pages_asked(addr: u32, size: u32) -> u32
@@ -54,7 +49,12 @@ pub(crate) fn take_room(watch: &mut Watch, event: &Event) -> Result<(), NoMemory
     ensures no_memory { takes_memory event.now ≡ false → IsOk result }
 {
     match event {
-        Event::Alloc(_, addr, size, form, _) => {
+        Event::Alloc {
+            addr,
+            size,
+            form,
+            ..
+        } => {
             if is_watched_type(*form) {
                 watch.reserve(pages_asked(*addr, *size))
             } else {
@@ -159,7 +159,7 @@ fn freed(watch: &mut Watch, pid: Pid, addr: u32, size: u32, form: u32, answer: &
 {
     match answer {
         Answer::Ok => {
-            if form == RELEASE {
+            if form == AllocFlags::RELEASE.0 {
                 end_at(watch, pid, addr);
             }
         }
@@ -193,8 +193,8 @@ fn began(watch: &mut Watch, tid: Tid, pid: Pid, access: &AccessSpec, answer: &An
 {
     match answer {
         Answer::Ok => match access {
-            AccessSpec::Read(..) => {}
-            AccessSpec::Write(addr, _) => watch.wrote(pid, Vpn(*addr / PAGE_SIZE)),
+            AccessSpec::Read { .. } => {}
+            AccessSpec::Write { addr, .. } => watch.wrote(pid, Vpn(*addr / PAGE_SIZE)),
         },
         _ => {}
     }
@@ -221,14 +221,25 @@ fn note(watch: &mut Watch, writes: &KeptWrites, event: &Event, answer: &Answer)
     ensures { (w : World) → writes.now ≡ writes_of w → watch.new.watches ≡ watches_after w watch.old.watches event.now answer.now }
 {
     match event {
-        Event::Alloc(pid, addr, size, form, prot) => {
+        Event::Alloc {
+            pid,
+            addr,
+            size,
+            form,
+            prot,
+        } => {
             allocated(watch, *pid, *addr, *size, *form, *prot, answer);
         }
-        Event::Free(pid, addr, size, form) => freed(watch, *pid, *addr, *size, *form, answer),
-        Event::Exit(pid) => exited(watch, *pid, answer),
-        Event::Write(pid, addr, _) => wrote(watch, *pid, *addr, answer),
-        Event::Begin(tid, pid, access) => began(watch, *tid, *pid, access, answer),
-        Event::Resume(tid) => resumed(watch, *tid, writes.of(*tid), answer),
+        Event::Free {
+            pid,
+            addr,
+            size,
+            form,
+        } => freed(watch, *pid, *addr, *size, *form, answer),
+        Event::Exit { pid } => exited(watch, *pid, answer),
+        Event::Write { pid, addr, .. } => wrote(watch, *pid, *addr, answer),
+        Event::Begin { tid, pid, access } => began(watch, *tid, *pid, access, answer),
+        Event::Resume { tid } => resumed(watch, *tid, writes.of(*tid), answer),
         _ => {}
     }
 }
@@ -246,13 +257,19 @@ pub(crate) fn follow(
     ensures watches { (w : World) → writes.now ≡ writes_of w → watch.new.watches ≡ watches_after w watch.old.watches event.now result }
 {
     match event {
-        Event::Watch(pid, unwrites, addr, size, count) => {
+        Event::Watch {
+            pid,
+            reset: unwrites,
+            addr,
+            size,
+            count,
+        } => {
             if is_gone(&answer) {
                 return Answer::Error(Code::InvalidHandle);
             }
             list_written(watch, *pid, *unwrites, *addr, *size, *count)
         }
-        Event::ResetWatch(pid, addr, size) => {
+        Event::ResetWatch { pid, addr, size } => {
             if is_gone(&answer) {
                 return Answer::Error(Code::InvalidHandle);
             }

@@ -1,30 +1,155 @@
--- A handle of a process is closed: what the call's steps are told, and what they come to.
-use Rattle.std.proofs.Common.{◌≡◌, ℕ, ◌+◌, ◌-◌, ◌≤◌, ◌<◌, Bool, true, false, Option, Some, None, List, refl, sym, ◌∙◌, ap, subst, cond, arith, length, set, get_or, is_some, option_map}
-use Rattle.std.specs.Prelude.{IsSomeAnd}
+-- A handle is closed: the processes that are kept by pid, their handles, what the steps of the call are told, and what they come to.
+use Rattle.std.proofs.Common.{◌≡◌, ℕ, zero, suc, ◌-◌, ◌≤◌, ◌<◌, Bool, true, false, Option, Some, None, List, [], ◌∷◌, refl, sym, ◌∙◌, ap, subst, cond, arith, length, set, get_or, is_some, option_map, ◌≢◌, ◌+◌}
+use Rattle.std.specs.Prelude.{◌==◌, ◌/◌, ◌%◌, IsSomeAnd, option_and_then}
+use Rattle.std.specs.Cmp.{unsigned_Decides}
+use Rattle.mm_types.specs.Machine.{MachineOf}
+use Rattle.mm_types.specs.declared.codes.Code.TheVariants as code
+use Rattle.mm_types.specs.declared.answers.Answer.TheVariants as answer
 use Rattle.mm_types.specs.declared.numbers.Area.{Area}
 use Rattle.mm_types.specs.declared.numbers.Key.{Key}
-use Rattle.mm_types.specs.Machine.{MachineOf}
-use Rattle.mm_commit.specs.Charge.{CommitOf}
-use Rattle.mm_world.specs.World.{Page, ProcessOf, AreaOf, SectionOf, Numbered, numbered, KeptOf}
-use Rattle.mm_world.specs.Find.{Found, process_of, set_process, area_at}
-use Rattle.mm_world.specs.Charge.{charge, area_charge}
+use Rattle.mm_types.proofs.Booleans.{not_true}
+use Rattle.mm_world.specs.World.{ProcessOf, AreaOf, SectionOf, FileOf, Numbered, numbered, KeptOf, Page}
+use Rattle.mm_world.specs.Find.{Found, process_of, section_of, set_process, area_at}
 use Rattle.mm_world.specs.Sections.{handle_section, settle}
 use Rattle.mm_world.specs.Contents.{Tables}
+use Rattle.mm_world.specs.Charge.{charge, area_charge}
+use Rattle.mm_world.specs.Outcome.{find_or, done}
 use Rattle.mm_world.specs.WellFormed.{WellFormed}
+use Rattle.mm_world.proofs.Keeps.{close_keeps}
+use Rattle.mm_world.proofs.Charges.{charge-same_regions}
 use Rattle.mm_pages.specs.Store.{StoreOf}
 use Rattle.mm_pages.specs.Conditions.{IsReleasing}
-use Rattle.mm_sections.specs.Directories.{CountedSection, DirectoryOf, sections_of, settled_by, one_handle_less}
+use Rattle.mm_commit.specs.Charge.{CommitOf}
+use Rattle.mm_sections.specs.Directories.{CountedSection, sections_of, DirectoryOf, settled_by, one_handle_less}
 use Rattle.mm_sections.specs.Handles.{held}
 use Rattle.mm_tables.specs.declared.tables.Process.{Process}
-use Rattle.mm_tables.specs.References.{handles_in}
 use Rattle.mm_tables.specs.Shown.{shown_process, shown_processes, tables_with}
+use Rattle.mm_tables.specs.References.{handles_in, views_in, handles_to}
+use Rattle.mm_tables.specs.Fits.{paging_count, Fits}
 use Rattle.mm_tables.specs.Sound.{IsKept}
-use Rattle.mm_tables.specs.Fits.{Fits}
 use Rattle.mm_tables.specs.Endings.{CanEnd, Emptied, ended_area}
-use Rattle.mm_tables.proofs.EndingStruct.{has_process, shown_set, made_with, HasProcess, HasHandle, has_handle, HasEntry, has_entry, same_process, alive_shown, is_some_and}
-use Rattle.mm_tables.proofs.EndingHandles.{closed, others, one_less, some_handle, same_count, same_charge, sound_after}
-use Rattle.mm_tables.proofs.EndingSteps.{Landed, inside, can_end, landed_stays, landed_ends}
-use Rattle.mm_tables.proofs.EndingKept.{Standing, standing, area_found, area_charged, nothing_lost}
+use Rattle.mm_tables.proofs.Standing.{lives_where, shown_at, shown_set}
+use Rattle.mm_tables.proofs.ViewAdded.{process_is}
+use Rattle.mm_tables.proofs.EndingSettles.{closed_count, handles_put}
+use Rattle.mm_tables.proofs.OneProcess.{paging-set_process}
+use Rattle.mm_tables.proofs.EndingSteps.{Standing, standing, area_found, area_charged, nothing_lost, Landed, inside, can_end, landed_stays, landed_ends}
+
+-- ---- processes by pid
+
+-- where a living process stands
+
+-- ---- a living process among those that are kept
+
+pub record HasProcess (t : Tables) (items : List (Option Process)) (pid : ℕ) (x : Option Process) : Type 0 where
+  pub process : ProcessOf (Unit {0})
+  pub shown : option_map shown_process x ≡ Some process
+  pub lives : process_of t pid ≡ Some process
+  pub low : 1 ≤ pid
+  pub few : pid ≤ length items
+
+pub has_process : (t : Tables) (items : List (Option Process)) (pid : ℕ) (x : Option Process) → shown_processes items ≡ t.processes → is_some (process_of t pid) ≡ true → x ≡ get_or items (pid - 1) x → HasProcess t items pid x
+has_process t items pid x processes alive found = by_process (process_of t pid) refl alive
+  where
+    w : (1 ≤ pid) × (pid ≤ length items)
+    w = lives_where items pid (ap (λ (ps : List (Option (ProcessOf (Unit {0})))). is_some (numbered ps pid)) processes ∙ alive)
+
+    at : process_of t pid ≡ option_map shown_process x
+    at = ap (λ (ps : List (Option (ProcessOf (Unit {0})))). numbered ps pid) (sym processes) ∙ shown_at items pid x w.0 w.1 found
+
+    by_process : (o : Option (ProcessOf (Unit {0}))) → process_of t pid ≡ o → is_some o ≡ true → HasProcess t items pid x
+    by_process None e alive = cc
+    by_process (Some p) e alive = record { process = p; shown = sym at ∙ e; lives = e; low = w.0; few = w.1 }
+
+pub alive_shown : (x : Option Process) (p : ProcessOf (Unit {0})) → option_map shown_process x ≡ Some p → is_some x ≡ true
+alive_shown None p e = cc
+alive_shown (Some x) p e = refl
+
+-- the tables with other processes, sections and areas
+pub made_with : (m : MachineOf) (items : List (Option (ProcessOf (Unit {0})))) (entries : Numbered CountedSection) (areas : List (AreaOf (Unit {0}))) (files files' : List FileOf) (used fails : ℕ) (accesses : Numbered KeptOf) (t : Tables) → tables_with m items entries areas files used fails accesses ≡ t → (ps qs : List (Option (ProcessOf (Unit {0})))) (es fs : Numbered CountedSection) (as' bs : List (AreaOf (Unit {0}))) → ps ≡ qs → es ≡ fs → as' ≡ bs → files' ≡ files → tables_with m ps es as' files' used fails accesses ≡ record t { processes = qs; sections = sections_of fs; areas = bs }
+made_with m items entries areas files files' used fails accesses t view ps qs es fs as' bs p e a f =
+    (λ i. record (tables_with m items entries areas (f i) used fails accesses) { processes = p i; sections = sections_of (e i); areas = a i })
+    ∙ (λ i. record (view i) { processes = qs; sections = sections_of fs; areas = bs })
+
+-- ---- handles
+
+-- the section of a handle that is there
+pub record HasHandle (t : Tables) (p : ProcessOf (Unit {0})) (handle : ℕ) : Type 0 where
+  pub number : ℕ
+  pub is_held : held p.handles handle ≡ Some number
+  pub there : numbered p.handles (handle / 4) ≡ Some number
+  pub section : SectionOf
+  pub lives : section_of t number ≡ Some section
+
+held_there : (entries : Numbered ℕ) (handle n : ℕ) → held entries handle ≡ Some n → numbered entries (handle / 4) ≡ Some n
+held_there entries handle n e = by_test (handle % 4 == 0) e
+  where
+    by_test : (b : Bool) → cond b (numbered entries (handle / 4)) None ≡ Some n → numbered entries (handle / 4) ≡ Some n
+    by_test true e = e
+    by_test false e = cc
+
+pub has_handle : (t : Tables) (p : ProcessOf (Unit {0})) (handle : ℕ) → is_some (handle_section t p handle) ≡ true → HasHandle t p handle
+has_handle t p handle e = by_held (held p.handles handle) refl e
+  where
+    by_section : (n : ℕ) → held p.handles handle ≡ Some n → (o : Option SectionOf) → section_of t n ≡ o → is_some (option_map (λ s. let f : Found SectionOf = record { place = n; thing = s } in f) o) ≡ true → HasHandle t p handle
+    by_section n h None s e = cc
+    by_section n h (Some x) s e = record { number = n; is_held = h; there = held_there p.handles handle n h; section = x; lives = s }
+
+    by_held : (o : Option ℕ) → held p.handles handle ≡ o → is_some (option_and_then (λ number. option_map (λ s. let f : Found SectionOf = record { place = number; thing = s } in f) (section_of t number)) o) ≡ true → HasHandle t p handle
+    by_held None h e = cc
+    by_held (Some n) h e = by_section n h (section_of t n) refl e
+
+-- the entry of a section that lives
+pub record HasEntry (entries : Numbered CountedSection) (n : ℕ) (s : SectionOf) : Type 0 where
+  pub counted : CountedSection
+  pub entry : numbered entries n ≡ Some counted
+  pub section_is : counted.section ≡ s
+
+pub has_entry : (entries : Numbered CountedSection) (ss : Numbered SectionOf) (n : ℕ) (s : SectionOf) → sections_of entries ≡ ss → numbered ss n ≡ Some s → HasEntry entries n s
+has_entry entries ss n s sections there = walk entries n (ap (λ (ss : Numbered SectionOf). numbered ss n) sections ∙ there)
+  where
+    walk : (entries : Numbered CountedSection) (n : ℕ) → numbered (sections_of entries) n ≡ Some s → HasEntry entries n s
+    walk [] n e = cc
+    walk (None ∷ es) zero e = cc
+    walk (Some c ∷ es) zero e = record { counted = c; entry = refl; section_is = (let same : c.section ≡ s = cc in same) }
+    walk (x ∷ es) (suc n) e = let h = walk es n e in record { counted = h.counted; entry = h.entry; section_is = h.section_is }
+
+pub is_some_and : {A : Type 0} (P : A → Type 0) (o : Option A) (x : A) → o ≡ Some x → P x → IsSomeAnd o P
+is_some_and P None x e h = cc
+is_some_and P (Some y) x e h = subst P (let same : x ≡ y = cc in same) h
+
+-- ---- A handle less, and a process that ends: what counts of references come to
+
+abbrev pub closed : {B : Type 0} → ProcessOf B → ℕ → ProcessOf B
+closed p handle = record p { handles = set p.handles (handle / 4) None }
+
+module _ (t : Tables) (pid : ℕ) (p : ProcessOf (Unit {0})) (handle m : ℕ) (lives : process_of t pid ≡ Some p) (there : numbered p.handles (handle / 4) ≡ Some m) where
+  pub others : (n : ℕ) → n ≢ m → (handles_in n (Some (closed p handle)) ≡ handles_in n (Some p)) × (views_in n (Some (closed p handle)) ≡ views_in n (Some p))
+  others n other =
+      let none : (m == n) ≡ false = not_true (m == n) (λ e. other (sym ((unsigned_Decides m n).0 e))) in
+      (omega (arith, closed_count p.handles (handle / 4) n m there, ap {B = ℕ} (λ b. cond b 1 0) none), refl)
+
+  pub one_less : handles_in m (Some (closed p handle)) + 1 ≡ handles_in m (Some p)
+  one_less =
+      let one : (m == m) ≡ true = (unsigned_Decides m m).1 refl in
+      omega (arith, closed_count p.handles (handle / 4) m m there, ap {B = ℕ} (λ b. cond b 1 0) one)
+
+  pub some_handle : 1 ≤ handles_to t m
+  some_handle = omega (arith, handles_put t pid m p None lives, one_less)
+
+  pub same_count : paging_count (set_process t pid (Some (closed p handle))) ≡ paging_count t
+  same_count = omega (arith, paging-set_process t pid p (Some (closed p handle)) lives)
+
+  pub same_charge : charge (set_process t pid (Some (closed p handle))) ≡ charge t
+  same_charge = charge-same_regions t pid p (set p.handles (handle / 4) None) lives
+
+  pub sound_after : (s : Found SectionOf) → handle_section t p handle ≡ Some s → WellFormed t → WellFormed (settle (set_process t pid (Some (closed p handle))))
+  sound_after s found sound =
+      subst (λ (w : Tables). WellFormed w)
+      (ap (λ (o : Option (ProcessOf (Unit {0}))). (find_or t code.InvalidHandle o (λ p. find_or t code.InvalidHandle (handle_section t p handle) (λ s. done answer.Ok (settle (set_process t pid (Some (record p { handles = set p.handles (handle / 4) None }))))))).world) lives
+      ∙ ap (λ (o : Option (Found SectionOf)). (find_or t code.InvalidHandle o (λ s. done answer.Ok (settle (set_process t pid (Some (record p { handles = set p.handles (handle / 4) None })))))).world) found)
+      (close_keeps t pid handle sound)
+
+-- ---- A handle of a process is closed: what the call's steps are told, and what they come to
 
 found_handle : (t : Tables) (p : ProcessOf (Unit {0})) (handle : ℕ) → is_some (handle_section t p handle) ≡ true → (s : Found SectionOf) × (handle_section t p handle ≡ Some s)
 found_handle t p handle e = by_option (handle_section t p handle) refl e
@@ -47,14 +172,14 @@ module _ (t : Tables) (items : List (Option Process)) (entries : Numbered Counte
 
   pub held_requires : (p : ProcessOf (Unit {0})) → option_map shown_process x ≡ Some p → is_some (held p.handles handle) ≡ true
   held_requires p shown =
-      subst (λ (p : ProcessOf (Unit {0})). is_some (held p.handles handle) ≡ true) (same_process (option_map shown_process x) h.process p h.shown shown) (ap is_some k.is_held)
+      subst (λ (p : ProcessOf (Unit {0})). is_some (held p.handles handle) ≡ true) (process_is (option_map shown_process x) h.process p h.shown shown) (ap is_some k.is_held)
 
   some_of : 1 ≤ e.counted.handles
   some_of = omega (arith, (st.kept.counted k.number e.counted e.entry).handles, some_handle t pid h.process handle k.number h.lives k.there)
 
   pub counted_requires : (p : ProcessOf (Unit {0})) (n : ℕ) → option_map shown_process x ≡ Some p → held p.handles handle ≡ Some n → IsSomeAnd (numbered entries n) (λ c. 1 ≤ c.handles)
   counted_requires p n shown is_held =
-      let same = same_process (option_map shown_process x) p h.process shown h.shown in
+      let same = process_is (option_map shown_process x) p h.process shown h.shown in
       let both : Some n ≡ Some k.number = sym is_held ∙ ap (λ (p : ProcessOf (Unit {0})). held p.handles handle) same ∙ k.is_held in
       let number : n ≡ k.number = cc in
       is_some_and (λ (c : CountedSection). 1 ≤ c.handles) (numbered entries n) e.counted (ap (numbered entries) number ∙ e.entry) some_of
@@ -116,7 +241,7 @@ module _ (m : MachineOf) (items : List (Option Process)) (dir dir' : DirectoryOf
 
   as_told : {made : Tables} {entries : Numbered CountedSection} {after : CommitOf} {d : Key → Option Page} {z : StoreOf} → Landed (settle (set_process t pid (Some (closed h.process handle)))) made (set dir.entries hk.number (settled_by (one_handle_less he.counted))) after c d s z → entries ≡ set dir.entries hk.number (settled_by (one_handle_less he.counted)) → (p : ProcessOf (Unit {0})) → process_of t pid ≡ Some p → Landed (settle (set_process t pid (Some (closed p handle)))) made entries after c d s z
   as_told {made} {entries} {after} {d} {z} landed entries_are p lives =
-      subst (λ (p : ProcessOf (Unit {0})). Landed (settle (set_process t pid (Some (closed p handle)))) made entries after c d s z) (same_process (process_of t pid) h.process p h.lives lives)
+      subst (λ (p : ProcessOf (Unit {0})). Landed (settle (set_process t pid (Some (closed p handle)))) made entries after c d s z) (process_is (process_of t pid) h.process p h.lives lives)
       (subst (λ (es : Numbered CountedSection). Landed (settle (set_process t pid (Some (closed h.process handle)))) made es after c d s z) (sym entries_are) landed)
 
   pub whole_stays : result ≡ None → (p : ProcessOf (Unit {0})) → process_of t pid ≡ Some p → Landed (settle (set_process t pid (Some (closed p handle)))) (tables_with m (shown_processes (set items (pid - 1) y)) dir'.entries areas dir'.files used fails accesses) dir'.entries commit c c s s

@@ -1,52 +1,319 @@
--- A process ends: its handles, its regions, and what is left when it has none of either.
-use Rattle.std.proofs.Common.{◌≡◌, inl, inr, ℕ, zero, suc, ◌+◌, ◌-◌, ◌*◌, ◌≤◌, ◌<◌, true, false, Option, Some, None, List, [], ◌∷◌, refl, sym, ◌∙◌, ap, subst, cond, arith, length, length-set, set, map, is_some, option_map, slice_get, sum_by, count_by, nat_lt, not, ◌&&◌}
-use Rattle.std.specs.Prelude.{◌==◌, ◌/◌, ◌%◌, option_and_then}
-use Rattle.std.specs.Prelude.{IfSome}
-use Rattle.mm_spaces.specs.declared.spaces.RegionInfo.{RegionInfo}
+-- Calls that give up pages, one after another: their moves, the pages of a range, the regions of a process, and its end.
+use Rattle.std.specs.Prelude.{remove, ◌==◌, ◌/◌, ◌%◌, option_and_then, IfSome}
+use Rattle.std.proofs.Common.{option_map, slice_get, ◌≡◌, ℕ, ◌+◌, ◌≤◌, ◌<◌, Bool, true, false, List, [], ◌∷◌, ◌++◌, Option, Some, None, refl, sym, ap, ◌∙◌, subst, arith, ◌-◌, cond, length, set, get_or, is_some, nat_lt, ◌&&◌, inl, inr, zero, suc, ◌*◌, length-set, map, sum_by, count_by, not}
 use Rattle.std.specs.Cmp.{unsigned_Decides}
 use Rattle.std.proofs.lemmas.List.{get_or-set_other}
 use Rattle.std.proofs.lemmas.List.Sums.{sum_by-cons}
-use Rattle.mm_types.proofs.Cells.{same_or_not}
-use Rattle.mm_types.specs.declared.codes.Code.TheVariants as code
+use Rattle.mm_types.specs.declared.moves.Move.{Move}
+use Rattle.mm_types.specs.declared.numbers.Pid.{Pid}
+use Rattle.mm_types.specs.declared.numbers.Place.{Place}
+use Rattle.mm_types.specs.Address.{Range, holds_page, end_of, end_of_user_pages, address_of, first_user_page}
 use Rattle.mm_types.specs.declared.answers.Answer.TheVariants as answer
+use Rattle.mm_types.specs.declared.codes.Code.TheVariants as code
+use Rattle.mm_types.specs.declared.moves.LineKind.TheVariants as line_kind
 use Rattle.mm_types.specs.declared.numbers.Key.{Key}
 use Rattle.mm_types.specs.declared.views.Kind.{Kind}
 use Rattle.mm_types.specs.declared.views.Kind.TheVariants as kind
-use Rattle.mm_types.specs.declared.views.View.{View}
-use Rattle.mm_types.specs.Address.{Range, address_of, end_of, end_of_user_pages, first_user_page}
 use Rattle.mm_types.specs.Machine.{MachineOf}
-use Rattle.mm_commit.specs.Charge.{CommitOf}
-use Rattle.mm_world.specs.World.{Page, ProcessOf, RegionOf, SectionOf, AreaOf, Numbered, numbered, KeptOf}
-use Rattle.mm_world.specs.Find.{Found, process_of, set_process, section_of, is_private}
-use Rattle.mm_world.specs.Charge.{charge, region_charge}
-use Rattle.mm_world.specs.Outcome.{find_or, done}
-use Rattle.mm_world.specs.Processes.{kept_of_others}
-use Rattle.mm_world.specs.Sections.{settle, handle_section, is_handle_to, is_view_of}
-use Rattle.mm_world.specs.Views.{view_at}
+use Rattle.mm_types.specs.Allocation.{release_type}
+use Rattle.mm_types.specs.declared.views.View.{View}
+use Rattle.mm_types.proofs.Booleans.{both, not_true}
+use Rattle.mm_types.proofs.Cells.{same_or_not}
+use Rattle.mm_world.specs.World.{RegionOf, ProcessOf, pages_of, Page, AreaOf, Numbered, KeptOf, SectionOf, numbered}
+use Rattle.mm_world.specs.Find.{process_of, Found, first_where, one_later, set_regions, region_around, is_private, set_process, section_of}
 use Rattle.mm_world.specs.Contents.{Tables}
-use Rattle.mm_world.specs.WellFormed.{WellFormed, IsSpace}
+use Rattle.mm_world.specs.WellFormed.{IsSpace, LaidOut, WellFormed}
+use Rattle.mm_world.specs.Charge.{charge, region_charge}
+use Rattle.mm_world.specs.Free.{private_at}
+use Rattle.mm_world.specs.Outcome.{find_or, done}
+use Rattle.mm_world.specs.Sections.{is_view_of, settle, handle_section, is_handle_to}
+use Rattle.mm_world.specs.Processes.{kept_of_others}
+use Rattle.mm_world.specs.Views.{view_at}
+use Rattle.mm_world.proofs.Keeps.{free_keeps, exit_keeps}
 use Rattle.mm_world.proofs.Charges.{charge-set_process}
-use Rattle.mm_world.proofs.Keeps.{exit_keeps}
+use Rattle.mm_walks.specs.Walks.{waits_through, ages_through}
+use Rattle.mm_pages.specs.Behind.{Behind}
+use Rattle.mm_pages.specs.Conditions.{AreAmong, place_at}
+use Rattle.mm_pages.specs.Housekeeping.{Turn, Ends, AllTurn, page_gone, with_some, pages_gone, Rises, Turns}
+use Rattle.mm_pages.specs.Passing.{PassesIn}
 use Rattle.mm_pages.specs.Store.{StoreOf, changed}
+use Rattle.mm_pages.proofs.Passed.{Joins, passes_then, waits_then, ages_then, ends_then, ends_more}
+use Rattle.mm_commit.specs.Charge.{CommitOf}
 use Rattle.mm_sections.specs.Directories.{CountedSection, DirectoryOf}
 use Rattle.mm_sections.specs.Handles.{held}
-use Rattle.mm_spaces.specs.Tables.{info_of, found_info}
+use Rattle.mm_spaces.specs.Tables.{info_of, owned_in, found_info}
+use Rattle.mm_spaces.specs.declared.spaces.RegionInfo.{RegionInfo}
+use Rattle.mm_tables.specs.Endings.{Fewer, CanRelease, Released, Less, Toward, Closes, HasNoHandle, nowhere}
 use Rattle.mm_tables.specs.declared.tables.Process.{Process}
 use Rattle.mm_tables.specs.References.{IsTidy, handles_to, views_of, NobodyKeeps}
-use Rattle.mm_tables.specs.Shown.{shown_processes, tables_with}
+use Rattle.mm_tables.specs.Shown.{shown_process, shown_processes, tables_with}
 use Rattle.mm_tables.specs.Sound.{IsKept}
 use Rattle.mm_tables.specs.Fits.{Fits, Settled, beside, paging_count}
-use Rattle.mm_tables.specs.Endings.{Less, Toward, Closes, Fewer, HasNoHandle, nowhere}
-use Rattle.mm_tables.proofs.Keepers.{others_all, keepers_less}
-use Rattle.mm_tables.proofs.EndingKeys.{both, not_true}
-use Rattle.mm_tables.proofs.EndingCounts.{handles_put, views_put, owned_put, holds_count, views_count}
-use Rattle.mm_tables.proofs.EndingSettles.{ends_same, ends_after, settle_same, tidy_settled}
-use Rattle.mm_tables.proofs.EndingHandles.{closed}
-use Rattle.mm_tables.proofs.EndingFits.{regions_of, regions_in, Loses, same_loses, process_same, less_then, beside_then, carries_less}
-use Rattle.mm_tables.proofs.EndingStruct.{shown_set, HasProcess}
-use Rattle.mm_tables.proofs.EndingSpace.{length_removed, laid_end}
-use Rattle.mm_tables.proofs.EndingUnmap.{unmapped}
-use Rattle.mm_tables.proofs.EndingRelease.{HasLowest, lowest_passes}
+use Rattle.mm_tables.proofs.EndingFits.{regions_of, carries_less, Loses, same_loses, process_same, less_then, beside_then}
+use Rattle.mm_tables.proofs.OneProcess.{regions_in, paging-set_process}
+use Rattle.mm_tables.proofs.Keeping.{lives_put, others_all, keepers_less}
+use Rattle.mm_tables.proofs.EndingSettles.{removed_views, handles_put, views_put, holds_count, views_count, settle_same, tidy_settled, ends_same, ends_after}
+use Rattle.mm_tables.proofs.EndingSteps.{Standing, standing, Landed}
+use Rattle.mm_tables.proofs.EndingUnmap.{unmapped, ends_within, is_around, can_release, charge_removed, fits_removed, owned_charge, length_removed, laid_end}
+use Rattle.mm_tables.proofs.Standing.{shown_set}
+use Rattle.mm_tables.proofs.ViewAdded.{process_is}
+use Rattle.mm_tables.proofs.EndingClose.{closed, has_process, made_with, HasProcess, alive_shown}
+
+-- ---- the last page of one call is the first of the next
+
+all_turn : (held : Place → Bool) (a b c d : ℕ) (xs ys : List Move) → AllTurn (Ends held a b) xs → AllTurn (Ends held c d) ys → AllTurn (Ends held a d) (xs ++ ys)
+all_turn held a b c d [] ys p q = q
+all_turn held a b c d (x ∷ xs) ys p q = (p.0, all_turn held a b c d xs ys p.1 q)
+
+with-some-then : (o : Option ℕ) (ps qs : List ℕ) → with_some o (ps ++ qs) ≡ with_some o ps ++ qs
+with-some-then None ps qs = refl
+with-some-then (Some p) ps qs = refl
+
+gone_then : (xs ys : List Move) → pages_gone (xs ++ ys) ≡ pages_gone xs ++ pages_gone ys
+gone_then [] ys = refl
+gone_then (x ∷ xs) ys = ap (with_some (page_gone x)) (gone_then xs ys) ∙ with-some-then (page_gone x) (pages_gone xs) (pages_gone ys)
+
+rises_lower : (low from to : ℕ) (ps : List ℕ) → low ≤ from → Rises from to ps → Rises low to ps
+rises_lower low from to [] l r = tt
+rises_lower low from to (p ∷ ps) l r = (omega (arith, l, r.0), r.1, r.2)
+
+rises_meet : (from page to : ℕ) (ps qs : List ℕ) → from ≤ page → page < to → Rises from (page + 1) ps → Rises page to qs → Rises from to (ps ++ qs)
+rises_meet from page to [] qs l h p q = rises_lower from page to qs l q
+rises_meet from page to (x ∷ ps) qs l h p q = (p.0, omega (arith, h, p.1), rises_meet x page to ps qs (omega (arith, p.1)) h p.2 q)
+
+meet_join : (held : Place → Bool) (from page to : ℕ) → from ≤ page → page < to → Joins (Turns (Ends held from (page + 1))) (Turns (Ends held page to)) (Turns (Ends held from to))
+meet_join held from page to l h = record {
+  join = λ b c d xs ys r p q. record {
+    all = all_turn held from (page + 1) page to xs ys p.all q.all;
+    order = subst (Rises from to) (sym (gone_then xs ys)) (rises_meet from page to (pages_gone xs) (pages_gone ys) l h p.order q.order);
+    moved = record {
+      waits = q.moved.waits ∙ ap (waits_through ys) p.moved.waits ∙ sym (waits_then xs ys b.waits);
+      ages = q.moved.ages ∙ ap (ages_through ys) p.moved.ages ∙ sym (ages_then xs ys b.ages);
+    };
+    slots = q.slots ∙ p.slots;
+  };
+}
+
+pub ends_meet : (u : Bool) (held : Place → Bool) (from page to : ℕ) (s y z : StoreOf) (b c d : Behind) → from ≤ page → page < to → PassesIn u (Turns (Ends held from (page + 1))) s y b c → PassesIn u (Turns (Ends held page to)) y z c d → PassesIn u (Turns (Ends held from to)) s z b d
+ends_meet u held from page to s y z b c d l h p q =
+    passes_then u (Turns (Ends held from (page + 1))) (Turns (Ends held page to)) (Turns (Ends held from to)) s y z b c d (meet_join held from page to l h) p q
+
+-- ---- calls of which no page of a process goes
+
+none_rises : (from to : ℕ) (ps : List ℕ) → Rises 0 0 ps → Rises from to ps
+none_rises from to [] r = tt
+none_rises from to (p ∷ ps) r = absurd (omega (arith, r.1))
+
+-- where no page goes, none goes from anywhere to anywhere
+pub ends_anywhere : (u : Bool) (held : Place → Bool) (from to : ℕ) (s z : StoreOf) (b c : Behind) → PassesIn u (Turns (Ends held 0 0)) s z b c → PassesIn u (Turns (Ends held from to)) s z b c
+ends_anywhere true held from to s z b c p = p
+ends_anywhere false held from to s z b c p =
+    record {
+      moves = p.moves;
+      in_range = p.in_range;
+      grew = p.grew;
+      replays = p.replays;
+      that = record { all = p.that.all; order = none_rises from to (pages_gone p.moves) p.that.order; moved = p.that.moved; slots = p.that.slots };
+      report = p.report;
+      paging_calls = p.paging_calls;
+      paging = p.paging;
+      paging_are = p.paging_are;
+      file_calls = p.file_calls;
+      files = p.files;
+      files_are = p.files_are;
+    }
+
+-- two such calls
+pub sections_then : (u : Bool) (s y z : StoreOf) (b c d : Behind) → ((held : Place → Bool) (from to : ℕ) → PassesIn u (Turns (Ends held from to)) s y b c) → ((held : Place → Bool) (from to : ℕ) → PassesIn u (Turns (Ends held from to)) y z c d) → (held : Place → Bool) (from to : ℕ) → PassesIn u (Turns (Ends held from to)) s z b d
+sections_then u s y z b c d p q held from to =
+    ends_anywhere u held from to s z b d (ends_then u held 0 0 0 s y z b c d (omega arith) (omega arith) (p held 0 0) (q held 0 0))
+
+-- ---- the pages of a range, one after another
+
+-- all these pages of the process are held
+abbrev pub AllHeld : (Place → Bool) → Pid → Range → Type 0
+AllHeld held pid range = (page : ℕ) → holds_page range page ≡ true → held (place_at pid page) ≡ true
+
+pub page_then : (u : Bool) (held : Place → Bool) (first i : ℕ) (s y z : StoreOf) (b c d : Behind) → PassesIn u (Turns (Ends held first (first + i))) s y b c → PassesIn u (Turns (Ends held (first + i) (first + (i + 1)))) y z c d → PassesIn u (Turns (Ends held first (first + (i + 1)))) s z b d
+page_then u held first i s y z b c d p q = ends_then u held first (first + i) (first + (i + 1)) s y z b c d (omega arith) (omega arith) p q
+
+-- those of the whole range
+pub range_passes : (u : Bool) (held : Place → Bool) (from to : ℕ) (pid : Pid) (range : Range) (n : ℕ) (s z : StoreOf) (b c : Behind) → AreAmong held from to pid range → n ≡ range.count → PassesIn u (Turns (Ends held range.first (range.first + n))) s z b c → PassesIn u (Turns (Ends held from to)) s z b c
+range_passes u held from to pid range n s z b c among all p =
+    ends_more u held held range.first (range.first + n) from to s z b c (λ place e. e) among.first (omega (arith, all, among.last)) p
+
+-- and an area ends behind them
+pub range_then : (u : Bool) (held : Place → Bool) (from to : ℕ) (pid : Pid) (range : Range) (s y z : StoreOf) (b c d : Behind) → AreAmong held from to pid range → PassesIn u (Turns (Ends held from to)) s y b c → ((held : Place → Bool) (from to : ℕ) → PassesIn u (Turns (Ends held from to)) y z c d) → PassesIn u (Turns (Ends held from to)) s z b d
+range_then u held from to pid range s y z b c d among p q = ends_then u held from to to s y z b c d (omega (arith, among.first, among.last)) (omega arith) p (q held to to)
+
+-- ---- the regions of a process, one after another
+
+-- the page that the regions begin with
+abbrev pub first_page : List (RegionOf (Unit {0})) → ℕ
+first_page [] = end_of_user_pages
+first_page (r ∷ rs) = r.base
+
+laid_first : (from : ℕ) (rs : List (RegionOf (Unit {0}))) → LaidOut from rs → from ≤ first_page rs
+laid_first from [] h = h
+laid_first from (r ∷ rs) h = h.0.later
+
+pub lowest_then : (u : Bool) (held : Place → Bool) (pid : Pid) (rs ss : List (RegionOf (Unit {0}))) (info : RegionInfo) (s y z : StoreOf) (b c d : Behind) → IsSpace rs → Some info ≡ option_map info_of (slice_get rs 0) → ss ≡ remove rs 0 → ((page : ℕ) → held (place_at pid page) ≡ true) → PassesIn u (Turns (Ends held 0 (first_page rs))) s y b c → ((held : Place → Bool) (from to : ℕ) → AreAmong held from to pid info.pages → PassesIn u (Turns (Ends held from to)) y z c d) → PassesIn u (Turns (Ends held 0 (first_page ss))) s z b d
+lowest_then u held pid [] ss info s y z b c d space at left all p q = cc
+lowest_then u held pid (r ∷ rs) ss info s y z b c d space at left all p q =
+    let same : ◌≡◌ {A = RegionInfo} info (info_of r) = cc in
+    let pages : info.pages ≡ pages_of r = ap (λ (i : RegionInfo). i.pages) same in
+    let low : end_of (pages_of r) ≤ first_page rs = laid_first (end_of (pages_of r)) rs space.laid_out.1 in
+    subst (λ (rs : List (RegionOf (Unit {0}))). PassesIn u (Turns (Ends held 0 (first_page rs))) s z b d) (sym left)
+    (ends_then u held 0 r.base (first_page rs) s y z b c d (omega arith) (omega (arith, low)) p
+    (q held r.base (first_page rs) (subst (λ (range : Range). AreAmong held r.base (first_page rs) pid range) (sym pages) (record { each = λ page e. all page; first = omega arith; last = omega (arith, low) }))))
+
+-- the same of the regions that a process has in tables
+pub regions_then : (u : Bool) (held : Place → Bool) (pid : Pid) (t v : Tables) (p q : ProcessOf (Unit {0})) (info : RegionInfo) (s y z : StoreOf) (b c d : Behind) → process_of t pid.0 ≡ Some p → process_of v pid.0 ≡ Some q → IsSpace p.regions → Some info ≡ option_map info_of (slice_get p.regions 0) → Fewer p q → ((page : ℕ) → held (place_at pid page) ≡ true) → PassesIn u (Turns (Ends held 0 (first_page (regions_in t pid.0)))) s y b c → ((held : Place → Bool) (from to : ℕ) → AreAmong held from to pid info.pages → PassesIn u (Turns (Ends held from to)) y z c d) → PassesIn u (Turns (Ends held 0 (first_page (regions_in v pid.0)))) s z b d
+regions_then u held pid t v p q info s y z b c d lives now space at fewer all past next =
+    subst (λ (rs : List (RegionOf (Unit {0}))). PassesIn u (Turns (Ends held 0 (first_page rs))) s z b d) (sym (ap regions_of now))
+    (lowest_then u held pid p.regions q.regions info s y z b c d space at fewer.left all
+    (subst (λ (rs : List (RegionOf (Unit {0}))). PassesIn u (Turns (Ends held 0 (first_page rs))) s y b c) (ap regions_of lives) past) next)
+
+pub regions_end : (u : Bool) (held : Place → Bool) (t : Tables) (pid : ℕ) (p : ProcessOf (Unit {0})) (s z : StoreOf) (b c : Behind) → process_of t pid ≡ Some p → p.regions ≡ [] → PassesIn u (Turns (Ends held 0 (first_page (regions_in t pid)))) s z b c → PassesIn u (Turns (Ends held 0 end_of_user_pages)) s z b c
+regions_end u held t pid p s z b c lives none past =
+    subst (λ (rs : List (RegionOf (Unit {0}))). PassesIn u (Turns (Ends held 0 (first_page rs))) s z b c) (ap regions_of lives ∙ none) past
+
+-- handles are closed, regions given up, and the process closed
+pub exit_then : (u : Bool) (held : Place → Bool) (n : ℕ) (s x y z : StoreOf) (b c d e : Behind) → ((held : Place → Bool) (from to : ℕ) → PassesIn u (Turns (Ends held from to)) s x b c) → PassesIn u (Turns (Ends held 0 n)) x y c d → ((turn : Turn) → PassesIn u (Turns turn) y z d e) → PassesIn u (Turns (Ends held 0 n)) s z b e
+exit_then u held n s x y z b c d e p q r =
+    ends_then u held 0 n n s y z b d e (omega arith) (omega arith) (ends_then u held 0 0 n s x y b c d (omega arith) (omega arith) (p held 0 0) q) (r (Ends held n n))
+
+-- ---- The lowest region of a process, which is private, is released: what the call's steps are told, and what they come to
+
+-- the lowest region
+pub record HasLowest (p : ProcessOf (Unit {0})) (range : Range) (k : Kind) : Type 0 where
+  pub region : RegionOf (Unit {0})
+  pub at : slice_get p.regions 0 ≡ Some region
+  pub pages : pages_of region ≡ range
+  pub is : region.kind ≡ k
+
+pub has_lowest : (p : ProcessOf (Unit {0})) (range : Range) (k : Kind) → option_map info_of (slice_get p.regions 0) ≡ Some (record { pages = range; kind = k }) → HasLowest p range k
+has_lowest p range k e = by_region (slice_get p.regions 0) refl e
+  where
+    by_region : (o : Option (RegionOf (Unit {0}))) → slice_get p.regions 0 ≡ o → option_map info_of o ≡ Some (record { pages = range; kind = k }) → HasLowest p range k
+    by_region None at e = cc
+    by_region (Some r) at e =
+        let same : ◌≡◌ {A = RegionInfo} (info_of r) (record { pages = range; kind = k }) = cc in
+        record { region = r; at = at; pages = ap (λ (i : RegionInfo). i.pages) same; is = ap (λ (i : RegionInfo). i.kind) same }
+
+module _ {B : Type 0} where
+  pub first_passes : (test : RegionOf B → Bool) (rs : List (RegionOf B)) (r : RegionOf B) → slice_get rs 0 ≡ Some r → test r ≡ true → first_where test rs ≡ Some (record { place = 0; thing = r })
+  first_passes test [] r at passes = cc
+  first_passes test (x ∷ rs) r at passes =
+      let same : x ≡ r = cc in
+      subst (λ (r : RegionOf B). first_where test (x ∷ rs) ≡ Some (record { place = 0; thing = r })) same
+      (ap (λ b. cond b (Some (record { place = 0; thing = x })) (option_map one_later (first_where test rs))) (ap test same ∙ passes))
+
+  pub lowest_passes : (test : RegionOf B → Bool) (rs : List (RegionOf B)) (r : RegionOf B) → slice_get rs 0 ≡ Some r → test r ≡ true → first_where test rs ≡ Some (record { place = 0; thing = r })
+  lowest_passes test rs r at passes = first_passes test rs r at passes
+
+some_length : {A : Type 0} (xs : List A) (x : A) → slice_get xs 0 ≡ Some x → 1 ≤ length xs
+some_length [] x e = cc
+some_length (y ∷ ys) x e = omega arith
+
+module _ (t : Tables) (pid : ℕ) (p : ProcessOf (Unit {0})) (r : RegionOf (Unit {0})) (lives : process_of t pid ≡ Some p) (at : slice_get p.regions 0 ≡ Some r) (is : r.kind ≡ kind.Private) (tidy : IsTidy t) where
+  abbrev u : Tables
+  u = set_regions t pid p (remove p.regions 0)
+
+  sound_after : WellFormed t → WellFormed (set_regions t pid p (remove p.regions 0))
+  sound_after sound =
+      let addr = address_of r.base in
+      let passes : (is_private r.kind && (address_of r.base == addr)) ≡ true = both (is_private r.kind) (address_of r.base == addr) (ap is_private is) ((unsigned_Decides (address_of r.base) addr).1 refl) in
+      let found : private_at p.regions addr ≡ Some (record { place = 0; thing = r }) = lowest_passes (λ r. is_private r.kind && (address_of r.base == addr)) p.regions r at passes in
+      subst (λ (w : Tables). WellFormed w)
+      (ap (λ (o : Option (ProcessOf (Unit {0}))). (find_or t code.InvalidHandle o (λ p. find_or t code.InvalidAddress (private_at p.regions addr) (λ r. done answer.Ok (set_regions t pid p (remove p.regions r.place))))).world) lives
+      ∙ ap (λ (o : Option (Found (RegionOf (Unit {0})))). (find_or t code.InvalidAddress o (λ r. done answer.Ok (set_regions t pid p (remove p.regions r.place)))).world) found)
+      (free_keeps t pid addr 0 release_type sound)
+
+  views_same : (n : ℕ) → views_of (set_regions t pid p (remove p.regions 0)) n ≡ views_of t n
+  views_same n =
+      omega (arith, views_put t pid n p (Some (unmapped p 0)) lives, removed_views p.regions 0 n r at, ap {B = ℕ} (λ (k : Kind). cond (is_view_of n k) 1 0) is)
+
+  handles_same : (n : ℕ) → handles_to (set_regions t pid p (remove p.regions 0)) n ≡ handles_to t n
+  handles_same n = omega (arith, handles_put t pid n p (Some (unmapped p 0)) lives)
+
+  tidy_after : IsTidy (set_regions t pid p (remove p.regions 0))
+  tidy_after =
+      let now = set_regions t pid p (remove p.regions 0) in
+      subst (λ (w : Tables). IsTidy w)
+      (settle_same t now.processes tidy.settled (λ n. (
+        holds_count now n ∙ ap (nat_lt 0) (handles_same n) ∙ sym (holds_count t n),
+        views_count now n ∙ ap (nat_lt 0) (views_same n) ∙ sym (views_count t n),
+      )))
+      (tidy_settled t now.processes tidy (λ tid k e. lives_put t.processes pid k.pid (unmapped p 0) (tidy.keepers tid k e)))
+
+  pub kept_private : (entries : Numbered CountedSection) (commit after : CommitOf) → IsKept t entries commit → after.charge ≡ charge (set_regions t pid p (remove p.regions 0)) → after.limit ≡ commit.limit → IsKept (set_regions t pid p (remove p.regions 0)) entries after
+  kept_private entries commit after kept charged limited =
+      record {
+        sound = sound_after kept.sound;
+        tidy = tidy_after;
+        counted = λ n c e. let was = kept.counted n c e in record { handles = was.handles ∙ sym (handles_same n); views = was.views ∙ sym (views_same n) };
+        charged = charged;
+        limited = limited ∙ kept.limited;
+      }
+
+module _ (m : MachineOf) (items : List (Option Process)) (dir : DirectoryOf) (areas : List (AreaOf (Unit {0}))) (used fails : ℕ) (accesses : Numbered KeptOf) (commit : CommitOf) (t : Tables) (shape : tables_with m (shown_processes items) dir.entries areas dir.files used fails accesses ≡ t) (kept : IsKept (tables_with m (shown_processes items) dir.entries areas dir.files used fails accesses) dir.entries commit) (pid : Pid) (x : Option Process) (range : Range) (alive : is_some (process_of t pid.0) ≡ true) (found : x ≡ get_or items (pid.0 - 1) x) (there : (p : ProcessOf (Unit {0})) → process_of t pid.0 ≡ Some p → option_map info_of (slice_get p.regions 0) ≡ Some (record { pages = range; kind = kind.Private })) (c : Key → Option Page) (s : StoreOf) (fits : Fits t c s) where
+  st : Standing t items dir.entries areas commit
+  st = standing m items dir.entries areas dir.files used fails accesses commit t shape kept
+
+  h : HasProcess t items pid.0 x
+  h = has_process t items pid.0 x st.processes alive found
+
+  v : HasLowest h.process range kind.Private
+  v = has_lowest h.process range kind.Private (there h.process h.lives)
+
+  of_process : (P : ProcessOf (Unit {0}) → Type 0) → P h.process → (p : ProcessOf (Unit {0})) → option_map shown_process x ≡ Some p → P p
+  of_process P at p shown = subst P (process_is (option_map shown_process x) h.process p h.shown shown) at
+
+  pub lowest_end : end_of range ≤ end_of_user_pages
+  lowest_end = ends_within t pid h.process 0 v.region range h.lives v.at v.pages st.kept.sound
+
+  pub lowest_lives : is_some x ≡ true
+  lowest_lives = alive_shown x h.process h.shown
+
+  pub lowest_there : (p : ProcessOf (Unit {0})) → option_map shown_process x ≡ Some p → 1 ≤ length p.regions
+  lowest_there = of_process (λ p. 1 ≤ length p.regions) (some_length h.process.regions v.region v.at)
+
+  pub lowest_around : (p : ProcessOf (Unit {0})) → option_map shown_process x ≡ Some p → is_some (region_around p.regions range) ≡ true
+  lowest_around = of_process (λ p. is_some (region_around p.regions range) ≡ true) (is_around t pid h.process 0 v.region range h.lives v.at v.pages st.kept.sound)
+
+  pub lowest_can : s.kind ≡ line_kind.Unbind pid → (p : ProcessOf (Unit {0})) → option_map shown_process x ≡ Some p → CanRelease pid range p.regions c s
+  lowest_can unbinding = of_process (λ p. CanRelease pid range p.regions c s) (can_release t pid h.process 0 v.region range h.lives v.at v.pages st.kept.sound c s fits unbinding)
+
+  module _ (owned : ℕ) (y : Option Process) (c1 : Key → Option Page) (s1 : StoreOf) (removed : (p : ProcessOf (Unit {0})) → option_map shown_process x ≡ Some p → option_map shown_process y ≡ Some (unmapped p 0)) (counts : (p : ProcessOf (Unit {0})) → option_map shown_process x ≡ Some p → owned ≡ owned_in p.regions range) (released : (p : ProcessOf (Unit {0})) → option_map shown_process x ≡ Some p → Released pid range p.regions c c1 s s1) where
+    owned_is : owned ≡ region_charge v.region
+    owned_is = counts h.process h.shown ∙ owned_charge t pid h.process 0 v.region range h.lives v.at v.pages st.kept.sound v.is
+
+    less_charge : charge (set_regions t pid.0 h.process (remove h.process.regions 0)) + region_charge v.region ≡ charge t
+    less_charge = charge_removed t pid h.process 0 v.region range h.lives v.at v.pages st.kept.sound
+
+    pub lowest_charged : owned ≤ commit.charge
+    lowest_charged = omega (arith, owned_is, less_charge, st.kept.charged)
+
+    processes : shown_processes (set items (pid.0 - 1) y) ≡ set t.processes pid.0 (Some (unmapped h.process 0))
+    processes = shown_set items pid.0 y h.low ∙ (λ i. set (st.processes i) pid.0 (removed h.process h.shown i))
+
+    pub lowest_landed : (commit1 : CommitOf) → commit1 ≡ record commit { charge = commit.charge - owned } → (p : ProcessOf (Unit {0})) → process_of t pid.0 ≡ Some p → Landed (set_regions t pid.0 p (remove p.regions 0)) (tables_with m (shown_processes (set items (pid.0 - 1) y)) dir.entries areas dir.files used fails accesses) dir.entries commit1 c c1 s s1
+    lowest_landed commit1 refunded p lives =
+        let lost = (released h.process h.shown).lost in
+        let after = set_regions t pid.0 h.process (remove h.process.regions 0) in
+        let is : tables_with m (shown_processes (set items (pid.0 - 1) y)) dir.entries areas dir.files used fails accesses ≡ after =
+        made_with m (shown_processes items) dir.entries areas dir.files dir.files used fails accesses t shape (shown_processes (set items (pid.0 - 1) y)) (set t.processes pid.0 (Some (unmapped h.process 0))) dir.entries dir.entries areas t.areas processes refl st.areas_are refl
+        ∙ (λ i. record t { processes = set t.processes pid.0 (Some (unmapped h.process 0)); sections = st.sections i }) in
+        let kept_now = kept_private t pid.0 h.process v.region h.lives v.at v.is st.kept.tidy dir.entries commit commit1 st.kept (omega (arith, ap (λ (k : CommitOf). k.charge) refunded, st.kept.charged, less_charge, owned_is)) (ap (λ (k : CommitOf). k.limit) refunded) in
+        let fits_now = fits_removed t pid h.process 0 v.region range h.lives v.at v.pages st.kept.sound c c1 s s1 fits (released h.process h.shown) in
+        subst (λ (p : ProcessOf (Unit {0})). Landed (set_regions t pid.0 p (remove p.regions 0)) (tables_with m (shown_processes (set items (pid.0 - 1) y)) dir.entries areas dir.files used fails accesses) dir.entries commit1 c c1 s s1) (process_is (process_of t pid.0) h.process p h.lives lives)
+        (record {
+          is = is;
+          kept = subst (λ (w : Tables). IsKept w dir.entries commit1) (sym is) kept_now;
+          settled = record { fits = subst (λ (w : Tables). Fits w c1 s1) (sym is) fits_now; carries = carries_less c c1 lost.less; rest = lost.rest };
+          less_live = lost.less;
+        })
 
 -- ---- steps towards the end
 
@@ -163,7 +430,7 @@ module _ (t : Tables) (pid : ℕ) (p : ProcessOf (Unit {0})) (lives : process_of
   charge_none = omega (arith, charge-set_process t pid p None lives, ap (λ (rs : List (RegionOf (Unit {0}))). sum_by region_charge rs) empty)
 
   count_none : paging_count (set_process t pid None) ≡ paging_count t
-  count_none = omega (arith, owned_put t pid p None lives, ap (λ (rs : List (RegionOf (Unit {0}))). sum_by (λ (r : RegionOf (Unit {0})). count_by (λ row. is_some row.own) r.rows) rs) empty)
+  count_none = omega (arith, paging-set_process t pid p None lives, ap (λ (rs : List (RegionOf (Unit {0}))). sum_by (λ (r : RegionOf (Unit {0})). count_by (λ row. is_some row.own) r.rows) rs) empty)
 
   settled_none : IsTidy t → settle (set_process t pid None) ≡ set_process t pid None
   settled_none tidy =

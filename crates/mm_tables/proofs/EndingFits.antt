@@ -1,31 +1,122 @@
--- A store stays that of the tables when keys, places and an area go.
-use Rattle.std.proofs.Common.{◌≡◌, ◌≢◌, inl, inr, ℕ, zero, suc, ◌+◌, ◌-◌, ◌≤◌, ◌<◌, Bool, true, false, Option, Some, None, List, [], ◌∷◌, refl, sym, ◌∙◌, ap, cond, arith, length, length-set, set, slice_get, is_some, not, ◌&&◌, option_map, unwrap_or}
-use Rattle.std.specs.Prelude.{◌==◌, option_and_then, remove}
+-- A region, an area or a process less: what the region that holds a page has, what is kept and lost of bytes, and that a store still fits.
+use Rattle.std.proofs.Common.{◌≡◌, ℕ, zero, suc, ◌-◌, ◌<◌, Bool, true, false, Option, Some, None, List, [], ◌∷◌, refl, sym, ◌∙◌, ap, cond, arith, slice_get, is_some, option_map, ◌≢◌, inl, inr, ◌+◌, ◌≤◌, length, length-set, set, not, ◌&&◌, unwrap_or}
+use Rattle.std.specs.Prelude.{remove, option_and_then, ◌==◌}
 use Rattle.std.specs.Cmp.{unsigned_Decides}
 use Rattle.std.proofs.lemmas.List.{get_or-set_same, get_or-set_other}
 use Rattle.mm_types.specs.declared.numbers.Key.{Key}
+use Rattle.mm_types.specs.Address.{end_of, holds_page}
 use Rattle.mm_types.specs.declared.numbers.Key.TheVariants as key
 use Rattle.mm_types.specs.declared.numbers.Pid.{Pid}
 use Rattle.mm_types.specs.declared.numbers.Place.{Place}
 use Rattle.mm_types.specs.declared.views.Kind.{Kind}
 use Rattle.mm_types.specs.declared.views.Kind.TheVariants as kind
 use Rattle.mm_types.specs.declared.views.View.{View}
-use Rattle.mm_types.specs.Address.{holds_page}
+use Rattle.mm_types.specs.declared.numbers.Area.{Area}
+use Rattle.mm_types.proofs.Booleans.{not_true}
 use Rattle.mm_types.proofs.Cells.{same_or_not}
-use Rattle.mm_world.specs.World.{Page, WorldOf, ProcessOf, RegionOf, RowOf, AreaOf, SectionOf, Numbered, numbered, pages_of}
-use Rattle.mm_world.specs.Find.{Found, process_of, region_with, set_process, set_regions, area_at, no_area}
-use Rattle.mm_world.specs.Charge.{charge}
-use Rattle.mm_world.specs.Keys.{InSection, Committed, committed_at, content_of, home_in, is_file_key, key_of, own_page, private_key}
+use Rattle.mm_world.specs.World.{WorldOf, RegionOf, RowOf, pages_of, Page, ProcessOf, AreaOf, SectionOf, Numbered, numbered}
+use Rattle.mm_world.specs.Find.{Found, one_later, region_with, process_of, set_process, set_regions, area_at, no_area}
+use Rattle.mm_world.specs.Keys.{Home, Committed, committed_at, committed_in, home_in, key_of, InSection, content_of, is_file_key, own_page, Own}
 use Rattle.mm_world.specs.Rows.{row_at}
-use Rattle.mm_world.specs.Contents.{Tables}
 use Rattle.mm_world.specs.WellFormed.{LaidOut}
-use Rattle.mm_world.proofs.Finding.{numbered_inside, found_stands}
+use Rattle.mm_world.specs.Charge.{charge}
+use Rattle.mm_world.specs.Contents.{Tables}
+use Rattle.mm_world.proofs.Finding.{numbered_inside, found_stands, committed_is, home_cases, IsOwn, IsShared}
 use Rattle.mm_world.proofs.KeptPages.{own_in}
 use Rattle.mm_pages.specs.Store.{StoreOf, changed, is_place_in}
 use Rattle.mm_tables.specs.Fits.{Fits, Carried, Carries, beside, is_reserved, key_at, is_paging, open_pages, block_in, paging_count}
 use Rattle.mm_tables.specs.Endings.{Less, Lost, is_key_in, is_shared_in, nowhere}
-use Rattle.mm_tables.proofs.EndingKeys.{not_true}
-use Rattle.mm_tables.proofs.EndingRegions.{present, reading, reading_removed, key_in, key_reading, there_reading}
+use Rattle.mm_tables.proofs.Regions.{within, behind}
+use Rattle.mm_tables.proofs.OneProcess.{reserved_is, content_is, regions_of_process, regions_in}
+use Rattle.mm_tables.proofs.ViewWorlds.{area_here}
+
+-- a page that is held
+abbrev pub present : Option (Unit {0})
+present = Some tt
+
+module _ {B : Type 0} where
+  -- a region behind another has none of its pages
+
+  module _ {X : Type 0} (read : RegionOf B → Option X) (page : ℕ) where
+    abbrev pub reading : List (RegionOf B) → Option X
+    reading rs = option_and_then (λ (r : Found (RegionOf B)). read r.thing) (region_with rs page)
+
+    later_found : (o : Option (Found (RegionOf B))) → option_and_then (λ (r : Found (RegionOf B)). read r.thing) (option_map one_later o) ≡ option_and_then (λ (r : Found (RegionOf B)). read r.thing) o
+    later_found None = refl
+    later_found (Some r) = refl
+
+    pub reading-cons : (r : RegionOf B) (rs : List (RegionOf B)) → reading (r ∷ rs) ≡ cond (holds_page (pages_of r) page) (read r) (reading rs)
+    reading-cons r rs = by_test (holds_page (pages_of r) page)
+      where
+        by_test : (b : Bool) → option_and_then (λ (x : Found (RegionOf B)). read x.thing) (cond b (Some (record { place = 0; thing = r })) (option_map one_later (region_with rs page))) ≡ cond b (read r) (reading rs)
+        by_test true = refl
+        by_test false = later_found (region_with rs page)
+
+    here : (r : RegionOf B) (rs : List (RegionOf B)) → holds_page (pages_of r) page ≡ true → reading (r ∷ rs) ≡ read r
+    here r rs e = reading-cons r rs ∙ ap (λ b. cond b (read r) (reading rs)) e
+
+    later : (r : RegionOf B) (rs : List (RegionOf B)) → holds_page (pages_of r) page ≡ false → reading (r ∷ rs) ≡ reading rs
+    later r rs e = reading-cons r rs ∙ ap (λ b. cond b (read r) (reading rs)) e
+
+    none_below : (from : ℕ) (rs : List (RegionOf B)) → LaidOut from rs → page < from → reading rs ≡ None
+    none_below from [] h low = refl
+    none_below from (r ∷ rs) h low =
+        later r rs (not_true (holds_page (pages_of r) page) (λ e. absurd (omega (arith, (within (pages_of r) page e).low, h.0.later, low))))
+        ∙ none_below (end_of (pages_of r)) rs h.1 (omega (arith, h.0.later, low))
+
+    pub reading_removed : (from i : ℕ) (r : RegionOf B) (rs : List (RegionOf B)) → LaidOut from rs → slice_get rs i ≡ Some r → reading (remove rs i) ≡ cond (holds_page (pages_of r) page) None (reading rs)
+    reading_removed from i r [] h at = cc
+    reading_removed from zero r (x ∷ rs) h at =
+        let same : x ≡ r = cc in
+        by_test (holds_page (pages_of x) page) refl ∙ ap (λ (r : RegionOf B). cond (holds_page (pages_of r) page) None (reading (x ∷ rs))) same
+      where
+        by_test : (b : Bool) → holds_page (pages_of x) page ≡ b → reading rs ≡ cond (holds_page (pages_of x) page) None (reading (x ∷ rs))
+        by_test true e =
+            none_below (end_of (pages_of x)) rs h.1 (within (pages_of x) page e).high ∙ ap (λ b. cond b None (reading (x ∷ rs))) (sym e)
+        by_test false e = sym (later x rs e) ∙ ap (λ b. cond b None (reading (x ∷ rs))) (sym e)
+    reading_removed from (suc i) r (x ∷ rs) h at = by_test (holds_page (pages_of x) page) refl (reading_removed (end_of (pages_of x)) i r rs h.1 at)
+      where
+        by_test : (b : Bool) → holds_page (pages_of x) page ≡ b → reading (remove rs i) ≡ cond (holds_page (pages_of r) page) None (reading rs) → reading (x ∷ remove rs i) ≡ cond (holds_page (pages_of r) page) None (reading (x ∷ rs))
+        by_test true e rest =
+            here x (remove rs i) e ∙ sym (here x rs e)
+            ∙ ap (λ b. cond b None (reading (x ∷ rs))) (sym (behind from i page x r rs h at e))
+        by_test false e rest = later x (remove rs i) e ∙ rest ∙ ap (λ o. cond (holds_page (pages_of r) page) None o) (sym (later x rs e))
+
+    pub reading_at : (from i : ℕ) (rs : List (RegionOf B)) (r : RegionOf B) → LaidOut from rs → slice_get rs i ≡ Some r → holds_page (pages_of r) page ≡ true → reading rs ≡ read r
+    reading_at from i [] r h at e = cc
+    reading_at from zero (x ∷ rs) r h at e =
+        let same : x ≡ r = cc in
+        here x rs (ap (λ (r : RegionOf B). holds_page (pages_of r) page) same ∙ e) ∙ ap read same
+    reading_at from (suc i) (x ∷ rs) r h at e =
+        later x rs (not_true (holds_page (pages_of x) page) (λ t. let bad : true ≡ false = sym e ∙ behind from i page x r rs h at t in cc))
+        ∙ reading_at (end_of (pages_of x)) i rs r h.1 at e
+
+  -- ---- the key of a page
+
+  abbrev pub key_in : WorldOf B → ℕ → ℕ → RegionOf B → Option Key
+  key_in w pid page r = option_map (key_of pid page) (option_and_then (λ row. home_in w (page - r.base) r.kind row.own) (row_at r page))
+
+  pub key_reading : (w : WorldOf B) (pid page : ℕ) (rs : List (RegionOf B)) → option_map (λ (c : Committed B). key_of pid page c.home) (committed_at w rs page) ≡ reading (key_in w pid page) page rs
+  key_reading w pid page rs = by_region (region_with rs page)
+    where
+      by_home : (r : Found (RegionOf B)) (row : RowOf B) (o : Option (Home B)) → option_map (λ (c : Committed B). key_of pid page c.home) (option_map (λ (home : Home B). let made : Committed B = record { region = r; row = row; home = home } in made) o) ≡ option_map (key_of pid page) o
+      by_home r row None = refl
+      by_home r row (Some h) = refl
+
+      by_row : (r : Found (RegionOf B)) (o : Option (RowOf B)) → option_map (λ (c : Committed B). key_of pid page c.home) (committed_in w r (page - r.thing.base) o) ≡ option_map (key_of pid page) (option_and_then (λ (row : RowOf B). home_in w (page - r.thing.base) r.thing.kind row.own) o)
+      by_row r None = refl
+      by_row r (Some row) = by_home r row (home_in w (page - r.thing.base) r.thing.kind row.own)
+
+      by_region : (o : Option (Found (RegionOf B))) → option_map (λ (c : Committed B). key_of pid page c.home) (option_and_then (λ (r : Found (RegionOf B)). committed_in w r (page - r.thing.base) (row_at r.thing page)) o) ≡ option_and_then (λ (r : Found (RegionOf B)). key_in w pid page r.thing) o
+      by_region None = refl
+      by_region (Some r) = by_row r (row_at r.thing page)
+
+  pub there_reading : (page : ℕ) (rs : List (RegionOf B)) → is_some (region_with rs page) ≡ is_some (reading (λ r. present) page rs)
+  there_reading page rs = by_region (region_with rs page)
+    where
+      by_region : (o : Option (Found (RegionOf B))) → is_some o ≡ is_some (option_and_then (λ (r : Found (RegionOf B)). present) o)
+      by_region None = refl
+      by_region (Some r) = refl
 
 -- ---- what is kept of bytes
 
@@ -92,22 +183,6 @@ regions_of {B} o = unwrap_or (option_map (λ (p : ProcessOf B). p.regions) o) []
 
 module _ {B : Type 0} where
   -- no region where the process is not
-  abbrev pub regions_in : WorldOf B → ℕ → List (RegionOf B)
-  regions_in w pid = regions_of (process_of w pid)
-
-  pub reserved_is : (w : WorldOf B) (place : Place) → is_reserved w place ≡ is_some (region_with (regions_in w place.pid.0) place.vpn.0)
-  reserved_is w place = by_process (process_of w place.pid.0)
-    where
-      by_process : (o : Option (ProcessOf B)) → unwrap_or (option_map (λ (p : ProcessOf B). is_some (region_with p.regions place.vpn.0)) o) false ≡ is_some (region_with (regions_of o) place.vpn.0)
-      by_process None = refl
-      by_process (Some p) = refl
-
-  pub content_is : (w : WorldOf B) (pid page : ℕ) → content_of w (private_key pid page) ≡ own_page (regions_in w pid) page
-  content_is w pid page = by_process (process_of w pid)
-    where
-      by_process : (o : Option (ProcessOf B)) → option_and_then (λ (p : ProcessOf B). own_page p.regions page) o ≡ own_page (regions_of o) page
-      by_process None = refl
-      by_process (Some p) = refl
 
   pub key_is_in : (w : WorldOf B) (place : Place) → key_at w place ≡ reading (key_in w place.pid.0 place.vpn.0) place.vpn.0 (regions_in w place.pid.0)
   key_is_in w place = by_process (process_of w place.pid.0)
@@ -115,9 +190,6 @@ module _ {B : Type 0} where
       by_process : (o : Option (ProcessOf B)) → option_and_then (λ (p : ProcessOf B). option_map (λ (c : Committed B). key_of place.pid.0 place.vpn.0 c.home) (committed_at w p.regions place.vpn.0)) o ≡ reading (key_in w place.pid.0 place.vpn.0) place.vpn.0 (regions_of o)
       by_process None = refl
       by_process (Some p) = key_reading w place.pid.0 place.vpn.0 p.regions
-
-  pub regions_lives : (w : WorldOf B) (pid : ℕ) (p : ProcessOf B) → process_of w pid ≡ Some p → regions_in w pid ≡ p.regions
-  regions_lives w pid p e = ap regions_of e
 
   pub process_same : (w : WorldOf B) (pid : ℕ) (p : ProcessOf B) (q : Option (ProcessOf B)) → process_of w pid ≡ Some p → process_of (set_process w pid q) pid ≡ q
   process_same w pid p q e = get_or-set_same w.processes pid q None (numbered_inside w.processes pid p e)
@@ -132,7 +204,7 @@ module _ {B : Type 0} where
     here_now n e = ap (λ (k : ℕ). regions_in (set_process w pid q) k) e ∙ ap regions_of (process_same w pid p q lives)
 
     pub was_here : (n : ℕ) → n ≡ pid → regions_in w n ≡ p.regions
-    was_here n e = ap (λ (k : ℕ). regions_in w k) e ∙ regions_lives w pid p lives
+    was_here n e = ap (λ (k : ℕ). regions_in w k) e ∙ regions_of_process w pid p lives
 
     pub not_here : (n : ℕ) → n ≢ pid → regions_in (set_process w pid q) n ≡ regions_in w n
     not_here n other = ap regions_of (process_other w pid n q other)
@@ -247,11 +319,6 @@ module _ (t : Tables) (pid : Pid) (p : ProcessOf (Unit {0})) (i : ℕ) (r : Regi
 
 -- ---- an area that ends
 
-area_set_same : (areas : List (AreaOf (Unit {0}))) (a : ℕ) (x : AreaOf (Unit {0})) → a < length areas → unwrap_or (slice_get (set areas a x) a) no_area ≡ x
-area_set_same [] a x h = absurd (omega (arith, h))
-area_set_same (y ∷ ys) zero x h = refl
-area_set_same (y ∷ ys) (suc a) x h = area_set_same ys a x (omega (arith, h))
-
 area_set_other : (areas : List (AreaOf (Unit {0}))) (a b : ℕ) (x : AreaOf (Unit {0})) → b ≢ a → slice_get (set areas a x) b ≡ slice_get areas b
 area_set_other [] a b x h = refl
 area_set_other (y ∷ ys) zero zero x h = absurd (h refl)
@@ -264,7 +331,7 @@ module _ (t : Tables) (ss : Numbered SectionOf) (a n : ℕ) (inside : a < length
   after = record t { sections = ss; areas = set t.areas a no_area }
 
   gone : (b : ℕ) → b ≡ a → area_at after b ≡ no_area
-  gone b e = ap (area_at after) e ∙ area_set_same t.areas a no_area inside
+  gone b e = ap (area_at after) e ∙ area_here t.areas a no_area inside
 
   stands : (b : ℕ) → b ≢ a → area_at after b ≡ area_at t b
   stands b other = ap (λ o. unwrap_or o no_area) (area_set_other t.areas a b no_area other)
@@ -364,3 +431,40 @@ module _ (t : Tables) (ss : Numbered SectionOf) (a n : ℕ) (inside : a < length
         | inl e ↦ ap (λ (g : ℕ → Option ℕ). g b) now ∙ ap (λ x. cond x None (f b)) (equal b e) ∙ sym (by_length (area_at after b) no_area (gone b e))
         | inr other ↦ ap (λ (g : ℕ → Option ℕ). g b) now ∙ ap (λ x. cond x None (f b)) (differ b other) ∙ before b ∙ sym (by_length (area_at after b) (area_at t b) (stands b other))
       ]
+
+-- ---- A place that has the key of a section's page lies in a view of its area
+
+-- the view
+pub record SeenBy (t : Tables) (area : Area) : Type 0 where
+  pub pid : ℕ
+  pub place : ℕ
+  pub process : ProcessOf (Unit {0})
+  pub region : RegionOf (Unit {0})
+  pub view : View
+  pub lives : process_of t pid ≡ Some process
+  pub at : slice_get process.regions place ≡ Some region
+  pub is : region.kind ≡ kind.View view
+  pub same : view.area.0 ≡ area.0
+
+of_home : (pid page : ℕ) (area : Area) (i : ℕ) (b : Unit {0}) (h : Home (Unit {0})) → h ≡ Own b → key_of {B = Unit {0}} pid page h ≡ key.Shared area i → ⊥
+of_home pid page area i b h own e = let bad : key_of {B = Unit {0}} pid page (Own b) ≡ key.Shared area i = ap (key_of {B = Unit {0}} pid page) (sym own) ∙ e in absurd (cc)
+
+pub seen_by : (t : Tables) (place : Place) (area : Area) (i : ℕ) → key_at t place ≡ Some (key.Shared area i) → SeenBy t area
+seen_by t place area i e = by_process (process_of t place.pid.0) refl e
+  where
+    by_committed : (p : ProcessOf (Unit {0})) → process_of t place.pid.0 ≡ Some p → (o : Option (Committed (Unit {0}))) → committed_at t p.regions place.vpn.0 ≡ o → option_map (λ (c : Committed (Unit {0})). key_of place.pid.0 place.vpn.0 c.home) o ≡ Some (key.Shared area i) → SeenBy t area
+    by_committed p lives None at e = cc
+    by_committed p lives (Some c) at e =
+        let h = committed_is t p.regions place.vpn.0 c at in
+        let is_key : key_of {B = Unit {0}} place.pid.0 place.vpn.0 c.home ≡ key.Shared area i = cc in
+        elim (home_cases t (place.vpn.0 - c.region.thing.base) c.region.thing.kind c.row.own c.home h.home_there) [
+          | IsOwn bytes own home ↦ absurd (of_home place.pid.0 place.vpn.0 area i bytes c.home home is_key)
+          | IsShared v page is own there home ↦
+              (let both : key_of {B = Unit {0}} place.pid.0 place.vpn.0 (InSection v.area.0 (v.first + (place.vpn.0 - c.region.thing.base))) ≡ key.Shared area i = ap (key_of {B = Unit {0}} place.pid.0 place.vpn.0) (sym home) ∙ is_key in
+              let same_area : v.area.0 ≡ area.0 = cc in
+              record { pid = place.pid.0; place = c.region.place; process = p; region = c.region.thing; view = v; lives = lives; at = (found_stands _ p.regions c.region h.region).there; is = is; same = same_area })
+        ]
+
+    by_process : (o : Option (ProcessOf (Unit {0}))) → process_of t place.pid.0 ≡ o → option_and_then (λ (p : ProcessOf (Unit {0})). option_map (λ (c : Committed (Unit {0})). key_of place.pid.0 place.vpn.0 c.home) (committed_at t p.regions place.vpn.0)) o ≡ Some (key.Shared area i) → SeenBy t area
+    by_process None lives e = cc
+    by_process (Some p) lives e = by_committed p lives (committed_at t p.regions place.vpn.0) refl e

@@ -1,5 +1,5 @@
 -- One reference less: what is left of the tables, and of a store that holds what they say.
-use Rattle.std.proofs.Common.{◌≡◌, ◌≢◌, inl, inr, ℕ, zero, suc, ◌+◌, ◌≤◌, ◌<◌, Bool, true, false, Option, Some, None, List, [], ◌∷◌, refl, sym, ◌∙◌, ap, subst, cond, arith, length, set, slice_get, is_some, not, ◌&&◌, ◌||◌, nat_lt, map, option_map, unwrap_or, sum_by, count_by}
+use Rattle.std.proofs.Common.{◌≡◌, ◌≢◌, inl, inr, ℕ, zero, suc, ◌+◌, ◌≤◌, ◌<◌, Bool, true, false, Option, Some, None, List, [], ◌∷◌, refl, sym, ◌∙◌, ap, subst, cond, arith, length, set, slice_get, is_some, not, ◌&&◌, ◌||◌, nat_lt, map, option_map, unwrap_or, sum_by, count_by, get_or}
 use Rattle.std.specs.Prelude.{◌==◌}
 use Rattle.std.specs.List.{list_any}
 use Rattle.std.specs.Cmp.{unsigned_Decides}
@@ -9,30 +9,36 @@ use Rattle.mm_types.specs.declared.numbers.Key.{Key}
 use Rattle.mm_types.specs.declared.numbers.Key.TheVariants as key
 use Rattle.mm_types.specs.declared.views.Kind.TheVariants as kind
 use Rattle.mm_types.specs.declared.views.View.{View}
+use Rattle.mm_types.specs.Machine.{MachineOf}
 use Rattle.mm_types.proofs.Cells.{same_or_not}
-use Rattle.mm_commit.specs.Charge.{CommitOf}
-use Rattle.mm_world.specs.World.{Page, ProcessOf, RegionOf, AreaOf, SectionOf, Numbered, numbered}
-use Rattle.mm_world.specs.Find.{process_of, section_of, set_process, area_at, no_area}
+use Rattle.mm_types.proofs.Booleans.{not_true}
+use Rattle.mm_types.proofs.Lists.{some_get}
+use Rattle.mm_types.proofs.Options.{some_map}
+use Rattle.mm_world.specs.World.{Page, ProcessOf, RegionOf, AreaOf, SectionOf, Numbered, numbered, FileOf, KeptOf}
+use Rattle.mm_world.specs.Find.{process_of, section_of, set_process, area_at, no_area, Found}
 use Rattle.mm_world.specs.Charge.{charge, area_charge}
 use Rattle.mm_world.specs.Sections.{holds, views, is_view_of, settle, settled_section}
 use Rattle.mm_world.specs.Keys.{content_of}
 use Rattle.mm_world.specs.Contents.{Tables}
 use Rattle.mm_world.specs.WellFormed.{WellFormed, ViewFits}
+use Rattle.mm_world.specs.Views.{view_at}
 use Rattle.mm_world.proofs.Each.{each-at}
 use Rattle.mm_world.proofs.Finding.{numbered_inside}
 use Rattle.mm_pages.specs.Store.{StoreOf, changed}
 use Rattle.mm_pages.specs.Conditions.{IsReleasing}
+use Rattle.mm_commit.specs.Charge.{CommitOf}
 use Rattle.mm_sections.specs.Directories.{CountedSection, section_in, sections_of, settled_by}
+use Rattle.mm_spaces.specs.Tables.{found_info}
+use Rattle.mm_spaces.specs.declared.spaces.RegionInfo.{RegionInfo}
 use Rattle.mm_tables.specs.References.{handles_in, views_in, handles_to, views_of}
 use Rattle.mm_tables.specs.Sound.{IsCounted, IsKept}
 use Rattle.mm_tables.specs.Fits.{Fits, Settled, beside, is_paging, block_in, paging_count}
 use Rattle.mm_tables.specs.Endings.{Less, Lost, is_shared_in, nowhere, ended_area, CanEnd, Emptied}
-use Rattle.mm_tables.proofs.Keepers.{lives_put}
-use Rattle.mm_tables.proofs.EndingKeys.{not_true}
-use Rattle.mm_tables.proofs.EndingCounts.{holds_count, views_count, handles_put, views_put, file_charge, paging_charge, area_sum}
-use Rattle.mm_tables.proofs.EndingSettles.{any_numbered, settle_put, tidy_settled}
-use Rattle.mm_tables.proofs.EndingFits.{fits_lost, area_loses, areas_after, carries_less, less_then, beside_then}
-use Rattle.mm_tables.proofs.EndingViews.{seen_by}
+use Rattle.mm_tables.specs.declared.tables.Process.{Process}
+use Rattle.mm_tables.specs.Shown.{shown_processes, tables_with}
+use Rattle.mm_tables.proofs.Keeping.{lives_put}
+use Rattle.mm_tables.proofs.EndingSettles.{holds_count, views_count, handles_put, views_put, file_charge, paging_charge, area_sum, any_numbered, settle_put, tidy_settled}
+use Rattle.mm_tables.proofs.EndingFits.{seen_by, fits_lost, area_loses, areas_after, carries_less, less_then, beside_then, regions_of, process_same, process_other, same_loses}
 
 -- ---- lists
 
@@ -50,11 +56,6 @@ set_id : {A : Type 0} (xs : List A) (i : ℕ) (d x : A) → x ≡ unwrap_or (sli
 set_id [] i d x e = refl
 set_id (y ∷ xs) zero d x e = ap (λ y. y ∷ xs) e
 set_id (y ∷ xs) (suc i) d x e = ap (λ ys. y ∷ ys) (set_id xs i d x e)
-
-some_get : {A : Type 0} (xs : List A) (i : ℕ) (d : A) → i < length xs → slice_get xs i ≡ Some (unwrap_or (slice_get xs i) d)
-some_get [] i d h = absurd (omega (arith, h))
-some_get (x ∷ xs) zero d h = refl
-some_get (x ∷ xs) (suc i) d h = some_get xs i d (omega (arith, h))
 
 any_there : {A : Type 0} (test : A → Bool) (xs : List A) (i : ℕ) (x : A) → slice_get xs i ≡ Some x → test x ≡ true → list_any test xs ≡ true
 any_there test [] i x there passes = cc
@@ -91,10 +92,6 @@ ended_bits c e = by_tests (nat_lt 0 c.handles) (nat_lt 0 c.views) e
     by_tests true b e = cc
     by_tests false true e = cc
     by_tests false false e = refl
-
-some_map : {A B : Type 0} (f : A → B) (o : Option A) → is_some (option_map f o) ≡ is_some o
-some_map f None = refl
-some_map f (Some x) = refl
 
 -- what a step leaves
 pub record Landed (v made : Tables) (entries : Numbered CountedSection) (commit : CommitOf) (c d : Key → Option Page) (s z : StoreOf) : Type 0 where
@@ -338,3 +335,77 @@ module _ (t : Tables) (pid : ℕ) (p q : ProcessOf (Unit {0})) (m : ℕ) (old no
             subst (λ (a : AreaOf (Unit {0})). Fits (record u { sections = ss; areas = set u.areas area a }) d z) (sym gone) now_fits,
             (h.lost.less, h.lost.rest),
           )
+
+-- ---- What the tables keep, of the fields that they are kept in; and areas at their places
+
+pub record Standing (t : Tables) (items : List (Option Process)) (entries : Numbered CountedSection) (areas : List (AreaOf (Unit {0}))) (commit : CommitOf) : Type 0 where
+  pub kept : IsKept t entries commit
+  pub processes : shown_processes items ≡ t.processes
+  pub sections : sections_of entries ≡ t.sections
+  pub areas_are : areas ≡ t.areas
+
+pub standing : (m : MachineOf) (items : List (Option Process)) (entries : Numbered CountedSection) (areas : List (AreaOf (Unit {0}))) (files : List FileOf) (used fails : ℕ) (accesses : Numbered KeptOf) (commit : CommitOf) (t : Tables) → tables_with m (shown_processes items) entries areas files used fails accesses ≡ t → IsKept (tables_with m (shown_processes items) entries areas files used fails accesses) entries commit → Standing t items entries areas commit
+standing m items entries areas files used fails accesses commit t view kept =
+    record {
+      kept = subst (λ (t : Tables). IsKept t entries commit) view kept;
+      processes = ap (λ (t : Tables). t.processes) view;
+      sections = ap (λ (t : Tables). t.sections) view;
+      areas_are = ap (λ (t : Tables). t.areas) view;
+    }
+
+got : (areas : List (AreaOf (Unit {0}))) (a : ℕ) (x : AreaOf (Unit {0})) → a < length areas → x ≡ get_or areas a x → x ≡ unwrap_or (slice_get areas a) no_area
+got [] a x h e = absurd (omega (arith, h))
+got (y ∷ ys) zero x h e = e
+got (y ∷ ys) (suc a) x h e = got ys a x (omega (arith, h)) e
+
+-- the area that was found at its place
+pub area_found : (t : Tables) (areas : List (AreaOf (Unit {0}))) (a n : ℕ) (x : AreaOf (Unit {0})) → areas ≡ t.areas → a ≡ n → n < length t.areas → x ≡ get_or areas a x → x ≡ area_at t n
+area_found t areas a n x same is inside found =
+    got t.areas n x inside (found ∙ (λ i. get_or (same i) (is i) x))
+
+-- an area's charge is part of the whole
+pub area_charged : (t : Tables) (n : ℕ) → n < length t.areas → area_charge (area_at t n) ≤ charge t
+area_charged t n inside = omega (arith, area_sum t.areas n (area_at t n) no_area (there t.areas n inside))
+  where
+    there : (xs : List (AreaOf (Unit {0}))) (i : ℕ) → i < length xs → slice_get xs i ≡ Some (unwrap_or (slice_get xs i) no_area)
+    there [] i h = absurd (omega (arith, h))
+    there (x ∷ xs) zero h = refl
+    there (x ∷ xs) (suc i) h = there xs i (omega (arith, h))
+
+-- a process keeps its regions, or has none and ends: a store stays as it is
+pub nothing_lost : (t : Tables) (pid : ℕ) (p : ProcessOf (Unit {0})) (q : Option (ProcessOf (Unit {0}))) → process_of t pid ≡ Some p → regions_of q ≡ p.regions → charge (set_process t pid q) ≤ charge t → paging_count (set_process t pid q) ≡ paging_count t → is_some q ≡ true → (c : Key → Option Page) (s : StoreOf) → Fits t c s → Fits (set_process t pid q) c s
+nothing_lost t pid p q lives same charged counted alive c s f =
+    fits_lost (λ k. false) (λ place. false) 0 t (set_process t pid q) c c s s (same_loses t pid p q lives same charged counted) f
+    (record {
+      live = λ k. refl;
+      less = λ k some. refl;
+      paging = λ k. refl;
+      bound = λ place. refl;
+      names = λ place k e. (e, refl);
+      count = omega arith;
+      open_same = refl;
+      room = refl;
+      rest = refl;
+    })
+    (λ n. f.opened n ∙ sym (lives_set n)) f.areas
+  where
+    lives_set : (n : ℕ) → is_some (process_of (set_process t pid q) n) ≡ is_some (process_of t n)
+    lives_set n =
+        elim (same_or_not n pid) [
+          | inl e ↦ ap (λ (k : ℕ). is_some (process_of (set_process t pid q) k)) e ∙ ap is_some (process_same t pid p q lives) ∙ alive ∙ sym (ap is_some lives) ∙ ap (λ (k : ℕ). is_some (process_of t k)) (sym e)
+          | inr other ↦ ap is_some (process_other t pid n q other)
+        ]
+
+pub process_there : (t : Tables) (pid : ℕ) → is_some (process_of t pid) ≡ true → (p : ProcessOf (Unit {0})) × (process_of t pid ≡ Some p)
+process_there t pid alive = by_option (process_of t pid) refl alive
+  where
+    by_option : (o : Option (ProcessOf (Unit {0}))) → process_of t pid ≡ o → is_some o ≡ true → (p : ProcessOf (Unit {0})) × (process_of t pid ≡ Some p)
+    by_option None e alive = cc
+    by_option (Some p) e alive = (p, e)
+
+pub view_there : (p : ProcessOf (Unit {0})) (addr : ℕ) (info : RegionInfo) → option_map found_info (view_at p.regions addr) ≡ Some info → (r : Found (RegionOf (Unit {0}))) × (view_at p.regions addr ≡ Some r)
+view_there p addr info e = by_option (view_at p.regions addr) refl e
+  where
+    by_option : (o : Option (Found (RegionOf (Unit {0})))) → view_at p.regions addr ≡ o → option_map found_info o ≡ Some info → (r : Found (RegionOf (Unit {0}))) × (view_at p.regions addr ≡ Some r)
+    by_option None at e = cc
+    by_option (Some r) at e = (r, at)

@@ -1,35 +1,249 @@
--- What tables keep, where a file is made.
-use Rattle.std.proofs.Common.{◌≡◌, inl, inr, ℕ, ◌+◌, ◌≤◌, Bool, true, Option, Some, None, [], ◌∷◌, ◌++◌, refl, sym, ◌∙◌, ap, subst, cond, arith, length, is_some, is_none, replicate, count_by, nat_le}
+-- A file is made: its keys page by page, what the store holds of it, what the device was asked, and what tables keep.
+use Rattle.std.proofs.Common.{◌≡◌, inl, inr, ℕ, ◌+◌, ◌≤◌, ◌<◌, Bool, true, false, Option, Some, None, refl, sym, ◌∙◌, ap, cond, arith, ◌&&◌, ◌||◌, nat_lt, zero, suc, ◌%◌, List, [], ◌∷◌, subst, length, is_some, replicate, not, ◌++◌, is_none, count_by, nat_le}
+use Rattle.std.specs.Prelude.{◌==◌}
 use Rattle.std.proofs.lemmas.Bool.{le-leb}
-use Rattle.std.proofs.lemmas.List.{length-replicate}
+use Rattle.std.proofs.Math.Path.{fun_ext}
+use Rattle.std.proofs.lemmas.List.{length-map, length-replicate}
 use Rattle.std.proofs.lemmas.List.Folds.{sum_by-replicate}
-use Rattle.mm_commit.specs.Charge.{CommitOf}
-use Rattle.mm_types.proofs.Cells.{same_or_not}
+use Rattle.mm_types.specs.declared.numbers.Area.{Area}
+use Rattle.mm_types.specs.declared.numbers.Key.{Key}
+use Rattle.mm_types.specs.declared.numbers.Key.TheVariants as key
+use Rattle.mm_types.specs.declared.moves.LineKind.TheVariants as kind
 use Rattle.mm_types.specs.declared.answers.Answer.TheVariants as answer
 use Rattle.mm_types.specs.declared.codes.Code.TheVariants as code
-use Rattle.mm_types.specs.declared.numbers.Key.{Key}
 use Rattle.mm_types.specs.Spelling.{Text}
-use Rattle.mm_world.specs.World.{Page, AreaOf, FileOf, Numbered}
-use Rattle.mm_world.specs.Find.{area_at}
+use Rattle.mm_types.proofs.Cells.{same_or_not}
+use Rattle.mm_types.proofs.Booleans.{not_true, same_tests, and_false, spread, cond_twice}
+use Rattle.mm_types.proofs.Naturals.{is_below}
+use Rattle.mm_types.proofs.Tables.{differ}
+use Rattle.mm_blocks.specs.declared.device_calls.NamedCalls.{NamedCalls}
+use Rattle.mm_blocks.specs.Traffic.{one_further}
+use Rattle.mm_blocks.specs.Devices.{DeviceOf, Call, AllServed}
+use Rattle.mm_world.specs.World.{Page, filled, AreaOf, numbered, FileOf, Numbered}
+use Rattle.mm_world.specs.Failure.{same_key}
+use Rattle.mm_world.specs.Charge.{area_charge}
 use Rattle.mm_world.specs.Contents.{Tables, blank}
+use Rattle.mm_world.specs.Processes.{file_pages, new_file}
+use Rattle.mm_world.specs.Find.{area_at}
 use Rattle.mm_world.specs.Outcome.{OutcomeOf, done, need}
-use Rattle.mm_world.specs.Processes.{new_file, file_pages}
 use Rattle.mm_world.specs.Sections.{file_named, settled_area}
 use Rattle.mm_world.specs.WellFormed.{WellFormed}
+use Rattle.mm_world.proofs.LaidOut.{less}
+use Rattle.mm_world.proofs.Charges.{count_by-never}
 use Rattle.mm_world.proofs.Each.{each-append}
 use Rattle.mm_world.proofs.Keeps.{new_file_keeps}
-use Rattle.mm_pages.specs.Reports.{Served}
-use Rattle.mm_pages.specs.Store.{StoreOf, with_file}
+use Rattle.mm_pages.specs.Store.{StoreOf, changed, with_file, with_blocks}
+use Rattle.mm_pages.specs.Reports.{rearranged, wrote, Served}
+use Rattle.mm_commit.specs.Charge.{CommitOf}
 use Rattle.mm_sections.specs.Directories.{CountedSection}
+use Rattle.mm_tables.specs.SectionSteps.{is_page_of, CanFill, Fills}
 use Rattle.mm_tables.specs.Fits.{Fits}
 use Rattle.mm_tables.specs.References.{IsTidy}
 use Rattle.mm_tables.specs.Sound.{IsKept}
-use Rattle.mm_tables.proofs.FileFits.{whole, file_area, pages_are, no_charge, filed_store, file_grown}
-use Rattle.mm_tables.proofs.SectionFits.{fits_area, fits_memory}
-use Rattle.mm_tables.proofs.SectionGrows.{with_area_charge}
-use Rattle.mm_tables.proofs.SectionKept.{Parts, tables, kept_as}
-use Rattle.mm_tables.proofs.SectionLists.{area_at_end}
-use Rattle.mm_tables.proofs.SectionTidy.{settle_by, Rest, rest_of, tidy_by, same_files, MayAdd, with_blocks_used, area_rest, area_settles}
+use Rattle.mm_tables.proofs.Lists.{same_number, area_at_end}
+use Rattle.mm_tables.proofs.SectionFits.{IsOld, Grown, fits_area, fits_memory}
+use Rattle.mm_tables.proofs.SectionPaging.{replicated, key_free, free_key, Parts, tables, kept_as}
+use Rattle.mm_tables.proofs.SectionTidy.{settle_by, Rest, rest_of, tidy_by, same_files, MayAdd, with_blocks_used, area_rest, area_settles, with_area_charge}
+
+below_more : (i n : ℕ) → nat_lt i (n + 1) ≡ ((i == n) || nat_lt i n)
+below_more i n =
+    elim (same_or_not i n) [
+      | inl same ↦ is_below i (n + 1) (omega (arith, same)) ∙ sym (ap (λ b. b || nat_lt i n) (same_number i n same))
+      | inr other ↦
+          same_tests (nat_lt i (n + 1)) (nat_lt i n) (λ e. is_below i n (omega (arith, less _ _ e, other))) (λ e. is_below i (n + 1) (omega (arith, less _ _ e)))
+          ∙ sym (ap (λ b. b || nat_lt i n) (differ i n other))
+    ]
+
+page_more : (area : Area) (n : ℕ) (k : Key) → is_page_of area (n + 1) k ≡ (same_key k (key.Shared area n) || is_page_of area n k)
+page_more area n (key.Private pid vpn) = refl
+page_more area n (key.Shared a i) = ap (λ b. (a.0 == area.0) && b) (below_more i n) ∙ spread (a.0 == area.0) (i == n) (nat_lt i n)
+
+not_yet : (area : Area) (n : ℕ) → is_page_of area n (key.Shared area n) ≡ false
+not_yet area n = ap (λ b. (area.0 == area.0) && b) (not_true (nat_lt n n) (λ e. absurd (omega (arith, less _ _ e)))) ∙ and_false (area.0 == area.0)
+
+pub fills_then : (area : Area) (n : ℕ) (c d e : Key → Option Page) (s z y : StoreOf) → Fills area n c d s z → e ≡ changed same_key d (key.Shared area n) (Some (filled 0)) → y ≡ record z { paging = changed same_key z.paging (key.Shared area n) true; paging_keys = z.paging_keys + 1; report = rearranged z.report y.report } → Fills area (n + 1) c e s y
+fills_then area n c d e s z y a contents store =
+    let count : s.paging_keys + n + 1 ≡ s.paging_keys + (n + 1) = omega arith in
+    record {
+      contents =
+          contents ∙ ap (λ (d : Key → Option Page). changed same_key d (key.Shared area n) (Some (filled 0))) a.contents
+          ∙ fun_ext (λ k. cond_twice (same_key k (key.Shared area n)) (is_page_of area n k) (Some (filled 0)) (c k) ∙ ap (λ b. cond b (Some (filled 0)) (c k)) (sym (page_more area n k)));
+      store =
+          store
+          ∙ ap (λ (x : StoreOf). let made : StoreOf = record x { paging = changed same_key x.paging (key.Shared area n) true; paging_keys = x.paging_keys + 1; report = rearranged x.report y.report } in made) a.store
+          ∙ (λ i. record s {
+            paging = fun_ext (λ k. cond_twice (same_key k (key.Shared area n)) (is_page_of area n k) true (s.paging k) ∙ ap (λ b. cond b true (s.paging k)) (sym (page_more area n k))) i;
+            paging_keys = count i;
+            report = rearranged s.report y.report;
+          });
+    }
+
+-- ---- the next page can be added
+
+pub next_dead : (area : Area) (n m : ℕ) (c d : Key → Option Page) (s z : StoreOf) → CanFill area m c s → n < m → Fills area n c d s z → d (key.Shared area n) ≡ None
+next_dead area n m c d s z can few a =
+    ap (λ (d : Key → Option Page). d (key.Shared area n)) a.contents
+    ∙ ap (λ b. cond b (Some (filled 0)) (c (key.Shared area n))) (not_yet area n) ∙ can.dead n few
+
+pub next_room : (area : Area) (n m : ℕ) (c d : Key → Option Page) (s z : StoreOf) → CanFill area m c s → n < m → Fills area n c d s z → z.paging_keys < z.room
+next_room area n m c d s z can few a =
+    let used : z.paging_keys ≡ s.paging_keys + n = ap (λ (x : StoreOf). x.paging_keys) a.store in
+    let room : z.room ≡ s.room = ap (λ (x : StoreOf). x.room) a.store in
+    omega (arith, can.room, few, used, room)
+
+pub next_kind : (area : Area) (n m : ℕ) (c d : Key → Option Page) (s z : StoreOf) → CanFill area m c s → Fills area n c d s z → z.kind ≡ kind.Call
+next_kind area n m c d s z can a = ap (λ (x : StoreOf). x.kind) a.store ∙ can.called
+
+pub next_area : (area : Area) (n m : ℕ) (c d : Key → Option Page) (s z : StoreOf) (can : CanFill area m c s) → Fills area n c d s z → z.areas area.0 ≡ Some can.pages
+next_area area n m c d s z can a = ap (λ (x : StoreOf). x.areas area.0) a.store ∙ can.opened
+
+-- ---- an area is opened and filled
+
+pub can_fill : (area : Area) (pages n total : ℕ) (c b : Key → Option Page) (s r o : StoreOf) → b ≡ c → r ≡ record s { room = r.room } → total ≤ r.room → o ≡ record r { areas = changed ◌==◌ r.areas area.0 (Some pages) } → ((i : ℕ) → c (key.Shared area i) ≡ None) → n ≤ pages → s.paging_keys + n ≤ total → s.kind ≡ kind.Call → CanFill area n b o
+can_fill area pages n total c b s r o same room more opened dead within keys called =
+    record {
+      dead = λ i h. ap (λ (c : Key → Option Page). c (key.Shared area i)) same ∙ dead i;
+      pages = pages;
+      opened = ap (λ (x : StoreOf). x.areas area.0) opened ∙ ap (λ b. cond b (Some pages) (r.areas area.0)) (same_number area.0 area.0 refl);
+      within = within;
+      room = omega (arith, keys, more, ap (λ (x : StoreOf). x.paging_keys) opened, ap (λ (x : StoreOf). x.room) opened, ap (λ (x : StoreOf). x.paging_keys) room);
+      called = ap (λ (x : StoreOf). x.kind) opened ∙ ap (λ (x : StoreOf). x.kind) room ∙ called;
+    }
+
+-- ---- What a store holds of a new file
+
+abbrev pub whole : Option (Unit {0})
+whole = Some tt
+
+-- a file's area
+abbrev pub file_area : ℕ → ℕ → AreaOf (Unit {0})
+file_area first pages = record { file_block = Some first; pages = replicate pages whole }
+
+pub pages_are : (byte pages : ℕ) → file_pages blank byte pages ≡ replicate pages whole
+pages_are byte zero = refl
+pages_are byte (suc n) = ap (λ xs. whole ∷ xs) (pages_are (byte + 1) n)
+
+pub no_charge : (first pages : ℕ) → area_charge (file_area first pages) ≡ 0
+no_charge first pages = count_by-never (λ (page : Option (Unit {0})). is_some page && false) (replicate pages whole) never
+  where
+    never : (page : Option (Unit {0})) → (is_some page && false) ≡ false
+    never None = refl
+    never (Some x) = refl
+
+-- ---- what the device was asked
+
+served_names : (calls : List Call) (old new : DeviceOf) → AllServed calls old new → length new.named ≡ length old.named
+served_names [] old new e = ap (λ (d : DeviceOf). length d.named) e
+served_names (c ∷ cs) old new h =
+    served_names cs h.0 new h.1.1 ∙ ap (λ (n : List NamedCalls). length n) h.1.0.after ∙ length-map old.named (one_further c.way)
+
+pub nothing_served : (s : StoreOf) → Served s s
+nothing_served s =
+    record {
+      paging_calls = [];
+      file_calls = [];
+      paging = refl;
+      files = refl;
+      paging_reads = refl;
+      paging_writes = refl;
+      file_reads = refl;
+      file_writes = refl;
+    }
+
+-- ---- no file was made
+
+pub fits_wrote : (t : Tables) (c d : Key → Option Page) (s z : StoreOf) → Fits t c s → d ≡ c → z ≡ wrote s z → length z.file_blocks ≡ length s.file_blocks → Served s z → Fits t d z
+fits_wrote t c d s z f same e stored served =
+    subst (λ (d : Key → Option Page). Fits t d z) (sym same) (record {
+      machine = ap (λ (x : StoreOf). x.machine) e ∙ f.machine;
+      opened = λ q. ap (λ (x : StoreOf). x.is_open q) e ∙ f.opened q;
+      last_pid = omega (arith, f.last_pid, ap (λ (x : StoreOf). x.last_pid) e);
+      areas = λ q. ap (λ (x : StoreOf). x.areas q) e ∙ f.areas q;
+      bound = λ place. ap (λ (x : StoreOf). x.bound place) e ∙ f.bound place;
+      live = f.live;
+      paging = λ k. ap (λ (x : StoreOf). x.paging k) e ∙ f.paging k;
+      counted = ap (λ (x : StoreOf). x.paging_keys) e ∙ f.counted;
+      room = omega (arith, f.room, ap (λ (x : StoreOf). x.room) e);
+      named = λ place k n. f.named place k (sym (ap (λ (x : StoreOf). x.names place) e) ∙ n);
+      blocks = λ k. ap (λ (x : StoreOf). x.block_of k) e ∙ f.blocks k;
+      used = ap (λ (x : StoreOf). x.blocks_used) e ∙ f.used;
+      stored = stored ∙ f.stored;
+      named_paging = omega (arith, f.named_paging, ap (λ (x : StoreOf). length x.paging_device.named) e);
+      named_file = omega (arith, f.named_file, served_names served.file_calls s.file_device z.file_device served.files);
+    })
+
+-- ---- a file was made
+
+abbrev pub filed_store : ℕ → ℕ → ℕ → StoreOf → StoreOf → StoreOf
+filed_store area pages first s z =
+    record (wrote s z) {
+      areas = changed ◌==◌ s.areas area (Some pages);
+      block_of = with_blocks area pages first s.block_of;
+      blocks_used = s.blocks_used + pages;
+    }
+
+module _ (t : Tables) (area pages byte first : ℕ) (c d : Key → Option Page) (s z : StoreOf) (at : area ≡ length t.areas) (f : Fits t c s) (contents : d ≡ with_file area pages byte c) (e : z ≡ filed_store area pages first s z) where
+  and_left : (a b : Bool) → a ≡ true → (a && b) ≡ b
+  and_left true b e = refl
+  and_left false b e = cc
+
+  here : (b : Area) (i : ℕ) → b.0 ≡ length t.areas → ((b.0 == area) && nat_lt i pages) ≡ is_some (numbered (replicate pages whole) i)
+  here b i new = and_left (b.0 == area) (nat_lt i pages) (same_number b.0 area (new ∙ sym at)) ∙ sym (replicated {A = Unit {0}} pages i tt)
+
+  live_is : (b : Bool) (x : Page) (y : Option Page) → y ≡ None → is_some (cond b (Some x) y) ≡ b
+  live_is true x y e = refl
+  live_is false x y e = ap is_some e
+
+  block_is : (b : Bool) (x : ℕ) (y : Option ℕ) → y ≡ None → cond b (Some x) y ≡ cond b (Some x) None
+  block_is true x y e = refl
+  block_is false x y e = e
+
+  and_never : (b : Bool) → false ≡ (b && not true)
+  and_never true = refl
+  and_never false = refl
+
+  live_old : (k : Key) → IsOld t k → is_some (with_file area pages byte c k) ≡ is_some (c k)
+  live_old (key.Private pid page) h = refl
+  live_old (key.Shared b i) h = ap (λ x. is_some (cond (x && nat_lt i pages) (Some (filled ((byte + i) % 256))) (c (key.Shared b i)))) (differ b.0 area (λ e. h (e ∙ at)))
+
+  block_old : (k : Key) → IsOld t k → with_blocks area pages first s.block_of k ≡ s.block_of k
+  block_old (key.Private pid page) h = refl
+  block_old (key.Shared b i) h = ap (λ x. cond (x && nat_lt i pages) (Some (first + i)) (s.block_of (key.Shared b i))) (differ b.0 area (λ e. h (e ∙ at)))
+
+  pub file_grown : 1 ≤ pages → first ≡ t.blocks_used → length z.file_blocks ≡ length s.file_blocks → Served s z → Grown t (file_area first pages) (t.blocks_used + pages) c d s z
+  file_grown some next stored served =
+      let count : length (replicate pages whole) ≡ pages = length-replicate pages whole in
+      record {
+        some = omega (arith, count, some);
+        live_new = λ b i new.
+            ap (λ (d : Key → Option Page). is_some (d (key.Shared b i))) contents
+            ∙ live_is ((b.0 == area) && nat_lt i pages) (filled ((byte + i) % 256)) (c (key.Shared b i)) (key_free t c s b i f new) ∙ here b i new;
+        live_old = λ k h. ap (λ (d : Key → Option Page). is_some (d k)) contents ∙ live_old k h;
+        paging_new = λ b i new.
+            ap (λ (x : StoreOf). x.paging (key.Shared b i)) e ∙ (free_key t c s b i f new).0 ∙ and_never (is_some (numbered (replicate pages whole) i));
+        paging_old = λ k h. ap (λ (x : StoreOf). x.paging k) e;
+        block_new = λ b i new.
+            ap (λ (x : StoreOf). x.block_of (key.Shared b i)) e
+            ∙ block_is ((b.0 == area) && nat_lt i pages) (first + i) (s.block_of (key.Shared b i)) (free_key t c s b i f new).1
+            ∙ ap (λ x. cond x (Some (first + i)) None) (here b i new);
+        block_old = λ k h. ap (λ (x : StoreOf). x.block_of k) e ∙ block_old k h;
+        areas_new = λ q new.
+            ap (λ (x : StoreOf). x.areas q) e ∙ ap (λ b. cond b (Some pages) (s.areas q)) (same_number q area (new ∙ sym at)) ∙ ap (λ (k : ℕ). Some k) (sym count);
+        areas_old = λ q h. ap (λ (x : StoreOf). x.areas q) e ∙ ap (λ b. cond b (Some pages) (s.areas q)) (differ q area (λ same. h (same ∙ at)));
+        counted = omega (arith, ap (λ (x : StoreOf). x.paging_keys) e, no_charge first pages);
+        room = omega (arith, f.room, ap (λ (x : StoreOf). x.room) e, no_charge first pages);
+        machine = ap (λ (x : StoreOf). x.machine) e;
+        is_open = ap (λ (x : StoreOf). x.is_open) e;
+        last_pid = ap (λ (x : StoreOf). x.last_pid) e;
+        bound = ap (λ (x : StoreOf). x.bound) e;
+        names = ap (λ (x : StoreOf). x.names) e;
+        blocks_used = omega (arith, ap (λ (x : StoreOf). x.blocks_used) e, f.used);
+        stored = stored;
+        named_paging = ap (λ (x : StoreOf). length x.paging_device.named) e;
+        named_file = served_names served.file_calls s.file_device z.file_device served.files;
+      }
+
+-- ---- What tables keep, where a file is made
 
 -- the tables with the file
 abbrev pub with_new_file : Tables → Text → ℕ → Tables

@@ -8,7 +8,7 @@ use Rattle.mm_types.specs.declared.numbers.Place.{Place}
 use Rattle.mm_types.specs.Address.{Range, holds_page}
 use Rattle.mm_world.specs.World.{Page, RegionOf}
 use Rattle.mm_world.specs.Keys.{own_page}
-use Rattle.mm_world.specs.Alloc.{reserve_type}
+use Rattle.mm_types.specs.Allocation.{reserve_type}
 use Rattle.mm_pages.specs.Store.{StoreOf, is_place_in, own_key}
 use Rattle.mm_pages.specs.Conditions.{place_at}
 use Rattle.mm_tables.specs.Effects.{Makes, Leaves, Stored, CanMake}

@@ -2,24 +2,20 @@
 use Rattle.std.proofs.Common.{◌≡◌, ◌≤◌, ℕ, zero, suc, Bool, false, cond, arith, replicate, take, drop, ◌++◌, Option, Some, None, List, [], ◌∷◌, refl, ◌∙◌, ap, length, map, option_map, length-set, set, is_some, true}
 use Rattle.std.specs.Prelude.{◌==◌}
 use Rattle.std.proofs.lemmas.List.{map-set, length-map}
-use Rattle.mm_types.specs.declared.numbers.Key.{Key}
 use Rattle.mm_types.specs.Machine.{MachineOf, limit_of}
 use Rattle.mm_commit.specs.Charge.{CommitOf}
-use Rattle.mm_world.specs.World.{Page, RegionOf, ProcessOf, Numbered, numbered, KeptOf}
+use Rattle.mm_world.specs.World.{RegionOf, ProcessOf, Numbered, numbered, KeptOf}
 use Rattle.mm_world.specs.Find.{process_of}
 use Rattle.mm_world.specs.Processes.{kept_of_others, most_slots}
 use Rattle.mm_world.specs.Step.{threads, first_world}
 use Rattle.mm_world.specs.WellFormed.{WellFormed, Each, RegionRefers, ProcessRefers, IsSpace}
 use Rattle.mm_world.specs.Contents.{Tables}
-use Rattle.mm_pages.specs.Store.{StoreOf}
 use Rattle.mm_sections.specs.Directories.{CountedSection}
 use Rattle.mm_tables.specs.declared.waiting.Kept.{Kept}
 use Rattle.mm_tables.specs.References.{IsTidy, KeepersLive}
 use Rattle.mm_tables.specs.Shown.{kept_of, shown_accesses, unless_of}
 use Rattle.mm_tables.specs.Sound.{IsKept}
-use Rattle.mm_tables.specs.Fits.{Fits}
-use Rattle.mm_tables.proofs.Keepers.{keepers_put, of_others}
-use Rattle.mm_tables.proofs.SectionFits.{fits_memory}
+use Rattle.mm_tables.proofs.Keeping.{keepers_put, of_others}
 
 module _ (t : Tables) (ks : Numbered KeptOf) where
   refers_too : (rs : List (RegionOf (Unit {0}))) → Each (RegionRefers t) rs → Each (RegionRefers (record t { kept = ks })) rs
@@ -61,21 +57,7 @@ module _ (t : Tables) (ks : Numbered KeptOf) where
         charged = kept.charged;
         limited = kept.limited;
       }
-
   -- a store does not see them
-  pub fits_with : (c : Key → Option Page) (s : StoreOf) → Fits t c s → Fits (record t { kept = ks }) c s
-  fits_with c s f =
-      fits_memory t (record t { kept = ks })
-      (record {
-        spaces = record { all = λ q. refl };
-        machine = refl;
-        count = refl;
-        areas = refl;
-        used = refl;
-        fails = refl;
-        counted = refl;
-        charged = refl;
-      }) c s f
 
 -- ---- one thread keeps another access, or none
 

@@ -1,14 +1,55 @@
--- The regions of each process, when those of one are others.
-use Rattle.std.proofs.Common.{◌≡◌, ◌≢◌, ◌⊎◌, inl, inr, ℕ, false, Option, Some, None, List, [], refl, sym, ◌∙◌, ap, is_some, option_map, unwrap_or}
-use Rattle.std.specs.Prelude.{option_and_then}
+-- One process has other regions: the regions of each, and how many page-file keys live.
+use Rattle.std.proofs.Common.{◌≡◌, ℕ, ◌+◌, ◌<◌, Option, Some, None, List, ap, arith, length, set, slice_get, is_some, sum_by, count_by, ◌≢◌, ◌⊎◌, inl, inr, false, [], refl, sym, ◌∙◌, option_map, unwrap_or, ◌-◌, true}
+use Rattle.std.specs.Prelude.{remove, insert, option_and_then}
+use Rattle.std.proofs.lemmas.List.Sums.{sum_by-set, sum_by-remove, sum_by-insert}
+use Rattle.std.proofs.lemmas.Option.{get_or_from_slice_get, slice_get_within}
 use Rattle.std.proofs.lemmas.List.{get_or-set_same, get_or-set_other}
 use Rattle.mm_types.specs.declared.numbers.Place.{Place}
+use Rattle.mm_types.specs.declared.numbers.Key.{Key}
+use Rattle.mm_types.specs.declared.views.Kind.{Kind}
+use Rattle.mm_types.specs.declared.views.Kind.TheVariants as kind
 use Rattle.mm_types.proofs.Cells.{same_or_not}
-use Rattle.mm_world.specs.World.{WorldOf, ProcessOf, RegionOf}
-use Rattle.mm_world.specs.Find.{process_of, region_with, set_regions}
-use Rattle.mm_world.specs.Keys.{content_of, private_key, own_page}
+use Rattle.mm_world.specs.World.{WorldOf, ProcessOf, RegionOf, numbered, RowOf, AreaOf}
+use Rattle.mm_world.specs.Find.{process_of, set_process, set_regions, set_region, region_with, Found, no_area, is_private}
+use Rattle.mm_world.specs.Keys.{content_of, private_key, own_page, Home, InSection, Committed, committed_at, committed_in, home_in, key_of}
+use Rattle.mm_world.specs.Rows.{row_at}
+use Rattle.mm_world.specs.Contents.{Tables}
+use Rattle.mm_world.proofs.Charges.{sum_by-put}
 use Rattle.mm_world.proofs.Finding.{numbered_inside}
-use Rattle.mm_tables.specs.Fits.{is_reserved}
+use Rattle.mm_tables.specs.Fits.{owned_by, paging_count, is_reserved, key_at}
+use Rattle.mm_tables.specs.Effects.{key_in}
+use Rattle.mm_tables.proofs.Regions.{has}
+
+module _ {B : Type 0} where
+  -- the rows of a region that have bytes of their own
+  abbrev pub own_rows : RegionOf B → ℕ
+  own_rows r = count_by (λ row. is_some row.own) r.rows
+
+  pub paging-set_process : (w : WorldOf B) (pid : ℕ) (p : ProcessOf B) (q : Option (ProcessOf B)) → process_of w pid ≡ Some p → paging_count (set_process w pid q) + owned_by (Some p) ≡ paging_count w + owned_by q
+  paging-set_process w pid p q lives =
+      let inside : pid < length w.processes = numbered_inside w.processes pid p lives in
+      let e = sum_by-set owned_by w.processes pid q None inside in
+      let old = ap owned_by lives in
+      omega (arith, e, old)
+
+  pub paging-set_regions : (w : WorldOf B) (pid : ℕ) (p : ProcessOf B) (rs : List (RegionOf B)) → process_of w pid ≡ Some p → paging_count (set_regions w pid p rs) + sum_by own_rows p.regions ≡ paging_count w + sum_by own_rows rs
+  paging-set_regions w pid p rs lives = paging-set_process w pid p (Some (record p { regions = rs })) lives
+
+  pub paging-set_region : (w : WorldOf B) (pid : ℕ) (p : ProcessOf B) (place : ℕ) (r new : RegionOf B) → process_of w pid ≡ Some p → slice_get p.regions place ≡ Some r → paging_count (set_region w pid p place new) + own_rows r ≡ paging_count w + own_rows new
+  paging-set_region w pid p place r new lives there =
+      omega (arith, paging-set_regions w pid p (set p.regions place new) lives, sum_by-put own_rows p.regions place r new there)
+
+  pub paging-remove_region : (w : WorldOf B) (pid : ℕ) (p : ProcessOf B) (place : ℕ) (r : RegionOf B) → process_of w pid ≡ Some p → slice_get p.regions place ≡ Some r → paging_count (set_regions w pid p (remove p.regions place)) + own_rows r ≡ paging_count w
+  paging-remove_region w pid p place r lives there =
+      let inside : place < length p.regions = slice_get_within p.regions place r there in
+      let old = ap own_rows (get_or_from_slice_get p.regions place r r there) in
+      omega (arith, paging-set_regions w pid p (remove p.regions place) lives, sum_by-remove own_rows p.regions place r inside, old)
+
+  pub paging-add_region : (w : WorldOf B) (pid : ℕ) (p : ProcessOf B) (place : ℕ) (new : RegionOf B) → process_of w pid ≡ Some p → paging_count (set_regions w pid p (insert p.regions place new)) ≡ paging_count w + own_rows new
+  paging-add_region w pid p place new lives =
+      omega (arith, paging-set_regions w pid p (insert p.regions place new) lives, sum_by-insert own_rows p.regions place new)
+
+-- ---- The regions of each process, when those of one are others
 
 module _ {B : Type 0} where
   -- no region where the process is not
@@ -68,3 +109,63 @@ module _ {B : Type 0} where
 
   pub process_is : (w : WorldOf B) (pid : ℕ) (p q : ProcessOf B) → process_of w pid ≡ Some p → process_of w pid ≡ Some q → p ≡ q
   process_is w pid p q a b = let both : Some p ≡ Some q = sym a ∙ b in let same : p ≡ q = cc in same
+
+-- ---- The keys of committed rows, region by region
+
+abbrev pub home_key : Tables → ℕ → ℕ → ℕ → Kind → Option (Unit {0}) → Option Key
+home_key t pid page i k own = option_map (λ home. key_of pid page home) (home_in t i k own)
+
+-- the key of a page in its region
+abbrev pub region_key : Tables → ℕ → ℕ → RegionOf (Unit {0}) → Option Key
+region_key t pid page r = option_and_then (λ row. home_key t pid page (page - r.base) r.kind row.own) (row_at r page)
+
+-- areas alone matter
+home_same : (t u : Tables) (pid page i : ℕ) (k : Kind) (own : Option (Unit {0})) → t.areas ≡ u.areas → home_key t pid page i k own ≡ home_key u pid page i k own
+home_same t u pid page i k (Some own) e = refl
+home_same t u pid page i kind.Private None e = refl
+home_same t u pid page i (kind.View v) None e =
+    ap (λ (areas : List (AreaOf (Unit {0}))). option_map (λ (home : Home (Unit {0})). key_of pid page home) (option_map (λ (x : Unit {0}). InSection v.area.0 (v.first + i)) (numbered (unwrap_or (slice_get areas v.area.0) no_area).pages (v.first + i)))) e
+
+pub region_key_same : (t u : Tables) (pid page : ℕ) (r : RegionOf (Unit {0})) → t.areas ≡ u.areas → region_key t pid page r ≡ region_key u pid page r
+region_key_same t u pid page r e = by_row (row_at r page)
+  where
+    by_row : (o : Option (RowOf (Unit {0}))) → option_and_then (λ row. home_key t pid page (page - r.base) r.kind row.own) o ≡ option_and_then (λ row. home_key u pid page (page - r.base) r.kind row.own) o
+    by_row None = refl
+    by_row (Some row) = home_same t u pid page (page - r.base) r.kind row.own e
+
+pub key_in_has : (t : Tables) (pid : ℕ) (rs : List (RegionOf (Unit {0}))) (page : ℕ) → key_in t pid rs page ≡ has (region_key t pid page) rs page
+key_in_has t pid rs page = by_region (region_with rs page)
+  where
+    by_home : (r : Found (RegionOf (Unit {0}))) (row : RowOf (Unit {0})) (o : Option (Home (Unit {0}))) → option_map (λ c. key_of pid page c.home) (option_map (λ home. let made : Committed (Unit {0}) = record { region = r; row = row; home = home } in made) o) ≡ option_map (λ home. key_of pid page home) o
+    by_home r row None = refl
+    by_home r row (Some home) = refl
+
+    by_row : (r : Found (RegionOf (Unit {0}))) (o : Option (RowOf (Unit {0}))) → option_map (λ c. key_of pid page c.home) (committed_in t r (page - r.thing.base) o) ≡ option_and_then (λ row. home_key t pid page (page - r.thing.base) r.thing.kind row.own) o
+    by_row r None = refl
+    by_row r (Some row) = by_home r row (home_in t (page - r.thing.base) r.thing.kind row.own)
+
+    by_region : (o : Option (Found (RegionOf (Unit {0})))) → option_map (λ c. key_of pid page c.home) (option_and_then (λ r. committed_in t r (page - r.thing.base) (row_at r.thing page)) o) ≡ option_and_then (λ (r : Found (RegionOf (Unit {0}))). region_key t pid page r.thing) o
+    by_region None = refl
+    by_region (Some r) = by_row r (row_at r.thing page)
+
+pub key_in_same : (t u : Tables) (pid : ℕ) (rs : List (RegionOf (Unit {0}))) (page : ℕ) → t.areas ≡ u.areas → key_in t pid rs page ≡ key_in u pid rs page
+key_in_same t u pid rs page e = key_in_has t pid rs page ∙ by_region (region_with rs page) ∙ sym (key_in_has u pid rs page)
+  where
+    by_region : (o : Option (Found (RegionOf (Unit {0})))) → option_and_then (λ (r : Found (RegionOf (Unit {0}))). region_key t pid page r.thing) o ≡ option_and_then (λ (r : Found (RegionOf (Unit {0}))). region_key u pid page r.thing) o
+    by_region None = refl
+    by_region (Some r) = region_key_same t u pid page r.thing e
+
+pub key_at_is : (t : Tables) (place : Place) → key_at t place ≡ key_in t place.pid.0 (regions_in t place.pid.0) place.vpn.0
+key_at_is t place = by_process (process_of t place.pid.0)
+  where
+    by_process : (o : Option (ProcessOf (Unit {0}))) → option_and_then (λ (p : ProcessOf (Unit {0})). option_map (λ (c : Committed (Unit {0})). key_of place.pid.0 place.vpn.0 c.home) (committed_at t p.regions place.vpn.0)) o ≡ key_in t place.pid.0 (unwrap_or (option_map (λ (p : ProcessOf (Unit {0})). p.regions) o) []) place.vpn.0
+    by_process None = refl
+    by_process (Some p) = refl
+
+-- a private row has a key where it has bytes
+pub private_home : (t : Tables) (pid page i : ℕ) (k : Kind) (own : Option (Unit {0})) → is_private k ≡ true → home_key t pid page i k own ≡ option_map (λ x. private_key pid page) own
+private_home t pid page i kind.Private None e = refl
+private_home t pid page i kind.Private (Some own) e = refl
+private_home t pid page i (kind.View v) own e = cc
+
+-- a row with bytes of its own has its own key

@@ -1,9 +1,8 @@
 -- One committed row of a process is another.
-use Rattle.std.proofs.Common.{◌≡◌, ◌≢◌, inl, inr, ℕ, ◌+◌, ◌-◌, Bool, true, false, Option, Some, None, refl, sym, ◌∙◌, ap, subst, cond, arith, set, slice_get, is_some, unwrap_or}
-use Rattle.std.specs.Prelude.{option_and_then, ◌==◌}
+use Rattle.std.proofs.Common.{◌≡◌, ◌≢◌, inl, inr, ℕ, ◌+◌, ◌-◌, Bool, true, false, Option, Some, None, refl, sym, ◌∙◌, ap, subst, cond, arith, set, slice_get, is_some, unwrap_or, ◌<◌, zero, suc, List, [], ◌∷◌, length, option_map}
+use Rattle.std.specs.Prelude.{option_and_then, ◌==◌, IsSomeAnd}
 use Rattle.std.specs.Cmp.{unsigned_Decides}
 use Rattle.std.proofs.lemmas.List.{length-set}
-use Rattle.mm_types.proofs.Cells.{same_or_not, get_set_same, get_set_other, get_within}
 use Rattle.mm_types.specs.declared.numbers.Key.{Key}
 use Rattle.mm_types.specs.declared.numbers.Pid.{Pid}
 use Rattle.mm_types.specs.declared.numbers.Place.{Place}
@@ -11,14 +10,16 @@ use Rattle.mm_types.specs.declared.views.Kind.{Kind}
 use Rattle.mm_types.specs.declared.views.Kind.TheVariants as kind
 use Rattle.mm_types.specs.declared.views.View.{View}
 use Rattle.mm_types.specs.Address.{holds_page, first_user_page}
-use Rattle.mm_world.specs.World.{Page, ProcessOf, RegionOf, RowOf, pages_of, filled}
-use Rattle.mm_world.specs.Find.{Found, process_of, region_with, is_private}
+use Rattle.mm_types.proofs.Cells.{same_or_not, get_set_same, get_set_other, get_within}
+use Rattle.mm_types.proofs.Booleans.{not_true}
+use Rattle.mm_world.specs.World.{Page, ProcessOf, RegionOf, RowOf, pages_of, filled, AreaOf}
+use Rattle.mm_world.specs.Find.{Found, process_of, region_with, is_private, area_at, no_area}
 use Rattle.mm_world.specs.Charge.{charge, is_charged}
 use Rattle.mm_world.specs.Failure.{same_key}
 use Rattle.mm_world.specs.Keys.{Committed, committed_at, own_page, set_row, guard_off, private_key}
 use Rattle.mm_world.specs.Rows.{row_at, is_one_of}
 use Rattle.mm_world.specs.Contents.{Tables}
-use Rattle.mm_world.specs.WellFormed.{RowsFit, RowFits, WellFormed, IsSpace, held_protections}
+use Rattle.mm_world.specs.WellFormed.{RowsFit, RowFits, WellFormed, IsSpace, held_protections, RegionRefers}
 use Rattle.mm_world.proofs.AccessCharge.{charge-set_row, charge-guard_off}
 use Rattle.mm_world.proofs.Charges.{sum_by-put}
 use Rattle.mm_world.proofs.Each.{each-at, each-set}
@@ -26,22 +27,19 @@ use Rattle.mm_world.proofs.Finding.{found_stands, committed_is, IsCommitted, Hom
 use Rattle.mm_world.proofs.KeptPages.{own_in}
 use Rattle.mm_pages.specs.Store.{StoreOf, changed, changed_in, same_place, own_key}
 use Rattle.mm_pages.specs.Conditions.{place_at}
+use Rattle.mm_spaces.specs.declared.spaces.PageRow.{PageRow}
+use Rattle.mm_spaces.specs.Tables.{page_row, told_row}
 use Rattle.mm_tables.specs.Fits.{Fits, CanCopy, copied, key_at, paging_count}
 use Rattle.mm_tables.specs.Effects.{Makes, Leaves, Moves, key_in}
 use Rattle.mm_tables.specs.Ranges.{only, added, set_in}
-use Rattle.mm_tables.proofs.Homes.{home_key, region_key, key_in_has, key_at_is}
 use Rattle.mm_tables.proofs.Keeping.{StandIn}
-use Rattle.mm_tables.proofs.Lists.{not_true}
-use Rattle.mm_tables.proofs.Moved.{moved}
-use Rattle.mm_tables.proofs.OneProcess.{regions_set_same}
-use Rattle.mm_tables.proofs.OnePage.{holds_only, set_only, own, key_in_only, place_in_only, same_place_is}
-use Rattle.mm_tables.proofs.Paging.{paging-set_region}
+use Rattle.mm_tables.proofs.Carried.{moved}
+use Rattle.mm_tables.proofs.PageByPage.{holds_only, set_only, own, key_in_only, place_in_only, same_place_is}
+use Rattle.mm_tables.proofs.OneProcess.{paging-set_region, regions_set_same, home_key, region_key, key_in_has, key_at_is}
 use Rattle.mm_tables.proofs.Regional.{set_stands, set_named}
 use Rattle.mm_tables.proofs.Regions.{has, within, SamePages, has_set, has_at, reserved_set}
 use Rattle.mm_tables.proofs.Rows.{has_own}
-
-abbrev one_if : Bool → ℕ
-one_if b = cond b 1 0
+use Rattle.mm_tables.proofs.Lists.{one_if}
 
 -- ---- rows that fit
 
@@ -294,3 +292,46 @@ module _ (t : Tables) (q : Pid) (p : ProcessOf (Unit {0})) (page : ℕ) (c : Com
           ap (λ (r : Found (RegionOf (Unit {0}))). is_private r.thing.kind) (sym region) ∙ ap is_private copy_view.1,
           ap (λ (row : RowOf (Unit {0})). row.marked) (sym same) ∙ can.marked,
         )
+
+-- ---- What look-ups find
+
+pub some_with : {A : Type 0} (o : Option A) (P : A → Type 0) → IsSomeAnd o P → (a : A) × ((o ≡ Some a) × P a)
+some_with None P h = absurd h
+some_with (Some a) P h = (a, (refl, h))
+
+-- a page's region
+pub record Told (rs : List (RegionOf (Unit {0}))) (page : ℕ) (row : PageRow) : Type 0 where
+  pub region : Found (RegionOf (Unit {0}))
+  pub there : region_with rs page ≡ Some region
+  pub kind : row.kind ≡ region.thing.kind
+  pub index : row.index ≡ page - region.thing.base
+
+by_row : (rs : List (RegionOf (Unit {0}))) (page : ℕ) (row : PageRow) (r : Found (RegionOf (Unit {0}))) (o : Option (RowOf (Unit {0}))) → region_with rs page ≡ Some r → option_map (told_row r.thing page) o ≡ Some row → Told rs page row
+by_row rs page row r None there e = cc
+by_row rs page row r (Some x) there e =
+    let same : told_row r.thing page x ≡ row = cc in
+    record { region = r; there = there; kind = ap (λ (w : PageRow). w.kind) (sym same); index = ap (λ (w : PageRow). w.index) (sym same) }
+
+pub told : (rs : List (RegionOf (Unit {0}))) (page : ℕ) (row : PageRow) → page_row rs page ≡ Some row → Told rs page row
+told rs page row e = by_region (region_with rs page) refl e
+  where
+    by_region : (o : Option (Found (RegionOf (Unit {0})))) → region_with rs page ≡ o → option_and_then (λ (r : Found (RegionOf (Unit {0}))). option_map (told_row r.thing page) (row_at r.thing page)) o ≡ Some row → Told rs page row
+    by_region None there e = cc
+    by_region (Some r) there e = by_row rs page row r (row_at r.thing page) there e
+
+-- a page of a view lies within its area
+pub in_area : (t : Tables) (pid page : ℕ) (p : ProcessOf (Unit {0})) (row : PageRow) → WellFormed t → process_of t pid ≡ Some p → Told p.regions page row → (v : View) → row.kind ≡ kind.View v → v.first + row.index < length (area_at t v.area.0).pages
+in_area t pid page p row h lives k v is =
+    let stands = found_stands (λ (r : RegionOf (Unit {0})). holds_page (pages_of r) page) p.regions k.region k.there in
+    let fits = each-at (RegionRefers t) p.regions k.region.place k.region.thing (h.references.processes pid p lives).views stands.there v (sym k.kind ∙ is) in
+    let w = within (pages_of k.region.thing) page stands.passes in
+    omega (arith, fits.within, k.index, w.low, w.high)
+
+-- an area with a page was made
+pub made : (t : Tables) (area i : ℕ) → i < length (area_at t area).pages → area < length t.areas
+made t area i inside = by_list t.areas area inside
+  where
+    by_list : (areas : List (AreaOf (Unit {0}))) (area : ℕ) → i < length (unwrap_or (slice_get areas area) no_area).pages → area < length areas
+    by_list [] area h = absurd (omega (arith, h))
+    by_list (a ∷ rest) zero h = omega arith
+    by_list (a ∷ rest) (suc area) h = omega (arith, by_list rest area h)

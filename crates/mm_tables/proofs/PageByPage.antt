@@ -1,5 +1,5 @@
--- The keys of a range are added or removed page by page.
-use Rattle.std.proofs.Common.{◌≡◌, ◌≢◌, ℕ, zero, suc, ◌+◌, ◌-◌, ◌≤◌, ◌<◌, Bool, true, false, Option, Some, None, List, refl, sym, ◌∙◌, ap, subst, cond, arith, is_some, not, ◌&&◌, ◌||◌, unwrap_or}
+-- Keys of a range, page by page.
+use Rattle.std.proofs.Common.{◌≡◌, ℕ, ◌+◌, ◌-◌, Bool, true, false, Option, Some, None, refl, sym, ◌∙◌, ap, cond, arith, is_some, not, ◌&&◌, unwrap_or, ◌≢◌, zero, suc, ◌≤◌, ◌<◌, List, subst, ◌||◌}
 use Rattle.std.specs.Prelude.{◌==◌}
 use Rattle.std.specs.Cmp.{unsigned_Decides}
 use Rattle.std.proofs.Math.Path.{fun_ext}
@@ -7,45 +7,86 @@ use Rattle.mm_types.specs.declared.numbers.Key.{Key}
 use Rattle.mm_types.specs.declared.numbers.Key.TheVariants as key
 use Rattle.mm_types.specs.declared.numbers.Pid.{Pid}
 use Rattle.mm_types.specs.declared.numbers.Place.{Place}
-use Rattle.mm_types.specs.Address.{Range, holds_page}
-use Rattle.mm_world.specs.World.{Page, RegionOf, filled}
+use Rattle.mm_types.specs.Address.{holds_page, Range}
+use Rattle.mm_types.proofs.Booleans.{same_tests, and_false, spread, or_left, or_right, by_either, cond_twice}
+use Rattle.mm_world.specs.World.{Page, filled, RegionOf}
+use Rattle.mm_world.specs.Failure.{same_key}
 use Rattle.mm_world.specs.Keys.{own_page}
-use Rattle.mm_pages.specs.Store.{StoreOf, changed_in, is_place_in}
+use Rattle.mm_world.proofs.LaidOut.{and-true}
+use Rattle.mm_pages.specs.Store.{StoreOf, changed, changed_in, same_place, is_place_in}
 use Rattle.mm_pages.specs.Reports.{rearranged}
 use Rattle.mm_pages.specs.Conditions.{place_at}
-use Rattle.mm_tables.specs.Ranges.{is_key_in, added, removed, set_in, passing, is_live, is_dead, with_keys, without_keys, CanAdd, CanRemove, only, front, Adds, Removes}
-use Rattle.mm_tables.proofs.Lists.{same_tests}
-use Rattle.mm_tables.proofs.Regions.{Within, within, holds, holds_not}
-use Rattle.mm_tables.proofs.OnePage.{own, once, holds_only}
+use Rattle.mm_tables.specs.Ranges.{is_key_in, added, removed, set_in, passing, is_live, is_dead, only, Adds, Removes, with_keys, without_keys, CanAdd, CanRemove, front}
+use Rattle.mm_tables.proofs.Regions.{within, holds, Within, holds_not}
+
+abbrev pub own : Pid → ℕ → Key
+own pid page = key.Private pid (record { 0 = page })
+
+-- ---- one page
+
+pub holds_only : (page v : ℕ) → holds_page (only page) v ≡ (v == page)
+holds_only page v =
+    same_tests _ _
+    (λ e. let w = within (only page) v e in (unsigned_Decides v page).1 (let same : v ≡ page = omega (arith, w.low, w.high) in same))
+    (λ e. let same : v ≡ page = (unsigned_Decides v page).0 e in holds (only page) v (omega (arith, same)) (omega (arith, same)))
+
+pub key_in_only : (pid : Pid) (page : ℕ) (k : Key) → is_key_in pid (only page) k ≡ same_key k (own pid page)
+key_in_only pid page (key.Private p v) = ap (λ b. (p.0 == pid.0) && b) (holds_only page v.0)
+key_in_only pid page (key.Shared area index) = refl
+
+pub place_in_only : (pid : Pid) (page : ℕ) (q : Place) → is_place_in pid (only page) q ≡ same_place q (place_at pid page)
+place_in_only pid page q = ap (λ b. (q.pid.0 == pid.0) && b) (holds_only page q.vpn.0)
+
+same_is : (pid : Pid) (page : ℕ) (k : Key) → same_key k (own pid page) ≡ true → k ≡ own pid page
+same_is pid page (key.Private p v) e =
+    let h = and-true (p.0 == pid.0) (v.0 == page) e in
+    let a = (unsigned_Decides p.0 pid.0).0 h.0 in
+    let b = (unsigned_Decides v.0 page).0 h.1 in
+    λ i. key.Private (record { 0 = a i }) (record { 0 = b i })
+same_is pid page (key.Shared area index) e = cc
+
+pub same_place_is : (pid : Pid) (page : ℕ) (q : Place) → same_place q (place_at pid page) ≡ true → q ≡ place_at pid page
+same_place_is pid page q e =
+    let h = and-true (q.pid.0 == pid.0) (q.vpn.0 == page) e in
+    let a = (unsigned_Decides q.pid.0 pid.0).0 h.0 in
+    let b = (unsigned_Decides q.vpn.0 page).0 h.1 in
+    λ i. record { pid = record { 0 = a i }; vpn = record { 0 = b i } }
+
+-- a function of keys, where it is changed at one key
+by_key : {V : Type 0} (pid : Pid) (page : ℕ) (f : Key → V) (x : Key → V) (y : V) → x (own pid page) ≡ y → (k : Key) (b : Bool) → same_key k (own pid page) ≡ b → cond b (x k) (f k) ≡ cond b y (f k)
+by_key pid page f x y e k true same = ap x (same_is pid page k same) ∙ e
+by_key pid page f x y e k false same = refl
+
+pub by_same : {V : Type 0} (pid : Pid) (page : ℕ) (f x : Key → V) → x (own pid page) ≡ f (own pid page) → (k : Key) (b : Bool) → same_key k (own pid page) ≡ b → cond b (x k) (f k) ≡ f k
+by_same pid page f x e k true same = ap x (same_is pid page k same) ∙ e ∙ sym (ap f (same_is pid page k same))
+by_same pid page f x e k false same = refl
+
+pub some_of : (o : Option Page) → is_some o ≡ true → Some (unwrap_or o (filled 0)) ≡ o
+some_of None e = cc
+some_of (Some x) e = refl
+
+pub none_of : (o : Option Page) → is_some o ≡ false → o ≡ None
+none_of None e = refl
+none_of (Some x) e = cc
+
+pub set_only : (pid : Pid) (page : ℕ) (f : Key → Bool) (x : Bool) → set_in pid (only page) f x ≡ changed same_key f (own pid page) x
+set_only pid page f x = fun_ext (λ k. ap (λ b. cond b x (f k)) (key_in_only pid page k))
+
+pub once : (test : ℕ → Bool) (page : ℕ) → passing test page 1 ≡ cond (test page) 1 0
+once test page = ap (λ (k : ℕ). 0 + cond (test k) 1 0) (let same : page + 0 ≡ page = omega arith in same) ∙ (let same : 0 + cond (test page) 1 0 ≡ cond (test page) 1 0 = omega arith in same)
+
+-- ---- adding at one page
+
+-- ---- removing at one page
 
 -- ---- ranges
-
-pub or_true : (a b : Bool) → (a || b) ≡ true → (P : Type 0) → (a ≡ true → P) → (b ≡ true → P) → P
-or_true true b e P f g = f refl
-or_true false b e P f g = g e
-
-pub or_left : (a b : Bool) → a ≡ true → (a || b) ≡ true
-or_left true b e = refl
-or_left false b e = cc
-
-pub or_right : (a b : Bool) → b ≡ true → (a || b) ≡ true
-or_right true b e = refl
-or_right false b e = e
-
-pub and_false : (b : Bool) → (b && false) ≡ false
-and_false true = refl
-and_false false = refl
-
-pub spread : (a b c : Bool) → (a && (b || c)) ≡ ((a && b) || (a && c))
-spread true b c = refl
-spread false b c = refl
 
 holds_more : (range : Range) (n v : ℕ) → holds_page (front range (suc n)) v ≡ (holds_page (only (range.first + n)) v || holds_page (front range n) v)
 holds_more range n v =
     same_tests _ _
     (λ e. let w = within (front range (suc n)) v e in
     by_last w (v == range.first + n) refl)
-    (λ e. or_true (holds_page (only (range.first + n)) v) (holds_page (front range n) v) e (holds_page (front range (suc n)) v ≡ true)
+    (λ e. by_either (holds_page (only (range.first + n)) v) (holds_page (front range n) v) e (holds_page (front range (suc n)) v ≡ true)
     (λ h. let w = within (only (range.first + n)) v h in holds (front range (suc n)) v (omega (arith, w.low)) (omega (arith, w.low, w.high)))
     (λ h. let w = within (front range n) v h in holds (front range (suc n)) v (omega (arith, w.low)) (omega (arith, w.low, w.high))))
   where
@@ -66,11 +107,7 @@ place_in_more pid range n q = ap (λ b. (q.pid.0 == pid.0) && b) (holds_more ran
 
 -- ---- functions changed in a range and then at its next page
 
-pub twice : {V : Type 0} (a b : Bool) (x y : V) → cond a x (cond b x y) ≡ cond (a || b) x y
-twice true b x y = refl
-twice false b x y = refl
-
-added_twice : (a b : Bool) (o : Option Page) → cond a (Some (unwrap_or (cond b (Some (unwrap_or o (filled 0))) o) (filled 0))) (cond b (Some (unwrap_or o (filled 0))) o) ≡ cond (a || b) (Some (unwrap_or o (filled 0))) o
+pub added_twice : (a b : Bool) (o : Option Page) → cond a (Some (unwrap_or (cond b (Some (unwrap_or o (filled 0))) o) (filled 0))) (cond b (Some (unwrap_or o (filled 0))) o) ≡ cond (a || b) (Some (unwrap_or o (filled 0))) o
 added_twice true true o = refl
 added_twice true false o = refl
 added_twice false b o = refl
@@ -84,19 +121,19 @@ added_more pid range n c =
 removed_more : (pid : Pid) (range : Range) (n : ℕ) (c : Key → Option Page) → removed pid (only (range.first + n)) (removed pid (front range n) c) ≡ removed pid (front range (suc n)) c
 removed_more pid range n c =
     fun_ext (λ k.
-    twice (is_key_in pid (only (range.first + n)) k) (is_key_in pid (front range n) k) None (c k)
+    cond_twice (is_key_in pid (only (range.first + n)) k) (is_key_in pid (front range n) k) None (c k)
     ∙ ap (λ b. cond b None (c k)) (sym (key_in_more pid range n k)))
 
 set_more : (pid : Pid) (range : Range) (n : ℕ) (f : Key → Bool) (x : Bool) → set_in pid (only (range.first + n)) (set_in pid (front range n) f x) x ≡ set_in pid (front range (suc n)) f x
 set_more pid range n f x =
     fun_ext (λ k.
-    twice (is_key_in pid (only (range.first + n)) k) (is_key_in pid (front range n) k) x (f k)
+    cond_twice (is_key_in pid (only (range.first + n)) k) (is_key_in pid (front range n) k) x (f k)
     ∙ ap (λ b. cond b x (f k)) (sym (key_in_more pid range n k)))
 
 names_more : (pid : Pid) (range : Range) (n : ℕ) (names : Place → Option Key) → changed_in pid (only (range.first + n)) (changed_in pid (front range n) names None) None ≡ changed_in pid (front range (suc n)) names None
 names_more pid range n names =
     fun_ext (λ q.
-    twice (is_place_in pid (only (range.first + n)) q) (is_place_in pid (front range n) q) None (names q)
+    cond_twice (is_place_in pid (only (range.first + n)) q) (is_place_in pid (front range n) q) None (names q)
     ∙ ap (λ b. cond b None (names q)) (sym (place_in_more pid range n q)))
 
 -- ---- the next page is not in the range yet
@@ -153,19 +190,6 @@ passing_all test first (suc n) all = omega (arith, passing_all test first n (λ 
 
 -- ---- the loop that adds
 
-pub adds_none : (pid : Pid) (range : Range) (c : Key → Option Page) (s : StoreOf) → Adds pid (front range 0) c c s s
-adds_none pid range c s =
-    let nothing : (k : Key) → is_key_in pid (front range 0) k ≡ false = λ k. none k in
-    let count : s.paging_keys ≡ s.paging_keys + 0 = omega arith in
-    record {
-      contents = fun_ext (λ k. ap (λ b. cond b (Some (unwrap_or (c k) (filled 0))) (c k)) (sym (nothing k)));
-      store = λ i. record s { paging = fun_ext (λ k. ap (λ b. cond b true (s.paging k)) (sym (nothing k))) i; paging_keys = count i; report = rearranged s.report s.report };
-    }
-  where
-    none : (k : Key) → is_key_in pid (front range 0) k ≡ false
-    none (key.Private p v) = ap (λ b. (p.0 == pid.0) && b) (holds_not (front range 0) v.0 (λ w. absurd (omega (arith, w.low, w.high)))) ∙ and_false (p.0 == pid.0)
-    none (key.Shared area index) = refl
-
 pub can_add_next : (pid : Pid) (range : Range) (n : ℕ) (rs : List (RegionOf (Unit {0}))) (c d : Key → Option Page) (s z : StoreOf) → CanAdd pid range rs c s → n < range.count → Adds pid (front range n) c d s z → CanAdd pid (only (range.first + n)) rs d z
 can_add_next pid range n rs c d s z can few a =
     let page = range.first + n in
@@ -212,19 +236,6 @@ no_key_in pid range (key.Shared area index) = refl
 
 pub no_place_in : (pid : Pid) (range : Range) (q : Place) → is_place_in pid (front range 0) q ≡ false
 no_place_in pid range q = ap (λ b. (q.pid.0 == pid.0) && b) (holds_not (front range 0) q.vpn.0 (λ w. absurd (omega (arith, w.low, w.high)))) ∙ and_false (q.pid.0 == pid.0)
-
-pub removes_none : (pid : Pid) (range : Range) (c : Key → Option Page) (s : StoreOf) → Removes pid (front range 0) c c s s
-removes_none pid range c s =
-    let count : s.paging_keys ≡ s.paging_keys - 0 = omega arith in
-    record {
-      contents = fun_ext (λ k. ap (λ b. cond b None (c k)) (sym (no_key_in pid range k)));
-      store = λ i. record s {
-        names = fun_ext (λ q. ap (λ b. cond b None (s.names q)) (sym (no_place_in pid range q))) i;
-        paging = fun_ext (λ k. ap (λ b. cond b false (s.paging k)) (sym (no_key_in pid range k))) i;
-        paging_keys = count i;
-        report = rearranged s.report s.report;
-      };
-    }
 
 pub can_remove_next : (pid : Pid) (range : Range) (n : ℕ) (rs : List (RegionOf (Unit {0}))) (c d : Key → Option Page) (s z : StoreOf) → CanRemove pid range rs c s → n < range.count → Removes pid (front range n) c d s z → CanRemove pid (only (range.first + n)) rs d z
 can_remove_next pid range n rs c d s z can few a =

@@ -16,7 +16,8 @@ use Rattle.mm_world.specs.World.{ProcessOf, RegionOf, RowOf, pages_of}
 use Rattle.mm_world.specs.Find.{Found, change_range, process_of, region_with, region_around, ranges_of, set_region, set_regions, add_region, is_private}
 use Rattle.mm_world.specs.Charge.{charge, region_charge, is_charged}
 use Rattle.mm_world.specs.Keys.{own_page, private_key}
-use Rattle.mm_world.specs.Alloc.{private_region, new_row, reserve_type}
+use Rattle.mm_types.specs.Allocation.{reserve_type}
+use Rattle.mm_world.specs.Alloc.{private_region, new_row}
 use Rattle.mm_world.specs.Contents.{Tables, blank}
 use Rattle.mm_world.specs.Rows.{is_one_of, is_protection_among, private_protections, accepts, is_committed_at, every_page, reserved_row, commit, protected, change_rows}
 use Rattle.mm_world.specs.Sections.{is_view_of}
@@ -31,10 +32,9 @@ use Rattle.mm_world.proofs.KeptPages as kept
 use Rattle.mm_spaces.specs.Tables.{rows_of}
 use Rattle.mm_tables.specs.Fits.{paging_count, new_pages, marks_in, new_marks}
 use Rattle.mm_tables.specs.Effects.{Makes, Ends, Leaves, after, Moves, keys_of, key_in}
-use Rattle.mm_tables.proofs.Homes.{home_key, region_key, key_in_has, private_home}
 use Rattle.mm_tables.proofs.Keeping.{StandIn}
-use Rattle.mm_tables.proofs.Lists.{get-change_range, count-change_range, count-all, count-same, count-replicate}
-use Rattle.mm_tables.proofs.Paging.{own_rows, paging-set_region, paging-remove_region, paging-add_region}
+use Rattle.mm_tables.proofs.Lists.{get-change_range, count-change_range, count-all, count-same, count-replicate, one_if}
+use Rattle.mm_tables.proofs.OneProcess.{own_rows, paging-set_region, paging-remove_region, paging-add_region, home_key, region_key, key_in_has, private_home}
 use Rattle.mm_tables.proofs.Regions.{has, within, SamePages, reserved_set, has_set, has_at, has_added, has_removed, reserved_added, reserved_removed}
 use Rattle.mm_tables.proofs.Rows.{Inside, has_own, in_range, same_place, own_of_changed, same_pages, charge_of_commit, charge_of_decommit, private_charge}
 
@@ -44,9 +44,6 @@ kind_is (kind.View v) e = cc
 
 pub allowed : (prot : ℕ) → is_protection_among private_protections prot ≡ true → is_one_of private_protections (base_of prot) ≡ true
 allowed prot e = (and-true (is_one_of private_protections (base_of prot)) (nat_lt prot 0x200) (and-true (is_one_of private_protections (base_of prot) && nat_lt prot 0x200) (not (prot == 0x101)) e).0).0
-
-abbrev one_if : Bool → ℕ
-one_if b = cond b 1 0
 
 -- ---- views are counted by kind
 
@@ -342,7 +339,7 @@ module _ (t : Tables) (pid : ℕ) (p : ProcessOf (Unit {0})) (i : ℕ) (r : Regi
 
 -- ---- a region is added
 
-not-true : (b : Bool) → not b ≡ true → b ≡ false
+pub not-true : (b : Bool) → not b ≡ true → b ≡ false
 not-true true e = cc
 not-true false e = refl
 

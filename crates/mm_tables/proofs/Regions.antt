@@ -9,7 +9,8 @@ use Rattle.mm_world.specs.World.{RegionOf, pages_of}
 use Rattle.mm_world.specs.Find.{Found, one_later, region_with, ranges_of}
 use Rattle.mm_world.specs.WellFormed.{LaidOut}
 use Rattle.mm_world.proofs.LaidOut.{and-true, or-false, less, laid_at}
-use Rattle.mm_tables.proofs.Lists.{both, not_true, found-cons, found-insert, found-set}
+use Rattle.mm_tables.proofs.Lists.{found-cons, found-insert, found-set}
+use Rattle.mm_types.proofs.Booleans.{not_true, both}
 
 -- ---- pages and ranges
 
@@ -28,7 +29,7 @@ holds range page low high = both (nat_le range.first page) (nat_lt page (end_of 
 pub holds_not : (range : Range) (page : ℕ) → (Within range page → ⊥) → holds_page range page ≡ false
 holds_not range page h = not_true (holds_page range page) (λ e. h (within range page e))
 
-apart : (a b : Range) (page : ℕ) → meets a b ≡ false → holds_page b page ≡ true → holds_page a page ≡ false
+pub apart : (a b : Range) (page : ℕ) → meets a b ≡ false → holds_page b page ≡ true → holds_page a page ≡ false
 apart a b page e in_b =
     holds_not a page (λ in_a.
     let h = within b page in_b in
@@ -47,7 +48,7 @@ module _ {B : Type 0} where
       ∙ none_below (end_of (pages_of r)) page rs h.1 (omega (arith, h.0.later, low))
 
   -- a region behind another has none of its pages
-  behind : (from i page : ℕ) (x r : RegionOf B) (rs : List (RegionOf B)) → LaidOut from (x ∷ rs) → slice_get rs i ≡ Some r → holds_page (pages_of x) page ≡ true → holds_page (pages_of r) page ≡ false
+  pub behind : (from i page : ℕ) (x r : RegionOf B) (rs : List (RegionOf B)) → LaidOut from (x ∷ rs) → slice_get rs i ≡ Some r → holds_page (pages_of x) page ≡ true → holds_page (pages_of r) page ≡ false
   behind from i page x r rs h at e =
       let fits = laid_at (end_of (pages_of x)) rs i r h.1 at in
       holds_not (pages_of r) page (λ w. absurd (omega (arith, (within (pages_of x) page e).high, w.low, fits.later)))
@@ -83,7 +84,7 @@ module _ {B : Type 0} where
     pub base : new.base ≡ r.base
     pub rows : length new.rows ≡ length r.rows
 
-  same_holds : (r new : RegionOf B) (page : ℕ) → SamePages r new → holds_page (pages_of new) page ≡ holds_page (pages_of r) page
+  pub same_holds : (r new : RegionOf B) (page : ℕ) → SamePages r new → holds_page (pages_of new) page ≡ holds_page (pages_of r) page
   same_holds r new page same i = holds_page (record { first = same.base i; count = same.rows i }) page
 
   pub reserved_set : (rs : List (RegionOf B)) (i page : ℕ) (r new : RegionOf B) → slice_get rs i ≡ Some r → SamePages r new → is_some (region_with (set rs i new) page) ≡ is_some (region_with rs page)

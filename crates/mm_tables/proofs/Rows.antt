@@ -16,8 +16,10 @@ use Rattle.mm_world.proofs.KeptPages.{own_in}
 use Rattle.mm_world.proofs.RowsFit.{length-change_range}
 use Rattle.mm_world.proofs.Charges.{count_by-none}
 use Rattle.mm_tables.specs.Ranges.{passing}
-use Rattle.mm_tables.proofs.Lists.{both, same_tests, not_true, is_between, get-change_range, count-change_range, count-all, count-same, count-next, length-range, is_there}
+use Rattle.mm_tables.proofs.Lists.{is_between, get-change_range, count-change_range, count-all, count-next, length-range}
 use Rattle.mm_tables.proofs.Regions.{within, holds, SamePages, has_set, has_at}
+use Rattle.mm_types.proofs.Booleans.{not_true, same_tests, both}
+use Rattle.mm_types.proofs.Lists.{is_there}
 
 -- a range within a region's pages
 pub record Inside (range pages : Range) : Type 0 where
@@ -119,15 +121,6 @@ module _ {B : Type 0} where
       )
 
   -- each has where it had
-  pub charge_of_protect : (change : RowOf B → RowOf B) → ((row : RowOf B) → has_own (change row) ≡ has_own row) → (range : Range) (r : RegionOf B) → is_private r.kind ≡ true → region_charge (change_rows change range r) ≡ region_charge r
-  charge_of_protect change same range r private =
-      omega (
-        arith,
-        private_charge r private,
-        private_charge (change_rows change range r) private,
-        count-change_range has_own change (range.first - r.base) range.count r.rows,
-        count-same has_own change (in_range range r) same,
-      )
 
   -- ---- pages counted one by one
 

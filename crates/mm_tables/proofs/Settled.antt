@@ -1,39 +1,325 @@
--- Steps of calls settle the tables and the store.
-use Rattle.std.proofs.Common.{◌≡◌, ◌≤◌, ◌+◌, ◌-◌, ℕ, Bool, true, false, Option, Some, List, refl, sym, ◌∙◌, ap, subst, arith, set, slice_get, count_by, Result, Ok, Err}
-use Rattle.std.specs.Prelude.{remove, ◌%◌, OnErr}
+-- What a store that fits the tables allows to be done to a range of a process.
+use Rattle.std.proofs.Common.{◌≡◌, ◌≤◌, ◌+◌, ◌-◌, ℕ, zero, suc, Bool, true, false, Option, Some, None, List, [], ◌∷◌, refl, sym, ◌∙◌, ap, subst, cond, arith, length, slice_get, is_some, ◌&&◌, ◌||◌, not, nat_le, nat_lt, take, drop, count_by, sum_by, option_map, unwrap_or, set}
+use Rattle.std.proofs.Math.Path.{fun_ext}
+use Rattle.std.specs.Prelude.{◌==◌, option_and_then, remove, ◌%◌}
+use Rattle.std.specs.List.{list_any}
+use Rattle.std.proofs.lemmas.Bool.{leb-true, le-leb}
+use Rattle.std.proofs.lemmas.List.Sums.{sum_by-cons}
+use Rattle.mm_types.specs.declared.moves.LineKind.TheVariants as kind
+use Rattle.mm_types.specs.declared.views.Kind.{Kind}
+use Rattle.mm_types.specs.declared.views.Kind.TheVariants as kind'
 use Rattle.mm_types.specs.declared.numbers.Key.{Key}
+use Rattle.mm_types.specs.declared.numbers.Key.TheVariants as key
 use Rattle.mm_types.specs.declared.numbers.Pid.{Pid}
-use Rattle.mm_types.specs.Address.{Range, is_free}
-use Rattle.mm_world.specs.World.{Page, ProcessOf, RegionOf, pages_of}
-use Rattle.mm_world.specs.Find.{Found, process_of, region_around, ranges_of, set_region, set_regions, add_region, is_private}
-use Rattle.mm_world.specs.Alloc.{private_region}
-use Rattle.mm_world.specs.Charge.{charge}
+use Rattle.mm_types.specs.Address.{Range, meets, is_free, are_user_pages, address_of, end_of, holds_page, lies_within, first_user_page, end_of_user_pages}
+use Rattle.mm_types.specs.Machine.{limit_of}
+use Rattle.mm_types.proofs.Booleans.{both}
+use Rattle.mm_world.specs.World.{Page, ProcessOf, RegionOf, RowOf, numbered, pages_of}
+use Rattle.mm_world.specs.Rows.{row_at, is_committed, is_committed_at, every_page, is_protection_among, private_protections, reserved_row, commit, protected, change_rows, accepts}
+use Rattle.mm_world.specs.Find.{Found, first_where, process_of, region_with, region_around, ranges_of, is_private, set_region, set_regions, add_region}
+use Rattle.mm_world.specs.Free.{private_at}
+use Rattle.mm_world.specs.Charge.{charge, is_charged, region_charge, process_charge}
+use Rattle.mm_world.specs.Keys.{own_page, private_key}
 use Rattle.mm_world.specs.Contents.{Tables, blank}
-use Rattle.mm_world.specs.Rows.{is_protection_among, private_protections, reserved_row, commit, protected, change_rows, every_page, is_committed_at, accepts}
-use Rattle.mm_world.specs.WellFormed.{WellFormed}
+use Rattle.mm_world.specs.WellFormed.{Each, WellFormed, RowFits, RowsFit, IsSpace}
+use Rattle.mm_world.specs.Alloc.{private_region}
+use Rattle.mm_world.proofs.Each.{every_page-at}
+use Rattle.mm_world.proofs.Disjoint.{is_placed, same_place}
+use Rattle.mm_world.proofs.Finding.{found_stands}
+use Rattle.mm_world.proofs.KeptPages.{own_in}
+use Rattle.mm_world.proofs.LaidOut.{and-true, or-false, laid_at}
+use Rattle.mm_pages.specs.Conditions.{place_at}
 use Rattle.mm_pages.specs.Store.{StoreOf}
-use Rattle.mm_spaces.specs.Tables.{owned_in}
-use Rattle.mm_tables.specs.Effects.{Effect, Makes, Ends, Leaves, contents_by, Stored, Moves, Roomier, keys_of}
-use Rattle.mm_tables.specs.Fits.{Fits, Carries, Settled, beside, paging_count, new_pages}
-use Rattle.mm_tables.specs.Ranges.{passing, is_live, is_dead}
+use Rattle.mm_spaces.specs.Tables.{owned_in, rows_of}
+use Rattle.mm_tables.specs.Effects.{CanMake, key_in, Effect, Makes, Ends, Leaves, contents_by, Stored, Moves, Roomier, keys_of}
+use Rattle.mm_tables.specs.Fits.{Fits, key_at, new_pages, paging_count, owned_by, Carries, Settled, beside}
+use Rattle.mm_tables.specs.Ranges.{CanAdd, CanRemove, passing, is_live, is_dead}
+use Rattle.mm_tables.proofs.Lists.{found-cons, one_if}
+use Rattle.mm_tables.proofs.Carried.{private_paging, moved, beside_by, carries_as, carries_same, carries_added, carries_removed}
+use Rattle.mm_tables.proofs.PageByPage.{passing_all}
+use Rattle.mm_tables.proofs.OneProcess.{own_rows, regions_of_process, reserved_is, content_is, home_key, region_key, key_in_has, key_at_is, private_home}
+use Rattle.mm_tables.proofs.Regions.{has_at, within, holds, holds_not}
+use Rattle.mm_tables.proofs.Rows.{Inside, inside, has_own, in_range, holds_too, passing_owned, private_charge}
+use Rattle.mm_tables.proofs.Regional.{not-true, commit_moves, commit_charge, commit_paging, commit_stands, decommit_moves, decommit_charge, decommit_paging, decommit_stands, protect_moves, protect_charge, protect_paging, protect_stands, marks_of, release_moves, release_charge, release_paging, release_stands, reserve_moves, reserve_charge, reserve_paging, reserve_stands}
 use Rattle.mm_tables.proofs.Keeping.{StandIn}
-use Rattle.mm_tables.proofs.Carried.{carries_as, carries_same, carries_added, carries_removed}
-use Rattle.mm_tables.proofs.Moved.{moved, beside_by}
-use Rattle.mm_tables.proofs.Paging.{own_rows}
-use Rattle.mm_tables.proofs.Ready.{passing_both, live_count, around, whole_inside, whole_range}
-use Rattle.mm_tables.proofs.Regional.{commit_moves, commit_charge, commit_paging, commit_stands, decommit_moves, decommit_charge, decommit_paging, decommit_stands, protect_moves, protect_charge, protect_paging, protect_stands, marks_of, release_moves, release_charge, release_paging, release_stands, reserve_moves, reserve_charge, reserve_paging, reserve_stands}
-use Rattle.mm_tables.proofs.Rows.{Inside, has_own, in_range, private_charge}
 
-pub on_err : {T E : Type 0} {P : Type 0} (r : Result T E) → P → OnErr r P
-on_err (Ok x) p = tt
-on_err (Err e) p = p
+pub found_there : {A : Type 0} (test : A → Bool) (xs : List A) (i : ℕ) (x : A) → slice_get xs i ≡ Some x → test x ≡ true → is_some (first_where test xs) ≡ true
+found_there test [] i x at e = cc
+found_there test (y ∷ xs) zero x at e =
+    let same : y ≡ x = cc in
+    found-cons test y xs ∙ ap (λ b. b || is_some (first_where test xs)) (ap test same ∙ e)
+found_there test (y ∷ xs) (suc i) x at e =
+    found-cons test y xs ∙ ap (λ b. test y || b) (found_there test xs i x at e) ∙ or_true (test y)
+  where
+    or_true : (b : Bool) → (b || true) ≡ true
+    or_true true = refl
+    or_true false = refl
+
+pub passing_both : (test : ℕ → Bool) (first n : ℕ) → passing test first n + passing (λ page. not (test page)) first n ≡ n
+passing_both test first zero = refl
+passing_both test first (suc n) = omega (arith, passing_both test first n, one (test (first + n)))
+  where
+    one : (b : Bool) → cond b 1 0 + cond (not b) 1 0 ≡ 1
+    one true = refl
+    one false = refl
+
+-- ---- no more page-file keys than pages are charged
+
+private_few : (rows : List (RowOf (Unit {0}))) (k : Kind) → Each (RowFits k) rows → count_by has_own rows ≤ count_by (is_charged k) rows
+private_few [] k h = omega arith
+private_few (row ∷ rows) k h =
+    omega (
+      arith,
+      sum_by-cons (λ (row : RowOf (Unit {0})). one_if (has_own row)) row rows,
+      sum_by-cons (λ (row : RowOf (Unit {0})). one_if (is_charged k row)) row rows,
+      private_few rows k h.1,
+      by_kind k h.0,
+    )
+  where
+    by_two : (a b : Bool) → (a ≡ true → b ≡ true) → one_if a ≤ one_if b
+    by_two true true f = omega arith
+    by_two true false f = let bad : false ≡ true = f refl in cc
+    by_two false true f = omega arith
+    by_two false false f = omega arith
+
+    by_kind : (k : Kind) → RowFits k row → one_if (has_own row) ≤ one_if (is_charged k row)
+    by_kind kind'.Private fits = omega arith
+    by_kind (kind'.View v) fits = by_two (is_some row.own) row.marked fits.copied
+
+regions_few : (rs : List (RegionOf (Unit {0}))) → Each RowsFit rs → sum_by own_rows rs ≤ sum_by region_charge rs
+regions_few [] h = omega arith
+regions_few (r ∷ rs) h =
+    omega (arith, sum_by-cons own_rows r rs, sum_by-cons region_charge r rs, private_few r.rows r.kind h.0, regions_few rs h.1)
+
+process_few : (o : Option (ProcessOf (Unit {0}))) → ((p : ProcessOf (Unit {0})) → o ≡ Some p → IsSpace p.regions) → owned_by o ≤ process_charge o
+process_few None h = omega arith
+process_few (Some p) h = regions_few p.regions (h p refl).rows
+
+processes_few : (ps : List (Option (ProcessOf (Unit {0})))) → ((pid : ℕ) (p : ProcessOf (Unit {0})) → numbered ps pid ≡ Some p → IsSpace p.regions) → sum_by owned_by ps ≤ sum_by process_charge ps
+processes_few [] h = omega arith
+processes_few (o ∷ ps) h =
+    omega (arith, sum_by-cons owned_by o ps, sum_by-cons process_charge o ps, process_few o (λ p e. h 0 p e), processes_few ps (λ pid p e. h (suc pid) p e))
+
+pub paging_few : (t : Tables) → WellFormed t → paging_count t ≤ charge t
+paging_few t h = omega (arith, processes_few t.processes h.spaces)
+
+-- ---- a process
+
+module _ (t : Tables) (pid : Pid) (p : ProcessOf (Unit {0})) (c : Key → Option Page) (s : StoreOf) (lives : process_of t pid.0 ≡ Some p) (h : WellFormed t) (f : Fits t c s) where
+  pub live_is : (page : ℕ) → is_live pid c page ≡ is_some (own_page p.regions page)
+  live_is page =
+      f.live (key.Private pid (record { 0 = page })) ∙ ap is_some (content_is t pid.0 page) ∙ ap (λ rs. is_some (own_page rs page)) (regions_of_process t pid.0 p lives)
+
+  pub bound_is : (page : ℕ) → s.bound (place_at pid page) ≡ is_some (region_with p.regions page)
+  bound_is page = f.bound (place_at pid page) ∙ reserved_is t (place_at pid page) ∙ ap (λ rs. is_some (region_with rs page)) (regions_of_process t pid.0 p lives)
+
+  module _ (i : ℕ) (r : RegionOf (Unit {0})) (range : Range) (at : slice_get p.regions i ≡ Some r) (inside : Inside range (pages_of r)) where
+    pub ends : end_of range ≤ end_of_user_pages
+    ends =
+        let placed = is_placed t pid.0 i p r h lives at in
+        let user = and-true (nat_le first_user_page r.base) (nat_le (end_of (pages_of r)) end_of_user_pages) placed.1 in
+        omega (arith, leb-true _ _ user.1, inside.high)
+
+    pub bound_in : (page : ℕ) → holds_page range page ≡ true → s.bound (place_at pid page) ≡ true
+    bound_in page e =
+        bound_is page ∙ found_there (λ (r : RegionOf (Unit {0})). holds_page (pages_of r) page) p.regions i r at (holds_too range (pages_of r) page inside e)
+
+    pub live_count : passing (is_live pid c) range.first range.count ≡ count_by has_own (in_range range r)
+    live_count =
+        ap (λ test. passing test range.first range.count) (fun_ext live_is)
+        ∙ passing_owned first_user_page i p.regions r range range.count (h.spaces pid.0 p lives).laid_out at inside (omega arith)
+
+    module _ (private : is_private r.kind ≡ true) where
+      -- a private page without bytes names nothing
+      by_row : (page : ℕ) (k : Key) (o : Option (RowOf (Unit {0}))) → option_and_then (λ row. home_key t pid.0 page (page - r.base) r.kind row.own) o ≡ Some k → is_some (option_and_then (λ (row : RowOf (Unit {0})). row.own) o) ≡ true
+      by_row page k None e = cc
+      by_row page k (Some row) e = by_own row.own (sym (private_home t pid.0 page (page - r.base) r.kind row.own private) ∙ e)
+        where
+          by_own : (o : Option (Unit {0})) → option_map (λ x. private_key pid.0 page) o ≡ Some k → is_some o ≡ true
+          by_own None e = cc
+          by_own (Some x) e = refl
+
+      pub uncommitted_is : (page : ℕ) → holds_page range page ≡ true → is_live pid c page ≡ false → key_at t (place_at pid page) ≡ None
+      uncommitted_is page held dead = by_key (key_at t (place_at pid page)) refl
+        where
+          in_r : holds_page (pages_of r) page ≡ true
+          in_r = holds_too range (pages_of r) page inside held
+
+          by_key : (o : Option Key) → key_at t (place_at pid page) ≡ o → o ≡ None
+          by_key None e = refl
+          by_key (Some k) e =
+              let laid = (h.spaces pid.0 p lives).laid_out in
+              let named : region_key t pid.0 page r ≡ Some k =
+              sym (has_at (region_key t pid.0 page) first_user_page i page p.regions r laid at in_r) ∙ sym (key_in_has t pid.0 p.regions page)
+              ∙ ap (λ rs. key_in t pid.0 rs page) (sym (regions_of_process t pid.0 p lives)) ∙ sym (key_at_is t (place_at pid page)) ∙ e in
+              let own : is_some (own_page p.regions page) ≡ true =
+              ap is_some (has_at (λ (r : RegionOf (Unit {0})). own_in r page) first_user_page i page p.regions r laid at in_r) ∙ by_row page k (row_at r page) named in
+              let bad : true ≡ false = sym own ∙ sym (live_is page) ∙ dead in
+              cc
+
+      pub unnamed_is : (page : ℕ) → holds_page range page ≡ true → is_live pid c page ≡ false → s.names (place_at pid page) ≡ None
+      unnamed_is page held dead = by_name (s.names (place_at pid page)) refl
+        where
+          by_name : (o : Option Key) → s.names (place_at pid page) ≡ o → o ≡ None
+          by_name None e = refl
+          by_name (Some k) e = sym (f.named (place_at pid page) k e) ∙ uncommitted_is page held dead
+
+      pub can_remove : s.kind ≡ kind.Unbind pid → CanRemove pid range p.regions c s
+      can_remove unbinding =
+          record {
+            live = λ page e. live_is page;
+            named = λ page e dead. unnamed_is page e dead;
+            paging = λ page e. private_paging t c s pid (record { 0 = page }) f;
+            unbinding = unbinding;
+          }
+
+      pub can_add : (n total : ℕ) → n + count_by has_own (in_range range r) ≡ range.count → charge t + n ≤ total → s.kind ≡ kind.Call → CanAdd pid range p.regions c (record s { room = total })
+      can_add n total counted room called =
+          record {
+            live = λ page e. live_is page;
+            bound = bound_in;
+            named = λ page e dead. unnamed_is page e dead;
+            paging = λ page e. private_paging t c s pid (record { 0 = page }) f;
+            room = omega (arith, counted, room, f.counted, paging_few t h, live_count, passing_both (is_live pid c) range.first range.count);
+            called = called;
+          }
+
+-- the region around a range
+pub record IsAround (rs : List (RegionOf (Unit {0}))) (range : Range) (r : Found (RegionOf (Unit {0}))) : Type 0 where
+  pub at : slice_get rs r.place ≡ Some r.thing
+  pub inside : Inside range (pages_of r.thing)
+  pub owned : owned_in rs range ≡ count_by has_own (in_range range r.thing)
+
+pub around : (rs : List (RegionOf (Unit {0}))) (range : Range) (r : Found (RegionOf (Unit {0}))) → region_around rs range ≡ Some r → IsAround rs range r
+around rs range r e =
+    let stands = found_stands (λ (r : RegionOf (Unit {0})). lies_within range (pages_of r)) rs r e in
+    record {
+      at = stands.there;
+      inside = inside range (pages_of r.thing) stands.passes;
+      owned = ap (λ o. count_by has_own (rows_of range o)) e;
+    }
+
+-- regions lie apart, so the one that has a range is found around it
+module _ (t : Tables) (pid : ℕ) (p : ProcessOf (Unit {0})) (i : ℕ) (r : RegionOf (Unit {0})) (range : Range) (lives : process_of t pid ≡ Some p) (h : WellFormed t) (at : slice_get p.regions i ≡ Some r) (inner : Inside range (pages_of r)) (some : 1 ≤ range.count) where
+  lies : lies_within range (pages_of r) ≡ true
+  lies = both (nat_le r.base range.first) (nat_le (end_of range) (end_of (pages_of r))) (le-leb _ _ inner.low) (le-leb _ _ inner.high)
+
+  pub is_around : is_some (region_around p.regions range) ≡ true
+  is_around = found_there (λ (r : RegionOf (Unit {0})). lies_within range (pages_of r)) p.regions i r at lies
+
+  by_found : (o : Option (Found (RegionOf (Unit {0})))) → region_around p.regions range ≡ o → is_some o ≡ true → region_around p.regions range ≡ Some (record { place = i; thing = r })
+  by_found None e there = cc
+  by_found (Some q) e there =
+      let a = around p.regions range q e in
+      let held : holds_page range range.first ≡ true = holds range range.first (omega arith) (omega (arith, some)) in
+      let place : q.place ≡ i =
+      same_place t pid range.first q.place i p q.thing r h lives a.at at (holds_too range (pages_of q.thing) range.first a.inside held) (holds_too range (pages_of r) range.first inner held) in
+      let things : Some q.thing ≡ Some r = sym a.at ∙ ap (slice_get p.regions) place ∙ at in
+      let thing : q.thing ≡ r = cc in
+      e ∙ (λ j. Some (record { place = place j; thing = thing j }))
+
+  pub around_is : region_around p.regions range ≡ Some (record { place = i; thing = r })
+  around_is = by_found (region_around p.regions range) refl is_around
+
+-- the region that begins at an address
+pub record Begins (rs : List (RegionOf (Unit {0}))) (r : Found (RegionOf (Unit {0}))) : Type 0 where
+  pub at : slice_get rs r.place ≡ Some r.thing
+  pub private : is_private r.thing.kind ≡ true
+
+pub begins : (rs : List (RegionOf (Unit {0}))) (addr : ℕ) (r : Found (RegionOf (Unit {0}))) → private_at rs addr ≡ Some r → Begins rs r
+begins rs addr r e =
+    let stands = found_stands (λ (r : RegionOf (Unit {0})). is_private r.kind && (address_of r.base == addr)) rs r e in
+    record { at = stands.there; private = (and-true (is_private r.thing.kind) (address_of r.thing.base == addr) stands.passes).0 }
+
+take-whole : {A : Type 0} (xs : List A) → take (length xs) xs ≡ xs
+take-whole [] = refl
+take-whole (x ∷ xs) = ap (λ ys. x ∷ ys) (take-whole xs)
+
+pub whole_range : (r : RegionOf (Unit {0})) → in_range (pages_of r) r ≡ r.rows
+whole_range r =
+    ap (λ (k : ℕ). take (length r.rows) (drop k r.rows)) (let none : r.base - r.base ≡ 0 = omega arith in none) ∙ take-whole r.rows
+
+pub whole_inside : (r : RegionOf (Unit {0})) (range : Range) → pages_of r ≡ range → Inside range (pages_of r)
+whole_inside r range e = subst (λ (range : Range). Inside range (pages_of r)) e (record { low = omega arith; high = omega arith })
+
+-- what is found is found with its pages
+pub pages_found : (o : Option (Found (RegionOf (Unit {0})))) (range : Range) → option_map (λ (r : Found (RegionOf (Unit {0}))). pages_of r.thing) o ≡ Some range → (r : Found (RegionOf (Unit {0}))) × ((o ≡ Some r) × (pages_of r.thing ≡ range))
+pages_found None range e = cc
+pages_found (Some r) range e = (r, (refl, (let same : pages_of r.thing ≡ range = cc in same)))
+
+-- where each page of the range is committed, all rows of the range have bytes of their own
+module _ (t : Tables) (pid : ℕ) (p : ProcessOf (Unit {0})) (i : ℕ) (r : RegionOf (Unit {0})) (range : Range) (lives : process_of t pid ≡ Some p) (h : WellFormed t) (at : slice_get p.regions i ≡ Some r) (inner : Inside range (pages_of r)) (private : is_private r.kind ≡ true) where
+  committed_own : (k : Kind) (j : ℕ) (row : RowOf (Unit {0})) → is_private k ≡ true → is_committed t k j row ≡ is_some row.own
+  committed_own kind'.Private j row e = refl
+  committed_own (kind'.View v) j row e = cc
+
+  by_own : (o : Option (RowOf (Unit {0}))) (k : Kind) (j : ℕ) → is_private k ≡ true → unwrap_or (option_map (is_committed t k j) o) false ≡ is_some (option_and_then (λ (row : RowOf (Unit {0})). row.own) o)
+  by_own None k j e = refl
+  by_own (Some row) k j e = committed_own k j row e
+
+  pub all_owned : every_page (is_committed_at t r) range ≡ true → count_by has_own (in_range range r) ≡ range.count
+  all_owned all =
+      sym (passing_owned first_user_page i p.regions r range range.count (h.spaces pid p lives).laid_out at inner (omega arith))
+      ∙ passing_all (λ page. is_some (own_page p.regions page)) range.first range.count (λ j few.
+      let page = range.first + j in
+      let held : holds_page (pages_of r) page ≡ true = holds (pages_of r) page (omega (arith, inner.low)) (omega (arith, inner.high, few)) in
+      ap is_some (has_at (λ (r : RegionOf (Unit {0})). own_in r page) first_user_page i page p.regions r (h.spaces pid p lives).laid_out at held)
+      ∙ sym (by_own (row_at r page) r.kind (page - r.base) private)
+      ∙ every_page-at (is_committed_at t r) range.first range.count page all (omega arith) (omega (arith, few)))
+
+-- ---- free pages
+
+apart : (a b : Range) (page : ℕ) → meets a b ≡ false → holds_page a page ≡ true → holds_page b page ≡ false
+apart a b page e in_a =
+    holds_not b page (λ in_b.
+    let h = within a page in_a in
+    let bad : true ≡ false = sym (both (nat_lt a.first (end_of b)) (nat_lt b.first (end_of a)) (le-leb _ _ (omega (arith, in_b.high, h.low))) (le-leb _ _ (omega (arith, in_b.low, h.high)))) ∙ e in
+    cc)
+
+free_page : (rs : List (RegionOf (Unit {0}))) (range : Range) (page : ℕ) → list_any (meets range) (ranges_of rs) ≡ false → holds_page range page ≡ true → is_some (region_with rs page) ≡ false
+free_page [] range page free held = refl
+free_page (r ∷ rs) range page free held =
+    let h = or-false (meets range (pages_of r)) (list_any (meets range) (ranges_of rs)) free in
+    found-cons (λ (r : RegionOf (Unit {0})). holds_page (pages_of r) page) r rs
+    ∙ ap (λ b. b || is_some (region_with rs page)) (apart range (pages_of r) page h.0 held) ∙ free_page rs range page h.1 held
+
+no_own : (rs : List (RegionOf (Unit {0}))) (page : ℕ) → is_some (region_with rs page) ≡ false → is_some (own_page rs page) ≡ false
+no_own rs page e = by_option (region_with rs page) e
+  where
+    by_option : (o : Option (Found (RegionOf (Unit {0})))) → is_some o ≡ false → is_some (option_and_then (λ (r : Found (RegionOf (Unit {0}))). own_in r.thing page) o) ≡ false
+    by_option None e = refl
+    by_option (Some r) e = cc
+
+pub can_make : (t : Tables) (pid : Pid) (p : ProcessOf (Unit {0})) (c : Key → Option Page) (s : StoreOf) → process_of t pid.0 ≡ Some p → WellFormed t → Fits t c s → (range : Range) (type total : ℕ) → is_free (ranges_of p.regions) range ≡ true → charge t + new_pages type range ≤ total → total ≤ limit_of s.machine → s.kind ≡ kind.Call → CanMake pid range type total p.regions c s
+can_make t pid p c s lives h f range type total free room within called =
+    let clear = not-true (list_any (meets range) (ranges_of p.regions)) (and-true (are_user_pages range) (not (list_any (meets range) (ranges_of p.regions))) free).1 in
+    record {
+      live = λ page e. live_is t pid p c s lives h f page;
+      dead = λ page e. no_own p.regions page (free_page p.regions range page clear e);
+      opened = f.opened pid.0 ∙ ap is_some lives;
+      unbound = λ page e. bound_is t pid p c s lives h f page ∙ free_page p.regions range page clear e;
+      paging = λ page e. private_paging t c s pid (record { 0 = page }) f;
+      few = omega (arith, f.counted, paging_few t h, room);
+      within = within;
+      called = called;
+    }
+
+-- a whole region
+module _ (t : Tables) (pid : ℕ) (p : ProcessOf (Unit {0})) (i : ℕ) (r : RegionOf (Unit {0})) (range : Range) (lives : process_of t pid ≡ Some p) (h : WellFormed t) (at : slice_get p.regions i ≡ Some r) (pages : pages_of r ≡ range) where
+  pub some_pages : 1 ≤ range.count
+  some_pages = omega (arith, (laid_at first_user_page p.regions i r (h.spaces pid p lives).laid_out at).some, ap (λ (range : Range). range.count) pages)
+
+  pub whole_owned : owned_in p.regions range ≡ own_rows r
+  whole_owned =
+      ap (λ o. count_by has_own (rows_of range o)) (around_is t pid p i r range lives h at (whole_inside r range pages) some_pages)
+      ∙ ap (λ (range : Range). count_by has_own (in_range range r)) (sym pages) ∙ ap (count_by has_own) (whole_range r)
 
 -- ---- nothing but room
 
 pub roomier_beside : (c d : Key → Option Page) (s z : StoreOf) → Roomier c d s z → z ≡ beside s z
 roomier_beside c d s z h = beside_by s z (record s { room = z.room }) h.store refl
 
-fits_more : (t : Tables) (c : Key → Option Page) (s : StoreOf) (n : ℕ) → Fits t c s → s.room ≤ n → Fits t c (record s { room = n })
+pub fits_more : (t : Tables) (c : Key → Option Page) (s : StoreOf) (n : ℕ) → Fits t c s → s.room ≤ n → Fits t c (record s { room = n })
 fits_more t c s n f more =
     record {
       machine = f.machine;
@@ -53,16 +339,16 @@ fits_more t c s n f more =
       named_file = f.named_file;
     }
 
-pub roomier_settled : (t after : Tables) (c d : Key → Option Page) (s z : StoreOf) → Fits t c s → after ≡ t → Roomier c d s z → Settled after c d s z
-roomier_settled t after c d s z f same r =
+pub roomier_settled : {t after : Tables} {c d : Key → Option Page} {s z : StoreOf} → Fits t c s → after ≡ t → Roomier c d s z → Settled after c d s z
+roomier_settled {t} {after} {c} {d} {s} {z} f same r =
     record {
       fits = subst (λ (t : Tables). Fits t d z) (sym same) (subst (λ (z : StoreOf). Fits t d z) (sym r.store) (subst (λ (d : Key → Option Page). Fits t d (record s { room = z.room })) (sym r.contents) (fits_more t c s z.room f r.later)));
       carries = carries_same c d r.contents;
       rest = roomier_beside c d s z r;
     }
 
-pub settled_as : (t after : Tables) (c d : Key → Option Page) (s z : StoreOf) → after ≡ t → Settled t c d s z → Settled after c d s z
-settled_as t after c d s z same h = subst (λ (t : Tables). Settled t c d s z) (sym same) h
+pub settled_as : {t after : Tables} {c d : Key → Option Page} {s z : StoreOf} → after ≡ t → Settled t c d s z → Settled after c d s z
+settled_as {t} {after} {c} {d} {s} {z} same h = subst (λ (t : Tables). Settled t c d s z) (sym same) h
 
 -- ---- a range of a process
 

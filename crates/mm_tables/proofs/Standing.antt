@@ -1,23 +1,28 @@
 -- The places of living processes among those that are kept.
-use Rattle.std.proofs.Common.{◌≡◌, ℕ, zero, suc, ◌-◌, ◌≤◌, ◌<◌, Bool, true, false, Option, Some, None, List, [], ◌∷◌, refl, sym, ◌∙◌, ap, arith, length, set, get_or, slice_get, map, is_some, nat_le, option_map}
+use Rattle.std.proofs.Common.{◌≡◌, ℕ, zero, suc, ◌-◌, ◌≤◌, ◌<◌, Bool, true, false, Option, Some, None, List, [], ◌∷◌, refl, sym, ◌∙◌, ap, arith, length, set, get_or, slice_get, map, is_some, nat_le, option_map, subst}
 use Rattle.std.proofs.lemmas.Bool.{leb-true, leb-false}
 use Rattle.mm_types.specs.Machine.{MachineOf}
 use Rattle.mm_world.specs.World.{ProcessOf, RegionOf, AreaOf, FileOf, Numbered, numbered, KeptOf}
 use Rattle.mm_world.specs.Find.{process_of, set_regions}
 use Rattle.mm_world.specs.Contents.{Tables}
+use Rattle.mm_world.specs.Charge.{charge, limit}
 use Rattle.mm_world.proofs.Finding.{numbered_there}
+use Rattle.mm_commit.specs.Charge.{CommitOf}
 use Rattle.mm_sections.specs.Directories.{CountedSection}
 use Rattle.mm_tables.specs.declared.tables.Process.{Process}
-use Rattle.mm_tables.specs.Shown.{shown_process, shown_processes, tables_with}
+use Rattle.mm_tables.specs.Shown.{shown_process, shown_processes, tables_with, shown_accesses}
 use Rattle.mm_tables.specs.Spaces.{regions_of, Became}
+use Rattle.mm_tables.specs.declared.tables.Tables.TheInside.{Inside}
+use Rattle.mm_tables.specs.Sound.{IsKept}
 use Rattle.mm_tables.proofs.OneProcess.{process_is}
+use Rattle.mm_tables.proofs.Keeping.{StandIn, kept_after}
 
-get_shown : (items : List (Option Process)) (i : ℕ) (o : Option Process) → i < length items → o ≡ get_or items i o → get_or (map (option_map shown_process) items) i None ≡ option_map shown_process o
+pub get_shown : (items : List (Option Process)) (i : ℕ) (o : Option Process) → i < length items → o ≡ get_or items i o → get_or (map (option_map shown_process) items) i None ≡ option_map shown_process o
 get_shown [] i o h e = absurd (omega arith)
 get_shown (y ∷ ys) zero o h e = ap (option_map shown_process) (sym e)
 get_shown (y ∷ ys) (suc i) o h e = get_shown ys i o (omega arith) e
 
-none_past : (items : List (Option Process)) (i : ℕ) → length items ≤ i → get_or (map (option_map shown_process) items) i None ≡ None
+pub none_past : (items : List (Option Process)) (i : ℕ) → length items ≤ i → get_or (map (option_map shown_process) items) i None ≡ None
 none_past [] i h = refl
 none_past (y ∷ ys) zero h = absurd (omega arith)
 none_past (y ∷ ys) (suc i) h = none_past ys i (omega arith)
@@ -44,12 +49,12 @@ lives_where items (suc i) e = by_place (nat_le (suc i) (length items)) refl
         let bad : false ≡ true = sym (ap is_some (none_at items (suc i) (omega (arith, past)))) ∙ e in
         cc
 
-map_set : (items : List (Option Process)) (i : ℕ) (o : Option Process) → map (option_map shown_process) (set items i o) ≡ set (map (option_map shown_process) items) i (option_map shown_process o)
+pub map_set : (items : List (Option Process)) (i : ℕ) (o : Option Process) → map (option_map shown_process) (set items i o) ≡ set (map (option_map shown_process) items) i (option_map shown_process o)
 map_set [] i o = refl
 map_set (y ∷ ys) zero o = refl
 map_set (y ∷ ys) (suc i) o = ap (λ ps. option_map shown_process y ∷ ps) (map_set ys i o)
 
-shown_set : (items : List (Option Process)) (pid : ℕ) (o : Option Process) → 1 ≤ pid → shown_processes (set items (pid - 1) o) ≡ set (shown_processes items) pid (option_map shown_process o)
+pub shown_set : (items : List (Option Process)) (pid : ℕ) (o : Option Process) → 1 ≤ pid → shown_processes (set items (pid - 1) o) ≡ set (shown_processes items) pid (option_map shown_process o)
 shown_set items zero o some = absurd (omega arith)
 shown_set items (suc i) o some =
     let same : suc i - 1 ≡ i = omega arith in
@@ -102,3 +107,49 @@ regions_same t pid p lives = λ i. record t { processes = set_id t.processes pid
 
 pub standing_regions : (t : Tables) (pid : ℕ) (items : List (Option Process)) (o : Option Process) (h : Standing t pid items o) → regions_of o ≡ h.process.space.regions
 standing_regions t pid items o h = ap regions_of h.is
+
+-- ---- The tables as they are kept, with a process that lives in them, after a step on it
+
+-- these tables with other processes
+abbrev pub shown_with : Inside → List (Option Process) → Tables
+shown_with i items = tables_with i.machine (shown_processes items) i.directory.entries i.areas.items i.directory.files i.blocks_used i.fails_taken (shown_accesses i.kept)
+
+-- what is known of tables that are kept and of what stands at the place of a process that lives
+pub record Held (i : Inside) (t : Tables) (pid : ℕ) (o : Option Process) : Type 0 where
+  pub process : ProcessOf (Unit {0})
+  pub there : is_some o ≡ true
+  pub lives : process_of t pid ≡ Some process
+  pub same : regions_of o ≡ process.regions
+  pub kept : IsKept t i.directory.entries i.commit
+  pub changed : (new : Option Process) (p : ProcessOf (Unit {0})) (ss : List (RegionOf (Unit {0}))) → Became o new ss → process_of t pid ≡ Some p → shown_with i (set i.processes.items (pid - 1) new) ≡ set_regions t pid p ss
+
+pub held_by : (i : Inside) (t : Tables) → shown_with i i.processes.items ≡ t → IsKept (shown_with i i.processes.items) i.directory.entries i.commit → (pid : ℕ) (o : Option Process) → is_some (process_of t pid) ≡ true → o ≡ get_or i.processes.items (pid - 1) o → Held i t pid o
+held_by i t view kept pid o alive found =
+    let s = standing i.machine i.processes.items i.directory.entries i.areas.items i.directory.files i.blocks_used i.fails_taken (shown_accesses i.kept) t view pid o alive found in
+    record {
+      process = shown_process s.process;
+      there = ap is_some s.is;
+      lives = s.lives;
+      same = standing_regions t pid i.processes.items o s;
+      kept = subst (λ (t : Tables). IsKept t i.directory.entries i.commit) view kept;
+      changed = λ new p ss b lives.
+          new_tables i.machine i.processes.items i.directory.entries i.areas.items i.directory.files i.blocks_used i.fails_taken (shown_accesses i.kept) t view pid o new p ss s b lives;
+    }
+
+module _ {i : Inside} {t : Tables} {pid : ℕ} {o : Option Process} (h : Held i t pid o) where
+  -- the regions of the process by whatever name it has
+  pub regions_by : (p : ProcessOf (Unit {0})) → process_of t pid ≡ Some p → regions_of o ≡ p.regions
+  regions_by p lives = h.same ∙ ap (λ (p : ProcessOf (Unit {0})). p.regions) (process_is t pid h.process p h.lives lives)
+
+  -- a step has changed the regions
+  pub still_kept : (new : Option Process) (ss : List (RegionOf (Unit {0}))) (commit : CommitOf) (total : ℕ) → Became o new ss → StandIn t h.process.regions ss → charge (set_regions t pid h.process ss) ≡ total → total ≤ limit t → commit.charge ≡ total → commit.limit ≡ i.commit.limit → IsKept (shown_with i (set i.processes.items (pid - 1) new)) i.directory.entries commit
+  still_kept new ss commit total b stands charged within counted limited =
+      subst (λ (t : Tables). IsKept t i.directory.entries commit) (sym (h.changed new h.process ss b h.lives))
+      (kept_after t pid h.process ss h.lives stands i.directory.entries i.commit commit h.kept (counted ∙ sym charged) (limited ∙ h.kept.limited) (omega (arith, charged, within)))
+
+  -- a step has changed nothing
+  pub same_tables : (new : Option Process) → Became o new (regions_of o) → shown_with i (set i.processes.items (pid - 1) new) ≡ t
+  same_tables new b = h.changed new h.process h.process.regions (subst (λ rs. Became o new rs) h.same b) h.lives ∙ regions_same t pid h.process h.lives
+
+  pub kept_same : (new : Option Process) → Became o new (regions_of o) → IsKept (shown_with i (set i.processes.items (pid - 1) new)) i.directory.entries i.commit
+  kept_same new b = subst (λ (t : Tables). IsKept t i.directory.entries i.commit) (sym (same_tables new b)) h.kept

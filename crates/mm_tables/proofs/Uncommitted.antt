@@ -23,14 +23,13 @@ use Rattle.mm_tables.specs.Effects.{Effect, Ends, Leaves, Stored}
 use Rattle.mm_tables.specs.Endings.{AreUnbound}
 use Rattle.mm_tables.specs.Ranges.{is_live}
 use Rattle.mm_tables.proofs.EndingFits.{process_same}
-use Rattle.mm_tables.proofs.EndingKeys.{both}
 use Rattle.mm_tables.proofs.Keeping.{sound_after}
-use Rattle.mm_tables.proofs.OnePage.{own}
-use Rattle.mm_tables.proofs.Ready.{ends, uncommitted_is}
+use Rattle.mm_tables.proofs.PageByPage.{own}
 use Rattle.mm_tables.proofs.Rows.{Inside, same_pages}
-use Rattle.mm_tables.proofs.Settled.{Done}
+use Rattle.mm_tables.proofs.Settled.{Done, ends, uncommitted_is}
 use Rattle.mm_pages.specs.Conditions.{AreAmong, place_at}
 use Rattle.mm_tables.specs.Fits.{Fits, is_reserved, is_uncommitted}
+use Rattle.mm_types.proofs.Booleans.{both}
 
 -- a place in no region
 pub unreserved : (t : Tables) (place : Place) → is_reserved t place ≡ false → is_uncommitted t place ≡ true

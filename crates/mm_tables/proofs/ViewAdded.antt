@@ -1,6 +1,6 @@
 -- A view is added to a process: tables and store.
-use Rattle.std.proofs.Common.{◌≡◌, ◌≢◌, ℕ, zero, suc, ◌+◌, ◌-◌, ◌≤◌, ◌<◌, Bool, true, false, Option, Some, None, List, [], ◌∷◌, inl, inr, refl, sym, ◌∙◌, ap, subst, cond, arith, length, set, slice_get, get_or, is_some, ◌&&◌, not, nat_lt, count_by, replicate, option_map, unwrap_or, length-set}
-use Rattle.std.specs.Prelude.{IfSome, ◌^◌, ◌==◌, ◌%◌, option_and_then}
+use Rattle.std.proofs.Common.{◌≡◌, ◌≢◌, ℕ, zero, suc, ◌+◌, ◌-◌, ◌≤◌, ◌<◌, Bool, true, false, Option, Some, None, List, [], ◌∷◌, inl, inr, refl, sym, ◌∙◌, ap, subst, cond, arith, length, set, slice_get, get_or, is_some, ◌&&◌, not, nat_lt, count_by, replicate, option_map, length-set, map, Result, Ok, Err}
+use Rattle.std.specs.Prelude.{IfSome, ◌^◌, ◌==◌, ◌%◌, option_and_then, OnErr}
 use Rattle.std.specs.List.{list_any}
 use Rattle.std.specs.Cmp.{unsigned_Decides}
 use Rattle.std.proofs.lemmas.List.{length-replicate}
@@ -11,11 +11,12 @@ use Rattle.mm_types.specs.declared.numbers.Pid.{Pid}
 use Rattle.mm_types.specs.declared.numbers.Place.{Place}
 use Rattle.mm_types.specs.declared.views.Kind.TheVariants as kind
 use Rattle.mm_types.specs.declared.views.View.{View}
-use Rattle.mm_types.proofs.Cells.{same_or_not}
-use Rattle.mm_types.specs.Address.{Range, holds_page, meets, is_free, are_user_pages}
+use Rattle.mm_types.specs.Address.{Range, holds_page, meets, is_free, are_user_pages, lies_within}
 use Rattle.mm_types.specs.Machine.{MachineOf}
-use Rattle.mm_world.specs.World.{Page, RowOf, RegionOf, ProcessOf, AreaOf, FileOf, SectionOf, Numbered, numbered, pages_of, filled, KeptOf}
-use Rattle.mm_world.specs.Find.{Found, process_of, section_of, ranges_of, add_region, set_regions}
+use Rattle.mm_types.proofs.Cells.{same_or_not}
+use Rattle.mm_types.proofs.Booleans.{not_true}
+use Rattle.mm_world.specs.World.{Page, RowOf, RegionOf, ProcessOf, AreaOf, FileOf, SectionOf, Numbered, numbered, pages_of, KeptOf}
+use Rattle.mm_world.specs.Find.{Found, process_of, section_of, ranges_of, add_region, set_regions, region_around, is_private}
 use Rattle.mm_world.specs.Charge.{charge, limit, region_charge}
 use Rattle.mm_world.specs.Contents.{Tables}
 use Rattle.mm_world.specs.Keys.{content_of}
@@ -24,64 +25,30 @@ use Rattle.mm_world.specs.Views.{view_region, first_protection, is_copy}
 use Rattle.mm_world.specs.WellFormed.{RowFits, RegionRefers, ViewFits, WellFormed}
 use Rattle.mm_world.proofs.Charges.{charge-set_regions}
 use Rattle.mm_world.proofs.Each.{each-insert, each-replicate}
-use Rattle.mm_world.proofs.Finding.{numbered_inside}
+use Rattle.mm_world.proofs.Finding.{numbered_inside, found_stands}
 use Rattle.mm_world.proofs.KeptPages.{own_in}
 use Rattle.mm_world.proofs.LaidOut.{and-true, IsPlaced}
 use Rattle.mm_world.proofs.RowsFit.{new_view_fits}
-use Rattle.mm_world.proofs.Spaces.{space_add}
+use Rattle.mm_world.proofs.Spaces.{space_add, begins_before}
 use Rattle.mm_pages.specs.Conditions.{AllBound, place_at}
 use Rattle.mm_pages.specs.Store.{StoreOf, is_place_in}
 use Rattle.mm_commit.specs.Charge.{CommitOf}
 use Rattle.mm_sections.specs.Directories.{CountedSection, sections_of, section_in, one_view_more}
-use Rattle.mm_tables.specs.Fits.{Fits, Settled, Carries, Carried, beside, paging_count, key_at, is_paging, block_in}
+use Rattle.mm_spaces.specs.declared.spaces.RegionInfo.{RegionInfo}
+use Rattle.mm_spaces.specs.Tables.{found_info}
+use Rattle.mm_tables.specs.Fits.{Fits, Settled, beside, paging_count, key_at, is_paging, block_in}
 use Rattle.mm_tables.specs.References.{IsTidy, views_of, handles_to}
-use Rattle.mm_tables.specs.Shown.{tables_with}
+use Rattle.mm_tables.specs.Shown.{tables_with, shown_process, shown_processes}
 use Rattle.mm_tables.specs.Sound.{IsKept, IsCounted}
-use Rattle.mm_tables.specs.ViewChanges.{region_of_view, MoreRoom, NewPlaces}
-use Rattle.mm_tables.proofs.ViewLists.{not_true, count-replicate, numbered_same, numbered_other}
-use Rattle.mm_tables.proofs.ViewCounts.{views_bound}
-use Rattle.mm_tables.proofs.ViewPages.{thing_at, thing_added, thing_free, key_in}
+use Rattle.mm_tables.specs.ViewChanges.{region_of_view, NewPlaces, living}
+use Rattle.mm_tables.specs.declared.tables.Process.{Process}
+use Rattle.mm_tables.proofs.Lists.{numbered_same, numbered_other, count-replicate}
+use Rattle.mm_tables.proofs.ViewCommitted.{views_bound}
+use Rattle.mm_tables.proofs.ViewShares.{thing_at, thing_added, thing_free, key_in}
 use Rattle.mm_tables.proofs.ViewWorlds.{things, content_is, reserved_is, key_at_is, any_insert, alive_still, things_here, things_were, things_other, paging_set, views_set, handles_set, tidy_regions, sound_regions}
-
--- ---- stores
-
-carried_same : (o : Option Page) → Carried o o
-carried_same None = refl
-carried_same (Some x) = refl
-
-pub carries_same : (c d : Key → Option Page) → d ≡ c → Carries c d
-carries_same c d e = record { at = λ k. ap (λ (d : Key → Option Page). unwrap_or (d k) (filled 0)) e ∙ carried_same (c k) ∙ ap (λ (d : Key → Option Page). cond (is_some (c k) && is_some (d k)) (unwrap_or (c k) (filled 0)) (filled 0)) (sym e) }
-
--- there is more room, and nothing else is other
-pub roomier_settled : (t u : Tables) (c d : Key → Option Page) (s z : StoreOf) → Fits t c s → u ≡ t → d ≡ c → MoreRoom s z → Settled u c d s z
-roomier_settled t u c d s z f same contents m =
-    let fits : Fits t c z =
-    record {
-      machine = ap (λ (x : StoreOf). x.machine) m.store ∙ f.machine;
-      opened = λ q. ap (λ (x : StoreOf). x.is_open q) m.store ∙ f.opened q;
-      last_pid = ap (λ (x : StoreOf). x.last_pid + 1) m.store ∙ f.last_pid;
-      areas = λ area. ap (λ (x : StoreOf). x.areas area) m.store ∙ f.areas area;
-      bound = λ place. ap (λ (x : StoreOf). x.bound place) m.store ∙ f.bound place;
-      live = f.live;
-      paging = λ k. ap (λ (x : StoreOf). x.paging k) m.store ∙ f.paging k;
-      counted = ap (λ (x : StoreOf). x.paging_keys) m.store ∙ f.counted;
-      room = omega (arith, f.room, m.later);
-      named = λ place k e. f.named place k (ap (λ (x : StoreOf). x.names place) (sym m.store) ∙ e);
-      blocks = λ k. ap (λ (x : StoreOf). x.block_of k) m.store ∙ f.blocks k;
-      used = ap (λ (x : StoreOf). x.blocks_used) m.store ∙ f.used;
-      stored = ap (λ (x : StoreOf). length x.file_blocks) m.store ∙ f.stored;
-      named_paging = omega (arith, f.named_paging, ap (λ (x : StoreOf). length x.paging_device.named) m.store);
-      named_file = omega (arith, f.named_file, ap (λ (x : StoreOf). length x.file_device.named) m.store);
-    } in
-    record {
-      fits = subst (λ (u : Tables). Fits u d z) (sym same) (subst (λ (d : Key → Option Page). Fits t d z) (sym contents) fits);
-      carries = carries_same c d contents;
-      rest = m.store ∙ ap (beside s) (sym m.store);
-    }
-
-not-true : (b : Bool) → not b ≡ true → b ≡ false
-not-true true e = cc
-not-true false e = refl
+use Rattle.mm_tables.proofs.Carried.{carries_same}
+use Rattle.mm_tables.proofs.Regional.{not-true}
+use Rattle.mm_tables.proofs.Standing.{map_set}
 
 -- ---- the region of a new view
 
@@ -97,9 +64,6 @@ pub made_view : (s : Found SectionOf) (v : View) (range : Range) → s.place ≡
 made_view s v range e f = λ i. view_region {B = Unit {0}} (record { place = e i; thing = record { prot = 0; name = None; area = f i } }) v.access v.first range
 
 module _ (t : Tables) (pid : Pid) (p : ProcessOf (Unit {0})) (range : Range) (v : View) (lives : process_of t pid.0 ≡ Some p) (free : is_free (ranges_of p.regions) range ≡ true) where
-  abbrev pub with_view : Tables
-  with_view = set_regions t pid.0 p (add_region (region_of_view v range) p.regions)
-
   place : ℕ
   place = count_by (λ (r : RegionOf (Unit {0})). nat_lt r.base range.first) p.regions
 
@@ -322,10 +286,6 @@ sections_same (e ∷ entries) (suc k) = ap (λ ss. option_map section_in e ∷ s
 
 -- ---- tables as they are kept
 
-pub some_is : {A : Type 0} (o : Option A) → is_some o ≡ true → (x : A) × (o ≡ Some x)
-some_is None e = absurd cc
-some_is (Some x) e = (x, refl)
-
 -- one process has other regions, and the sections are as they were
 pub new_tables : (m : MachineOf) (old new : List (Option (ProcessOf (Unit {0})))) (entries later : Numbered CountedSection) (areas : List (AreaOf (Unit {0}))) (files still : List FileOf) (b f : ℕ) (accesses : Numbered KeptOf) (t : Tables) (pid : ℕ) (p : ProcessOf (Unit {0})) (ss : List (RegionOf (Unit {0}))) → tables_with m old entries areas files b f accesses ≡ t → new ≡ set old pid (Some (record p { regions = ss })) → sections_of later ≡ sections_of entries → still ≡ files → tables_with m new later areas still b f accesses ≡ set_regions t pid p ss
 new_tables m old new entries later areas files still b f accesses t pid p ss view is same files_same =
@@ -360,3 +320,81 @@ module _ (t : Tables) (pid : Pid) (p : ProcessOf (Unit {0})) (range : Range) (v 
       let both : Some s.thing ≡ Some fit.section = sym at ∙ ap (λ (n : ℕ). section_of t n) place ∙ fit.lives in
       let same : s.thing ≡ fit.section = cc in
       sym (made_view s v range place (ap (λ (s : SectionOf). s.area) same ∙ fit.same_area))
+
+-- ---- by pid
+
+get_shown : (ps : List (Option Process)) (i : ℕ) (x : Option Process) → is_some (get_or (map (option_map shown_process) ps) i None) ≡ true → x ≡ get_or ps i x → get_or (map (option_map shown_process) ps) i None ≡ option_map shown_process x
+get_shown [] i x alive e = cc
+get_shown (y ∷ ps) zero x alive e = ap (option_map shown_process) (sym e)
+get_shown (y ∷ ps) (suc i) x alive e = get_shown ps i x alive e
+
+-- what stands at a living process's place
+pub living_at : (ps : List (Option Process)) (pid : ℕ) (x : Option Process) → is_some (living ps pid) ≡ true → x ≡ get_or ps (pid - 1) x → living ps pid ≡ option_map shown_process x
+living_at ps zero x alive e = cc
+living_at ps (suc i) x alive e =
+    let same : suc i - 1 ≡ i = omega arith in
+    get_shown ps i x alive (e ∙ ap (λ (k : ℕ). get_or ps k x) same)
+
+pub lives_at : (ps : List (Option Process)) (pid : ℕ) (x : Option Process) (p : Process) → is_some (living ps pid) ≡ true → x ≡ get_or ps (pid - 1) x → x ≡ Some p → living ps pid ≡ Some (shown_process p)
+lives_at ps pid x p alive at is = living_at ps pid x alive at ∙ ap (option_map shown_process) is
+
+pub not_none : (ps : List (Option Process)) (pid : ℕ) (x : Option Process) → is_some (living ps pid) ≡ true → x ≡ get_or ps (pid - 1) x → x ≡ None → ⊥
+not_none ps pid x alive at is =
+    let bad : true ≡ false = sym alive ∙ ap is_some (living_at ps pid x alive at ∙ ap (option_map shown_process) is) in
+    cc
+
+-- one process is another
+pub shown_set : (ps : List (Option Process)) (pid : ℕ) (q : Process) → is_some (living ps pid) ≡ true → shown_processes (set ps (pid - 1) (Some q)) ≡ set (shown_processes ps) pid (Some (shown_process q))
+shown_set ps zero q alive = cc
+shown_set ps (suc i) q alive =
+    let same : suc i - 1 ≡ i = omega arith in
+    ap (λ (k : ℕ). shown_processes (set ps k (Some q))) same ∙ ap (λ qs. None ∷ qs) (map_set ps i (Some q))
+
+set_same : {A : Type 0} (xs : List (Option A)) (i : ℕ) (x : A) → get_or xs i None ≡ Some x → set xs i (Some x) ≡ xs
+set_same [] i x e = refl
+set_same (y ∷ xs) zero x e = ap (λ o. o ∷ xs) (sym e)
+set_same (y ∷ xs) (suc i) x e = ap (λ xs. y ∷ xs) (set_same xs i x e)
+
+-- one process is as it was
+pub shown_kept : (ps : List (Option Process)) (pid : ℕ) (x : Option Process) (p q : Process) → is_some (living ps pid) ≡ true → x ≡ get_or ps (pid - 1) x → x ≡ Some p → shown_process q ≡ shown_process p → shown_processes (set ps (pid - 1) (Some q)) ≡ shown_processes ps
+shown_kept ps pid x p q alive at is same =
+    shown_set ps pid q alive ∙ ap (λ (p : ProcessOf (Unit {0})). set (shown_processes ps) pid (Some p)) same
+    ∙ set_same (shown_processes ps) pid (shown_process p) (lives_at ps pid x p alive at is)
+
+pub process_is : (o : Option (ProcessOf (Unit {0}))) (p q : ProcessOf (Unit {0})) → o ≡ Some p → o ≡ Some q → p ≡ q
+process_is o p q a b = let both : Some p ≡ Some q = sym a ∙ b in let same : p ≡ q = cc in same
+
+-- ---- what is told of a region
+
+pub info_inside : (rs : List (RegionOf (Unit {0}))) (range : Range) (info : RegionInfo) → option_map found_info (region_around rs range) ≡ Some info → info.pages.first ≤ range.first
+info_inside rs range info e = by_found (region_around rs range) refl e
+  where
+    by_found : (o : Option (Found (RegionOf (Unit {0})))) → region_around rs range ≡ o → option_map found_info o ≡ Some info → info.pages.first ≤ range.first
+    by_found None at e = cc
+    by_found (Some r) at e =
+        let s = found_stands (λ (r : RegionOf (Unit {0})). lies_within range (pages_of r)) rs r at in
+        let same : found_info r ≡ info = cc in
+        omega (arith, ap (λ (i : RegionInfo). i.pages.first) same, begins_before range r.thing s.passes)
+
+-- ---- one process has other regions
+
+pub changed_in : (ps : List (Option Process)) (pid : ℕ) (x : Option Process) (p q : Process) (f : List (RegionOf (Unit {0})) → List (RegionOf (Unit {0}))) → is_some (living ps pid) ≡ true → x ≡ get_or ps (pid - 1) x → x ≡ Some p → q.space.regions ≡ f p.space.regions → q.handles.entries ≡ p.handles.entries → (r : ProcessOf (Unit {0})) → living ps pid ≡ Some r → shown_processes (set ps (pid - 1) (Some q)) ≡ set (shown_processes ps) pid (Some (record r { regions = f r.regions }))
+changed_in ps pid x p q f alive at is regions handles r lives =
+    let same : shown_process p ≡ r = process_is (living ps pid) (shown_process p) r (lives_at ps pid x p alive at is) lives in
+    let now : shown_process q ≡ record { regions = f p.space.regions; handles = p.handles.entries } = λ i. record { regions = regions i; handles = handles i } in
+    shown_set ps pid q alive
+    ∙ ap (λ (p : ProcessOf (Unit {0})). set (shown_processes ps) pid (Some p)) now
+    ∙ ap (λ (p : ProcessOf (Unit {0})). set (shown_processes ps) pid (Some (record p { regions = f p.regions }))) same
+
+pub on_err_weaker : {T E P Q : Type 0} (r : Result T E) → (P → Q) → OnErr r P → OnErr r Q
+on_err_weaker (Ok x) f p = tt
+on_err_weaker (Err e) f p = f p
+
+pub info_of_view : (rs : List (RegionOf (Unit {0}))) (range : Range) (info : RegionInfo) → option_map found_info (region_around rs range) ≡ Some info → ((r : Found (RegionOf (Unit {0}))) → region_around rs range ≡ Some r → is_private r.thing.kind ≡ false) → is_private info.kind ≡ false
+info_of_view rs range info e view = by_found (region_around rs range) refl e
+  where
+    by_found : (o : Option (Found (RegionOf (Unit {0})))) → region_around rs range ≡ o → option_map found_info o ≡ Some info → is_private info.kind ≡ false
+    by_found None at e = cc
+    by_found (Some r) at e =
+        let same : found_info r ≡ info = cc in
+        ap (λ (i : RegionInfo). is_private i.kind) (sym same) ∙ view r at

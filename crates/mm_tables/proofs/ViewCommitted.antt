@@ -1,27 +1,28 @@
--- Pages of a view of a page-file section are committed: tables and store.
-use Rattle.std.proofs.Common.{◌≡◌, ◌≢◌, ℕ, ◌+◌, ◌-◌, ◌≤◌, ◌<◌, Bool, true, false, Option, Some, None, List, [], ◌∷◌, inl, inr, refl, sym, ◌∙◌, ap, subst, cond, arith, length, set, slice_get, get_or, take, drop, is_some, ◌&&◌, ◌||◌, not, nat_lt, count_by, option_map, unwrap_or, length-set}
+-- Pages of views and areas are committed, within bounds: live keys are charged, and no section has more views than there are pages.
+use Rattle.std.proofs.Common.{◌≡◌, ℕ, suc, ◌+◌, ◌*◌, ◌≤◌, ◌<◌, ◌^◌, Bool, true, false, Option, Some, None, List, [], ◌∷◌, refl, cond, arith, length, get_or, is_some, count_by, sum_by, ◌≢◌, ◌-◌, inl, inr, sym, ◌∙◌, ap, subst, set, slice_get, take, drop, ◌&&◌, ◌||◌, not, nat_lt, option_map, unwrap_or, length-set}
+use Rattle.std.proofs.lemmas.List.Sums.{sum_by-cons}
 use Rattle.std.specs.Prelude.{◌==◌, is_none, option_and_then}
 use Rattle.std.specs.Cmp.{unsigned_Decides}
-use Rattle.std.proofs.lemmas.List.Sums.{sum_by-cons}
-use Rattle.mm_types.specs.declared.numbers.Key.{Key}
-use Rattle.mm_types.specs.declared.numbers.Key.TheVariants as key
 use Rattle.mm_types.specs.declared.views.Kind.{Kind}
 use Rattle.mm_types.specs.declared.views.Kind.TheVariants as kind
+use Rattle.mm_types.specs.Address.{end_of_user_pages, first_user_page, end_of, Range, holds_page, lies_within}
+use Rattle.mm_types.specs.declared.numbers.Key.{Key}
+use Rattle.mm_types.specs.declared.numbers.Key.TheVariants as key
 use Rattle.mm_types.specs.declared.views.View.{View}
 use Rattle.mm_types.specs.declared.moves.LineKind.TheVariants as line_kind
-use Rattle.mm_types.specs.Address.{Range, holds_page, lies_within, first_user_page}
 use Rattle.mm_types.specs.Machine.{MachineOf}
 use Rattle.mm_types.specs.Protection.{base_of}
 use Rattle.mm_types.proofs.Cells.{same_or_not}
-use Rattle.mm_world.specs.World.{Page, RowOf, RegionOf, ProcessOf, AreaOf, FileOf, Numbered, numbered, pages_of, filled, KeptOf}
+use Rattle.mm_types.proofs.Booleans.{not_true}
+use Rattle.mm_world.specs.World.{RowOf, RegionOf, ProcessOf, pages_of, Page, AreaOf, FileOf, Numbered, numbered, filled, KeptOf}
+use Rattle.mm_world.specs.Charge.{charge, is_charged, region_charge, limit, area_charge}
+use Rattle.mm_world.specs.Contents.{Tables, blank}
+use Rattle.mm_world.specs.Sections.{is_view_of}
+use Rattle.mm_world.specs.WellFormed.{LaidOut, WellFormed, IsSpace, RegionRefers, ViewFits}
 use Rattle.mm_world.specs.Find.{Found, process_of, region_around, set_regions, set_area, area_at, change_range, shared_page}
 use Rattle.mm_world.specs.Alloc.{commit_shared}
-use Rattle.mm_world.specs.Charge.{charge, limit, area_charge, is_charged, region_charge}
-use Rattle.mm_world.specs.Contents.{Tables, blank}
 use Rattle.mm_world.specs.Keys.{Home, InSection, content_of, home_in, key_of}
 use Rattle.mm_world.specs.Rows.{is_one_of, is_protection_among, private_protections, accepts, protected, change_rows, every_page, row_at}
-use Rattle.mm_world.specs.Sections.{is_view_of}
-use Rattle.mm_world.specs.WellFormed.{IsSpace, RegionRefers, ViewFits, WellFormed}
 use Rattle.mm_world.proofs.Charges.{charge-set_region, sum_by-put}
 use Rattle.mm_world.proofs.Each.{each-at, each-set}
 use Rattle.mm_world.proofs.Finding.{Stands, found_stands}
@@ -33,22 +34,54 @@ use Rattle.mm_pages.specs.Store.{StoreOf}
 use Rattle.mm_commit.specs.Charge.{CommitOf}
 use Rattle.mm_sections.specs.Directories.{CountedSection}
 use Rattle.mm_sections.specs.Pages.{uncommitted_in}
-use Rattle.mm_tables.specs.Fits.{Fits, Settled, Carried, beside, paging_count, is_paging, block_in}
-use Rattle.mm_tables.specs.References.{IsTidy, views_of, handles_to}
+use Rattle.mm_tables.specs.Fits.{paging_count, Fits, Settled, Carried, beside, is_paging, block_in}
+use Rattle.mm_tables.specs.References.{views_in, views_of, IsTidy, handles_to}
 use Rattle.mm_tables.specs.Shown.{tables_with}
 use Rattle.mm_tables.specs.Sound.{IsKept}
+use Rattle.mm_tables.specs.Effects.{Roomier}
 use Rattle.mm_tables.specs.ViewChanges.{area_in, is_shared_in, shared_added, CanShare, Shares}
-use Rattle.mm_tables.proofs.ViewAdded.{roomier_settled}
-use Rattle.mm_tables.proofs.ViewLists.{not_true, is_between, by_cell, numbered_got, get-change_range, count-change_range, count-all, count-same, length-range}
-use Rattle.mm_tables.proofs.ViewCounts.{keys_charged}
-use Rattle.mm_tables.proofs.ViewPages.{Inside, inside, SamePages, thing_at, thing_there, thing_set, key_in}
-use Rattle.mm_tables.proofs.ViewShares.{cell, between}
+use Rattle.mm_tables.proofs.Settled.{paging_few, roomier_settled}
+use Rattle.mm_tables.proofs.Lists.{one_if, by_cell, numbered_got, get-change_range, count-change_range, count-all, count-same, length-range, is_between}
+use Rattle.mm_tables.proofs.ViewShares.{cell, between, thing_at, thing_there, thing_set, key_in}
 use Rattle.mm_tables.proofs.ViewWorlds.{things, content_is, reserved_is, key_at_is, any_kinds, alive_still, things_here, things_were, things_other, paging_set, views_set, handles_set, tidy_regions, sound_regions, Alike, area_now, area_other, block_still, length_still, file_still, tidy_area, sound_area, charge_area, paging_area}
+use Rattle.mm_tables.proofs.Rows.{inside, Inside}
+use Rattle.mm_tables.proofs.Carried.{at_added}
+use Rattle.mm_tables.proofs.EndingFits.{beside_then}
+use Rattle.mm_tables.proofs.Regions.{SamePages}
+
+-- ---- what has bytes of its own is charged
+
+-- ---- views
+
+few_regions : (from : ℕ) (rs : List (RegionOf (Unit {0}))) → LaidOut from rs → length rs + from ≤ end_of_user_pages
+few_regions from [] h = omega (arith, h)
+few_regions from (r ∷ rs) h = omega (arith, h.0.later, h.0.some, few_regions (end_of (pages_of r)) rs h.1)
+
+count_few : (test : RegionOf (Unit {0}) → Bool) (rs : List (RegionOf (Unit {0}))) → count_by test rs ≤ length rs
+count_few test [] = omega arith
+count_few test (r ∷ rs) = omega (arith, sum_by-cons (λ (r : RegionOf (Unit {0})). one_if (test r)) r rs, one (test r), count_few test rs)
+  where
+    one : (b : Bool) → one_if b ≤ 1
+    one true = omega arith
+    one false = omega arith
+
+views_few : (n : ℕ) (ps : List (Option (ProcessOf (Unit {0})))) → ((i : ℕ) (p : ProcessOf (Unit {0})) → get_or ps i None ≡ Some p → LaidOut first_user_page p.regions) → sum_by (views_in n) ps ≤ length ps * end_of_user_pages
+views_few n [] h = omega arith
+views_few n (None ∷ ps) h = omega (arith, sum_by-cons (views_in n) None ps, views_few n ps (λ i p e. h (suc i) p e))
+views_few n (Some p ∷ ps) h =
+    omega (
+      arith,
+      sum_by-cons (views_in n) (Some p) ps,
+      count_few (λ (r : RegionOf (Unit {0})). is_view_of n r.kind) p.regions,
+      few_regions first_user_page p.regions (h 0 p refl),
+      views_few n ps (λ i p e. h (suc i) p e),
+    )
+
+-- at most 64 processes, and regions that lie apart
+pub views_bound : (t : Tables) (n : ℕ) → WellFormed t → views_of t n < 2 ^ 60
+views_bound t n h = omega (arith, views_few n t.processes (λ i p e. (h.spaces i p e).laid_out), h.numbers.processes)
 
 -- ---- rows that a protection changes
-
-abbrev pub protects : ℕ → Kind → RowOf (Unit {0}) → RowOf (Unit {0})
-protects prot k row = protected k prot row
 
 same_own : (k : Kind) (prot : ℕ) (row : RowOf (Unit {0})) → (protected k prot row).own ≡ row.own
 same_own kind.Private prot row = refl
@@ -96,9 +129,6 @@ module _ (prot : ℕ) (range : Range) (r : RegionOf (Unit {0})) where
   same_pages = record { base = refl; rows = length-change_range (protected r.kind prot) (range.first - r.base) range.count r.rows }
 
 -- ---- the pages of an area that are committed
-
-abbrev pub fill_page : Option (Unit {0}) → Option (Unit {0})
-fill_page page = Some (unwrap_or page (blank 0))
 
 count_both : (test : Option (Unit {0}) → Bool) (xs : List (Option (Unit {0}))) → ((x : Option (Unit {0})) → test x ≡ is_some x) → count_by test xs + count_by is_none xs ≡ length xs
 count_both test [] same = refl
@@ -175,23 +205,11 @@ module _ (t u : Tables) (pid page : ℕ) (up : (area i : ℕ) → is_some (share
 
 -- ---- stores
 
-carried : (b : Bool) (o : Option Page) → Carried o (cond b (Some (unwrap_or o (filled 0))) o)
-carried true None = refl
-carried true (Some x) = refl
-carried false None = refl
-carried false (Some x) = refl
-
 some_added : (b : Bool) (o : Option Page) → is_some (cond b (Some (unwrap_or o (filled 0))) o) ≡ cond b true (is_some o)
 some_added true o = refl
 some_added false o = refl
 
-pub beside_then : (a b c : StoreOf) → b ≡ beside a b → c ≡ beside b c → c ≡ beside a c
-beside_then a b c e f = f ∙ ap (λ (x : StoreOf). beside x c) e
-
 -- ---- the tables
-
-abbrev pub index_of : View → Range → RegionOf (Unit {0}) → ℕ
-index_of v range r = v.first + (range.first - r.base)
 
 abbrev pub region_now : ℕ → Range → RegionOf (Unit {0}) → RegionOf (Unit {0})
 region_now prot range r = change_rows (protected r.kind prot) range r
@@ -363,7 +381,6 @@ module _ (t : Tables) (pid : ℕ) (p : ProcessOf (Unit {0})) (r : Found (RegionO
 
   key_same : (prot q page : ℕ) (k : Key) → option_and_then (key_in t q page) (things t q page) ≡ Some k → option_and_then (key_in (with_pages t pid p r v prot range) q page) (things (with_pages t pid p r v prot range) q page) ≡ Some k
   key_same prot q page k =
-      let u = with_pages t pid p r v prot range in
       things_cases prot (λ o n. option_and_then (key_in t q page) o ≡ Some k → option_and_then (key_in (with_pages t pid p r v prot range) q page) n ≡ Some k) q page
       (by_thing (things t q page))
       (λ e.
@@ -458,7 +475,7 @@ module _ (t : Tables) (pid : ℕ) (p : ProcessOf (Unit {0})) (r : Found (RegionO
         live = λ i low high. f.live (key.Shared v.area i);
         paging = λ i low high.
             f.paging (key.Shared v.area i) ∙ ap (λ (o : Option ℕ). is_some (shared_page t v.area.0 i) && not (is_some o)) x.paging ∙ and_right (is_some (shared_page t v.area.0 i)) true refl;
-        room = omega (arith, f.counted, keys_charged t h, room);
+        room = omega (arith, f.counted, paging_few t h, room);
         called = called;
       }
     where
@@ -473,7 +490,7 @@ pages_tables m old new entries areas later files b f accesses t pid p ss n first
     ∙ ap (λ (t : Tables). set_area (set_regions t pid p ss) n (commit_shared blank first count (area_at t n))) view
 
 pub roomier_fits : (t : Tables) (c d : Key → Option Page) (s z : StoreOf) → Fits t c s → d ≡ c → z ≡ record s { room = z.room } → s.room ≤ z.room → Fits t d z
-roomier_fits t c d s z f contents store later = (roomier_settled t t c d s z f refl contents (record { store = store; later = later })).fits
+roomier_fits t c d s z f contents store later = let more : Roomier c d s z = record { contents = contents; store = store; later = later } in (roomier_settled f refl more).fits
 
 module _ (t : Tables) (pid : ℕ) (p : ProcessOf (Unit {0})) (r : Found (RegionOf (Unit {0}))) (v : View) (range : Range) (x : IsViewed t pid p r v range) where
   pub pages_kept : (u : Tables) (entries : Numbered CountedSection) (old new : CommitOf) (prot n : ℕ) → u ≡ with_pages t pid p r v prot range → is_protection_among private_protections prot ≡ true → every_page (accepts r.thing prot) range ≡ true → n ≡ uncommitted_in (area_at t v.area.0) (v.first + (range.first - r.thing.base)) range.count → charge t + n ≤ limit t → new.charge ≡ charge t + n → new.limit ≡ limit t → IsKept t entries old → IsKept u entries new
@@ -501,7 +518,7 @@ module _ (t : Tables) (pid : ℕ) (p : ProcessOf (Unit {0})) (r : Found (RegionO
           at = λ k.
               let made : d k ≡ cond (is_shared_in v.area (v.first + (range.first - r.thing.base)) range.count k) (Some (unwrap_or (c k) (filled 0))) (c k) =
               ap (λ (d : Key → Option Page). d k) m.contents ∙ ap (λ (e : Key → Option Page). shared_added v.area (v.first + (range.first - r.thing.base)) range.count e k) contents in
-              subst (λ (o : Option Page). Carried (c k) o) (sym made) (carried (is_shared_in v.area (v.first + (range.first - r.thing.base)) range.count k) (c k));
+              subst (λ (o : Option Page). Carried (c k) o) (sym made) (at_added (is_shared_in v.area (v.first + (range.first - r.thing.base)) range.count k) (c k));
         };
         rest = beside_then s y z (store ∙ ap (beside s) (sym store)) (m.store ∙ ap (beside y) (sym m.store));
       }

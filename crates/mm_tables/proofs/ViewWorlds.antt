@@ -19,9 +19,10 @@ use Rattle.mm_world.proofs.KeptPages.{own_in}
 use Rattle.mm_world.proofs.Spaces.{by_regions, after_set}
 use Rattle.mm_tables.specs.Fits.{is_reserved, key_at, owned_by, paging_count}
 use Rattle.mm_tables.specs.References.{IsTidy, handles_in, views_in, handles_to, views_of}
-use Rattle.mm_tables.proofs.Keepers.{lives_put}
-use Rattle.mm_tables.proofs.ViewLists.{numbered_same, numbered_other}
-use Rattle.mm_tables.proofs.ViewPages.{thing_at, key_in, key_by, own_is, held_is, key_is}
+use Rattle.mm_tables.proofs.Keeping.{lives_put}
+use Rattle.mm_tables.proofs.Lists.{numbered_same, numbered_other}
+use Rattle.mm_tables.proofs.ViewShares.{thing_at, key_in, key_by, own_is, held_is, key_is}
+use Rattle.mm_types.proofs.Booleans.{or_right, or_both}
 
 -- ---- what stands where
 
@@ -57,10 +58,6 @@ any_set test [] i x y at same = cc
 any_set test (z ∷ xs) zero x y at same = let is : z ≡ x = cc in ap (λ b. b || list_any test xs) (same ∙ ap test (sym is))
 any_set test (z ∷ xs) (suc i) x y at same = ap (λ b. test z || b) (any_set test xs i x y at same)
 
-or_cases : (a b c : Bool) → (b ≡ true → c ≡ true) → (a || b) ≡ true → (a || c) ≡ true
-or_cases true b c f e = refl
-or_cases false b c f e = f e
-
 or_left : (a b c : Bool) → (a ≡ true → b ≡ true) → (a || c) ≡ true → (b || c) ≡ true
 or_left true true c f e = refl
 or_left true false c f e = let bad : false ≡ true = f refl in cc
@@ -70,16 +67,12 @@ or_left false false c f e = e
 any_set_up : {A : Type 0} (test : A → Bool) (xs : List A) (i : ℕ) (x y : A) → slice_get xs i ≡ Some x → (test x ≡ true → test y ≡ true) → list_any test xs ≡ true → list_any test (set xs i y) ≡ true
 any_set_up test [] i x y at up e = cc
 any_set_up test (z ∷ xs) zero x y at up e = let is : z ≡ x = cc in or_left (test z) (test y) (list_any test xs) (λ t. up (ap test (sym is) ∙ t)) e
-any_set_up test (z ∷ xs) (suc i) x y at up e = or_cases (test z) (list_any test xs) (list_any test (set xs i y)) (any_set_up test xs i x y at up) e
-
-or_right : (a b : Bool) → b ≡ true → (a || b) ≡ true
-or_right true b e = refl
-or_right false b e = e
+any_set_up test (z ∷ xs) (suc i) x y at up e = or_both (test z) (list_any test xs) (list_any test (set xs i y)) (any_set_up test xs i x y at up) e
 
 pub any_insert : {A : Type 0} (test : A → Bool) (xs : List A) (i : ℕ) (x : A) → list_any test xs ≡ true → list_any test (insert xs i x) ≡ true
 any_insert test xs zero x e = or_right (test x) (list_any test xs) e
 any_insert test [] (suc i) x e = cc
-any_insert test (y ∷ xs) (suc i) x e = or_cases (test y) (list_any test xs) (list_any test (insert xs i x)) (any_insert test xs i x) e
+any_insert test (y ∷ xs) (suc i) x e = or_both (test y) (list_any test xs) (list_any test (insert xs i x)) (any_insert test xs i x) e
 
 pub any_kinds : (n i : ℕ) (rs : List (RegionOf (Unit {0}))) (r new : RegionOf (Unit {0})) → slice_get rs i ≡ Some r → new.kind ≡ r.kind → list_any (λ (r : RegionOf (Unit {0})). is_view_of n r.kind) (set rs i new) ≡ list_any (λ (r : RegionOf (Unit {0})). is_view_of n r.kind) rs
 any_kinds n i rs r new at same = any_set (λ (r : RegionOf (Unit {0})). is_view_of n r.kind) rs i r new at (ap (is_view_of n) same)
@@ -258,7 +251,7 @@ module _ (t : Tables) (pid : ℕ) (p : ProcessOf (Unit {0})) (ss : List (RegionO
 
 -- ---- one area has other pages
 
-area_here : (areas : List (AreaOf (Unit {0}))) (at : ℕ) (b : AreaOf (Unit {0})) → at < length areas → unwrap_or (slice_get (set areas at b) at) no_area ≡ b
+pub area_here : (areas : List (AreaOf (Unit {0}))) (at : ℕ) (b : AreaOf (Unit {0})) → at < length areas → unwrap_or (slice_get (set areas at b) at) no_area ≡ b
 area_here [] at b h = absurd (omega arith)
 area_here (a ∷ areas) zero b h = refl
 area_here (a ∷ areas) (suc at) b h = area_here areas at b (omega arith)

@@ -6,7 +6,7 @@ use Rattle.mm_types.specs.declared.numbers.Place.{Place}
 use Rattle.mm_types.specs.Address.{Range, holds_page}
 use Rattle.mm_types.specs.declared.moves.LineKind.TheVariants as kind
 use Rattle.mm_types.specs.Machine.{limit_of}
-use Rattle.mm_world.specs.Alloc.{reserve_type}
+use Rattle.mm_types.specs.Allocation.{reserve_type}
 use Rattle.mm_world.specs.World.{Page, RegionOf}
 use Rattle.mm_world.specs.Find.{region_with}
 use Rattle.mm_world.specs.Keys.{own_page, key_of, committed_at}

@@ -8,7 +8,7 @@ use Rattle.mm_types.specs.declared.numbers.Place.{Place}
 use Rattle.mm_types.specs.declared.views.View.{View}
 use Rattle.mm_types.specs.declared.views.Kind.{Kind}
 use Rattle.mm_types.specs.Protection.{base_of}
-use Rattle.mm_world.specs.Alloc.{reserve_type}
+use Rattle.mm_types.specs.Allocation.{reserve_type}
 use Rattle.mm_world.specs.Failure.{same_key}
 use Rattle.mm_spaces.specs.Tables.{unmarked_in}
 use Rattle.mm_types.specs.declared.views.Kind.TheVariants as view_kind

@@ -56,12 +56,6 @@ pub record Fills (area : Area) (n : ℕ) (c d : Key → Option Page) (s z : Stor
   pub contents : d ≡ with_pages area n c
   pub store : z ≡ with_area_keys area n s z
 
--- nothing but room was had
-pub record MoreRoom (c d : Key → Option Page) (s z : StoreOf) : Type 0 where
-  pub contents : d ≡ c
-  pub store : z ≡ record s { room = z.room }
-  pub later : s.room ≤ z.room
-
 -- an area was opened, and its first `n` pages have keys
 pub record Opens (area : Area) (pages n : ℕ) (c d : Key → Option Page) (s z : StoreOf) : Type 0 where
   pub contents : d ≡ with_pages area n c

@@ -21,10 +21,7 @@ use crate::Tables;
 use crate::tables::Process;
 use mm_pages::Pages;
 use mm_spaces::RegionInfo;
-use mm_types::{Kind, Pid};
-
-/// The bytes of a page.
-const PAGE_BYTES: u32 = 4096;
+use mm_types::{Kind, PAGE_SIZE, Pid};
 
 impl Tables {
     /// A living process.
@@ -123,7 +120,7 @@ impl Tables {
         match info.kind {
             Kind::Private => self.release_lowest(g, pid, range),
             Kind::View(view) => {
-                self.unmap_view(g, pid, range.first * PAGE_BYTES, range, view);
+                self.unmap_view(g, pid, range.first * PAGE_SIZE, range, view);
             }
         }
     }

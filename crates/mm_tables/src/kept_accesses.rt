@@ -12,10 +12,7 @@ ghost use Rattle.mm_tables.specs.Shown.{kept_of, shown_accesses, unless_of};
 
 use crate::Tables;
 use crate::waiting::Kept;
-use mm_types::{AccessSpec, Pid, Tid};
-
-/// How many threads there are.
-pub(crate) const THREADS: usize = 256;
+use mm_types::{AccessSpec, Pid, THREADS, Tid};
 
 /// What a thread keeps that has no pending access.
 const NOTHING: Option<Kept> = None;
@@ -32,8 +29,14 @@ fn same_access(access: &AccessSpec) -> AccessSpec
     ensures { result ≡ access.now }
 {
     match access {
-        AccessSpec::Read(addr, len) => AccessSpec::Read(*addr, *len),
-        AccessSpec::Write(addr, bytes) => AccessSpec::Write(*addr, *bytes),
+        AccessSpec::Read { addr, len } => AccessSpec::Read {
+            addr: *addr,
+            len: *len,
+        },
+        AccessSpec::Write { addr, bytes } => AccessSpec::Write {
+            addr: *addr,
+            bytes: *bytes,
+        },
     }
 }
 

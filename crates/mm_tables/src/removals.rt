@@ -81,7 +81,7 @@ fn release_empty<G: Pages>(g: &mut G, space: &AddressSpace, pid: Pid, range: Pag
     g.unbind(pid, Vpn(range.first), range.count);
 }
 
-/// Gives up pages of one region of a process in rising order, each key before the place behind it; `owned` of them have bytes of
+/// Gives up pages of one region of a process in rising order, each key before its place; `owned` of them have bytes of
 /// their own. Pages without are passed over by runs, found by halving.
 fn release_some<G: Pages>(g: &mut G, space: &AddressSpace, pid: Pid, range: PageRange, owned: u32)
     requires end { end_of range ≤ end_of_user_pages }

@@ -13,7 +13,8 @@ ghost use Rattle.mm_sections.specs.Directories.{sections_of, new_entry, one_hand
 ghost use Rattle.mm_sections.specs.Pages.{page_if};
 ghost use Rattle.mm_tables.specs.References.{IsFew};
 ghost use Rattle.mm_tables.specs.Shown.{shown_process, shown_processes};
-ghost use Rattle.mm_tables.specs.SectionSteps.{has_spare, has_room, CanFill, Fills, Opens, MoreRoom};
+ghost use Rattle.mm_tables.specs.SectionSteps.{has_spare, has_room, CanFill, Fills, Opens};
+ghost use Rattle.mm_tables.specs.Effects.{Roomier};
 ghost use Rattle.mm_tables.specs.Fits.{Fits, Settled};
 ghost use Rattle.mm_types.specs.declared.moves.LineKind.TheVariants as line_kind;
 
@@ -171,7 +172,7 @@ fn open_paging_area<G: Pages>(
     requires kind { (G.store g.old).kind ≡ line_kind.Call }
     ensures ok { OnOk result (Opens area pages n (G.contents g.old) (G.contents g.new) (G.store g.old) (G.store g.new)) }
     ensures room { OnOk result (total ≤ (G.store g.new).room) }
-    ensures err { OnErr result (MoreRoom (G.contents g.old) (G.contents g.new) (G.store g.old) (G.store g.new)) }
+    ensures err { OnErr result (Roomier (G.contents g.old) (G.contents g.new) (G.store g.old) (G.store g.new)) }
     ensures passes { PassesIn G.unpaged (Turns Makes) (G.store g.old) (G.store g.new) (G.behind g.old) (G.behind g.new) }
     ensures idle { OnErr result ((turn : Turn) → PassesIn G.unpaged (Turns turn) (G.store g.old) (G.store g.new) (G.behind g.old) (G.behind g.new)) }
     ensures loans { G.loans g.new ≡ G.loans g.old }

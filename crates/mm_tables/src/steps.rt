@@ -3,7 +3,8 @@ ghost use Rattle.mm_types.specs.Address.{end_of, end_of_user_pages, are_user_pag
 ghost use Rattle.mm_types.specs.Machine.{limit_of};
 ghost use Rattle.mm_world.specs.World.{RowOf, RegionOf, pages_of};
 ghost use Rattle.mm_world.specs.Find.{Found, region_with, region_around, ranges_of, add_region, is_private};
-ghost use Rattle.mm_world.specs.Alloc.{private_region, reserve_type};
+ghost use Rattle.mm_types.specs.Allocation.{reserve_type};
+ghost use Rattle.mm_world.specs.Alloc.{private_region};
 ghost use Rattle.mm_world.specs.Contents.{blank};
 ghost use Rattle.mm_world.specs.Free.{private_at};
 ghost use Rattle.mm_world.specs.Rows.{row_at, is_protection_among, private_protections, all_protections, every_page, accepts, commit, reserved_row, protected, change_rows};

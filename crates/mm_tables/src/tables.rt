@@ -4,12 +4,12 @@ ghost use Rattle.mm_world.specs.Step.{first_world};
 ghost use Rattle.mm_world.specs.WellFormed.{WellFormed};
 ghost use Rattle.mm_tables.specs.References.{IsTidy};
 
-use crate::kept_accesses::{THREADS, no_accesses};
+use crate::kept_accesses::no_accesses;
 use crate::waiting::Kept;
 use mm_commit::Commit;
 use mm_sections::{Directory, Handles, SectionPages};
 use mm_spaces::AddressSpace;
-use mm_types::Machine;
+use mm_types::{Machine, THREADS};
 use std::alloc::Global;
 use std::marker::Model;
 

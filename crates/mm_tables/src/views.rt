@@ -211,7 +211,7 @@ fn share_range<G: Pages>(g: &mut G, pages: &SectionPages, area: Area, first: u32
     }
 }
 
-/// The index of the section's page that stands `offset` pages behind another.
+/// The index of the section's page that stands `offset` pages after another.
 fn index_behind(pages: &SectionPages, first: u32, offset: u32) -> u32
     requires inside { first + offset < length pages.now.pages }
     ensures index { result ≡ first + offset }
@@ -223,7 +223,7 @@ fn index_behind(pages: &SectionPages, first: u32, offset: u32) -> u32
     first + offset
 }
 
-/// Commits pages of a section, from the page that stands `offset` pages behind the first of a view.
+/// Commits pages of a section, from the page that stands `offset` pages after the first of a view.
 fn share_in<G: Pages>(pages: &mut SectionPages, g: &mut G, view: View, offset: u32, count: u32)
     requires some { 1 ≤ count }
     requires can { CanShare view.area (view.first + offset) count pages.old (G.contents g.old) (G.store g.old) }

@@ -1,4 +1,5 @@
 -- What VirtualQuery tells of a page of a region, and how many pages in a row are alike in it.
+-- Profile, "Answers".
 use Rattle.std.specs.Prelude.{ℕ, Bool, true, false, ◌&&◌, ◌==◌, if◌then◌else◌, List, [], ◌∷◌, length, drop, take_while}
 use Rattle.mm_vad.specs.declared.pages.Row.{Row}
 

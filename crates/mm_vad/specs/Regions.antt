@@ -1,4 +1,5 @@
 -- The regions of an address space, in rising order of base, as contracts see them.
+-- Profile, "Regions, rows, sections".
 use Rattle.std.specs.Prelude.{◌≡◌, ℕ, ◌-◌, Bool, nat_le, nat_lt, ◌==◌, if◌then◌else◌, List, [], ◌∷◌, length, map, All, Option, option_map, unwrap_or, find, insert, remove, count_by, slice_set}
 use Rattle.std.specs.List.{position_or_len}
 use Rattle.mm_types.specs.Address.{Range, holds_page, first_user_page}

@@ -5,13 +5,10 @@ ghost use Rattle.mm_gaps.specs.Ranges.{page_number};
 
 use crate::{Region, Row};
 use mm_gaps::{Gaps, Steps, Uncounted};
-use mm_types::{NoMemory, Vpn};
+use mm_types::{FIRST_USER_PAGE, NoMemory, Vpn};
 use std::alloc::Global;
 use std::collections::HashMap;
 use std::marker::Model;
-
-// No page at all is free from the first user page on, whatever is taken.
-const FIRST_USER_PAGE: Vpn = Vpn(0x10);
 
 /// The regions of one address space, no page in two of them.
 #[derive(Drop)]
@@ -88,7 +85,8 @@ impl Space {
     {
         let taken = &self.taken;
         if n == 0 {
-            return Some(FIRST_USER_PAGE);
+            // no page at all is free from there on, whatever is taken
+            return Some(Vpn(FIRST_USER_PAGE));
         }
         taken.lowest_gap(n, &mut Steps::new(Uncounted))
     }

@@ -26,7 +26,7 @@ use Rattle.mm_life.proofs.Noting.{grew_nothing}
 use Rattle.mm_life.specs.Replay.{Replays}
 use Rattle.mm_world.specs.World.{Page}
 use Rattle.mm_world.specs.Keys.{shared_key}
-use Rattle.mm_walks.specs.Walks.{is_lost_move, waits_through, ages_through}
+use Rattle.mm_walks.specs.Walks.{is_lost_move}
 use Rattle.mm_walks.specs.Chores.{IsEndOf, IsWriteOf, FlushMoves, FlushedAt, Flushing, ends_lost}
 use Rattle.mm_pages.specs.Behind.{Behind}
 use Rattle.mm_pages.specs.Housekeeping.{ByMoves, Flushes}
@@ -34,7 +34,7 @@ use Rattle.mm_pages.specs.Passing.{PassesIn}
 use Rattle.mm_pages.specs.Standing.{StandsIn, backed_by, block_at, in_backing}
 use Rattle.mm_pages.specs.Store.{StoreOf}
 use Rattle.mm_pages.specs.Told.{Told, told_of, told_after, told_through, with_write}
-use Rattle.mm_pages.proofs.Passed.{Joins, passes_then, waits_then, ages_then}
+use Rattle.mm_pages.proofs.Passed.{Joins, passes_then, moved_then}
 use Rattle.mm_views.specs.Stages.{keys_from}
 
 -- ---- what a flush leaves as it was
@@ -260,12 +260,6 @@ pub record WereFlushed (keys : List Key) (b : Behind) (moves : List Move) (c : B
   pub kept : Kept b.life c.life
   pub moved : ByMoves b moves c
   pub slots : c.slots ≡ b.slots
-
-moved_then : (b c d : Behind) (xs ys : List Move) → ByMoves b xs c → ByMoves c ys d → ByMoves b (xs ++ ys) d
-moved_then b c d xs ys p q = record {
-  waits = q.waits ∙ ap (waits_through ys) p.waits ∙ sym (waits_then xs ys b.waits);
-  ages = q.ages ∙ ap (ages_through ys) p.ages ∙ sym (ages_then xs ys b.ages);
-}
 
 more_join : (ks js : List Key) → Joins (WereFlushed ks) (WereFlushed js) (WereFlushed (ks ++ js))
 more_join ks js = record {

@@ -3,7 +3,6 @@ use Rattle.std.proofs.Common.{◌≡◌, ◌≢◌, ◌≤◌, ◌<◌, ◌+◌,
 use Rattle.std.proofs.Math.Decide.{dec_le}
 use Rattle.std.proofs.lemmas.List.Sums.{sum_by-cons, count_by-le-length}
 use Rattle.mm_types.specs.declared.numbers.Key.{Key}
-use Rattle.std.specs.Prelude.{Result, Ok, Err, OnErr}
 use Rattle.mm_types.specs.declared.numbers.Block.{Block}
 use Rattle.mm_types.specs.Outside.{Rose}
 use Rattle.mm_types.proofs.Bytes.{rose_later}
@@ -11,20 +10,16 @@ use Rattle.mm_world.specs.World.{Page}
 use Rattle.mm_world.specs.Find.{area_at}
 use Rattle.mm_world.specs.Contents.{Tables}
 use Rattle.mm_world.specs.Keys.{shared_key}
-use Rattle.mm_blocks.specs.Devices.{DeviceOf, Call, AllServed}
 use Rattle.mm_pages.specs.Reports.{Served, wrote}
 use Rattle.mm_pages.specs.Store.{StoreOf}
 use Rattle.mm_sections.specs.Pages.{number_of_block}
 use Rattle.mm_tables.specs.Fits.{Fits}
 use Rattle.mm_tables.specs.References.{IsTidy}
 use Rattle.mm_views.specs.Stages.{AreHeld, InBlocks}
-use Rattle.mm_views.proofs.FlushServed.{served_none, served_then, named_as_before}
+use Rattle.mm_blocks.proofs.Serving.{all_served_later, named_as_before}
+use Rattle.mm_pages.proofs.Served.{served_none, served_then}
 
 -- ---- faults
-
-later : (cs : List Call) (a b : DeviceOf) → AllServed cs a b → a.faults ≤ b.faults
-later [] a b h = omega (arith, ap (λ (d : DeviceOf). d.faults) h)
-later (x ∷ xs) a b h = omega (arith, h.1.0.later, later xs h.0 b h.1.1)
 
 -- ---- one page after another
 
@@ -95,7 +90,7 @@ module _ (c d e : Key → Option Page) (s z y : StoreOf) (area first n count blo
 
 -- a failure blames the device since the first page
 pub blamed_since : (s z y : StoreOf) → Served s z → Rose z.file_device.faults y.file_device.faults → Rose s.file_device.faults y.file_device.faults
-blamed_since s z y h rose = rose_later s.file_device.faults z.file_device.faults y.file_device.faults (later h.file_calls s.file_device z.file_device h.files) rose
+blamed_since s z y h rose = rose_later s.file_device.faults z.file_device.faults y.file_device.faults (all_served_later h.file_calls s.file_device z.file_device h.files) rose
 
 -- ---- a store that was only written to
 
@@ -148,7 +143,3 @@ block_told (Some n) b e = let same : number_of_block n ≡ b = cc in ap (λ (b :
 pub block_none : (o : Option ℕ) → option_map number_of_block o ≡ None → is_some o ≡ false
 block_none None e = refl
 block_none (Some n) e = cc
-
-pub on_err : {T E : Type 0} {P : Type 0} (r : Result T E) → P → OnErr r P
-on_err (Ok x) p = tt
-on_err (Err e) p = p

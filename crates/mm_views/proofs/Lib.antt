@@ -1,6 +1,3 @@
-mod Tests
-mod Outcomes
-mod FlushServed
 mod Flushing
 mod Named
 mod Placing

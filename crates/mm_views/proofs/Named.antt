@@ -20,7 +20,7 @@ use Rattle.mm_pages.specs.Store.{StoreOf}
 use Rattle.mm_sections.specs.Directories.{id_of, area_of}
 use Rattle.mm_tables.specs.Fits.{Fits, Called, Settled, Carries, bytes_of}
 use Rattle.mm_tables.specs.References.{IsTidy}
-use Rattle.mm_views.proofs.Outcomes.{at_alive, at_met}
+use Rattle.mm_world.proofs.Outcomes.{at_alive, at_met}
 
 named_lives : (t : Tables) (name : Text) (n : ℕ) → section_named t name ≡ Some n → is_some (section_of t n) ≡ true
 named_lives t name n e = by_section (section_of t n) (position-Some (is_named name) t.sections n None e).1

@@ -22,7 +22,7 @@ use Rattle.mm_world.proofs.LaidOut.{and-true}
 use Rattle.mm_spaces.specs.declared.spaces.RegionInfo.{RegionInfo}
 use Rattle.mm_spaces.specs.Tables.{found_info}
 use Rattle.mm_views.specs.Stages.{place_view}
-use Rattle.mm_views.proofs.Outcomes.{at_found, at_room}
+use Rattle.mm_world.proofs.Outcomes.{at_found, at_room}
 
 -- ---- a new view
 

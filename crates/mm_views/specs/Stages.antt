@@ -1,4 +1,5 @@
 -- What is left of a call once its first tests were passed.
+-- Profile, "Calls".
 use Rattle.std.specs.Prelude.{ℕ, true, false, zero, suc, [], ◌∷◌, map, is_some, unwrap_or, option_map, option_and_then, ◌-◌, ◌+◌, ◌≡◌, ◌≤◌, ◌<◌, ◌&&◌, ◌==◌, nat_lt, nat_le, if◌then◌else◌, Option, Some, None, slice_get, List, length}
 use Rattle.mm_types.specs.declared.answers.Answer.{Answer}
 use Rattle.mm_types.specs.declared.answers.Answer.TheVariants as answer

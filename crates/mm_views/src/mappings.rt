@@ -13,10 +13,11 @@ ghost use Rattle.mm_pages.specs.Passing.{PassesIn};
 ghost use Rattle.mm_tables.specs.Fits.{Fits, Settled};
 ghost use Rattle.mm_views.specs.Stages.{are_viewed, place_view, map_section};
 
-use crate::parameters::{PAGE_SIZE, is_granule_address, may_view, pages_for};
+use crate::parameters::{is_granule_address, may_view};
 use mm_pages::Pages;
+use mm_spaces::pages_for;
 use mm_tables::Tables;
-use mm_types::{Answer, Code, NoMemory, Pid, View, ViewAccess};
+use mm_types::{Answer, Code, NoMemory, PAGE_SIZE, Pid, View, ViewAccess};
 use std::alloc::Global;
 
 /// Maps a view of the section of a handle of a living process.

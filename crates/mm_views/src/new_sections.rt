@@ -14,8 +14,9 @@ ghost use Rattle.mm_sections.specs.Directories.{id_of};
 ghost use Rattle.mm_tables.specs.References.{IsFew};
 ghost use Rattle.mm_tables.specs.Fits.{Fits, Settled};
 
-use crate::parameters::{is_reserve, pages_for, section_prot};
+use crate::parameters::{is_reserve, section_prot};
 use mm_pages::Pages;
+use mm_spaces::pages_for;
 use mm_tables::Tables;
 use mm_types::{Answer, Area, Code, Name, NoMemory, Pid, SectionId};
 use std::alloc::Global;

@@ -1,22 +1,15 @@
 ghost use Rattle.std.specs.Prelude.{◌≡◌, ◌==◌, ◌&&◌, not, nat_le};
-ghost use Rattle.mm_types.specs.Address.{is_granule_address, pages_for};
+ghost use Rattle.mm_types.specs.Address.{is_granule_address};
 ghost use Rattle.mm_world.specs.Sections.{are_section_flags, section_prot, is_reserve, largest_section};
 ghost use Rattle.mm_world.specs.Views.{view_access, may_view};
 
-use mm_types::{Prot, ViewAccess};
-
-pub(crate) const PAGE_SIZE: u32 = 4096;
-
-const GRANULE_SIZE: u32 = 0x10000;
+use mm_types::{GRANULE_SIZE, Prot, ViewAccess};
 
 /// The largest page-file section, in bytes.
 const LARGEST_SECTION: u32 = 0x7FFE0000;
 
 /// SEC_RESERVE; SEC_COMMIT is twice that.
 const RESERVE_FLAG: u32 = 0x4000000;
-
-/// PAGE_READWRITE.
-const READWRITE: u32 = 0x04;
 
 /// Whether the flags are a section's protection, alone, with SEC_COMMIT or with SEC_RESERVE.
 pub(crate) fn are_section_flags(flags: u32) -> bool
@@ -64,7 +57,7 @@ pub(crate) fn may_view(access: ViewAccess, prot: Prot) -> bool
 {
     match access {
         ViewAccess::Read | ViewAccess::Copy => true,
-        ViewAccess::Write => prot.0 == READWRITE,
+        ViewAccess::Write => prot.0 == Prot::READWRITE.0,
     }
 }
 
@@ -73,16 +66,4 @@ pub(crate) fn is_granule_address(addr: u32) -> bool
     ensures { result ≡ is_granule_address addr }
 {
     addr % GRANULE_SIZE == 0
-}
-
-/// How many pages `size` bytes take.
-pub(crate) fn pages_for(size: u32) -> u32
-    ensures { result ≡ pages_for size }
-{
-    let whole = size / PAGE_SIZE;
-    if size % PAGE_SIZE == 0 {
-        whole
-    } else {
-        whole + 1
-    }
 }

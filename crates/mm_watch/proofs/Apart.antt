@@ -10,12 +10,10 @@ use Rattle.mm_world.specs.Watch.{WatchOf, watched_range, watch_around, set_writt
 use Rattle.mm_watch.proofs.FlagLemmas.{length-change}
 use Rattle.mm_watch.specs.Watches.{meets_watch, is_unwatched, NoneMeets, AreApart}
 use Rattle.mm_watch.proofs.Marks.{AtMostOne, NonePasses, none_marked, none_from_search, single}
+use Rattle.mm_types.proofs.Booleans.{parts, all_three}
+use Rattle.mm_types.proofs.Naturals.{is_below}
 
 -- ---- tests
-
-pub both : (a b : Bool) → (a && b) ≡ true → (a ≡ true) × (b ≡ true)
-both true b e = (refl, e)
-both false b e = cc
 
 pub equals : (p q : ℕ) → (p == q) ≡ true → p ≡ q
 equals p q e = elim (eqb_tells p q) [ inl h ↦ h.1 | inr h ↦ let bad : true ≡ false = sym e ∙ h.0 in cc ]
@@ -25,12 +23,6 @@ equal p q e = elim (eqb_tells p q) [ inl h ↦ h.0 | inr h ↦ absurd (h.1 e) ]
 
 pub at_most : (a b : ℕ) → nat_le a b ≡ true → a ≤ b
 at_most a b e = elim (leb_tells a b) [ inl h ↦ h.1 | inr h ↦ let bad : true ≡ false = sym e ∙ h.0 in cc ]
-
-pub is_below : (a b : ℕ) → a < b → nat_lt a b ≡ true
-is_below a b e = elim (leb_tells (suc a) b) [ inl h ↦ h.0 | inr h ↦ absurd (omega (arith, h.1)) ]
-
-pub all_three : (a b c : Bool) → a ≡ true → b ≡ true → c ≡ true → (a && (b && c)) ≡ true
-all_three a b c p q r = ap (λ (x : Bool). x && (b && c)) p ∙ ap (λ (x : Bool). x && c) q ∙ r
 
 -- the pages of the range are pages of this watched region of the process
 abbrev pub is_around : ℕ → Range → WatchOf → Bool
@@ -43,8 +35,8 @@ pub record Around (pid : ℕ) (range : Range) (a : WatchOf) : Type 0 where
 
 pub around : (pid : ℕ) (range : Range) (a : WatchOf) → is_around pid range a ≡ true → Around pid range a
 around pid range a e =
-    let h = both (a.pid == pid) (lies_within range (watched_range a)) e in
-    let w = both (nat_le a.base range.first) (nat_le (end_of range) (end_of (watched_range a))) h.1 in
+    let h = parts (a.pid == pid) (lies_within range (watched_range a)) e in
+    let w = parts (nat_le a.base range.first) (nat_le (end_of range) (end_of (watched_range a))) h.1 in
     record { process = equals a.pid pid h.0; from = at_most a.base range.first w.0; to = at_most (end_of range) (end_of (watched_range a)) w.1 }
 
 -- ---- at most one region is around some pages

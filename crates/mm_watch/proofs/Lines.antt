@@ -13,7 +13,7 @@ use Rattle.mm_types.specs.declared.events.Event.TheVariants as line
 use Rattle.mm_types.specs.Address.{Range, page_of, range_of, holds_page, end_of}
 use Rattle.mm_world.specs.World.{World, KeptOf, ProcessOf, Page}
 use Rattle.mm_world.specs.Find.{Found, process_of}
-use Rattle.mm_world.specs.Free.{release_type}
+use Rattle.mm_types.specs.Allocation.{release_type}
 use Rattle.mm_world.specs.Outcome.{done, need, find_or}
 use Rattle.mm_world.specs.Step.{kept_by}
 use Rattle.mm_world.specs.System.{is_watched_type, reserved_range, written_by, written_by_kept, watches_after}
@@ -22,8 +22,10 @@ use Rattle.mm_watch.specs.Bits.{flag_at}
 use Rattle.mm_watch.specs.Watches.{AreApart, NoneMeets, is_unwatched, meets_watch}
 use Rattle.mm_watch.specs.Told.{HadRegion, TellsWritten, flag_of, is_flagged, line_ends, written_next, access_writes, kept_writes, Line, LeadTo, answered, is_written}
 use Rattle.mm_watch.proofs.Marks.{NonePasses, single}
-use Rattle.mm_watch.proofs.Apart.{Around, around, is_around, at_most_one, equal, is_below, all_three, none_meets}
+use Rattle.mm_watch.proofs.Apart.{Around, around, is_around, at_most_one, equal, none_meets}
 use Rattle.mm_watch.proofs.ToldLemmas.{here, passes_found, search_append, search_kept, search_last, marks_flag, one_page_marks, range_marks, unwrites_flag, found_here, holds, is_at_most}
+use Rattle.mm_types.proofs.Naturals.{is_below}
+use Rattle.mm_types.proofs.Booleans.{all_three}
 
 module _ (ws : List WatchOf) (pid page : ℕ) (was : Bool) (f : Found WatchOf) (e : watch_around ws pid (one_page page) ≡ Some f) (flagged : flag_of ws pid page ≡ Some was) where
   flag_is : flag_at f.thing.written (page - f.thing.base) ≡ was

@@ -5,8 +5,9 @@ use Rattle.mm_world.specs.Find.{Found}
 use Rattle.mm_world.specs.Watch.{WatchOf, watched_range, watch_around, set_written, mark_written}
 use Rattle.mm_watch.specs.Watches.{WatchesOf, AreApart}
 use Rattle.mm_watch.proofs.Marks.{single, has_place, Single}
-use Rattle.mm_watch.proofs.Apart.{is_around, both, found_marked, apart_marked}
+use Rattle.mm_watch.proofs.Apart.{is_around, found_marked, apart_marked}
 use Rattle.std.specs.Prelude.{◌==◌}
+use Rattle.mm_types.proofs.Booleans.{parts}
 
 abbrev pub shown : List WatchOf → ℕ → WatchesOf
 shown watches room = record { watches = watches; room = room }
@@ -41,7 +42,7 @@ module _ (pid : ℕ) (range : Range) (ws : List WatchOf) (place : ℕ) (found : 
     lies =
         let h = has_place (watch_around ws pid range) place found in
         ap (λ (b : WatchOf). lies_within range (watched_range b)) is_thing
-        ∙ (both (h.0.thing.pid == pid) (lies_within range (watched_range h.0.thing)) (there true).passes).1
+        ∙ (parts (h.0.thing.pid == pid) (lies_within range (watched_range h.0.thing)) (there true).passes).1
 
     pub search_gives : watch_around ws pid range ≡ Some (record { place = place; thing = a })
     search_gives =

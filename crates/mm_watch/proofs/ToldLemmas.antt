@@ -10,7 +10,9 @@ use Rattle.mm_watch.specs.Bits.{flag_at}
 use Rattle.mm_watch.specs.Watches.{AreApart}
 use Rattle.mm_watch.specs.Told.{flag_of}
 use Rattle.mm_watch.proofs.Marks.{AtMostOne, NonePasses, single}
-use Rattle.mm_watch.proofs.Apart.{is_around, around, both, equals, equal, at_most, is_below, all_three, at_most_one, marked_one, same_process, same_pages}
+use Rattle.mm_watch.proofs.Apart.{is_around, around, equals, equal, at_most, at_most_one, marked_one, same_process, same_pages}
+use Rattle.mm_types.proofs.Booleans.{parts, all_three, same_tests, both}
+use Rattle.mm_types.proofs.Naturals.{is_below}
 
 -- ---- searches, as the list changes
 
@@ -153,17 +155,9 @@ changed_outside b zero zero (x ∷ xs) i h out = refl
 
 -- ---- the flag of the page, as pages are marked
 
-pub same_bools : (a b : Bool) → (a ≡ true → b ≡ true) → (b ≡ true → a ≡ true) → a ≡ b
-same_bools true b f g = sym (f refl)
-same_bools false true f g = g refl
-same_bools false false f g = refl
-
-pub both_true : (a b : Bool) → a ≡ true → b ≡ true → (a && b) ≡ true
-both_true a b p q = ap (λ (x : Bool). x && b) p ∙ q
-
 pub holds : (range : Range) (page : ℕ) → holds_page range page ≡ true → (range.first ≤ page) × (page < range.first + range.count)
 holds range page e =
-    let h = both (nat_le range.first page) (nat_lt page (end_of range)) e in
+    let h = parts (nat_le range.first page) (nat_lt page (end_of range)) e in
     (at_most range.first page h.0, at_most (suc page) (end_of range) h.1)
 
 pub is_at_most : (a b : ℕ) → a ≤ b → nat_le a b ≡ true
@@ -171,7 +165,7 @@ is_at_most a b h = elim (leb_tells a b) [ inl k ↦ k.0 | inr k ↦ absurd (omeg
 
 pub is_held : (range : Range) (page : ℕ) → range.first ≤ page → page < range.first + range.count → holds_page range page ≡ true
 is_held range page low high =
-    both_true (nat_le range.first page) (nat_lt page (end_of range)) (is_at_most range.first page low) (is_below page (end_of range) high)
+    both (nat_le range.first page) (nat_lt page (end_of range)) (is_at_most range.first page low) (is_below page (end_of range) high)
 
 abbrev flag_in : WatchOf → ℕ → Bool
 flag_in a page = flag_at a.written (page - a.base)
@@ -217,32 +211,32 @@ module _ (pid page : ℕ) where
   -- a mark of one page is one of this page, or none of it
   pub one_page_marks : (by q : ℕ) (a : WatchOf) → here a ≡ true → (is_around by (one_page q) a && holds_page (one_page q) page) ≡ ((by == pid) && (q == page))
   one_page_marks by q a there =
-      same_bools (is_around by (one_page q) a && holds_page (one_page q) page) ((by == pid) && (q == page))
+      same_tests (is_around by (one_page q) a && holds_page (one_page q) page) ((by == pid) && (q == page))
       (λ e.
-      let h = both (is_around by (one_page q) a) (holds_page (one_page q) page) e in
+      let h = parts (is_around by (one_page q) a) (holds_page (one_page q) page) e in
       let r = around by (one_page q) a h.0 in
       let p = around pid (one_page page) a there in
       let held = holds (one_page q) page h.1 in
-      both_true (by == pid) (q == page) (equal by pid (sym r.process ∙ p.process)) (equal q page (omega (arith, held.0, held.1))))
+      both (by == pid) (q == page) (equal by pid (sym r.process ∙ p.process)) (equal q page (omega (arith, held.0, held.1))))
       (λ e.
-      let h = both (by == pid) (q == page) e in
+      let h = parts (by == pid) (q == page) e in
       let process = equals by pid h.0 in
       let place = equals q page h.1 in
-      both_true (is_around by (one_page q) a) (holds_page (one_page q) page)
+      both (is_around by (one_page q) a) (holds_page (one_page q) page)
       (ap (λ (x : ℕ). is_around x (one_page q) a) process ∙ ap (λ (x : ℕ). is_around pid (one_page x) a) place ∙ there)
       (is_held (one_page q) page (omega (arith, place)) (omega (arith, place))))
 
   -- a range that lies in some region of the process, and has the page, lies in the page's region
   pub range_marks : (by : ℕ) (range : Range) (ws : List WatchOf) (f g : Found WatchOf) → AreApart ws → watch_around ws pid (one_page page) ≡ Some f → watch_around ws by range ≡ Some g → (is_around by range f.thing && holds_page range page) ≡ ((by == pid) && holds_page range page)
   range_marks by range ws f g apart e found =
-      same_bools (is_around by range f.thing && holds_page range page) ((by == pid) && holds_page range page)
+      same_tests (is_around by range f.thing && holds_page range page) ((by == pid) && holds_page range page)
       (λ t.
-      let h = both (is_around by range f.thing) (holds_page range page) t in
+      let h = parts (is_around by range f.thing) (holds_page range page) t in
       let r = around by range f.thing h.0 in
       let p = around pid (one_page page) f.thing (found_here ws f e) in
-      both_true (by == pid) (holds_page range page) (equal by pid (sym r.process ∙ p.process)) h.1)
+      both (by == pid) (holds_page range page) (equal by pid (sym r.process ∙ p.process)) h.1)
       (λ t.
-      let h = both (by == pid) (holds_page range page) t in
+      let h = parts (by == pid) (holds_page range page) t in
       let held = holds range page h.1 in
       let s = single (is_around by range) (λ a. a) ws g found in
       let r = around by range g.thing s.passes in
@@ -250,7 +244,7 @@ module _ (pid page : ℕ) where
       all_three (g.thing.pid == pid) (nat_le g.thing.base page) (nat_le (page + 1) (g.thing.base + length g.thing.written))
       (equal g.thing.pid pid (r.process ∙ equals by pid h.0)) (is_at_most g.thing.base page (omega (arith, r.from, held.0))) (is_at_most (page + 1) (g.thing.base + length g.thing.written) (omega (arith, r.to, held.1))) in
       let same : f.thing ≡ g.thing = the_only_one here (λ a. a) ws g.place g.thing f (at_most_one pid (one_page page) (λ a. a) (omega arith) ws apart) s.inside (s.there g.thing) in_page e in
-      both_true (is_around by range f.thing) (holds_page range page) (ap (is_around by range) same ∙ s.passes) h.1)
+      both (is_around by range f.thing) (holds_page range page) (ap (is_around by range) same ∙ s.passes) h.1)
 
   -- pages that are unwritten one by one
   cleared_one : (p h r was : Bool) → cond (p && r) false (cond (p && h) false was) ≡ cond (p && (h || r)) false was

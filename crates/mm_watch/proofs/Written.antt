@@ -5,7 +5,8 @@ use Rattle.std.proofs.lemmas.List.{length-take, length-drop, get_or-take, get_or
 use Rattle.mm_types.specs.Address.{address_of, lies_within}
 use Rattle.mm_world.specs.Watch.{WatchOf, written_from, written_in}
 use Rattle.mm_watch.specs.Bits.{NoneSet, IsNextSet, flag_at}
-use Rattle.mm_watch.proofs.Apart.{both, at_most}
+use Rattle.mm_watch.proofs.Apart.{at_most}
+use Rattle.mm_types.proofs.Booleans.{parts}
 
 no_page : (page : ℕ) (bits : List Bool) → ((i : ℕ) → i < length bits → get_or bits i false ≡ false) → written_from page bits ≡ []
 no_page page [] none = refl
@@ -78,7 +79,7 @@ pub record Inside (base first count pages : ℕ) : Type 0 where
 
 pub lies_inside : (base first count pages : ℕ) → lies_within (record { first = first; count = count }) (record { first = base; count = pages }) ≡ true → Inside base first count pages
 lies_inside base first count pages e =
-    let h = both (nat_le base first) (nat_le (first + count) (base + pages)) e in
+    let h = parts (nat_le base first) (nat_le (first + count) (base + pages)) e in
     let from = at_most base first h.0 in
     record { from = from; to = omega (arith, from, at_most (first + count) (base + pages) h.1) }
 

@@ -3,7 +3,7 @@ use Rattle.std.specs.Prelude.{◌≡◌, ℕ, ◌/◌, ◌%◌, ◌<◌, ◌≤�
 use Rattle.std.specs.Int.{bit_at}
 use Rattle.std.specs.List.{range_with_len}
 
--- whether the words, one behind another, have the bit
+-- whether the words, one after another, have the bit
 unfoldable pub have_bit : List ℕ → ℕ → Bool
 have_bit words i = bit_at (slice_index words (i / 64)) (i % 64) == 1
 

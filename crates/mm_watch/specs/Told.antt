@@ -1,4 +1,5 @@
 -- Which pages of watched regions are written, told line by line from the lines and their answers alone.
+-- Profile, "Watched regions and stacks".
 use Rattle.std.specs.Prelude.{◌≡◌, ℕ, ◌-◌, Bool, true, false, ◌&&◌, ◌==◌, if◌then◌else◌, List, [], ◌∷◌, fold, Option, Some, None, option_map, unwrap_or, is_some}
 use Rattle.std.specs.List.{list_any}
 use Rattle.mm_types.specs.declared.answers.Answer.{Answer}
@@ -10,7 +11,7 @@ use Rattle.mm_types.specs.declared.events.Event.TheVariants as line
 use Rattle.mm_types.specs.Address.{page_of, range_of, holds_page}
 use Rattle.mm_world.specs.World.{World, KeptOf}
 use Rattle.mm_world.specs.Find.{Found}
-use Rattle.mm_world.specs.Free.{release_type}
+use Rattle.mm_types.specs.Allocation.{release_type}
 use Rattle.mm_world.specs.Step.{kept_by}
 use Rattle.mm_world.specs.System.{watches_after}
 use Rattle.mm_world.specs.Watch.{WatchOf, watch_around, one_page, is_watch_at, is_watch_in}

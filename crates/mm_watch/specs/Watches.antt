@@ -1,4 +1,5 @@
 -- What a `Watch` is seen as: watched regions as a world has them beside it, and the room for one more.
+-- Profile, "Watched regions and stacks".
 use Rattle.std.specs.Prelude.{◌≡◌, ℕ, ◌<◌, Bool, false, not, ◌&&◌, ◌==◌, List, [], ◌∷◌, length}
 use Rattle.std.specs.List.{list_any}
 use Rattle.mm_types.specs.Address.{Range, meets}

@@ -3,10 +3,8 @@ ghost use Rattle.mm_types.specs.Address.{Range, address_of, lies_within, end_of_
 ghost use Rattle.mm_world.specs.Watch.{watched_range, written_in, set_written, one_page, is_watch_at, is_watch_in};
 
 use crate::bits::Bits;
-use mm_types::{PageList, Pid, Vpn};
+use mm_types::{PAGE_SIZE, PageList, Pid, Vpn};
 use std::marker::Model;
-
-const PAGE_SIZE: u32 = 4096;
 
 /// A watched region: the process that it belongs to, its first page, and for each page whether it was written.
 #[derive(Drop)]

@@ -5,12 +5,10 @@ ghost use Rattle.mm_world.specs.Watch.{WatchOf, watch_around, written_in, begun,
 
 use crate::bits::Bits;
 use crate::regions::WatchedRegion;
-use mm_types::{NoMemory, PageList, Pid, Vpn};
+use mm_types::{NoMemory, PAGE_SIZE, PageList, Pid, Vpn};
 use std::alloc::Global;
 use std::marker::Model;
 use std::mem;
-
-const PAGE_SIZE: u32 = 4096;
 
 /// The watched regions of all processes (MEM_WRITE_WATCH), with a bit for each of their pages: whether it was
 /// written.

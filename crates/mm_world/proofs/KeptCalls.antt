@@ -18,7 +18,8 @@ use Rattle.mm_world.specs.World.{WorldOf, ProcessOf, RegionOf, RowOf, AreaOf, Se
 use Rattle.mm_world.specs.Find.{Found, first_where, process_of, set_process, set_regions, set_region, set_area, area_at, add_region, ranges_of, placed, shared_page}
 use Rattle.mm_world.specs.Outcome.{OutcomeOf, done, refused}
 use Rattle.mm_world.specs.Rows.{row_at, reserved_row, commit, protected, change_rows}
-use Rattle.mm_world.specs.Alloc.{alloc, reserve, commit_in, commit_shared, private_region, new_row, reserve_type}
+use Rattle.mm_types.specs.Allocation.{reserve_type}
+use Rattle.mm_world.specs.Alloc.{alloc, reserve, commit_in, commit_shared, private_region, new_row}
 use Rattle.mm_world.specs.Free.{free, decommit}
 use Rattle.mm_world.specs.Protect.{protect}
 use Rattle.mm_world.specs.Query.{query}

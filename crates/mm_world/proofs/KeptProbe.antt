@@ -11,7 +11,7 @@ use Rattle.mm_world.specs.World.{Page, World, WorldOf, ProcessOf, RegionOf, RowO
 use Rattle.mm_world.specs.Find.{process_of, set_process, shared_page}
 use Rattle.mm_world.specs.Keys.{Committed, committed_at, guard_off, own_page}
 use Rattle.mm_world.specs.Outcome.{done}
-use Rattle.mm_world.specs.Alloc.{commit_type}
+use Rattle.mm_types.specs.Allocation.{commit_type}
 use Rattle.mm_world.specs.Stack.{StackOf, probe, probe_at, probe_in, probe_of, grown}
 use Rattle.mm_world.specs.Contents.{Tables, no_bytes, blank, world_with, AcrossBytes}
 use Rattle.mm_world.specs.WellFormed.{Spaces}

@@ -24,7 +24,7 @@ or-false true b e = cc
 or-false false b e = (refl, e)
 
 -- ranges with a page each that do not meet: one lies behind the other
-record Apart (a b : Range) : Type 0 where
+pub record Apart (a b : Range) : Type 0 where
   pub before : b.first < a.first → end_of b ≤ a.first
   pub behind : a.first ≤ b.first → end_of a ≤ b.first
 
@@ -37,7 +37,7 @@ apart_by a b false y ex ey e some_a some_b =
     let low : end_of b ≤ a.first = not_less a.first (end_of b) ex in
     record { before = λ h. low; behind = λ h. absurd (omega (arith, low, h, some_b)) }
 
-apart_of : (a b : Range) → meets a b ≡ false → 1 ≤ a.count → 1 ≤ b.count → Apart a b
+pub apart_of : (a b : Range) → meets a b ≡ false → 1 ≤ a.count → 1 ≤ b.count → Apart a b
 apart_of a b e some_a some_b = apart_by a b _ _ refl refl e some_a some_b
 
 module _ {B : Type 0} where
@@ -121,7 +121,7 @@ module _ {B : Type 0} where
 
 -- ---- where a new region is placed
 
-least_passes : (test : ℕ → Bool) (count start g : ℕ) → least_from test count start ≡ Some g → test g ≡ true
+pub least_passes : (test : ℕ → Bool) (count start g : ℕ) → least_from test count start ≡ Some g → test g ≡ true
 unfolding least_from
 least_passes test zero start g e = cc
 least_passes test (suc count) start g e = by_test (least_passes test count (start + 1) g) (test start) refl e
@@ -135,7 +135,7 @@ pub record IsPlaced (taken : List Range) (range : Range) : Type 0 where
   pub user : are_user_pages range ≡ true
   pub free : list_any (meets range) taken ≡ false
 
-free_of : (taken : List Range) (range : Range) → range.first % granule_pages ≡ 0 → is_free taken range ≡ true → IsPlaced taken range
+pub free_of : (taken : List Range) (range : Range) → range.first % granule_pages ≡ 0 → is_free taken range ≡ true → IsPlaced taken range
 free_of taken range granule e =
     let h = and-true (are_user_pages range) (not (list_any (meets range) taken)) e in
     record { on_granule = granule; user = h.0; free = not-true (list_any (meets range) taken) h.1 }

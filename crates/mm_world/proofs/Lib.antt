@@ -25,3 +25,6 @@ pub mod Across
 pub mod AcrossFile
 pub mod KeptProbe
 pub mod References
+pub mod Ranges
+pub mod Outcomes
+pub mod KindsAndKeys

@@ -20,8 +20,10 @@ use Rattle.mm_world.specs.Find.{Found, first_where, one_later, change_range, ran
 use Rattle.mm_world.specs.Charge.{charge, limit, is_charged, region_charge, process_charge, area_charge}
 use Rattle.mm_world.specs.Outcome.{OutcomeOf, done, need, find_or, with_process, within_limit}
 use Rattle.mm_world.specs.Rows.{is_one_of, protections_of, row_at, accepts, is_committed, is_committed_at, reserved_row, commit, protected, change_rows, every_page}
-use Rattle.mm_world.specs.Alloc.{alloc, reserve, commit_in, commit_shared, private_region, new_row, are_alloc_parameters, is_reserving, reserve_type}
-use Rattle.mm_world.specs.Free.{free, decommit, private_at, private_around, are_free_parameters, release_type}
+use Rattle.mm_types.specs.Allocation.{reserve_type}
+use Rattle.mm_world.specs.Alloc.{alloc, reserve, commit_in, commit_shared, private_region, new_row, are_alloc_parameters, is_reserving}
+use Rattle.mm_types.specs.Allocation.{release_type}
+use Rattle.mm_world.specs.Free.{free, decommit, private_at, private_around, are_free_parameters}
 use Rattle.mm_world.specs.Protect.{protect, protection_at, protection_of, are_protect_parameters}
 
 module _ {A B : Type 0} (f : A → B) where

@@ -24,7 +24,8 @@ use Rattle.mm_world.specs.Query.{query, page_info, next_base, page_states, row_s
 use Rattle.mm_world.specs.Sections.{create, create_file, open_section, close, handle_or, new_section, settle, settled_area, settled_areas, settled_section, settled_sections, holds, views, is_view_of, uses, handle_section, paging_area, is_reserve, are_section_flags, section_prot, file_named, largest_section}
 use Rattle.mm_world.specs.Views.{map_view, unmap, flush, view_access, may_view, view_region, view_at, view_around}
 use Rattle.mm_world.specs.Keys.{Home, Own, InSection, Committed, home_in, committed_in, committed_at, guard_off}
-use Rattle.mm_world.specs.Alloc.{alloc, commit_type}
+use Rattle.mm_types.specs.Allocation.{commit_type}
+use Rattle.mm_world.specs.Alloc.{alloc}
 use Rattle.mm_world.specs.Stack.{StackOf, stack, made, stack_region, probe, probe_at, probe_in, probe_of, grown, is_overflow, reserve_pages, commit_pages}
 use Rattle.mm_world.specs.Processes.{new_process, exit, new_file, take_fail, tell_charge, grow, no_regions, file_pages, kept_of_others, most_processes, most_fails, most_slots}
 use Rattle.mm_world.specs.Contents.{map_row, map_region, map_process, map_area, map_world}

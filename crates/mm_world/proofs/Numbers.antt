@@ -17,7 +17,8 @@ use Rattle.mm_world.specs.World.{World, WorldOf, ProcessOf, RegionOf, AreaOf, Se
 use Rattle.mm_world.specs.Find.{Found, process_of, set_process, set_area}
 use Rattle.mm_world.specs.Keys.{Home, Own, InSection, Committed, committed_at, guard_off, set_row, set_shared}
 use Rattle.mm_world.specs.Outcome.{OutcomeOf, done, refused}
-use Rattle.mm_world.specs.Alloc.{alloc, commit_in, commit_type}
+use Rattle.mm_types.specs.Allocation.{commit_type}
+use Rattle.mm_world.specs.Alloc.{alloc, commit_in}
 use Rattle.mm_world.specs.Free.{free}
 use Rattle.mm_world.specs.Protect.{protect}
 use Rattle.mm_world.specs.Query.{query}

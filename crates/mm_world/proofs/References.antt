@@ -29,7 +29,7 @@ use Rattle.mm_world.specs.Processes.{new_process, exit, new_file, take_fail, gro
 use Rattle.mm_types.specs.declared.events.AccessSpec.{AccessSpec}
 use Rattle.mm_types.specs.declared.events.Event.{Event}
 use Rattle.mm_types.specs.declared.events.Event.TheVariants as line
-use Rattle.mm_world.specs.Alloc.{commit_type}
+use Rattle.mm_types.specs.Allocation.{commit_type}
 use Rattle.mm_world.specs.Keys.{Home, Own, InSection, Committed, committed_at, guard_off, set_row, set_shared}
 use Rattle.mm_world.specs.Access.{Attempt, ReadOf, WriteOf, Execute, access, access_at, perform, write_to, written, bytes_of, address_in, attempt_in}
 use Rattle.mm_world.specs.Report.{Report}

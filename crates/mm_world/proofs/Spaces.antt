@@ -19,7 +19,8 @@ use Rattle.mm_world.specs.World.{WorldOf, ProcessOf, RegionOf, RowOf, AreaOf, Se
 use Rattle.mm_world.specs.Find.{Found, first_where, process_of, set_process, set_regions, set_region, set_area, add_region, ranges_of, placed, region_around, is_private}
 use Rattle.mm_world.specs.Outcome.{OutcomeOf, done, refused, within_limit}
 use Rattle.mm_world.specs.Rows.{is_one_of, is_protection_among, private_protections, reserved_row, commit, protected, change_rows, every_page, accepts, is_committed_at}
-use Rattle.mm_world.specs.Alloc.{alloc, reserve, commit_in, commit_pages, private_region, new_row, are_alloc_parameters, reserve_type, alloc_types}
+use Rattle.mm_types.specs.Allocation.{reserve_type}
+use Rattle.mm_world.specs.Alloc.{alloc, reserve, commit_in, commit_pages, private_region, new_row, are_alloc_parameters, alloc_types}
 use Rattle.mm_world.specs.Free.{free, decommit, private_at, private_around}
 use Rattle.mm_world.specs.Protect.{protect}
 use Rattle.mm_world.specs.Query.{query}

@@ -15,7 +15,7 @@ use Rattle.mm_world.specs.World.{World, WorldOf, ProcessOf, RegionOf, RowOf, Kep
 use Rattle.mm_world.specs.Find.{process_of, set_regions, add_region, ranges_of}
 use Rattle.mm_world.specs.Keys.{Home, Own, InSection, Committed, committed_at, set_row, set_shared, guard_off}
 use Rattle.mm_world.specs.Outcome.{done}
-use Rattle.mm_world.specs.Alloc.{commit_type}
+use Rattle.mm_types.specs.Allocation.{commit_type}
 use Rattle.mm_world.specs.Access.{Attempt, ReadOf, WriteOf, Execute, access, access_at, perform, write_to, written, bytes_of, address_in, attempt_in}
 use Rattle.mm_world.specs.Report.{Report}
 use Rattle.mm_world.specs.Step.{unpaged, told, step, stepped, world_told, begin, resume, store_line, kept_by, keep}

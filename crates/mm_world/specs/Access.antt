@@ -8,7 +8,7 @@ use Rattle.mm_types.specs.declared.events.AccessSpec.TheVariants as spec
 use Rattle.mm_types.specs.declared.protections.Access.{Access}
 use Rattle.mm_types.specs.declared.protections.Access.TheVariants as access_kind
 use Rattle.mm_types.specs.Address.{page_of, page_size}
-use Rattle.mm_types.specs.Protection.{permits}
+use Rattle.mm_types.specs.Protection.{permits, readwrite}
 use Rattle.mm_world.specs.World.{Page, World, ProcessOf, filled}
 use Rattle.mm_world.specs.Find.{shared_page}
 use Rattle.mm_world.specs.Keys.{Home, Own, InSection, Committed, committed_at, set_row, set_shared, guard_off}
@@ -52,7 +52,7 @@ write_to w pid p c page offset bytes (Own old) =
 write_to w pid p c page offset bytes (InSection area index) =
     let new = written (bytes_of w (InSection area index)) offset bytes in
     if c.row.marked
-    then set_row w pid p c.region page (record c.row { own = Some new; prot = 0x04 })
+    then set_row w pid p c.region page (record c.row { own = Some new; prot = readwrite })
     else set_shared w area index new
 
 -- a permitted access: a read gives the bytes, an execution `ok`, a write stores its bytes

@@ -6,20 +6,15 @@ use Rattle.mm_types.specs.declared.codes.Code.TheVariants as code
 use Rattle.mm_types.specs.declared.views.Kind.{Kind}
 use Rattle.mm_types.specs.declared.views.Kind.TheVariants as kind
 use Rattle.mm_types.specs.Address.{Range, range_of, granule_range_of, address_of, pages_for}
+use Rattle.mm_types.specs.Allocation.{commit_type, reserve_type, reserve_and_commit_type}
 use Rattle.mm_world.specs.World.{RowOf, RegionOf, ProcessOf, AreaOf, WorldOf}
 use Rattle.mm_world.specs.Find.{Found, change_range, region_around, add_region, ranges_of, set_regions, set_region, area_at, set_area, placed}
 use Rattle.mm_world.specs.Outcome.{OutcomeOf, done, need, find_or, with_process, within_limit}
 use Rattle.mm_world.specs.Rows.{is_one_of, is_protection_among, private_protections, accepts, reserved_row, commit, protected, change_rows, every_page}
 
 -- MEM_COMMIT, MEM_RESERVE, or both
-abbrev pub commit_type : ℕ
-commit_type = 0x1000
-
-abbrev pub reserve_type : ℕ
-reserve_type = 0x2000
-
 abbrev pub alloc_types : List ℕ
-alloc_types = commit_type ∷ reserve_type ∷ 0x3000 ∷ []
+alloc_types = commit_type ∷ reserve_type ∷ reserve_and_commit_type ∷ []
 
 abbrev pub are_alloc_parameters : ℕ → ℕ → ℕ → Bool
 are_alloc_parameters size type prot =

@@ -4,19 +4,13 @@ use Rattle.std.specs.Prelude.{ℕ, Bool, ◌&&◌, ◌||◌, ◌==◌, if◌then
 use Rattle.mm_types.specs.declared.answers.Answer.TheVariants as answer
 use Rattle.mm_types.specs.declared.codes.Code.TheVariants as code
 use Rattle.mm_types.specs.Address.{Range, range_of, address_of, lies_within}
+use Rattle.mm_types.specs.Allocation.{decommit_type, release_type}
 use Rattle.mm_world.specs.World.{RegionOf, ProcessOf, WorldOf, pages_of}
 use Rattle.mm_world.specs.Find.{Found, first_where, set_regions, set_region, is_private}
 use Rattle.mm_world.specs.Outcome.{OutcomeOf, done, need, find_or, with_process}
 use Rattle.mm_world.specs.Rows.{reserved_row, change_rows}
 
--- MEM_DECOMMIT and MEM_RELEASE
-abbrev pub decommit_type : ℕ
-decommit_type = 0x4000
-
-abbrev pub release_type : ℕ
-release_type = 0x8000
-
--- a release has no size
+-- MEM_DECOMMIT, or MEM_RELEASE, which has no size
 abbrev pub are_free_parameters : ℕ → ℕ → Bool
 are_free_parameters size type = (type == decommit_type) || ((type == release_type) && (size == 0))
 

@@ -1,13 +1,13 @@
 -- The pages of a region: what each accepts, and what calls make of it.
 -- Profile, "Protections", "Regions, rows, sections" and, for what calls make of a row, "Calls".
-use Rattle.std.specs.Prelude.{ℕ, zero, suc, ◌+◌, ◌-◌, ◌/◌, Bool, true, false, not, ◌&&◌, ◌||◌, ◌==◌, nat_lt, if◌then◌else◌, is_some, List, [], ◌∷◌, Option, Some, None, slice_get, unwrap_or, option_map}
+use Rattle.std.specs.Prelude.{ℕ, zero, suc, ◌+◌, ◌-◌, ◌/◌, Bool, true, false, not, ◌&&◌, ◌||◌, ◌==◌, nat_lt, if◌then◌else◌, is_some, List, [], ◌∷◌, Option, Some, None, slice_get, unwrap_or, option_map, ◌*◌}
 use Rattle.std.specs.List.{list_any}
 use Rattle.mm_types.specs.declared.views.Kind.{Kind}
 use Rattle.mm_types.specs.declared.views.Kind.TheVariants as kind
 use Rattle.mm_types.specs.declared.views.ViewAccess.{ViewAccess}
 use Rattle.mm_types.specs.declared.views.ViewAccess.TheVariants as view
 use Rattle.mm_types.specs.Address.{Range}
-use Rattle.mm_types.specs.Protection.{base_of}
+use Rattle.mm_types.specs.Protection.{base_of, noaccess, readonly, readwrite, writecopy, execute, execute_read, execute_readwrite, execute_writecopy, guard_flag}
 use Rattle.mm_world.specs.World.{RowOf, RegionOf, WorldOf}
 use Rattle.mm_world.specs.Find.{change_range, shared_page}
 
@@ -17,35 +17,35 @@ is_one_of numbers n = list_any (λ m. m == n) numbers
 -- ---- protections as callers give them: a base protection, with PAGE_GUARD (0x100) or without
 
 abbrev pub has_guard : ℕ → Bool
-has_guard prot = prot / 0x100 == 1
+has_guard prot = prot / guard_flag == 1
 
 abbrev pub with_guard : ℕ → Bool → ℕ
-with_guard prot guard = if guard then prot + 0x100 else prot
+with_guard prot guard = if guard then prot + guard_flag else prot
 
 -- one of these, each but PAGE_NOACCESS also with the guard
 abbrev pub is_protection_among : List ℕ → ℕ → Bool
-is_protection_among bases prot = is_one_of bases (base_of prot) && nat_lt prot 0x200 && not (prot == 0x101)
+is_protection_among bases prot = is_one_of bases (base_of prot) && nat_lt prot (2 * guard_flag) && not (prot == guard_flag + noaccess)
 
 abbrev pub all_protections : List ℕ
-all_protections = 0x01 ∷ 0x02 ∷ 0x04 ∷ 0x08 ∷ 0x10 ∷ 0x20 ∷ 0x40 ∷ 0x80 ∷ []
+all_protections = noaccess ∷ readonly ∷ readwrite ∷ writecopy ∷ execute ∷ execute_read ∷ execute_readwrite ∷ execute_writecopy ∷ []
 
 -- ---- which protections a page accepts, guard aside
 
 abbrev pub private_protections : List ℕ
-private_protections = 0x01 ∷ 0x02 ∷ 0x04 ∷ 0x10 ∷ 0x20 ∷ 0x40 ∷ []
+private_protections = noaccess ∷ readonly ∷ readwrite ∷ execute ∷ execute_read ∷ execute_readwrite ∷ []
 
 abbrev pub marked_protections : List ℕ
-marked_protections = 0x01 ∷ 0x02 ∷ 0x04 ∷ 0x08 ∷ []
+marked_protections = noaccess ∷ readonly ∷ readwrite ∷ writecopy ∷ []
 
 -- of a page without a mark; each page of a copy view has one
 abbrev pub view_protections : ViewAccess → List ℕ
-view_protections view.Read = 0x01 ∷ 0x02 ∷ 0x08 ∷ []
-view_protections view.Write = 0x01 ∷ 0x02 ∷ 0x04 ∷ 0x08 ∷ []
+view_protections view.Read = noaccess ∷ readonly ∷ writecopy ∷ []
+view_protections view.Write = noaccess ∷ readonly ∷ readwrite ∷ writecopy ∷ []
 view_protections view.Copy = marked_protections
 
 -- of a marked page READWRITE and WRITECOPY are one request (this profile's own)
 abbrev pub marked_prot : Bool → ℕ → ℕ
-marked_prot copied base = if (base == 0x04) || (base == 0x08) then (if copied then 0x04 else 0x08) else base
+marked_prot copied base = if (base == readwrite) || (base == writecopy) then (if copied then readwrite else writecopy) else base
 
 module _ {B : Type 0} where
   abbrev pub protections_of : Kind → RowOf B → List ℕ
@@ -84,7 +84,7 @@ module _ {B : Type 0} where
   abbrev pub protected : Kind → ℕ → RowOf B → RowOf B
   protected kind.Private prot row = record row { prot = base_of prot; guard = has_guard prot }
   protected (kind.View v) prot row =
-      let marked = row.marked || (base_of prot == 0x08) in
+      let marked = row.marked || (base_of prot == writecopy) in
       record {
         prot = if marked then marked_prot (is_some row.own) (base_of prot) else base_of prot;
         guard = has_guard prot;

@@ -8,14 +8,15 @@ use Rattle.mm_types.specs.declared.codes.Raise.TheVariants as raise
 use Rattle.mm_types.specs.declared.protections.Access.TheVariants as access_kind
 use Rattle.mm_types.specs.declared.views.Kind.TheVariants as kind
 use Rattle.mm_types.specs.Address.{address_of, page_of, pages_for, granule_pages, lowest_gap}
-use Rattle.mm_types.specs.Protection.{permits}
+use Rattle.mm_types.specs.Protection.{permits, readwrite, guard_flag}
 use Rattle.mm_world.specs.World.{Numbered, numbered, RegionOf, ProcessOf, WorldOf}
 use Rattle.mm_world.specs.Find.{process_of, add_region, ranges_of, set_regions}
 use Rattle.mm_world.specs.Charge.{charge, limit}
 use Rattle.mm_world.specs.Keys.{Committed, committed_at, guard_off}
 use Rattle.mm_world.specs.Outcome.{OutcomeOf, done, need, find_or, with_process, within_limit}
 use Rattle.mm_world.specs.Rows.{reserved_row, commit}
-use Rattle.mm_world.specs.Alloc.{alloc, commit_type}
+use Rattle.mm_types.specs.Allocation.{commit_type}
+use Rattle.mm_world.specs.Alloc.{alloc}
 
 -- the stack of a thread; `base < guard_page`
 pub record StackOf : Type 0 where
@@ -44,10 +45,10 @@ module _ {B : Type 0} (fill : ℕ → B) where
   stack_region base r c =
       record {
         base = base;
-        alloc_prot = 0x04;
+        alloc_prot = readwrite;
         kind = kind.Private;
         rows = replicate (r - (c + 1)) reserved_row
-            ++ commit (fill 0) 0x104 reserved_row ∷ replicate c (commit (fill 0) 0x04 reserved_row);
+            ++ commit (fill 0) (guard_flag + readwrite) reserved_row ∷ replicate c (commit (fill 0) readwrite reserved_row);
       }
 
   abbrev pub made : WorldOf B → ℕ → ProcessOf B → ℕ → ℕ → OutcomeOf B
@@ -70,7 +71,7 @@ module _ {B : Type 0} (fill : ℕ → B) where
   abbrev pub grown : WorldOf B → StackOf → WorldOf B → OutcomeOf B
   grown w s without_guard =
       let next = s.guard_page - 1 in
-      done (answer.At (address_of next)) (alloc fill without_guard s.pid (address_of next) 1 commit_type 0x104).world
+      done (answer.At (address_of next)) (alloc fill without_guard s.pid (address_of next) 1 commit_type (guard_flag + readwrite)).world
 
   -- by the first case that holds
   abbrev pub probe_at : WorldOf B → ProcessOf B → StackOf → ℕ → Option (Committed B) → OutcomeOf B

@@ -1,6 +1,6 @@
 -- A world with what stands beside it: the stacks of threads and the watched regions. Each line of a script is decided here.
 -- Profile, "Watched regions and stacks"; each other line is decided as in Step.
-use Rattle.std.specs.Prelude.{ℕ, ◌-◌, Bool, true, false, ◌==◌, if◌then◌else◌, List, [], ◌∷◌, ◌++◌, map, replicate, Option, Some, None, slice_set, unwrap_or, option_map}
+use Rattle.std.specs.Prelude.{ℕ, ◌-◌, Bool, true, false, ◌==◌, if◌then◌else◌, List, [], ◌∷◌, ◌++◌, map, replicate, Option, Some, None, slice_set, unwrap_or, option_map, ◌+◌}
 use Rattle.mm_types.specs.declared.answers.Answer.{Answer}
 use Rattle.mm_types.specs.declared.answers.Answer.TheVariants as answer
 use Rattle.mm_types.specs.declared.events.AccessSpec.{AccessSpec}
@@ -12,7 +12,7 @@ use Rattle.mm_types.specs.Machine.{MachineOf, limit_of}
 use Rattle.mm_world.specs.World.{Page, World, WorldOf, Numbered, numbered, KeptOf, filled}
 use Rattle.mm_world.specs.Outcome.{OutcomeOf}
 use Rattle.mm_world.specs.Rows.{is_one_of}
-use Rattle.mm_world.specs.Free.{release_type}
+use Rattle.mm_types.specs.Allocation.{release_type, reserve_type, reserve_and_commit_type, watch_type}
 use Rattle.mm_world.specs.Report.{Report}
 use Rattle.mm_world.specs.Step.{step, world_after, first_world, threads, kept_by, Reported}
 use Rattle.mm_world.specs.Stack.{StackOf, stack, probe, without, is_stack_at, is_stack_in, moved}
@@ -33,12 +33,12 @@ first_system m = record { world = first_world m; stacks = replicate threads None
 
 -- MEM_WRITE_WATCH, together with MEM_RESERVE
 abbrev pub is_watched_type : ℕ → Bool
-is_watched_type type = is_one_of (0x202000 ∷ 0x203000 ∷ []) type
+is_watched_type type = is_one_of ((watch_type + reserve_type) ∷ (watch_type + reserve_and_commit_type) ∷ []) type
 
 -- for the world the region is as any other
 abbrev pub plain_line : Event → Event
 plain_line (line.Alloc pid addr size type prot) =
-    line.Alloc pid addr size (if is_watched_type type then type - 0x200000 else type) prot
+    line.Alloc pid addr size (if is_watched_type type then type - watch_type else type) prot
 plain_line e = e
 
 -- the lines that what stands beside the world decides

@@ -7,6 +7,7 @@ use Rattle.mm_types.specs.declared.views.Kind.TheVariants as kind
 use Rattle.mm_types.specs.declared.views.ViewAccess.{ViewAccess}
 use Rattle.mm_types.specs.declared.views.ViewAccess.TheVariants as view
 use Rattle.mm_types.specs.Address.{Range, range_of, address_of, page_of, pages_for, end_of, is_granule_address, lies_within}
+use Rattle.mm_types.specs.Protection.{readonly, readwrite, writecopy}
 use Rattle.mm_world.specs.World.{RegionOf, SectionOf, WorldOf, pages_of}
 use Rattle.mm_world.specs.Find.{Found, first_where, add_region, ranges_of, set_regions, area_at, placed, is_private}
 use Rattle.mm_world.specs.Outcome.{OutcomeOf, done, need, find_or, with_process, within_limit}
@@ -24,13 +25,13 @@ view_access access =
 -- a write view asks for a section that is PAGE_READWRITE
 abbrev pub may_view : ViewAccess → ℕ → Bool
 may_view view.Read prot = true
-may_view view.Write prot = prot == 0x04
+may_view view.Write prot = prot == readwrite
 may_view view.Copy prot = true
 
 abbrev pub first_protection : ViewAccess → ℕ
-first_protection view.Read = 0x02
-first_protection view.Write = 0x04
-first_protection view.Copy = 0x08
+first_protection view.Read = readonly
+first_protection view.Write = readwrite
+first_protection view.Copy = writecopy
 
 -- each page of a copy view is marked, and so charged, from its mapping on
 abbrev pub is_copy : ViewAccess → Bool

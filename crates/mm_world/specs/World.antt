@@ -4,7 +4,7 @@
 use Rattle.std.specs.Prelude.{ℕ, Bool, List, Option, None, length, replicate, slice_index_or}
 use Rattle.mm_types.specs.declared.events.AccessSpec.{AccessSpec}
 use Rattle.mm_types.specs.declared.views.Kind.{Kind}
-use Rattle.mm_types.specs.Address.{Range}
+use Rattle.mm_types.specs.Address.{Range, page_size}
 use Rattle.mm_types.specs.Machine.{MachineOf}
 use Rattle.mm_types.specs.Spelling.{Text}
 
@@ -14,7 +14,7 @@ Page = List ℕ
 
 -- a page of which each byte is this one
 unfoldable pub filled : ℕ → Page
-filled byte = replicate 4096 byte
+filled byte = replicate page_size byte
 
 -- things that were given the numbers 0, 1, 2, .. in turn, never again; none where the thing is gone
 abbrev pub Numbered : Type 0 → Type 0

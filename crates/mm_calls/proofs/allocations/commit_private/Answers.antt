@@ -10,8 +10,8 @@ use Rattle.mm_spaces.specs.Tables.{owned_in}
 use Rattle.mm_calls.proofs.Around.{kind_found, user_range}
 use Rattle.mm_calls.proofs.Counts.{owned_few}
 use Rattle.mm_calls.proofs.Decided.{commit_refused, commit_made}
-use Rattle.mm_calls.proofs.Tests.{some_found}
 use Rattle.mm_calls.proofs.allocations.commit_private.Goals as goal
+use Rattle.mm_types.proofs.Options.{some_found}
 
 pub returns-then-not-can_charge-clause-ok : goal.returns-then-not-can_charge-clause-ok
 returns-then-not-can_charge-clause-ok g c p lives =

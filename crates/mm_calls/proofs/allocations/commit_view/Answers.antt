@@ -8,11 +8,11 @@ use Rattle.mm_world.specs.Charge.{charge, limit}
 use Rattle.mm_world.specs.Outcome.{done}
 use Rattle.mm_world.specs.Rows.{accepts, every_page}
 use Rattle.mm_sections.specs.Pages.{uncommitted_in}
-use Rattle.mm_calls.proofs.Areas.{tells_view}
+use Rattle.mm_calls.proofs.Areas.{tells_view, no_block}
 use Rattle.mm_calls.proofs.Around.{user_range}
 use Rattle.mm_calls.proofs.Decided.{view_refused, view_made}
-use Rattle.mm_calls.proofs.Tests.{some_found, no_block}
 use Rattle.mm_calls.proofs.allocations.commit_view.Goals as goal
+use Rattle.mm_types.proofs.Options.{some_found}
 
 pub area-area-requires : goal.area-area-requires
 area-area-requires g c =

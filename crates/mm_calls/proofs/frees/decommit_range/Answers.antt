@@ -8,9 +8,9 @@ use Rattle.mm_world.specs.Find.{Found, is_private}
 use Rattle.mm_world.specs.Free.{decommit, private_around}
 use Rattle.mm_world.specs.Outcome.{done}
 use Rattle.mm_calls.proofs.Around.{private_around_is}
-use Rattle.mm_calls.proofs.Outcomes.{at_found}
-use Rattle.mm_calls.proofs.Tests.{some_found, same_found}
 use Rattle.mm_calls.proofs.frees.decommit_range.Goals as goal
+use Rattle.mm_world.proofs.Outcomes.{at_found}
+use Rattle.mm_types.proofs.Options.{some_found, same_found}
 
 pub decommit-requires-clause-inside : goal.decommit-requires-clause-inside
 decommit-requires-clause-inside g c p lives =

@@ -9,9 +9,9 @@ use Rattle.mm_world.specs.Free.{decommit, private_at}
 use Rattle.mm_world.specs.Outcome.{done}
 use Rattle.mm_world.specs.Rows.{reserved_row, change_rows}
 use Rattle.mm_calls.proofs.Around.{pages_found, private_at_is}
-use Rattle.mm_calls.proofs.Outcomes.{at_found}
-use Rattle.mm_calls.proofs.Tests.{same_found}
 use Rattle.mm_calls.proofs.frees.decommit_region.Goals as goal
+use Rattle.mm_world.proofs.Outcomes.{at_found}
+use Rattle.mm_types.proofs.Options.{same_found}
 
 pub decommit-requires-clause-inside : goal.decommit-requires-clause-inside
 decommit-requires-clause-inside g c p lives =

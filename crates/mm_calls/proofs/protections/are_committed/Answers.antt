@@ -3,8 +3,8 @@ use Rattle.mm_types.specs.declared.views.Kind.TheVariants as kind
 use Rattle.mm_world.specs.Find.{process_of, region_around}
 use Rattle.mm_calls.proofs.Areas.{in_section}
 use Rattle.mm_calls.proofs.Around.{around, kind_found}
-use Rattle.mm_calls.proofs.Tests.{some_found}
 use Rattle.mm_calls.proofs.protections.are_committed.Goals as goal
+use Rattle.mm_types.proofs.Options.{some_found}
 
 pub area-requires : goal.area-requires
 area-requires c =

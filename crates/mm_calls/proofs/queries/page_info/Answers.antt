@@ -5,8 +5,8 @@ use Rattle.mm_types.specs.Address.{holds_page}
 use Rattle.mm_world.proofs.Finding.{found_stands}
 use Rattle.mm_calls.proofs.Areas.{in_section}
 use Rattle.mm_calls.proofs.Pages.{none_told, page_told}
-use Rattle.mm_calls.proofs.Tests.{some_found}
 use Rattle.mm_calls.proofs.queries.page_info.Goals as goal
+use Rattle.mm_types.proofs.Options.{some_found}
 
 pub info-requires-clause-private : goal.info-requires-clause-private
 info-requires-clause-private c r found = absurd (none_told c.space-space.result.now.regions c.args.page r (sym c.row.ensures.row ∙ c.in-None.is) found)

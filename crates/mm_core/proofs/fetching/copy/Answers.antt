@@ -12,7 +12,8 @@ use Rattle.mm_pages.specs.Reports.{fetched}
 use Rattle.mm_tables.specs.declared.looks.CommittedRow.{CommittedRow}
 use Rattle.mm_core.proofs.Accesses.{is-copying}
 use Rattle.mm_core.proofs.Fitting.{fits_uncopied, fits_copied, at-named, place_itself}
-use Rattle.mm_core.proofs.Keys.{key-row, key-live, some-of}
+use Rattle.mm_types.proofs.Options.{some_found}
+use Rattle.mm_core.proofs.Keys.{key-row, key-live}
 use Rattle.mm_core.proofs.Room.{room-to-copy}
 use Rattle.mm_core.proofs.fetching.copy.Goals as goal
 
@@ -44,14 +45,14 @@ returns-clause-fits g c =
     let own = private_key c.args.pid.0 page in
     let at : key_at t place ≡ Some c.args.row.key =
     key-row t c.args.pid page h.process h.row h.lives h.committed ∙ ap (λ (r : CommittedRow). Some r.key) h.is_told in
-    let from = some-of (old c.args.row.key) (key-live t old s c.requires.fits place c.args.row.key at) in
-    let contents : g.G.Pages.contents c.copy.new.self ≡ changed same_key old own (Some from.thing) =
-    c.in_ok-copy.ensures.copied ∙ (λ i. changed same_key old (c.own_key_of.ensures i) (from.is i)) in
+    let from = some_found (old c.args.row.key) (key-live t old s c.requires.fits place c.args.row.key at) in
+    let contents : g.G.Pages.contents c.copy.new.self ≡ changed same_key old own (Some from.0) =
+    c.in_ok-copy.ensures.copied ∙ (λ i. changed same_key old (c.own_key_of.ensures i) (from.1 i)) in
     let store : z ≡ record (fetched s z) { names = changed same_place s.names place (Some own); paging = changed same_key s.paging own true; paging_keys = s.paging_keys + 1 } =
     c.in_ok-copy.ensures.ok
     ∙ (λ i. record (fetched s z) { names = changed same_place s.names (c.place_of.ensures i) (Some (c.own_key_of.ensures i)); paging = changed same_key s.paging (c.own_key_of.ensures i) true; paging_keys = s.paging_keys + 1 }) in
     subst (λ (n : Key → Option Page). Fits c.copy_page.new.self n z) (sym contents)
-    (fits_copied c.copy_page.new.self (changed same_key old own (Some from.thing)) s z place (c.copy_page.ensures.fits old s from.thing c.requires.fits) c.copy.ensures.served c.copy.ensures.stored store)
+    (fits_copied c.copy_page.new.self (changed same_key old own (Some from.0)) s z place (c.copy_page.ensures.fits old s from.0 c.requires.fits) c.copy.ensures.served c.copy.ensures.stored store)
 
 pub returns-clause-at : goal.returns-clause-at
 returns-clause-at g c =

@@ -2,10 +2,10 @@ use Rattle.std.proofs.Common.{ap, arith}
 use Rattle.mm_world.specs.Charge.{limit}
 use Rattle.mm_world.specs.Contents.{Tables}
 use Rattle.mm_world.specs.Find.{process_of}
-use Rattle.mm_calls.proofs.Tests.{some_found}
 use Rattle.mm_stack.proofs.Joined.{joined}
 use Rattle.mm_stack.proofs.RegionSteps.{now_reserved, same_charge, lasts_reserve, stack_made}
 use Rattle.mm_stack.proofs.new_regions.make_region.Goals as goal
+use Rattle.mm_types.proofs.Options.{some_found}
 
 pub commit_ends-requires-clause-reserved : goal.commit_ends-requires-clause-reserved
 commit_ends-requires-clause-reserved g c =

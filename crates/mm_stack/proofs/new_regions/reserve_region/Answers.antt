@@ -1,7 +1,6 @@
 use Rattle.mm_pages.specs.Housekeeping.{Turn, Makes}
-use Rattle.mm_pages.proofs.Passed.{makes_then}
-use Rattle.mm_tables.proofs.Settled.{on_err}
-use Rattle.mm_stack.proofs.Idle.{idle_then}
+use Rattle.mm_pages.proofs.Passed.{makes_then, idle_then}
+use Rattle.mm_types.proofs.Options.{on_err}
 use Rattle.mm_stack.proofs.new_regions.reserve_region.Goals as goal
 
 pub returns-in_err-reserve-2-clause-passes : goal.returns-in_err-reserve-2-clause-passes

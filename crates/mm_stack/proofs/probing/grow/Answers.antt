@@ -7,9 +7,9 @@ use Rattle.mm_world.specs.Find.{process_of}
 use Rattle.mm_world.specs.Keys.{committed_at, guard_off}
 use Rattle.mm_world.specs.Stack.{StackOf}
 use Rattle.mm_tables.proofs.ViewCommitted.{roomier_fits}
-use Rattle.mm_calls.proofs.Tests.{some_found}
 use Rattle.mm_stack.proofs.Growing.{past_first, room_there, grown_is}
 use Rattle.mm_stack.proofs.probing.grow.Goals as goal
+use Rattle.mm_types.proofs.Options.{some_found}
 
 pub take_guard_off-requires-clause-committed : goal.take_guard_off-requires-clause-committed
 take_guard_off-requires-clause-committed g c p lives =

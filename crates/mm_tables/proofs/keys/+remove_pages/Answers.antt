@@ -1,7 +1,6 @@
 use Rattle.std.proofs.Common.{◌≡◌, ◌-◌, ◌/◌, ap, arith}
 use Rattle.mm_types.specs.Address.{Range, end_of_user_pages}
-use Rattle.mm_tables.proofs.EndingRuns.{Halves, owned_is, around_low, around_high, counted, passes_both, end_low, end_high}
-use Rattle.mm_tables.proofs.RemovingRuns.{removes_nothing, can_remove_low, can_remove_high, removes_both}
+use Rattle.mm_tables.proofs.EndingRuns.{removes_nothing, can_remove_low, can_remove_high, removes_both, Halves, owned_is, around_low, around_high, counted, passes_both, end_low, end_high}
 use Rattle.mm_tables.proofs.keys.+remove_pages.Goals as goal
 
 pub returns-then-owned-eq0-clause-removes : goal.returns-then-owned-eq0-clause-removes

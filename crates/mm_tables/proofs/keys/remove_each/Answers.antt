@@ -2,7 +2,7 @@ use Rattle.std.proofs.Common.{◌≡◌, ℕ, ◌+◌, ◌<◌, ◌∙◌, sym, 
 use Rattle.mm_types.specs.Address.{Range}
 use Rattle.mm_pages.specs.Conditions.{place_at}
 use Rattle.mm_tables.specs.Ranges.{CanRemove, Removes, only}
-use Rattle.mm_tables.proofs.EndingPasses.{page_then, range_passes}
+use Rattle.mm_tables.proofs.EndingExits.{page_then, range_passes}
 use Rattle.mm_tables.proofs.PageByPage.{can_remove_next, removes_then}
 use Rattle.mm_tables.proofs.Regions.{holds}
 use Rattle.mm_tables.proofs.keys.remove_each.Goals as goal

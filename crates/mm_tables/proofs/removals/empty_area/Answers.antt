@@ -1,6 +1,6 @@
-use Rattle.mm_tables.proofs.EndingKeys.{shared_dead, emptied}
+use Rattle.mm_tables.proofs.EndingPages.{shared_dead, emptied}
 use Rattle.mm_pages.specs.Housekeeping.{Ends}
-use Rattle.mm_tables.proofs.EndingPasses.{sections_then}
+use Rattle.mm_tables.proofs.EndingExits.{sections_then}
 use Rattle.mm_tables.proofs.removals.empty_area.Goals as goal
 
 pub close_area-requires-clause-dead : goal.close_area-requires-clause-dead

@@ -7,7 +7,7 @@ use Rattle.mm_pages.proofs.Passed.{turns_same}
 use Rattle.mm_tables.specs.Endings.{CanGiveUp, GivenUp, is_owned_at, owned_among}
 use Rattle.mm_tables.specs.Ranges.{only}
 use Rattle.mm_tables.proofs.EndingPages.{given_none, given_then, given_all, next_can}
-use Rattle.mm_tables.proofs.EndingPasses.{page_then, range_passes}
+use Rattle.mm_tables.proofs.EndingExits.{page_then, range_passes}
 use Rattle.mm_tables.proofs.Regions.{holds}
 use Rattle.mm_tables.proofs.removals.release_each.Goals as goal
 

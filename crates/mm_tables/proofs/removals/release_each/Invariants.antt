@@ -4,7 +4,7 @@ use Rattle.mm_pages.specs.Housekeeping.{Turns, Ends}
 use Rattle.mm_pages.specs.Passing.{PassesIn}
 use Rattle.mm_tables.specs.Endings.{GivenUp, owned_among, is_owned_at}
 use Rattle.mm_tables.specs.Ranges.{front}
-use Rattle.mm_tables.proofs.EndingPasses.{AllHeld}
+use Rattle.mm_tables.proofs.EndingExits.{AllHeld}
 use Rattle.mm_tables.proofs.removals.release_each.Given as goal
 
 abbrev pub invariant-loop-i : goal.invariant-loop-i

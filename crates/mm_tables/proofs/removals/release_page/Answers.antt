@@ -4,9 +4,8 @@ use Rattle.mm_world.specs.Keys.{own_page}
 use Rattle.mm_pages.specs.Conditions.{place_at}
 use Rattle.mm_tables.specs.Endings.{CanGo, Gone}
 use Rattle.mm_tables.proofs.EndingPages.{page_can_go, page_bound, page_dead, page_unbinding, given_up}
-use Rattle.mm_tables.proofs.EndingPasses.{ends_meet}
-use Rattle.mm_tables.proofs.OnePage.{own}
-use Rattle.mm_tables.proofs.PageByPage.{only_is}
+use Rattle.mm_tables.proofs.EndingExits.{ends_meet}
+use Rattle.mm_tables.proofs.PageByPage.{only_is, own}
 use Rattle.mm_tables.proofs.removals.release_page.Goals as goal
 
 pub remove_if-requires : goal.remove_if-requires

@@ -1,5 +1,5 @@
 use Rattle.std.proofs.Common.{ap}
-use Rattle.mm_tables.proofs.SectionLists.{shown}
+use Rattle.mm_tables.proofs.Lists.{shown}
 use Rattle.mm_tables.specs.Shown.{shown_process}
 use Rattle.mm_tables.proofs.sections.give_handle.Goals as goal
 

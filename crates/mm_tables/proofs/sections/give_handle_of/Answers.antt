@@ -1,5 +1,5 @@
 use Rattle.std.proofs.Common.{◌∙◌, sym, ap, set}
-use Rattle.mm_tables.proofs.SectionLists.{shown_at, shown_set, pid_is}
+use Rattle.mm_tables.proofs.Lists.{shown_at, shown_set, pid_is}
 use Rattle.mm_tables.specs.Shown.{shown_processes}
 use Rattle.mm_tables.proofs.sections.give_handle_of.Goals as goal
 

@@ -1,6 +1,7 @@
 use Rattle.std.proofs.Common.{◌∙◌, sym, ap, is_some}
-use Rattle.mm_tables.proofs.SectionLists.{some_map, shown_at, shown_kept}
+use Rattle.mm_tables.proofs.Lists.{shown_at, shown_kept}
 use Rattle.mm_tables.specs.Shown.{shown_process}
+use Rattle.mm_types.proofs.Options.{some_map}
 use Rattle.mm_tables.proofs.sections.grow_handles_of.Goals as goal
 
 pub grow_handles-requires : goal.grow_handles-requires

@@ -1,7 +1,7 @@
 use Rattle.std.proofs.Common.{◌∙◌}
-use Rattle.mm_tables.proofs.SectionStore.{can_fill}
-use Rattle.mm_tables.proofs.Settled.{on_err}
+use Rattle.mm_tables.proofs.FileKept.{can_fill}
 use Rattle.mm_tables.proofs.Turning.{idle_then}
+use Rattle.mm_types.proofs.Options.{on_err}
 use Rattle.mm_tables.proofs.sections.open_paging_area.Goals as goal
 
 pub fill_area-requires : goal.fill_area-requires

@@ -3,9 +3,9 @@ use Rattle.mm_types.specs.Address.{Range}
 use Rattle.mm_pages.specs.Store.{StoreOf}
 use Rattle.mm_tables.specs.Fits.{new_pages}
 use Rattle.mm_tables.specs.Ranges.{is_dead}
-use Rattle.mm_tables.proofs.Moved.{differ}
 use Rattle.mm_tables.proofs.PageByPage.{passing_all}
 use Rattle.mm_tables.proofs.Regions.{holds}
+use Rattle.mm_types.proofs.Tables.{differ}
 use Rattle.mm_tables.proofs.steps.fill_region.Goals as goal
 
 pub returns-then-kind-ne-RESERVE_TYPE-clause-counted :

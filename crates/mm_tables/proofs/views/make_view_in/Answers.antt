@@ -4,7 +4,7 @@ use Rattle.mm_world.specs.World.{ProcessOf}
 use Rattle.mm_world.specs.Find.{add_region}
 use Rattle.mm_tables.specs.Shown.{shown_process}
 use Rattle.mm_tables.specs.ViewChanges.{region_of_view}
-use Rattle.mm_tables.proofs.ViewKept.{lives_at, not_none, shown_kept, changed_in, on_err_weaker}
+use Rattle.mm_tables.proofs.ViewAdded.{lives_at, not_none, shown_kept, changed_in, on_err_weaker}
 use Rattle.mm_tables.proofs.views.make_view_in.Goals as goal
 
 pub make_view-requires-clause-free : goal.make_view-requires-clause-free

@@ -12,9 +12,9 @@ use Rattle.mm_world.specs.Views.{view_around, flushed_view}
 use Rattle.mm_spaces.specs.declared.spaces.RegionInfo.{RegionInfo}
 use Rattle.mm_spaces.specs.Tables.{found_info}
 use Rattle.mm_views.proofs.Placing.{tells_view, told_view, told_none, flushed_within}
-use Rattle.mm_views.proofs.FlushServed.{served_none}
-use Rattle.mm_views.proofs.Tests.{some_found}
 use Rattle.mm_views.proofs.files.flush_view.Goals as goal
+use Rattle.mm_types.proofs.Options.{some_found}
+use Rattle.mm_pages.proofs.Served.{served_none}
 
 pub returns-then-not-has-clause-served : goal.returns-then-not-has-clause-served
 returns-then-not-has-clause-served g c = served_none (g.G.Pages.store c.args.g.now)

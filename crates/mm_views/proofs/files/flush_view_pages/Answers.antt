@@ -6,8 +6,8 @@ use Rattle.mm_views.proofs.FlushMoves.{flushes_none}
 use Rattle.mm_world.specs.World.{AreaOf}
 use Rattle.mm_world.specs.Find.{area_at}
 use Rattle.mm_views.proofs.Flushing.{in_blocks, fits_written, block_told, block_none}
-use Rattle.mm_views.proofs.FlushServed.{served_none}
 use Rattle.mm_views.proofs.files.flush_view_pages.Goals as goal
+use Rattle.mm_pages.proofs.Served.{served_none}
 
 pub flush_pages-requires-clause-blocks : goal.flush_pages-requires-clause-blocks
 flush_pages-requires-clause-blocks g c =

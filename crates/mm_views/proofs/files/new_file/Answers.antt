@@ -1,6 +1,6 @@
 use Rattle.mm_views.proofs.NewFiles.{with_file_bytes}
-use Rattle.mm_views.proofs.FlushServed.{served_none}
 use Rattle.mm_views.proofs.files.new_file.Goals as goal
+use Rattle.mm_pages.proofs.Served.{served_none}
 
 pub returns-then-is_some-clause-served : goal.returns-then-is_some-clause-served
 returns-then-is_some-clause-served g c = served_none (g.G.Pages.store c.args.g.now)

@@ -1,9 +1,10 @@
 use Rattle.std.proofs.Common.{◌+◌, ◌∙◌, refl, ap, arith}
 use Rattle.mm_pages.specs.Store.{StoreOf}
 use Rattle.mm_views.proofs.FlushMoves.{loop_none, loop_more, loop_all, loop_ended}
-use Rattle.mm_views.proofs.Flushing.{flushed_none, flushed_more, next_block, blamed_since, on_err}
-use Rattle.mm_views.proofs.FlushServed.{served_then}
+use Rattle.mm_views.proofs.Flushing.{flushed_none, flushed_more, next_block, blamed_since}
 use Rattle.mm_views.proofs.flushes.flush_pages.Goals as goal
+use Rattle.mm_types.proofs.Options.{on_err}
+use Rattle.mm_pages.proofs.Served.{served_then}
 
 pub loop-i-init : goal.loop-i-init
 loop-i-init g c =

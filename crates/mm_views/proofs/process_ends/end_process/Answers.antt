@@ -4,8 +4,8 @@ use Rattle.mm_world.specs.Processes.{kept_of_others}
 use Rattle.mm_world.specs.Contents.{Tables}
 use Rattle.mm_tables.specs.Fits.{is_uncommitted}
 use Rattle.mm_tables.proofs.Uncommitted.{all_ended}
-use Rattle.mm_views.proofs.Tests.{some_found}
 use Rattle.mm_views.proofs.process_ends.end_process.Goals as goal
+use Rattle.mm_types.proofs.Options.{some_found}
 
 pub returns-clause-passes : goal.returns-clause-passes
 returns-clause-passes g c =

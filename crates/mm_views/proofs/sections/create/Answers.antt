@@ -1,8 +1,8 @@
 use Rattle.std.proofs.Common.{◌∙◌, sym}
 use Rattle.mm_world.specs.Find.{process_of}
 use Rattle.mm_views.proofs.Named.{maybe_lives, maybe_told, created_existing}
-use Rattle.mm_views.proofs.Tests.{some_found}
 use Rattle.mm_views.proofs.sections.create.Goals as goal
+use Rattle.mm_types.proofs.Options.{some_found}
 
 pub add_existing-requires-clause-section : goal.add_existing-requires-clause-section
 add_existing-requires-clause-section g c = maybe_lives c.args.t.now c.args.name c.in-Some.id (sym c.section_with.ensures ∙ c.in-Some.is)

@@ -1,7 +1,7 @@
 use Rattle.std.proofs.Common.{true}
-use Rattle.mm_spaces.proofs.Shows.{private_kind}
 use Rattle.mm_spaces.proofs.Told.{kind_at}
 use Rattle.mm_spaces.proofs.spaces.AddressSpace.info.Goals as goal
+use Rattle.mm_world.proofs.KindsAndKeys.{private_kind}
 
 pub region_info-requires-clause-private : goal.region_info-requires-clause-private
 region_info-requires-clause-private c =

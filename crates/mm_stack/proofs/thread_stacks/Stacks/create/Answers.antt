@@ -4,9 +4,9 @@ use Rattle.mm_world.specs.World.{numbered}
 use Rattle.mm_world.specs.Find.{process_of}
 use Rattle.mm_world.specs.Charge.{charge, limit}
 use Rattle.mm_tables.proofs.Carried.{called_by, called_same}
-use Rattle.mm_calls.proofs.Tests.{some_found}
 use Rattle.mm_stack.proofs.Created.{refused_past, made}
 use Rattle.mm_stack.proofs.thread_stacks.Stacks.create.Goals as goal
+use Rattle.mm_types.proofs.Options.{some_found}
 
 pub returns-then-not-can_charge-clause-ok : goal.returns-then-not-can_charge-clause-ok
 returns-then-not-can_charge-clause-ok g c =

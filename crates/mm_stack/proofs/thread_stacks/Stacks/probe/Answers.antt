@@ -5,11 +5,12 @@ use Rattle.mm_world.specs.Find.{process_of}
 use Rattle.mm_world.specs.Stack.{StackOf, moved}
 use Rattle.mm_tables.specs.Looks.{committed_row}
 use Rattle.mm_tables.proofs.Carried.{called_by}
-use Rattle.mm_calls.proofs.Tests.{some_found}
 use Rattle.mm_stack.proofs.Growths.{not_next}
-use Rattle.mm_stack.proofs.Probed.{settled_off, takes_off, not_false, of_other, of_overflow, of_growth}
+use Rattle.mm_stack.proofs.Probed.{settled_off, takes_off, of_other, of_overflow, of_growth}
 use Rattle.mm_stack.proofs.Touching.{stays}
 use Rattle.mm_stack.proofs.thread_stacks.Stacks.probe.Goals as goal
+use Rattle.mm_types.proofs.Options.{some_found}
+use Rattle.mm_types.proofs.Booleans.{not_false}
 
 pub returns-then-not-row-clause-stacks : goal.returns-then-not-row-clause-stacks
 returns-then-not-row-clause-stacks g c =

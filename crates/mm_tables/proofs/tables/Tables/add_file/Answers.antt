@@ -1,10 +1,8 @@
 use Rattle.std.proofs.Common.{◌≡◌, ◌++◌, ◌∷◌, [], ◌+◌, refl, ◌∙◌, ap, length, arith}
 use Rattle.mm_world.specs.Contents.{Tables}
 use Rattle.mm_tables.specs.Shown.{shown_processes, shown_accesses}
-use Rattle.mm_tables.proofs.FileFits.{nothing_served, fits_wrote}
-use Rattle.mm_tables.proofs.FileKept.{MakesFile, file_kept, file_now, file_fits}
-use Rattle.mm_tables.proofs.SectionKept.{Parts, tables, same_kept, same_tables, fits_as}
-use Rattle.mm_tables.proofs.SectionPaging.{area_free}
+use Rattle.mm_tables.proofs.FileKept.{MakesFile, file_kept, file_now, file_fits, nothing_served, fits_wrote}
+use Rattle.mm_tables.proofs.SectionPaging.{area_free, Parts, tables, same_kept, same_tables, fits_as}
 use Rattle.mm_tables.proofs.tables.Tables.add_file.Goals as goal
 
 pub invariant_of-self : goal.invariant_of-self

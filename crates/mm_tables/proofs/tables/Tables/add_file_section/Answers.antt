@@ -4,8 +4,8 @@ use Rattle.mm_world.specs.World.{numbered, SectionOf}
 use Rattle.mm_world.specs.Contents.{Tables}
 use Rattle.mm_world.specs.Find.{process_of, area_at}
 use Rattle.mm_tables.specs.Shown.{shown_processes, shown_accesses}
-use Rattle.mm_tables.proofs.SectionKept.{Parts, same_kept, MakesSection, file_section_kept, file_section_settled}
-use Rattle.mm_tables.proofs.SectionLists.{some_of}
+use Rattle.mm_tables.proofs.SectionPaging.{Parts, same_kept, MakesSection, file_section_kept, file_section_settled}
+use Rattle.mm_types.proofs.Options.{some_found}
 use Rattle.mm_tables.proofs.tables.Tables.add_file_section.Goals as goal
 
 pub invariant_of-self : goal.invariant_of-self
@@ -19,7 +19,7 @@ invariant_of-self-2 c =
     let x : Parts = record { machine = c.self.inside.machine; processes = shown_processes c.self.inside.processes.items; entries = c.self.inside.directory.entries; areas = c.self.inside.areas.items; files = c.self.inside.directory.files; used = c.self.inside.blocks_used; fails = c.self.inside.fails_taken; kept = shown_accesses c.self.inside.kept } in
     let y : Parts = record x { processes = shown_processes c.list_section.new.processes.items; entries = c.list_section.new.directory.entries; files = c.list_section.new.directory.files } in
     let s : SectionOf = record { prot = c.args.prot.0; name = c.args.name; area = c.args.area.0 } in
-    let p = some_of (numbered (shown_processes c.self.inside.processes.items) c.args.pid.0) (ap (λ (t : Tables). is_some (process_of t c.args.pid.0)) c.self.view_is ∙ c.requires.lives) in
+    let p = some_found (numbered (shown_processes c.self.inside.processes.items) c.args.pid.0) (ap (λ (t : Tables). is_some (process_of t c.args.pid.0)) c.self.view_is ∙ c.requires.lives) in
     let q = ap (λ ps. numbered ps c.args.pid.0) c.grow_for_section.ensures.processes ∙ p.1 in
     let made : MakesSection x y c.self.inside.areas.items c.args.pid.0 p.0 s =
     record {
@@ -39,7 +39,7 @@ returns-clause-settled c old z fits =
     let x : Parts = record { machine = c.self.inside.machine; processes = shown_processes c.self.inside.processes.items; entries = c.self.inside.directory.entries; areas = c.self.inside.areas.items; files = c.self.inside.directory.files; used = c.self.inside.blocks_used; fails = c.self.inside.fails_taken; kept = shown_accesses c.self.inside.kept } in
     let y : Parts = record x { processes = shown_processes c.list_section.new.processes.items; entries = c.list_section.new.directory.entries; files = c.list_section.new.directory.files } in
     let s : SectionOf = record { prot = c.args.prot.0; name = c.args.name; area = c.args.area.0 } in
-    let p = some_of (numbered (shown_processes c.self.inside.processes.items) c.args.pid.0) (ap (λ (t : Tables). is_some (process_of t c.args.pid.0)) c.self.view_is ∙ c.requires.lives) in
+    let p = some_found (numbered (shown_processes c.self.inside.processes.items) c.args.pid.0) (ap (λ (t : Tables). is_some (process_of t c.args.pid.0)) c.self.view_is ∙ c.requires.lives) in
     let q = ap (λ ps. numbered ps c.args.pid.0) c.grow_for_section.ensures.processes ∙ p.1 in
     let made : MakesSection x y c.self.inside.areas.items c.args.pid.0 p.0 s =
     record {

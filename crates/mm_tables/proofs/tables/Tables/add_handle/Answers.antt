@@ -4,8 +4,8 @@ use Rattle.mm_world.specs.Contents.{Tables}
 use Rattle.mm_world.specs.Find.{process_of, section_of}
 use Rattle.mm_sections.specs.Directories.{DirectoryOf}
 use Rattle.mm_tables.specs.Shown.{shown_processes, shown_accesses}
-use Rattle.mm_tables.proofs.SectionKept.{Parts, same_kept, handle_few, GivesHandle, handle_kept, handle_now, handle_settled}
-use Rattle.mm_tables.proofs.SectionLists.{some_of}
+use Rattle.mm_tables.proofs.SectionPaging.{Parts, same_kept, handle_few, GivesHandle, handle_kept, handle_now, handle_settled}
+use Rattle.mm_types.proofs.Options.{some_found}
 use Rattle.mm_tables.proofs.tables.Tables.add_handle.Goals as goal
 
 pub invariant_of-self : goal.invariant_of-self
@@ -24,7 +24,7 @@ invariant_of-self-2 c =
     let ps = shown_processes c.self.inside.processes.items in
     let x : Parts = record { machine = c.self.inside.machine; processes = shown_processes c.self.inside.processes.items; entries = c.self.inside.directory.entries; areas = c.self.inside.areas.items; files = c.self.inside.directory.files; used = c.self.inside.blocks_used; fails = c.self.inside.fails_taken; kept = shown_accesses c.self.inside.kept } in
     let y : Parts = record x { processes = shown_processes c.give_handle_of.new.processes.items; entries = c.add_handle.new.self.entries; files = c.add_handle.new.self.files } in
-    let p = some_of (numbered (shown_processes c.self.inside.processes.items) c.args.pid.0) (ap (λ (t : Tables). is_some (process_of t c.args.pid.0)) c.self.view_is ∙ c.requires.lives) in
+    let p = some_found (numbered (shown_processes c.self.inside.processes.items) c.args.pid.0) (ap (λ (t : Tables). is_some (process_of t c.args.pid.0)) c.self.view_is ∙ c.requires.lives) in
     let q = ap (λ ps. numbered ps c.args.pid.0) c.grow_handles_of.ensures.same ∙ p.1 in
     let made : GivesHandle x y c.args.pid.0 p.0 c.args.id.0 =
     record {
@@ -62,7 +62,7 @@ pub returns-clause-settled : goal.returns-clause-settled
 returns-clause-settled c old s fits =
     let x : Parts = record { machine = c.self.inside.machine; processes = shown_processes c.self.inside.processes.items; entries = c.self.inside.directory.entries; areas = c.self.inside.areas.items; files = c.self.inside.directory.files; used = c.self.inside.blocks_used; fails = c.self.inside.fails_taken; kept = shown_accesses c.self.inside.kept } in
     let y : Parts = record x { processes = shown_processes c.give_handle_of.new.processes.items; entries = c.add_handle.new.self.entries; files = c.add_handle.new.self.files } in
-    let p = some_of (numbered (shown_processes c.self.inside.processes.items) c.args.pid.0) (ap (λ (t : Tables). is_some (process_of t c.args.pid.0)) c.self.view_is ∙ c.requires.lives) in
+    let p = some_found (numbered (shown_processes c.self.inside.processes.items) c.args.pid.0) (ap (λ (t : Tables). is_some (process_of t c.args.pid.0)) c.self.view_is ∙ c.requires.lives) in
     let q = ap (λ ps. numbered ps c.args.pid.0) c.grow_handles_of.ensures.same ∙ p.1 in
     let made : GivesHandle x y c.args.pid.0 p.0 c.args.id.0 =
     record {

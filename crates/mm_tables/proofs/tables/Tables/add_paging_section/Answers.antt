@@ -11,9 +11,9 @@ use Rattle.mm_world.specs.WellFormed.{Spaces}
 use Rattle.std.proofs.Common.{false}
 use Rattle.mm_tables.specs.SectionSteps.{Opens}
 use Rattle.mm_tables.specs.Shown.{shown_processes, shown_accesses}
-use Rattle.mm_tables.proofs.SectionKept.{Parts, tables, same_kept, same_tables, MakesSection}
-use Rattle.mm_tables.proofs.SectionLists.{some_of}
-use Rattle.mm_tables.proofs.SectionPaging.{paging_pages, committed_pages, keys_most, area_free, key_free, paging_kept, paging_now, paging_settled, more_settled}
+use Rattle.mm_tables.proofs.SectionPaging.{paging_pages, committed_pages, keys_most, area_free, key_free, paging_kept, paging_now, paging_settled, Parts, tables, same_kept, same_tables, MakesSection}
+use Rattle.mm_tables.proofs.Settled.{roomier_settled}
+use Rattle.mm_types.proofs.Options.{some_found}
 use Rattle.mm_tables.proofs.tables.Tables.add_paging_section.Goals as goal
 
 pub invariant_of-self : goal.invariant_of-self
@@ -48,15 +48,15 @@ pub returns-in_err-open_paging_area-clause-settled : goal.returns-in_err-open_pa
 returns-in_err-open_paging_area-clause-settled g c =
     let x : Parts = record { machine = c.self.inside.machine; processes = shown_processes c.self.inside.processes.items; entries = c.self.inside.directory.entries; areas = c.self.inside.areas.items; files = c.self.inside.directory.files; used = c.self.inside.blocks_used; fails = c.self.inside.fails_taken; kept = shown_accesses c.self.inside.kept } in
     let y : Parts = record x { processes = shown_processes c.grow_for_paging.new.processes.items; entries = c.grow_for_paging.new.directory.entries; areas = c.grow_for_paging.new.areas.items; files = c.grow_for_paging.new.directory.files } in
-    more_settled c.args.self.now (tables y) (g.G.Pages.contents c.args.g.now) (g.G.Pages.contents c.open_paging_area.new.g) (g.G.Pages.store c.args.g.now) (g.G.Pages.store c.open_paging_area.new.g)
-    (same_tables x y c.args.self.now (record { machine = refl; processes = c.grow_for_paging.ensures.processes; entries = c.grow_for_paging.ensures.entries; areas = c.grow_for_paging.ensures.areas; files = c.grow_for_paging.ensures.files; used = refl; fails = refl; kept = refl }) c.self.view_is) c.requires.fits c.in_err-open_paging_area.ensures.err
+    roomier_settled c.requires.fits
+    (same_tables x y c.args.self.now (record { machine = refl; processes = c.grow_for_paging.ensures.processes; entries = c.grow_for_paging.ensures.entries; areas = c.grow_for_paging.ensures.areas; files = c.grow_for_paging.ensures.files; used = refl; fails = refl; kept = refl }) c.self.view_is) c.in_err-open_paging_area.ensures.err
 
 pub invariant_of-self-2 : goal.invariant_of-self-2
 invariant_of-self-2 g c =
     let x : Parts = record { machine = c.self.inside.machine; processes = shown_processes c.self.inside.processes.items; entries = c.self.inside.directory.entries; areas = c.self.inside.areas.items; files = c.self.inside.directory.files; used = c.self.inside.blocks_used; fails = c.self.inside.fails_taken; kept = shown_accesses c.self.inside.kept } in
     let y : Parts = record x { processes = shown_processes c.list_section-handle.new.processes.items; entries = c.list_section-handle.new.directory.entries; areas = c.push_area.new.areas.items; files = c.list_section-handle.new.directory.files } in
     let s : SectionOf = record { prot = c.args.prot.0; name = c.args.name; area = c.len.result } in
-    let p = some_of (numbered (shown_processes c.self.inside.processes.items) c.args.pid.0) (ap (λ (t : Tables). is_some (process_of t c.args.pid.0)) c.self.view_is ∙ c.requires.lives) in
+    let p = some_found (numbered (shown_processes c.self.inside.processes.items) c.args.pid.0) (ap (λ (t : Tables). is_some (process_of t c.args.pid.0)) c.self.view_is ∙ c.requires.lives) in
     let q = ap (λ ps. numbered ps c.args.pid.0) c.grow_for_paging.ensures.processes ∙ p.1 in
     let made : MakesSection x y (c.self.inside.areas.items ++ paging_pages c.args.pages c.args.committed ∷ []) c.args.pid.0 p.0 s =
     record {
@@ -111,7 +111,7 @@ returns-clause-settled g c =
     let st = g.G.Pages.store c.args.g.now in
     let z = g.G.Pages.store c.open_paging_area.new.g in
     let area : Area = record { 0 = c.len.result } in
-    let p = some_of (numbered (shown_processes c.self.inside.processes.items) c.args.pid.0) (ap (λ (t : Tables). is_some (process_of t c.args.pid.0)) c.self.view_is ∙ c.requires.lives) in
+    let p = some_found (numbered (shown_processes c.self.inside.processes.items) c.args.pid.0) (ap (λ (t : Tables). is_some (process_of t c.args.pid.0)) c.self.view_is ∙ c.requires.lives) in
     let q = ap (λ ps. numbered ps c.args.pid.0) c.grow_for_paging.ensures.processes ∙ p.1 in
     let made : MakesSection x y (c.self.inside.areas.items ++ paging_pages c.args.pages c.args.committed ∷ []) c.args.pid.0 p.0 s =
     record {

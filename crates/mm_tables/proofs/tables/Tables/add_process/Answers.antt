@@ -4,8 +4,8 @@ use Rattle.mm_world.specs.Processes.{most_processes, no_regions}
 use Rattle.mm_tables.specs.Fits.{Fits}
 use Rattle.mm_tables.specs.Shown.{shown_processes, tables_with, shown_accesses}
 use Rattle.mm_tables.specs.Sound.{IsKept}
-use Rattle.mm_tables.proofs.Grown.{none_next, more_kept, more_fits}
-use Rattle.mm_tables.proofs.Settled.{on_err}
+use Rattle.mm_tables.proofs.Lines.{none_next, more_kept, more_fits}
+use Rattle.mm_types.proofs.Options.{on_err}
 use Rattle.mm_tables.proofs.tables.Tables.add_process.Goals as goal
 
 pub push_process-requires-clause-new : goal.push_process-requires-clause-new

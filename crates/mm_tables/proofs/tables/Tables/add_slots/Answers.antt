@@ -4,7 +4,7 @@ use Rattle.mm_world.specs.Contents.{Tables}
 use Rattle.mm_world.specs.Processes.{most_slots}
 use Rattle.mm_tables.specs.Shown.{shown_processes, tables_with, shown_accesses}
 use Rattle.mm_tables.specs.Sound.{IsKept}
-use Rattle.mm_tables.proofs.Grown.{slots_kept}
+use Rattle.mm_tables.proofs.Lines.{slots_kept}
 use Rattle.mm_tables.proofs.tables.Tables.add_slots.Goals as goal
 
 pub invariant_of-self : goal.invariant_of-self

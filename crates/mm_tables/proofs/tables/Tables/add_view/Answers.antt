@@ -8,14 +8,15 @@ use Rattle.mm_sections.specs.Directories.{DirectoryOf, sections_of}
 use Rattle.mm_tables.specs.Shown.{shown_processes, tables_with, shown_accesses}
 use Rattle.mm_tables.specs.Sound.{IsKept}
 use Rattle.mm_tables.specs.ViewChanges.{region_of_view}
-use Rattle.mm_tables.proofs.ViewAdded.{some_is, unbound, same_tables, new_tables, roomier_settled, few_views, view_kept, view_done, settled_now, sections_same}
-use Rattle.mm_tables.proofs.ViewKept.{on_err}
+use Rattle.mm_tables.proofs.Settled.{roomier_settled}
+use Rattle.mm_tables.proofs.ViewAdded.{unbound, same_tables, new_tables, few_views, view_kept, view_done, settled_now, sections_same}
+use Rattle.mm_types.proofs.Options.{some_found, on_err}
 use Rattle.mm_tables.proofs.tables.Tables.add_view.Goals as goal
 
 pub make_view_in-requires-clause-unbound : goal.make_view_in-requires-clause-unbound
 make_view_in-requires-clause-unbound g c =
     let t = c.args.self.now in
-    let p = some_is (process_of t c.args.pid.0) c.requires.lives in
+    let p = some_found (process_of t c.args.pid.0) c.requires.lives in
     unbound t c.args.pid p.0 c.args.range c.args.view p.1 (c.requires.free p.0 p.1) (g.G.Pages.contents c.args.g.now) (g.G.Pages.store c.args.g.now) c.requires.fits
 
 pub invariant_of-self : goal.invariant_of-self
@@ -35,10 +36,9 @@ returns-in_err-make_view_in-clause-err g c =
 pub returns-in_err-make_view_in-clause-settled : goal.returns-in_err-make_view_in-clause-settled
 returns-in_err-make_view_in-clause-settled g c =
     let x = c.self.inside in
-    let u = tables_with x.machine (shown_processes c.make_view_in.new.processes.items) x.directory.entries x.areas.items x.directory.files x.blocks_used x.fails_taken (shown_accesses x.kept) in
-    roomier_settled c.args.self.now u (g.G.Pages.contents c.args.g.now) (g.G.Pages.contents c.make_view_in.new.g) (g.G.Pages.store c.args.g.now) (g.G.Pages.store c.make_view_in.new.g) c.requires.fits
+    roomier_settled c.requires.fits
     (same_tables x.machine (shown_processes x.processes.items) (shown_processes c.make_view_in.new.processes.items) x.directory.entries x.areas.items x.directory.files x.blocks_used x.fails_taken (shown_accesses x.kept) c.args.self.now c.self.view_is c.in_err-make_view_in.ensures.kept)
-    c.make_view_in.ensures.contents c.in_err-make_view_in.ensures.err
+    (record { contents = c.make_view_in.ensures.contents; store = c.in_err-make_view_in.ensures.err.store; later = c.in_err-make_view_in.ensures.err.later })
 
 pub add_view-requires-clause-few : goal.add_view-requires-clause-few
 add_view-requires-clause-few g c =
@@ -49,7 +49,7 @@ pub invariant_of-self-2 : goal.invariant_of-self-2
 invariant_of-self-2 g c =
     let t = c.args.self.now in
     let x = c.self.inside in
-    let p = some_is (process_of t c.args.pid.0) c.requires.lives in
+    let p = some_found (process_of t c.args.pid.0) c.requires.lives in
     let u = tables_with x.machine (shown_processes c.make_view_in.new.processes.items) c.add_view.new.self.entries x.areas.items c.add_view.new.self.files x.blocks_used x.fails_taken (shown_accesses x.kept) in
     let kept = subst (λ (t : Tables). IsKept t x.directory.entries x.commit) c.self.view_is c.self.invariant in
     let later = ap (λ (d : DirectoryOf). d.entries) c.add_view.ensures in
@@ -76,7 +76,7 @@ pub returns-clause-settled : goal.returns-clause-settled
 returns-clause-settled g c =
     let t = c.args.self.now in
     let x = c.self.inside in
-    let p = some_is (process_of t c.args.pid.0) c.requires.lives in
+    let p = some_found (process_of t c.args.pid.0) c.requires.lives in
     let u = tables_with x.machine (shown_processes c.make_view_in.new.processes.items) c.add_view.new.self.entries x.areas.items c.add_view.new.self.files x.blocks_used x.fails_taken (shown_accesses x.kept) in
     let later = ap (λ (d : DirectoryOf). d.entries) c.add_view.ensures in
     let charged = c.self.invariant.charged ∙ ap (λ (t : Tables). charge t) c.self.view_is in

@@ -1,9 +1,9 @@
 use Rattle.std.proofs.Common.{◌*◌, sym, ◌∙◌, ap, is_some, Some}
 use Rattle.mm_world.specs.Find.{process_of}
-use Rattle.mm_tables.proofs.EndingHandles.{closed}
-use Rattle.mm_tables.proofs.EndingStruct.{same_process}
-use Rattle.mm_tables.proofs.EndingKept.{process_there}
+use Rattle.mm_tables.proofs.EndingClose.{closed}
+use Rattle.mm_tables.proofs.EndingSteps.{process_there}
 use Rattle.mm_tables.proofs.EndingExits.{section_there, toward_settled, after_settled, closes_one}
+use Rattle.mm_tables.proofs.ViewAdded.{process_is}
 use Rattle.mm_tables.proofs.tables.Tables.close_at.Goals as goal
 
 pub close_handle-requires-clause-there : goal.close_handle-requires-clause-there
@@ -23,4 +23,4 @@ returns-then-has_handle-clause-lives g c =
 pub returns-then-has_handle-clause-closed : goal.returns-then-has_handle-clause-closed
 returns-then-has_handle-clause-closed g c p q lives now =
     closes_one p q c.args.index
-    (same_process (process_of c.close_handle.new.self c.args.pid.0) q (closed p (4 * c.args.index)) now (after_settled c.args.self.now c.close_handle.new.self c.args.pid.0 p (closed p (4 * c.args.index)) lives (c.close_handle.ensures.closed p lives)))
+    (process_is (process_of c.close_handle.new.self c.args.pid.0) q (closed p (4 * c.args.index)) now (after_settled c.args.self.now c.close_handle.new.self c.args.pid.0 p (closed p (4 * c.args.index)) lives (c.close_handle.ensures.closed p lives)))

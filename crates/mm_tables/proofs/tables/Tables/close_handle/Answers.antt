@@ -1,8 +1,7 @@
 use Rattle.std.proofs.Common.{arith}
 use Rattle.mm_tables.specs.Shown.{shown_accesses}
-use Rattle.mm_tables.proofs.EndingStruct.{has_process, has_handle, has_entry}
-use Rattle.mm_tables.proofs.EndingKept.{standing, process_there}
-use Rattle.mm_tables.proofs.EndingClose.{lives_requires, held_requires, counted_requires, whole_inside, whole_can, whole_charged, whole_stays, whole_ends}
+use Rattle.mm_tables.proofs.EndingSteps.{standing, process_there}
+use Rattle.mm_tables.proofs.EndingClose.{lives_requires, held_requires, counted_requires, whole_inside, whole_can, whole_charged, whole_stays, whole_ends, has_process, has_handle, has_entry}
 use Rattle.mm_tables.proofs.tables.Tables.close_handle.Goals as goal
 
 pub close_in-ended-requires-clause-lives : goal.close_in-ended-requires-clause-lives

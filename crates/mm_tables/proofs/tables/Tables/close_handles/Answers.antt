@@ -1,7 +1,6 @@
 use Rattle.std.proofs.Common.{◌∙◌}
-use Rattle.mm_tables.proofs.EndingKept.{process_there}
-use Rattle.mm_tables.proofs.EndingExits.{toward_then, more_closed}
-use Rattle.mm_tables.proofs.EndingPasses.{sections_then}
+use Rattle.mm_tables.proofs.EndingSteps.{process_there}
+use Rattle.mm_tables.proofs.EndingExits.{toward_then, more_closed, sections_then}
 use Rattle.mm_tables.proofs.tables.Tables.close_handles.Goals as goal
 
 pub loop-index-preserved : goal.loop-index-preserved

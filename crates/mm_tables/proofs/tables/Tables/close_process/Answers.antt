@@ -2,8 +2,8 @@ use Rattle.std.proofs.Common.{◌-◌, None, sym, subst, set}
 use Rattle.mm_world.specs.Contents.{Tables}
 use Rattle.mm_tables.specs.Shown.{shown_processes, tables_with, shown_accesses}
 use Rattle.mm_tables.specs.Sound.{IsKept}
-use Rattle.mm_tables.proofs.EndingStruct.{has_process}
-use Rattle.mm_tables.proofs.EndingKept.{standing}
+use Rattle.mm_tables.proofs.EndingClose.{has_process}
+use Rattle.mm_tables.proofs.EndingSteps.{standing}
 use Rattle.mm_tables.proofs.EndingExits.{made_none, kept_none, ended_is, ended_settled}
 use Rattle.mm_tables.proofs.tables.Tables.close_process.Goals as goal
 

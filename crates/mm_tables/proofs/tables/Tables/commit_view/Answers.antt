@@ -9,16 +9,16 @@ use Rattle.mm_commit.specs.Charge.{CommitOf}
 use Rattle.mm_tables.specs.Shown.{shown_processes, tables_with, shown_accesses}
 use Rattle.mm_tables.specs.Sound.{IsKept}
 use Rattle.mm_tables.specs.ViewChanges.{area_in, CanShare, Shares}
-use Rattle.mm_tables.proofs.ViewAdded.{some_is}
 use Rattle.mm_tables.proofs.ViewCommitted.{IsViewed, region_now, can_share, roomier_fits, pages_tables, pages_kept, pages_settled}
+use Rattle.mm_types.proofs.Options.{some_found}
 use Rattle.mm_tables.proofs.tables.Tables.commit_view.Goals as goal
 
 pub share_pages-requires-clause-can : goal.share_pages-requires-clause-can
 share_pages-requires-clause-can g c =
     let t = c.args.self.now in
     let range = c.args.range in
-    let p = some_is (process_of t c.args.pid.0) c.requires.lives in
-    let r = some_is (region_around p.0.regions range) (c.requires.inside p.0 p.1) in
+    let p = some_found (process_of t c.args.pid.0) c.requires.lives in
+    let r = some_found (region_around p.0.regions range) (c.requires.inside p.0 p.1) in
     let v = c.view_around-offset.result.0 in
     let told = c.view_around-offset.ensures p.0 r.0 (ap (λ (t : Tables). process_of t c.args.pid.0) c.self.view_is ∙ p.1) r.1 in
     let x : IsViewed t c.args.pid.0 p.0 r.0 v range = record { lives = p.1; found = r.1; is_view = told.0; paging = c.requires.paging p.0 r.0 v p.1 r.1 told.0 } in
@@ -42,8 +42,8 @@ invariant_of-self g c =
     let t = c.args.self.now in
     let range = c.args.range in
     let y = c.self.inside in
-    let p = some_is (process_of t c.args.pid.0) c.requires.lives in
-    let r = some_is (region_around p.0.regions range) (c.requires.inside p.0 p.1) in
+    let p = some_found (process_of t c.args.pid.0) c.requires.lives in
+    let r = some_found (region_around p.0.regions range) (c.requires.inside p.0 p.1) in
     let v = c.view_around-offset.result.0 in
     let lives = ap (λ (t : Tables). process_of t c.args.pid.0) c.self.view_is ∙ p.1 in
     let told = c.view_around-offset.ensures p.0 r.0 lives r.1 in
@@ -64,8 +64,8 @@ returns-clause-settled g c =
     let t = c.args.self.now in
     let range = c.args.range in
     let y = c.self.inside in
-    let p = some_is (process_of t c.args.pid.0) c.requires.lives in
-    let r = some_is (region_around p.0.regions range) (c.requires.inside p.0 p.1) in
+    let p = some_found (process_of t c.args.pid.0) c.requires.lives in
+    let r = some_found (region_around p.0.regions range) (c.requires.inside p.0 p.1) in
     let v = c.view_around-offset.result.0 in
     let lives = ap (λ (t : Tables). process_of t c.args.pid.0) c.self.view_is ∙ p.1 in
     let told = c.view_around-offset.ensures p.0 r.0 lives r.1 in

@@ -1,7 +1,8 @@
 use Rattle.std.proofs.Common.{◌≡◌, Some, sym, subst}
 use Rattle.mm_world.specs.Find.{process_of}
 use Rattle.mm_spaces.specs.Tables.{page_row}
-use Rattle.mm_tables.proofs.Looking.{Told, some_found, told, in_area}
+use Rattle.mm_tables.proofs.OneRow.{Told, told, in_area}
+use Rattle.mm_types.proofs.Options.{some_found}
 use Rattle.mm_tables.proofs.tables.Tables.committed_row.Goals as goal
 
 pub key_of_row-requires : goal.key_of_row-requires

@@ -2,7 +2,7 @@ use Rattle.std.proofs.Common.{sym, ◌∙◌, ap, subst}
 use Rattle.mm_world.specs.World.{Numbered, KeptOf, numbered}
 use Rattle.mm_tables.specs.Sound.{IsKept}
 use Rattle.mm_tables.specs.Shown.{shown_processes, shown_accesses, tables_with}
-use Rattle.mm_tables.proofs.Keepers.{of_others}
+use Rattle.mm_tables.proofs.Keeping.{of_others}
 use Rattle.mm_tables.proofs.KeptAccesses.{kept_dropped}
 use Rattle.mm_tables.proofs.tables.Tables.drop_kept.Goals as goal
 

@@ -2,11 +2,10 @@ use Rattle.std.proofs.Common.{◌≡◌, ◌∙◌, ap, is_some, Some}
 use Rattle.mm_types.specs.declared.views.Kind.TheVariants as kind
 use Rattle.mm_types.specs.Address.{Range}
 use Rattle.mm_world.specs.Find.{process_of}
-use Rattle.mm_tables.proofs.EndingStruct.{same_process}
-use Rattle.mm_tables.proofs.EndingKept.{process_there}
+use Rattle.mm_tables.proofs.EndingSteps.{process_there}
 use Rattle.mm_tables.proofs.EndingUnmap.{unmapped}
-use Rattle.mm_tables.proofs.EndingRelease.{has_lowest}
-use Rattle.mm_tables.proofs.EndingExits.{toward_settled, toward_set, after_settled, after_set, fewer_by, view_lowest, view_info}
+use Rattle.mm_tables.proofs.EndingExits.{toward_settled, toward_set, after_settled, after_set, fewer_by, view_lowest, view_info, has_lowest}
+use Rattle.mm_tables.proofs.ViewAdded.{process_is}
 use Rattle.mm_tables.proofs.tables.Tables.drop_lowest.Goals as goal
 
 pub unmap_view-requires-clause-there : goal.unmap_view-requires-clause-there
@@ -28,7 +27,7 @@ pub returns-in-Private-clause-fewer : goal.returns-in-Private-clause-fewer
 returns-in-Private-clause-fewer g c p q lives now =
     let low = has_lowest p c.args.info.pages c.args.info.kind (c.requires.there p lives) in
     fewer_by p q low.region low.at
-    (same_process (process_of c.release_lowest.new.self c.args.pid.0) q (unmapped p 0) now (after_set c.args.self.now c.release_lowest.new.self c.args.pid.0 p (unmapped p 0) lives (c.release_lowest.ensures.removed p lives)))
+    (process_is (process_of c.release_lowest.new.self c.args.pid.0) q (unmapped p 0) now (after_set c.args.self.now c.release_lowest.new.self c.args.pid.0 p (unmapped p 0) lives (c.release_lowest.ensures.removed p lives)))
 
 pub returns-in-View-clause-toward : goal.returns-in-View-clause-toward
 returns-in-View-clause-toward g c =
@@ -51,5 +50,5 @@ returns-in-View-clause-fewer g c p q lives now =
     let first : c.range.inside.first ≡ c.args.info.pages.first = ap (λ (r : Range). r.first) c.range.view_is in
     let low = (has_lowest p c.args.info.pages (kind.View c.in-View.view) (c.requires.there p lives ∙ (λ i. Some (record { pages = c.args.info.pages; kind = c.in-View.is i })))) in
     fewer_by p q low.region low.at
-    (same_process (process_of c.unmap_view.new.self c.args.pid.0) q (unmapped p 0) now (after_settled c.args.self.now c.unmap_view.new.self c.args.pid.0 p (unmapped p 0) lives
+    (process_is (process_of c.unmap_view.new.self c.args.pid.0) q (unmapped p 0) now (after_settled c.args.self.now c.unmap_view.new.self c.args.pid.0 p (unmapped p 0) lives
     (c.unmap_view.ensures.removed p (record { place = 0; thing = low.region }) lives (view_lowest p c.args.info.pages c.in-View.view c.range.inside.first low first))))

@@ -1,7 +1,6 @@
 use Rattle.std.proofs.Common.{sym, ◌∙◌}
-use Rattle.mm_tables.proofs.EndingKept.{process_there}
-use Rattle.mm_tables.proofs.EndingExits.{toward_then, still_none, no_region, regions_fewer}
-use Rattle.mm_tables.proofs.EndingPasses.{regions_then, regions_end}
+use Rattle.mm_tables.proofs.EndingSteps.{process_there}
+use Rattle.mm_tables.proofs.EndingExits.{toward_then, still_none, no_region, regions_fewer, regions_then, regions_end}
 use Rattle.mm_tables.proofs.tables.Tables.drop_regions.Goals as goal
 
 pub loop-info-preserved : goal.loop-info-preserved

@@ -6,8 +6,8 @@ use Rattle.mm_pages.specs.Passing.{PassesIn}
 use Rattle.mm_world.specs.World.{ProcessOf}
 use Rattle.mm_world.specs.Find.{process_of}
 use Rattle.mm_tables.specs.Endings.{Toward, HasNoHandle}
-use Rattle.mm_tables.proofs.EndingFits.{regions_in}
-use Rattle.mm_tables.proofs.EndingPasses.{first_page}
+use Rattle.mm_tables.proofs.EndingExits.{first_page}
+use Rattle.mm_tables.proofs.OneProcess.{regions_in}
 use Rattle.mm_tables.proofs.tables.Tables.drop_regions.Given as goal
 
 abbrev pub invariant-loop-info : goal.invariant-loop-info

@@ -3,9 +3,8 @@ use Rattle.mm_world.specs.Contents.{Tables}
 use Rattle.mm_world.specs.Find.{set_process}
 use Rattle.mm_world.specs.Sections.{settle}
 use Rattle.mm_tables.proofs.EndingFits.{less_then, beside_then, carries_less}
-use Rattle.mm_tables.proofs.EndingExits.{toward_then, toward_nobody}
+use Rattle.mm_tables.proofs.EndingExits.{toward_then, toward_nobody, exit_then}
 use Rattle.mm_types.specs.Address.{end_of_user_pages}
-use Rattle.mm_tables.proofs.EndingPasses.{exit_then}
 use Rattle.mm_tables.proofs.tables.Tables.end_process.Goals as goal
 
 pub close_process-requires-clause-nobody : goal.close_process-requires-clause-nobody

@@ -1,6 +1,6 @@
 use Rattle.mm_tables.specs.Shown.{shown_accesses}
-use Rattle.mm_tables.proofs.EndingKept.{process_there}
-use Rattle.mm_tables.proofs.EndingRelease.{lowest_end, lowest_lives, lowest_there, lowest_around, lowest_can, lowest_charged, lowest_landed}
+use Rattle.mm_tables.proofs.EndingSteps.{process_there}
+use Rattle.mm_tables.proofs.EndingExits.{lowest_end, lowest_lives, lowest_there, lowest_around, lowest_can, lowest_charged, lowest_landed}
 use Rattle.mm_tables.proofs.tables.Tables.release_lowest.Goals as goal
 
 pub release_in-owned-requires-clause-end : goal.release_in-owned-requires-clause-end

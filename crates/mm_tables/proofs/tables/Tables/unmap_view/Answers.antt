@@ -1,8 +1,8 @@
 use Rattle.std.proofs.Common.{arith}
 use Rattle.mm_tables.specs.Shown.{shown_accesses}
-use Rattle.mm_tables.proofs.EndingKept.{process_there, view_there}
+use Rattle.mm_tables.proofs.EndingSteps.{process_there, view_there}
 use Rattle.mm_tables.proofs.EndingUnmap.{first_end, first_lives, first_there, first_around, first_can, first_counted, second_charged, whole_inside, whole_can, whole_charged, whole_stays, whole_ends}
-use Rattle.mm_tables.proofs.EndingPasses.{range_then}
+use Rattle.mm_tables.proofs.EndingExits.{range_then}
 use Rattle.mm_tables.proofs.tables.Tables.unmap_view.Goals as goal
 
 pub unmap_in-marked-requires-clause-end : goal.unmap_in-marked-requires-clause-end

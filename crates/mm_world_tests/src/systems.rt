@@ -1,13 +1,14 @@
-ghost use Rattle.std.specs.Prelude.{◌≡◌, ◌≤◌, ◌+◌, [], ◌∷◌, true, false, IfOk, OnOk, length};
+ghost use Rattle.std.specs.Prelude.{◌≡◌, ◌≤◌, ◌+◌, [], true, false, IfOk, OnOk, length};
 ghost use Rattle.mm_script.specs.Printed.{IsWellFormed};
 ghost use Rattle.mm_system.specs.Lines.{is_machine};
 ghost use Rattle.mm_system.specs.Shown.{line_of};
 
-use crate::System;
+use crate::bytes::seven;
 use mm_blocks::{Blocks, Inject, Injected, MemBlocks};
 use mm_pages::Pages;
 use mm_plain::Plain;
-use mm_types::{AccessSpec, Answer, ByteBuf, Code, Event, Machine, NoMemory, Pid, Raise, Tid};
+use mm_system::System;
+use mm_types::{AccessSpec, Answer, Code, Event, Machine, NoMemory, Pid, Raise, Tid};
 use std::alloc::Global;
 use std::process::Abort;
 use std::test::Fail;
@@ -47,7 +48,7 @@ fn with_process<F: Inject + Drop>(alloc: Global, files: F) -> Result<System<Plai
         Err(_) => return Err(NoMemory),
     };
     let mut system = System::new(alloc, machine, store);
-    decide(alloc, &mut system, 2, &Event::Process(0, 8))?;
+    decide(alloc, &mut system, 2, &Event::Process { min: 0, max: 8 })?;
     Ok(system)
 }
 
@@ -63,7 +64,13 @@ fn watched<F: Inject + Drop>(alloc: Global, files: F) -> Result<System<Plain<F>>
         alloc,
         &mut system,
         3,
-        &Event::Alloc(PID, 0, 0x4000, 0x203000, 0x04),
+        &Event::Alloc {
+            pid: PID,
+            addr: 0,
+            size: 0x4000,
+            form: 0x203000,
+            prot: 0x04,
+        },
     )?;
     Ok(system)
 }
@@ -86,25 +93,27 @@ fn tell<G: Pages>(
             alloc,
             system,
             line,
-            &Event::Watch(PID, true, 0x10000, 0x4000, 1),
+            &Event::Watch {
+                pid: PID,
+                reset: true,
+                addr: 0x10000,
+                size: 0x4000,
+                count: 1,
+            },
         )
     } else {
         decide(
             alloc,
             system,
             line,
-            &Event::Watch(PID, false, 0x10000, 0x4000, 16),
+            &Event::Watch {
+                pid: PID,
+                reset: false,
+                addr: 0x10000,
+                size: 0x4000,
+                count: 16,
+            },
         )
-    }
-}
-
-// One byte, 7.
-fn seven() -> ByteBuf
-    ensures { result ≡ 7 ∷ [] }
-{
-    match ByteBuf::from_slice(&[7]) {
-        Some(bytes) => bytes,
-        None => unreachable!(),
     }
 }
 
@@ -116,23 +125,53 @@ fn answers<F: Inject + Drop>(
     requires plain { F.Blocks.named files ≡ [] }
 {
     let mut system = watched(alloc, files)?;
-    decide(alloc, &mut system, 4, &Event::Write(PID, 0x13000, seven()))?;
-    let access = AccessSpec::Write(0x11000, seven());
-    decide(alloc, &mut system, 5, &Event::Begin(TID, PID, access))?;
+    decide(
+        alloc,
+        &mut system,
+        4,
+        &Event::Write {
+            pid: PID,
+            addr: 0x13000,
+            bytes: seven(),
+        },
+    )?;
+    let access = AccessSpec::Write {
+        addr: 0x11000,
+        bytes: seven(),
+    };
+    decide(
+        alloc,
+        &mut system,
+        5,
+        &Event::Begin {
+            tid: TID,
+            pid: PID,
+            access,
+        },
+    )?;
     let both = tell(alloc, &mut system, 6, true)?;
     let second = tell(alloc, &mut system, 7, false)?;
     decide(
         alloc,
         &mut system,
         8,
-        &Event::ResetWatch(PID, 0x10000, 0x4000),
+        &Event::ResetWatch {
+            pid: PID,
+            addr: 0x10000,
+            size: 0x4000,
+        },
     )?;
     let none = tell(alloc, &mut system, 9, false)?;
     decide(
         alloc,
         &mut system,
         10,
-        &Event::Free(PID, 0x10000, 0, 0x8000),
+        &Event::Free {
+            pid: PID,
+            addr: 0x10000,
+            size: 0,
+            form: 0x8000,
+        },
     )?;
     let gone = tell(alloc, &mut system, 11, false)?;
     system.sound();
@@ -176,12 +215,51 @@ fn stack_answers<F: Inject + Drop>(
         alloc,
         &mut system,
         3,
-        &Event::Stack(TID, PID, 0x20000, 0xA000),
+        &Event::Stack {
+            tid: TID,
+            pid: PID,
+            reserve: 0x20000,
+            commit: 0xA000,
+        },
     )?;
-    let grown = decide(alloc, &mut system, 4, &Event::Probe(TID, 0x25000))?;
-    let full = decide(alloc, &mut system, 5, &Event::Probe(TID, 0x24000))?;
-    decide(alloc, &mut system, 6, &Event::Free(PID, 0x10000, 0, 0x8000))?;
-    let none = decide(alloc, &mut system, 7, &Event::Probe(TID, 0x24000))?;
+    let grown = decide(
+        alloc,
+        &mut system,
+        4,
+        &Event::Probe {
+            tid: TID,
+            addr: 0x25000,
+        },
+    )?;
+    let full = decide(
+        alloc,
+        &mut system,
+        5,
+        &Event::Probe {
+            tid: TID,
+            addr: 0x24000,
+        },
+    )?;
+    decide(
+        alloc,
+        &mut system,
+        6,
+        &Event::Free {
+            pid: PID,
+            addr: 0x10000,
+            size: 0,
+            form: 0x8000,
+        },
+    )?;
+    let none = decide(
+        alloc,
+        &mut system,
+        7,
+        &Event::Probe {
+            tid: TID,
+            addr: 0x24000,
+        },
+    )?;
     let charge = system.charge();
     let _files = system.finish().finish();
     Ok((made, grown, full, none, charge))

@@ -7,7 +7,8 @@ use Rattle.mm_world.specs.World.{ProcessOf, WorldOf}
 use Rattle.mm_world.specs.Find.{process_of}
 use Rattle.mm_world.specs.Charge.{charge, limit}
 use Rattle.mm_world.specs.Outcome.{OutcomeOf, refused, need, find_or, with_process, within_limit}
-use Rattle.mm_views.proofs.Tests.{not_true, none_of}
+use Rattle.mm_types.proofs.Booleans.{not_true}
+use Rattle.mm_types.proofs.Options.{none_of}
 
 module _ {B : Type 0} (w : WorldOf B) where
   pub at_alive : (pid : ℕ) (p : ProcessOf B) (f : ProcessOf B → OutcomeOf B) → process_of w pid ≡ Some p → with_process w pid f ≡ f p

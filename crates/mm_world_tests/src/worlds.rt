@@ -1,0 +1,222 @@
+ghost use Rattle.std.specs.Prelude.{◌≡◌, ◌≤◌, ◌+◌, [], ◌∷◌, true, false, IfOk, OnOk, length};
+ghost use Rattle.mm_script.specs.Printed.{IsWellFormed};
+ghost use Rattle.mm_core.specs.Built.{is_built};
+ghost use Rattle.mm_core.specs.Shown.{line_of};
+
+use crate::bytes::seven;
+use mm_blocks::{Blocks, Inject, Injected, MemBlocks};
+use mm_core::{World, is_built};
+use mm_pages::Pages;
+use mm_plain::Plain;
+use mm_types::{AllocFlags, Answer, Event, Machine, Name, NoMemory, Pid, Prot};
+use std::alloc::Global;
+use std::process::Abort;
+use std::test::Fail;
+
+const PID: Pid = Pid(1);
+
+const PAGE: u32 = 0x10000;
+
+// One line, of which its number alone is told, so that what follows is proved with little at hand.
+fn decide<G: Pages>(
+    alloc: Global,
+    world: &mut World<G>,
+    line: u32,
+    event: &Event,
+) -> Result<Answer, NoMemory>
+    requires well_formed { IsWellFormed event.now }
+    requires built { is_built event.now ≡ true }
+    requires next { line ≡ line_of world.old + 1 }
+    requires few { line ≤ 1000000 }
+    requires ready { world.old.spent ≡ false }
+    ensures line { OnOk result (line_of world.new ≡ line) }
+    ensures ready { OnOk result (world.new.spent ≡ false) }
+{
+    world.step(alloc, line, event)
+}
+
+// A machine with one process.
+fn with_process<F: Inject + Drop>(alloc: Global, files: F) -> Result<World<Plain<F>>, NoMemory>
+    requires opened { length (F.Blocks.blocks files) ≡ 2 }
+    requires plain { F.Blocks.named files ≡ [] }
+    ensures line { IfOk result (λ w. line_of w ≡ 2) }
+    ensures ready { IfOk result (λ w. w.spent ≡ false) }
+{
+    let machine = Machine::new(8, 8, 1, 2);
+    let store = match Plain::new(alloc, machine, files) {
+        Ok(store) => store,
+        Err(_) => return Err(NoMemory),
+    };
+    let mut world = World::new(alloc, machine, store);
+    decide(alloc, &mut world, 2, &Event::Process { min: 0, max: 8 })?;
+    Ok(world)
+}
+
+// The name of one letter, a.
+fn name() -> Name
+    ensures { result ≡ 97 ∷ [] }
+{
+    match Name::from_slice(&[97]) {
+        Some(name) => name,
+        None => unreachable!(),
+    }
+}
+
+// A page of the process's own, with a 7 written in it.
+fn write_private<G: Pages>(alloc: Global, world: &mut World<G>) -> Result<(), NoMemory>
+    requires line { line_of world.old ≡ 2 }
+    requires ready { world.old.spent ≡ false }
+    ensures line { OnOk result (line_of world.new ≡ 4) }
+    ensures ready { OnOk result (world.new.spent ≡ false) }
+{
+    let page = Event::Alloc {
+        pid: PID,
+        addr: 0,
+        size: 1,
+        form: AllocFlags::COMMIT.0,
+        prot: Prot::READWRITE.0,
+    };
+    decide(alloc, world, 3, &page)?;
+    let write = Event::Write {
+        pid: PID,
+        addr: PAGE,
+        bytes: seven(),
+    };
+    decide(alloc, world, 4, &write)?;
+    Ok(())
+}
+
+// A file of one page, whose bytes are 7 in the store before any line writes to it, and a section of it.
+fn file_of_sevens<G: Pages>(alloc: Global, world: &mut World<G>) -> Result<(), NoMemory>
+    requires line { line_of world.old ≡ 2 }
+    requires ready { world.old.spent ≡ false }
+    ensures line { OnOk result (line_of world.new ≡ 4) }
+    ensures ready { OnOk result (world.new.spent ≡ false) }
+{
+    let file = Event::File {
+        name: name(),
+        pages: 1,
+        byte: 7,
+    };
+    decide(alloc, world, 3, &file)?;
+    let section = Event::CreateFile {
+        pid: PID,
+        file: name(),
+        flags: Prot::READONLY.0,
+        name: None,
+    };
+    decide(alloc, world, 4, &section)?;
+    Ok(())
+}
+
+// The view of that section.
+fn view_file<G: Pages>(alloc: Global, world: &mut World<G>) -> Result<(), NoMemory>
+    requires line { line_of world.old ≡ 4 }
+    requires ready { world.old.spent ≡ false }
+    ensures line { OnOk result (line_of world.new ≡ 5) }
+    ensures ready { OnOk result (world.new.spent ≡ false) }
+{
+    let view = Event::Map {
+        pid: PID,
+        handle: 4,
+        access: 4,
+        offset: 0,
+        length: 0,
+        addr: 0,
+    };
+    decide(alloc, world, 5, &view)?;
+    Ok(())
+}
+
+// What the first byte of the page is, and the charge.
+fn read<F: Inject + Drop>(
+    alloc: Global,
+    world: World<Plain<F>>,
+    line: u32,
+) -> Result<(Answer, (u32, u32)), NoMemory>
+    requires next { line ≡ line_of world + 1 }
+    requires few { line ≤ 1000000 }
+    requires ready { world.spent ≡ false }
+{
+    let mut world = world;
+    let read = Event::Read {
+        pid: PID,
+        addr: PAGE,
+        len: 1,
+    };
+    let answer = decide(alloc, &mut world, line, &read)?;
+    let charge = world.charge();
+    let _files = world.finish().finish();
+    Ok((answer, charge))
+}
+
+fn read_private<F: Inject + Drop>(alloc: Global, files: F) -> Result<(Answer, (u32, u32)), NoMemory>
+    requires opened { length (F.Blocks.blocks files) ≡ 2 }
+    requires plain { F.Blocks.named files ≡ [] }
+{
+    let mut world = with_process(alloc, files)?;
+    write_private(alloc, &mut world)?;
+    read(alloc, world, 5)
+}
+
+fn read_file<F: Inject + Drop>(alloc: Global, files: F) -> Result<(Answer, (u32, u32)), NoMemory>
+    requires opened { length (F.Blocks.blocks files) ≡ 2 }
+    requires plain { F.Blocks.named files ≡ [] }
+{
+    let mut world = with_process(alloc, files)?;
+    file_of_sevens(alloc, &mut world)?;
+    view_file(alloc, &mut world)?;
+    read(alloc, world, 6)
+}
+
+// A read answered a 7.
+fn is_seven(rt: &impl Abort, answer: &Answer) {
+    match answer {
+        Answer::Bytes(bytes) => assert_eq!(rt; bytes.as_slice(), [7].as_slice()),
+        _ => panic!(rt; "the page cannot be read"),
+    }
+}
+
+#[test]
+fn bytes_come_from_the_store(rt: HostRuntime) -> Result<(), Fail> {
+    let mut memory = MemBlocks::new(rt.alloc(), Vec::new(rt.alloc()), 8)?;
+    let mut files = Injected::new(&mut memory);
+    files.open(2)?;
+    let (own, charge) = read_private(rt.alloc(), files)?;
+    is_seven(&rt, &own);
+    assert_eq!(rt; charge, (1, 12));
+    Ok(())
+}
+
+#[test]
+fn bytes_of_files_come_from_the_store(rt: HostRuntime) -> Result<(), Fail> {
+    let mut memory = MemBlocks::new(rt.alloc(), Vec::new(rt.alloc()), 8)?;
+    let mut files = Injected::new(&mut memory);
+    files.open(2)?;
+    let (shared, charge) = read_file(rt.alloc(), files)?;
+    is_seven(&rt, &shared);
+    assert_eq!(rt; charge, (0, 12));
+    Ok(())
+}
+
+#[test]
+fn forms_are_built_or_not(rt: HostRuntime) {
+    assert!(rt; is_built(&Event::Charge));
+    assert!(rt; is_built(&Event::Counts));
+    assert!(rt;
+        !is_built(&Event::ResetWatch {
+            pid: PID,
+            addr: PAGE,
+            size: 1
+        })
+    );
+    assert!(rt;
+        !is_built(&Event::Alloc {
+            pid: PID,
+            addr: 0,
+            size: 1,
+            form: 0x202000,
+            prot: 0x04
+        })
+    );
+}
