@@ -10,12 +10,9 @@ use Rattle.mm_types.proofs.Tables.{differ}
 use Rattle.mm_flight.specs.declared.flights.Waiting.{Waiting}
 use Rattle.mm_flight.specs.declared.flights.Waiting.TheVariants as waiting
 use Rattle.mm_flight.specs.Requests.{FlightOf, Holds, IsKept, AreDistinct, is_in, without, nth_oldest, ended, number_of}
+use Rattle.mm_types.proofs.Booleans.{or_true}
 
 -- ---- membership
-
-or_true : (b : Bool) → (b || true) ≡ true
-or_true true = refl
-or_true false = refl
 
 or_false : (b c : Bool) → (b || c) ≡ false → (b ≡ false) × (c ≡ false)
 or_false true c e = cc

@@ -49,7 +49,7 @@ fn says(
     Ok(())
 }
 
-/// Asserts what a check of the smallest working set, and these lines behind it, ends with.
+/// Asserts what a check of the smallest working set, and these lines after it, ends with.
 fn says_behind(rt: &impl Abort, alloc: Global, rest: &[u8], ends: (u8, &[u8])) -> Result<(), Fail> {
     let mut log = Vec::from_slice(alloc, SMALLEST_SET.as_bytes())?;
     log.extend_from_slice(rest)?;

@@ -4,7 +4,7 @@ use Rattle.std.specs.Prelude.{◌==◌, ◌&&◌, ◌||◌, slice_get, not, leng
 use Rattle.std.specs.Cmp.{unsigned_Decides}
 use Rattle.mm_types.specs.declared.frames.Record.{Record}
 use Rattle.mm_life.specs.Frames.{blank, has_request, is_idle, is_on}
-use Rattle.mm_lists.proofs.Cuts.{place_of}
+use Rattle.mm_lists.proofs.Cuts.{place_of, same}
 use Rattle.mm_lists.specs.Lists.{ListsOf, list_at, number_at}
 use Rattle.mm_ram.specs.Ram.{page_at, zero_page}
 use Rattle.mm_frames.specs.declared.standing.Standing.{Standing}
@@ -14,18 +14,16 @@ use Rattle.mm_frames.specs.Placing.{list_for, AreFrames, Holds, is_kept, is_boun
 use Rattle.mm_frames.proofs.Placings.{zeroed_stands, free_stands, kept_owned, frame_low, frame_bound, idle_list}
 use Rattle.mm_frames.proofs.Departures.{no_request, owned_if, requested_kept}
 use Rattle.mm_frames.proofs.OnePlace.{on_if, off_if}
-
-same_list : (i j : ℕ) → Some i ≡ Some j → i ≡ j
-same_list i j e = cc
+use Rattle.mm_types.proofs.Booleans.{parts}
 
 lower : (i j : ℕ) → Some i ≡ Some j → i < 2 → 2 ≤ j → ⊥
-lower i j e low high = let same : i ≡ j = same_list i j e in omega arith
+lower i j e low high = let one : i ≡ j = same i j e in omega arith
 
 no_list : (j : ℕ) → None ≡ Some j → ⊥
 no_list j e = cc
 
 bound_rest : (idle c : Bool) (j : ℕ) → cond idle (Some (cond c 3 2)) None ≡ Some j → (idle ≡ true) × (cond c 3 2 ≡ j)
-bound_rest true c j e = (refl, same_list (cond c 3 2) j e)
+bound_rest true c j e = (refl, same (cond c 3 2) j e)
 bound_rest false c j e = absurd (no_list j e)
 
 rest_of : (s : Standing) (r : Record) (j : ℕ) → 2 ≤ j → list_for s r ≡ Some j → (s ≡ Bound) × ((is_idle r ≡ true) × (cond r.changed 3 2 ≡ j))
@@ -63,11 +61,6 @@ changed_kept Free r page h c = let bad : true ≡ false = sym c ∙ ap (λ (q : 
 changed_kept Bound r page h c = h.kept refl
 changed_kept Cleared r page h c = let bad : true ≡ false = sym c ∙ ap (λ (q : Record). q.changed) (h.empty (λ e. cc)) in cc
 changed_kept Taken r page h c = let bad : true ≡ false = sym c ∙ ap (λ (q : Record). q.changed) (h.empty (λ e. cc)) in cc
-
-parts : (a b : Bool) → (a && b) ≡ true → (a ≡ true) × (b ≡ true)
-parts true true e = (refl, refl)
-parts true false e = let bad : false ≡ true = e in cc
-parts false b e = let bad : false ≡ true = e in cc
 
 module _ (records : List Record) (standing : List Standing) (lists : ListsOf) (bytes : List (Option (List ℕ))) (a : AreFrames records standing lists bytes) (f : ℕ) where
   pub on_low : (j k : ℕ) → number_at lists.lists j k ≡ Some f → f < length records

@@ -14,8 +14,9 @@ use Rattle.mm_frames.specs.declared.standing.Standing.{Standing}
 use Rattle.mm_frames.specs.declared.standing.Standing.TheVariants.{Zeroed, Free, Bound, Cleared, Taken}
 use Rattle.mm_frames.specs.Base.{standing_at, can_be_soiled, record_written}
 use Rattle.mm_frames.specs.Placing.{list_for, Holds, AreFrames, is_kept, table_of}
-use Rattle.mm_frames.proofs.Members.{without_removes, pop_removes, list-without}
+use Rattle.mm_lists.proofs.Members.{without_removes, pop_removes, list-without}
 use Rattle.mm_frames.proofs.Placings.{taken_off, changed, stays_off, put_on, moved, as_empty, frame_low, busy_on_none, not_on_low, first_low, first_list}
+use Rattle.mm_types.proofs.Booleans.{and_false}
 
 -- ---- a kept frame goes to free
 
@@ -116,28 +117,6 @@ module _ (records : List Record) (standing : List Standing) (lists : ListsOf) (b
       (changed records standing ls f blank Taken (taken_off records standing lists.lists f ls (pop_removes f lists.lists 2 within first a.apart.once) a.listed)))
 
 -- ---- requests
-
-pub read_requested : (q : Request) → is_read q ≡ true → has_request q ≡ true
-read_requested request.None e = let bad : false ≡ true = e in cc
-read_requested request.Read e = refl
-read_requested request.Write e = refl
-read_requested request.WriteAgain e = refl
-
-pub write_requested : (q : Request) → is_write q ≡ true → has_request q ≡ true
-write_requested request.None e = let bad : false ≡ true = e in cc
-write_requested request.Read e = refl
-write_requested request.Write e = refl
-write_requested request.WriteAgain e = refl
-
-pub write_no_read : (q : Request) → is_write q ≡ true → is_read q ≡ false
-write_no_read request.None e = refl
-write_no_read request.Read e = let bad : false ≡ true = e in cc
-write_no_read request.Write e = refl
-write_no_read request.WriteAgain e = refl
-
-and_false : (b : Bool) → (b && false) ≡ false
-and_false true = refl
-and_false false = refl
 
 pub request_busy : (r : Record) → has_request r.request ≡ true → is_idle r ≡ false
 request_busy r e = ap (λ (b : Bool). (r.shares == 0) && not b) e ∙ and_false (r.shares == 0)

@@ -1,4 +1,3 @@
-pub mod Members
 pub mod Placings
 pub mod Counting
 pub mod Fresh

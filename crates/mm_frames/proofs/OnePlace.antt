@@ -13,15 +13,12 @@ use Rattle.mm_frames.specs.declared.standing.Standing.{Standing}
 use Rattle.mm_frames.specs.declared.standing.Standing.TheVariants.{Zeroed, Free, Bound, Cleared, Taken}
 use Rattle.mm_frames.specs.Base.{standing_at}
 use Rattle.mm_frames.specs.Placing.{list_for, AreFrames, table_of, one_if, is_in_hand, places}
-
-or_true : (a b : Bool) → b ≡ true → (a || b) ≡ true
-or_true true b e = refl
-or_true false b e = e
+use Rattle.mm_types.proofs.Booleans.{or_right}
 
 pub on_if : (f : ℕ) (xs : List ℕ) (k : ℕ) → slice_get xs k ≡ Some f → is_on f xs ≡ true
 on_if f [] k e = let bad : None ≡ Some f = e in cc
 on_if f (x ∷ xs) zero e = ap (λ (b : Bool). b || is_on f xs) ((unsigned_Decides x f).1 (same x f e))
-on_if f (x ∷ xs) (suc k) e = or_true (x == f) (is_on f xs) (on_if f xs k e)
+on_if f (x ∷ xs) (suc k) e = or_right (x == f) (is_on f xs) (on_if f xs k e)
 
 pub off_if : (f : ℕ) (xs : List ℕ) → ((k : ℕ) → slice_get xs k ≡ Some f → ⊥) → is_on f xs ≡ false
 off_if f [] none = refl

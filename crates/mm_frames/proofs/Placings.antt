@@ -6,19 +6,19 @@ use Rattle.std.proofs.lemmas.List.{set-get_or, get_or_past, length-map}
 use Rattle.std.proofs.lemmas.Option.{get_or_from_slice_get}
 use Rattle.mm_types.specs.declared.frames.Record.{Record}
 use Rattle.mm_types.specs.declared.frames.Backing.{Backing}
-use Rattle.mm_types.specs.declared.frames.Request.{Request}
 use Rattle.mm_types.specs.declared.frames.Request.TheVariants as request
 use Rattle.mm_types.proofs.Cells.{same_or_not, get_within}
 use Rattle.mm_types.proofs.Tables.{differ}
-use Rattle.mm_life.specs.Frames.{blank, is_idle, is_read, has_request, with_record, off_lists, shared, settled, settled_by, soiled, being_written, without_slot}
+use Rattle.mm_life.specs.Frames.{blank, is_idle, is_read, has_request, with_record, off_lists, shared, settled, settled_by, being_written}
 use Rattle.mm_lists.specs.Lists.{ListsOf, AreApart, IsOnNone, IsOnOne, list_at, number_at, with_list, without}
 use Rattle.mm_ram.specs.Ram.{page_at, zero_page}
 use Rattle.mm_frames.specs.declared.standing.Standing.{Standing}
 use Rattle.mm_frames.specs.declared.standing.Standing.TheVariants.{Zeroed, Free, Bound, Cleared, Taken}
 use Rattle.mm_frames.specs.Base.{standing_at}
 use Rattle.mm_frames.specs.Placing.{list_for, Listed, Holds, AreFrames, is_zero, is_kept, none_but, table_of}
-use Rattle.mm_lists.proofs.Cuts.{without_other}
-use Rattle.mm_frames.proofs.Members.{Removes, pop_removes, without_removes, list-without, push_found, push_keeps, push_new}
+use Rattle.mm_lists.proofs.Cuts.{without_other, same}
+use Rattle.mm_lists.proofs.Members.{Removes, pop_removes, without_removes, list-without, push_found, push_keeps, push_new}
+use Rattle.mm_types.proofs.Booleans.{and_false}
 
 -- all frames but this one
 abbrev pub but_one : ℕ → ℕ → Bool
@@ -102,19 +102,16 @@ moved records standing lists lists' bytes bytes' f r s a low numbers four apart 
 
 -- ---- which standing goes with which list
 
-one_list : (i j : ℕ) → Some i ≡ Some j → i ≡ j
-one_list i j e = cc
-
 bound_list : (idle changed_page : Bool) (j : ℕ) → cond idle (Some (cond changed_page 3 2)) None ≡ Some j → 2 ≤ j
-bound_list true true j e = let h : 3 ≡ j = one_list 3 j e in omega arith
-bound_list true false j e = let h : 2 ≡ j = one_list 2 j e in omega arith
+bound_list true true j e = let h : 3 ≡ j = same 3 j e in omega arith
+bound_list true false j e = let h : 2 ≡ j = same 2 j e in omega arith
 bound_list false c j e = let bad : None ≡ Some j = e in cc
 
 too_low : (j : ℕ) → 2 ≤ j → j < 2 → ⊥
 too_low j a b = omega arith
 
 other_list : (i j : ℕ) → Some i ≡ Some j → i < j → ⊥
-other_list i j e h = let same : i ≡ j = one_list i j e in omega arith
+other_list i j e h = let one : i ≡ j = same i j e in omega arith
 
 pub zeroed_stands : (s : Standing) (r : Record) → list_for s r ≡ Some 0 → s ≡ Zeroed
 zeroed_stands Zeroed r e = refl
@@ -422,32 +419,8 @@ pub busy_settled : (records : List Record) (lists : List (List ℕ)) (f : ℕ) (
 busy_settled records lists f r e =
     ap (λ (b : Bool). if b then (if r.changed then record (with_record (table_of records lists) f r) { modified = list_at lists 3 ++ f ∷ [] } else record (with_record (table_of records lists) f r) { standby = list_at lists 2 ++ f ∷ [] }) else with_record (table_of records lists) f r) (sym e)
 
-and_false : (b : Bool) → (b && false) ≡ false
-and_false true = refl
-and_false false = refl
-
 pub written_off : (home : Backing) (r : Record) → list_for Bound (being_written home r) ≡ None
 written_off home r = ap (λ (b : Bool). cond b (Some (cond r.changed 3 2)) None) (and_false (r.shares == 0))
-
-pub no_request_no_read : (q : Request) → has_request q ≡ false → is_read q ≡ false
-no_request_no_read request.None e = refl
-no_request_no_read request.Read e = let bad : true ≡ false = e in cc
-no_request_no_read request.Write e = refl
-no_request_no_read request.WriteAgain e = refl
-
-by_soil : (b : Bool) (x y : Record) (n : ℕ) → x.shares ≡ n → y.shares ≡ n → (if b then x else y).shares ≡ n
-by_soil true x y n p q = p
-by_soil false x y n p q = q
-
-owner_by_soil : (b : Bool) (x y : Record) → is_some x.owner ≡ true → is_some y.owner ≡ true → is_some (if b then x else y).owner ≡ true
-owner_by_soil true x y p q = p
-owner_by_soil false x y p q = q
-
-pub soiled_shares : (r : Record) → (soiled r).shares ≡ r.shares
-soiled_shares r = by_soil (has_request r.request) (record r { request = request.WriteAgain }) (record r { changed = true; backing = without_slot r.backing }) r.shares refl refl
-
-pub soiled_owned : (r : Record) → is_some r.owner ≡ true → is_some (soiled r).owner ≡ true
-soiled_owned r e = owner_by_soil (has_request r.request) (record r { request = request.WriteAgain }) (record r { changed = true; backing = without_slot r.backing }) e e
 
 pub busy_list : (r : Record) → is_idle r ≡ false → list_for Bound r ≡ None
 busy_list r e = idle_list r false e

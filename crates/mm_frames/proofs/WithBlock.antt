@@ -17,7 +17,7 @@ use Rattle.mm_frames.specs.Placing.{free_only, backed_in, backed_list, AreBacked
 use Rattle.mm_frames.specs.declared.standing.Standing.{Standing}
 use Rattle.mm_frames.specs.Base.{standing_at}
 use Rattle.mm_frames.specs.Placing.{AreFrames, IsAtRest, is_kept, list_for}
-use Rattle.mm_frames.proofs.Members.{list-without}
+use Rattle.mm_lists.proofs.Members.{list-without}
 use Rattle.mm_frames.proofs.Placings.{frame_low, frame_bound, idle_list}
 use Rattle.mm_frames.proofs.AtRest.{listed_rests, idle_if, on_low}
 
@@ -57,7 +57,7 @@ taken_out records f r (x ∷ xs) = elim (same_or_not x f) [
     kept x true ys t = ap (λ (b : Bool). cond (not b) (x ∷ without f ys) (without f ys)) t
     kept x false ys t = refl
 
--- a number that is put behind: it is on the second list where it has a block
+-- a number that is put at the end: it is on the second list where it has a block
 put_behind : (records : List Record) (f : ℕ) (r : Record) (xs : List ℕ) → f < length records → ((k : ℕ) → slice_get xs k ≡ Some f → ⊥) → backed_in (set records f r) (xs ++ f ∷ []) ≡ backed_in records xs ++ cond (has_block r.backing) (f ∷ []) []
 put_behind records f r xs low none =
     filter-append (backs (set records f r)) xs (f ∷ [])

@@ -1,4 +1,5 @@
 -- Each frame is on one list, active, in transition or in one token in hand.
+-- Profile, "Logs of moves".
 use Rattle.std.specs.Prelude.{cond, ◌≡◌, ◌≢◌, ℕ, ◌+◌, ◌<◌, ◌^◌, Bool, true, false, ◌&&◌, ◌||◌, ◌==◌, if◌then◌else◌, is_some, filter, List, [], ◌∷◌, length, Option, Some, None, slice_index_or}
 use Rattle.mm_types.specs.declared.frames.Record.{Record}
 use Rattle.mm_life.specs.Frames.{FrameTable, blank, record_at, is_idle, has_request, is_read, is_on}

@@ -3,7 +3,8 @@ ghost use Rattle.mm_life.specs.Frames.{blank, record_at, is_idle, is_on, is_read
 ghost use Rattle.mm_life.specs.Life.{free_table, is_active, is_in_transition, numbers_from};
 ghost use Rattle.mm_lists.specs.Lists.{AreApart};
 ghost use Rattle.mm_frames.specs.Placing.{free_only, is_kept, is_bound, ArePlaced, IsAtRest, places};
-ghost use Rattle.mm_ram.specs.Ram.{bytes_of, bytes_from, overwritten, page_at, with_page, zero_page, page_size};
+ghost use Rattle.mm_ram.specs.Ram.{bytes_of, bytes_from, overwritten, page_at, with_page, zero_page};
+ghost use Rattle.mm_types.specs.Address.{page_size};
 ghost use Rattle.mm_frames.specs.Base.{FramesOf, has_block, modified_with_block, zeroed_taken, free_taken, standby_taken, zeroed_put, free_put, now_cleared, given_to, reading_into, IsBlank, IsDirty, can_be_soiled, can_go_to, read_ended, write_ended, slot_after_write, forgotten, stands_with, gone_free, ended_with};
 
 use crate::placing::{
@@ -148,7 +149,7 @@ impl Frames {
         Some(Frame(self.with_block.front(WITH_BLOCK)?))
     }
 
-    /// The modified frame that has a block and is the next such one behind `f`, which is one; `None` exactly
+    /// The modified frame that has a block and is the next such one after `f`, which is one; `None` exactly
     /// where `f` is the last of them.
     pub fn next_modified_with_block(&self, f: Frame) -> Option<Frame>
         requires { (k : ℕ) × (slice_get (modified_with_block self.now.table) k ≡ Some f.0) }
@@ -327,7 +328,7 @@ impl Frames {
         })
     }
 
-    /// The modified frame behind `f`, `None` exactly where `f` is the last.
+    /// The modified frame after `f`, `None` exactly where `f` is the last.
     pub fn next_modified(&self, f: Frame) -> Option<Frame>
         requires { (k : ℕ) × (slice_get self.now.table.modified k ≡ Some f.0) }
         ensures behind { (k : ℕ) → slice_get self.now.table.modified k ≡ Some f.0

@@ -28,6 +28,7 @@ pub fn is_idle(r: &Record) -> bool
     }
 }
 
+/// Whether a request holds the frame.
 pub fn has_request(r: &Record) -> bool
     ensures { result ≡ has_request r.now.request }
 {
@@ -91,7 +92,7 @@ pub fn settle(lists: &mut Lists, f: u32, r: &Record)
     }
 }
 
-/// A frame that goes to modified goes behind the second list too, where its page has a block.
+/// A frame that goes to modified goes to the end of the second list too, where its page has a block.
 pub fn settle_with_block(with_block: &mut Lists, f: u32, r: &Record)
     requires one { length with_block.old.lists ≡ 1 }
     requires below { f < with_block.old.numbers }

@@ -59,6 +59,7 @@ fn blanks(alloc: Global, n: u32) -> Result<Vec<Record>, NoMemory>
 }
 
 impl Records {
+    /// The records of `n` frames that were never used.
     pub fn new(alloc: Global, n: u32) -> Result<Records, NoMemory>
         ensures { IfOk result (λ r. r ≡ replicate n blank) }
     {
@@ -69,6 +70,7 @@ impl Records {
         })
     }
 
+    /// The record of a frame.
     pub fn get(&self, f: u32) -> Record
         requires { f < length self.now }
         ensures { result ≡ slice_index_or self.now f blank }
@@ -76,6 +78,7 @@ impl Records {
         self.records[f as usize]
     }
 
+    /// Gives a frame this record.
     pub fn set(&mut self, f: u32, r: Record)
         requires { f < length self.old }
         ensures { self.new ≡ slice_set self.old f r }
@@ -86,12 +89,14 @@ impl Records {
         self.records[f as usize] = r;
     }
 
+    /// How many frames are active.
     pub fn active(&self) -> u32
         ensures { result ≡ count_by is_active self.now }
     {
         self.active
     }
 
+    /// How many frames are in transition.
     pub fn transition(&self) -> u32
         ensures { result ≡ count_by is_in_transition self.now }
     {

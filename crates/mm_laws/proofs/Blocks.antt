@@ -21,7 +21,7 @@ use Rattle.mm_types.specs.declared.moves.LineKind.TheVariants as kind
 use Rattle.mm_types.specs.declared.moves.Stored.TheVariants as stored
 use Rattle.mm_types.specs.declared.moves.Move.{Move}
 use Rattle.mm_types.specs.declared.moves.Move.TheVariants as move
-use Rattle.mm_life.specs.Frames.{FrameTable, blank, record_at, without_slot, with_record, off_lists, to_free, settled, has_request, is_again, is_idle, is_on, is_first, is_empty, rest, taken_for_read, given, being_read, being_written, shared, unshared, disowned, soiled, read_done, write_done, write_lost, after_clear, after_steal, after_give, after_read, after_bad, after_map, after_unmap, after_soil, after_write, after_drop}
+use Rattle.mm_life.specs.Frames.{FrameTable, blank, record_at, without_slot, with_record, off_lists, to_free, settled, has_request, is_again, is_idle, is_on, is_first, is_empty, taken_for_read, given, being_read, being_written, shared, unshared, disowned, soiled, read_done, write_done, write_lost, after_clear, after_steal, after_give, after_read, after_bad, after_map, after_unmap, after_soil, after_write, after_drop}
 use Rattle.mm_life.specs.Life.{FrameLife, same_key, changed, is_dead, is_live}
 use Rattle.mm_life.specs.Legal.{IsLegal, is_call, is_unbind, is_unmapped, is_access, is_thread, is_writer, is_touch, has_depth, is_zero, is_stored, is_block, is_lowest, owner_is, may_write_block, may_copy}
 use Rattle.mm_life.specs.Effect.{after_move, after_at, after_add, dropped_at, after_unmap_at, homed, home_at, backing_of}
@@ -34,6 +34,7 @@ use Rattle.mm_laws.proofs.Owners.{key_or_not, changed_here, changed_else}
 use Rattle.mm_laws.proofs.FreshMoves.{zero_is}
 use Rattle.mm_laws.proofs.KeyMoves.{dead_is}
 use Rattle.mm_laws.proofs.Sound.{owner_passes}
+use Rattle.mm_life.proofs.Records.{records_taken}
 
 -- ---- blocks of backings
 
@@ -110,13 +111,6 @@ settles_block d f r e g = ap (λ (x : Record). block_of x.backing) (settled_reco
 
 free_else : (d : FrameTable) (f g : ℕ) → g ≢ f → record_at (to_free d f) g ≡ record_at d g
 free_else d f g n = get_or-set_other d.records f g blank blank n
-
-taken_records : (d : FrameTable) → (taken_for_read d).records ≡ d.records
-taken_records d = at (is_empty d.free)
-  where
-    at : (b : Bool) → (cond b (record d { zeroed = rest d.zeroed }) (record d { free = rest d.free })).records ≡ d.records
-    at true = refl
-    at false = refl
 
 -- ---- blocks of keys
 
@@ -233,7 +227,7 @@ module _ (l : FrameLife) (s : Sound l) where
       let first = is_first f.0 l.frames.free || (is_empty l.frames.free && is_first f.0 l.frames.zeroed) in
       let both = and_parts first (is_stored (l.stands j)) (and_parts (first && is_stored (l.stands j)) (is_access l.kind || (is_thread l.kind && has_depth l)) h).0 in
       let known = fresh_read l.frames l.flight f.0 s.standing both.0 in
-      let same = taken_records l.frames in
+      let same = records_taken l.frames in
       comes_in (after_read l.frames f.0 j (backing_of (l.stands j))) f.0 k j (being_read j (backing_of (l.stands j))) (ap (λ (r : Record). r.owner) known.bare)
       (get_or-set_same (taken_for_read l.frames).records f.0 (being_read j (backing_of (l.stands j))) blank (subst (λ (rs : List Record). f.0 < length rs) (sym same) known.low))
       (stored_block l.frames (l.stands j) both.1)

@@ -24,32 +24,30 @@ use Rattle.mm_laws.specs.Reached.{is_first_line}
 use Rattle.mm_laws.specs.PagingKeys.{is_file_key}
 use Rattle.mm_laws.proofs.Owners.{key_or_not, changed_here, changed_else}
 use Rattle.mm_laws.proofs.KeyMoves.{dead_is}
+use Rattle.mm_types.proofs.Booleans.{and_false}
+use Rattle.mm_life.proofs.Held.{home_lives}
 
 -- ---- the first line
-
-never : (b : Bool) → (b && false) ≡ false
-never true = refl
-never false = refl
 
 first : (b m : Bool) → ((b && true) && (true && m)) ≡ (b && m)
 first true m = refl
 first false m = refl
 
 no_block : (s t : Bool) (b : ℕ) (a : Bool) → (((true && s) && t) && nat_lt b 0 && a) ≡ false
-no_block s t b a = ap (λ x. ((true && s) && t) && x && a) (le-ltb b 0 (omega arith)) ∙ (ap (λ x. x && a) (never ((true && s) && t)))
+no_block s t b a = ap (λ x. ((true && s) && t) && x && a) (le-ltb b 0 (omega arith)) ∙ (ap (λ x. x && a) (and_false ((true && s) && t)))
 
 pub only_machine : (x : Move) → is_legal unstarted x ≡ is_first_line x
 only_machine (move.At n (kind.Machine frames slots depth blocks)) = first (n == 1) (is_machine (record { frames = frames; slots = slots; depth = depth; blocks = blocks }))
-only_machine (move.At n (kind.Process pid min max)) = never ((n == 1) && true)
-only_machine (move.At n (kind.Unbind pid)) = never ((n == 1) && true)
-only_machine (move.At n (kind.Access pid)) = never ((n == 1) && true)
-only_machine (move.At n (kind.Thread pid)) = never ((n == 1) && true)
-only_machine (move.At n (kind.Trim pid)) = never ((n == 1) && true)
-only_machine (move.At n kind.Writer) = never ((n == 1) && true)
-only_machine (move.At n kind.Zeroer) = never ((n == 1) && true)
-only_machine (move.At n kind.Io) = never ((n == 1) && true)
-only_machine (move.At n kind.Call) = never ((n == 1) && true)
-only_machine (move.At n (kind.Grow count)) = never ((n == 1) && true)
+only_machine (move.At n (kind.Process pid min max)) = and_false ((n == 1) && true)
+only_machine (move.At n (kind.Unbind pid)) = and_false ((n == 1) && true)
+only_machine (move.At n (kind.Access pid)) = and_false ((n == 1) && true)
+only_machine (move.At n (kind.Thread pid)) = and_false ((n == 1) && true)
+only_machine (move.At n (kind.Trim pid)) = and_false ((n == 1) && true)
+only_machine (move.At n kind.Writer) = and_false ((n == 1) && true)
+only_machine (move.At n kind.Zeroer) = and_false ((n == 1) && true)
+only_machine (move.At n kind.Io) = and_false ((n == 1) && true)
+only_machine (move.At n kind.Call) = and_false ((n == 1) && true)
+only_machine (move.At n (kind.Grow count)) = and_false ((n == 1) && true)
 only_machine (move.Add k None) = refl
 only_machine (move.Add k (Some b)) = no_block (is_shared k) true b.0 true
 only_machine (move.Drop k) = refl
@@ -168,11 +166,6 @@ file_is l k e = let p = and_parts (is_live l k) (not (l.paging k)) e in record {
 file_from : (alive paging : Bool) → alive ≡ true → paging ≡ false → (alive && not paging) ≡ true
 file_from alive paging a p = and_from alive (not paging) a (ap not p)
 
-home_lives : (b : Backing) → not (is_dead (home_at b)) ≡ true
-home_lives backing.None = refl
-home_lives (backing.Slot s) = refl
-home_lives (backing.Block b) = refl
-
 -- one key stands elsewhere, and lives there or is not this one
 still_lives : (stands : Key → Held) (j k : Key) (v : Held) → not (is_dead (stands k)) ≡ true → not (is_dead v) ≡ true → not (is_dead (changed same_key stands j v k)) ≡ true
 still_lives stands j k v a b = elim (key_or_not k j) [
@@ -182,7 +175,7 @@ still_lives stands j k v a b = elim (key_or_not k j) [
 
 homed_lives : (l : FrameLife) (o : Option Key) (b : Backing) (k : Key) → is_live l k ≡ true → not (is_dead (homed l o b k)) ≡ true
 homed_lives l None b k a = a
-homed_lives l (Some j) b k a = still_lives l.stands j k (home_at b) a (home_lives b)
+homed_lives l (Some j) b k a = still_lives l.stands j k (home_at b) a (ap not (home_lives b))
 
 dropped_same : (h : Held) (l : FrameLife) (j k : Key) → is_file_key (dropped_at h l j) k ≡ is_file_key (unlisted l j) k
 dropped_same (held.Frame f) l j k = refl

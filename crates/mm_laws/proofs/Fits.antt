@@ -11,6 +11,7 @@ use Rattle.mm_types.specs.declared.frames.Request.TheVariants as request
 use Rattle.mm_life.specs.Frames.{blank, has_request, is_read, is_write, is_again, slot_of, without_slot, given, being_read, shared, unshared, disowned, being_written, read_done, write_done, write_lost}
 use Rattle.mm_laws.specs.FileBlocks.{block_of}
 use Rattle.mm_laws.specs.Fits.{is_backed, Fit}
+use Rattle.mm_life.proofs.Requests.{write_has}
 
 pub fit_blank : Fit blank
 fit_blank = record { bare = λ h. refl; shown = λ h. cc; reading = λ h. cc; dirty = λ h g. refl; writing = λ h. cc; clean = λ h g. cc; ownerless = λ h. refl }
@@ -59,12 +60,6 @@ slot_without backing.None = refl
 slot_without (backing.Slot s) = refl
 slot_without (backing.Block b) = refl
 
-has_write : (q : Request) → is_write q ≡ true → has_request q ≡ true
-has_write request.None e = cc
-has_write request.Read e = cc
-has_write request.Write e = refl
-has_write request.WriteAgain e = refl
-
 -- changed without a request
 pub fit_dirtied : (r : Record) → Fit r → is_some r.owner ≡ true → has_request r.request ≡ false → Fit (record r { changed = true; backing = without_slot r.backing })
 fit_dirtied r f o n = record {
@@ -72,7 +67,7 @@ fit_dirtied r f o n = record {
   shown = λ h. o;
   reading = λ h. let bad : (r.shares ≡ 0) × (true ≡ false) = absurd (no_read r.request n h) in bad;
   dirty = λ h g. slot_without r.backing;
-  writing = λ h. let bad : has_request r.request ≡ true = has_write r.request h in cc;
+  writing = λ h. let bad : has_request r.request ≡ true = write_has r.request h in cc;
   clean = λ h g. cc;
   ownerless = λ h. cc;
 }

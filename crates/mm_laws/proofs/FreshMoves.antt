@@ -41,7 +41,7 @@ slot_of_home backing.None = refl
 slot_of_home (backing.Slot s) = refl
 slot_of_home (backing.Block b) = refl
 
-stored_backed : (h : Held) → is_stored h ≡ true → is_backed (backing_of h) ≡ true
+pub stored_backed : (h : Held) → is_stored h ≡ true → is_backed (backing_of h) ≡ true
 stored_backed (held.Frame f) e = cc
 stored_backed (held.Slot s) e = refl
 stored_backed (held.Block b) e = refl

@@ -22,6 +22,7 @@ use Rattle.mm_laws.specs.Sound.{Sound}
 use Rattle.mm_laws.proofs.Sums.{sum-same, sum-plus, sum-zeros, sum-swap, sum-inside, sum-cells, sum-tally, total-same, total-listed, total-plus, total-ones, total-tally}
 use Rattle.mm_laws.proofs.Sights.{kept_inside}
 use Rattle.mm_laws.proofs.Owners.{same_key-true, same_key-self}
+use Rattle.mm_types.proofs.Booleans.{not_true, one_only_if}
 
 -- ---- tallies of tests that agree
 
@@ -96,18 +97,10 @@ by_case true q a b = sym (a refl)
 by_case false true a b = b refl
 by_case false false a b = refl
 
-refuted : (b : Bool) → (b ≡ true → ⊥) → b ≡ false
-refuted true h = absurd (h refl)
-refuted false h = refl
-
-some_if : (b : Bool) → 1 ≤ one_if b → b ≡ true
-some_if true h = refl
-some_if false h = absurd (omega (arith, h))
-
 module _ (l : FrameLife) (s : Sound l) where
   -- a key of the list is a page-file key
   listed : (k : Key) → 1 ≤ tally (same_key k) s.paged.keys → l.paging k ≡ true
-  listed k h = let e = s.paged.once k in some_if (l.paging k) (omega (arith, h, e))
+  listed k h = let e = s.paged.once k in one_only_if (l.paging k) (omega (arith, h, e))
 
   pub homes_are : tally (λ k. is_framed (l.stands k)) s.paged.keys + tally (λ k. is_slotted (l.stands k)) s.paged.keys + tally (λ k. is_zero (l.stands k)) s.paged.keys ≡ l.paging_keys
   homes_are =
@@ -130,7 +123,7 @@ module _ (l : FrameLife) (s : Sound l) where
   frame_has f = at (record_at l.frames f).owner refl
     where
       at : (o : Option Key) → (record_at l.frames f).owner ≡ o → tally (λ k. in_frame f (l.stands k)) s.paged.keys ≡ one_if (unwrap_or (option_map l.paging o) false)
-      at None e = tally-none (λ k. in_frame f (l.stands k)) s.paged.keys (λ k. refuted (in_frame f (l.stands k)) (λ h.
+      at None e = tally-none (λ k. in_frame f (l.stands k)) s.paged.keys (λ k. not_true (in_frame f (l.stands k)) (λ h.
           let mine = s.owned.owner k (record { 0 = f }) (in_frame_is f (l.stands k) h) in
           let bad : None ≡ Some k = sym e ∙ mine in cc))
       at (Some j) e =
@@ -181,11 +174,11 @@ module _ (l : FrameLife) (s : Sound l) where
       frame_holds f h = s.held.found (Behind f) t (is_slot_is t (slot_of (record_at l.frames f).backing) h)
 
       no_key : ((k : Key) → s.held.holder t ≢ Some (Home k)) → tally (λ k. in_slot t (l.stands k)) s.paged.keys ≡ 0
-      no_key none = tally-none (λ k. in_slot t (l.stands k)) s.paged.keys (λ k. refuted (in_slot t (l.stands k)) (λ h. none k (key_holds k h)))
+      no_key none = tally-none (λ k. in_slot t (l.stands k)) s.paged.keys (λ k. not_true (in_slot t (l.stands k)) (λ h. none k (key_holds k h)))
 
       no_frame : ((f : ℕ) → s.held.holder t ≢ Some (Behind f)) → sum_to (λ f. one_if (is_slot t (slot_of (record_at l.frames f).backing))) (length l.frames.records) ≡ 0
       no_frame none =
-          sum-same (λ f. one_if (is_slot t (slot_of (record_at l.frames f).backing))) (λ f. 0) (length l.frames.records) (λ f i. ap one_if (refuted (is_slot t (slot_of (record_at l.frames f).backing)) (λ h. none f (frame_holds f h))))
+          sum-same (λ f. one_if (is_slot t (slot_of (record_at l.frames f).backing))) (λ f. 0) (length l.frames.records) (λ f i. ap one_if (not_true (is_slot t (slot_of (record_at l.frames f).backing)) (λ h. none f (frame_holds f h))))
           ∙ sum-zeros (length l.frames.records)
 
       at : (o : Option Holder) → s.held.holder t ≡ o → tally (λ k. in_slot t (l.stands k)) s.paged.keys + sum_to (λ f. one_if (is_slot t (slot_of (record_at l.frames f).backing))) (length l.frames.records) ≡ one_if (is_some o)

@@ -28,3 +28,5 @@ pub mod BlocksApart
 pub mod FromSound
 pub mod Settling
 pub mod Deduced
+pub mod PrivateKeys
+pub mod Facts

@@ -9,7 +9,7 @@ use Rattle.mm_types.specs.declared.frames.Held.TheVariants as held
 use Rattle.mm_types.specs.declared.moves.LineKind.{LineKind}
 use Rattle.mm_types.specs.declared.moves.LineKind.TheVariants as kind
 use Rattle.mm_types.specs.declared.moves.Move.TheVariants as move
-use Rattle.mm_life.specs.Frames.{record_at, blank, slot_of}
+use Rattle.mm_life.specs.Frames.{blank, slot_of}
 use Rattle.mm_life.specs.Life.{FrameLife, life_at, free_table, set_in, unstarted, no_machine}
 use Rattle.mm_life.specs.Legal.{IsLegal, is_legal_kind}
 use Rattle.mm_life.specs.Effect.{after_move, after_at}
@@ -21,23 +21,16 @@ use Rattle.mm_laws.specs.Sound.{SlotsHeld, Sound}
 use Rattle.mm_laws.proofs.Tallies.{times-numbers}
 use Rattle.mm_laws.proofs.Sights.{stand_blank}
 use Rattle.mm_laws.proofs.PlaceCounts.{shown_process}
+use Rattle.mm_life.proofs.Start.{record_at_start}
 
 -- ---- right after line 1
-
-at_blank : (n f : ℕ) → record_at (free_table n) f ≡ blank
-at_blank n f = all_blank n f
-  where
-    all_blank : (n f : ℕ) → record_at (free_table n) f ≡ blank
-    all_blank zero f = refl
-    all_blank (suc n) zero = refl
-    all_blank (suc n) (suc f) = all_blank n f
 
 first_stands : (n : ℕ) → Stands (free_table n) []
 first_stands n f =
     let e : one_if (nat_lt f (length (replicate n blank))) ≡ one_if (nat_lt f (0 + n)) = ap (λ (k : ℕ). one_if (nat_lt f k)) (let h = length-replicate {A = Record} n blank in omega (arith, h)) in
     let on = times-numbers n 0 f in
     let none : one_if (nat_lt f 0) ≡ 0 = ap one_if (le-ltb f 0 (omega arith)) in
-    stand_blank (sight (free_table n) [] f) (at_blank n f) (omega (arith, e, on, none)) refl refl refl
+    stand_blank (sight (free_table n) [] f) (record_at_start n f) (omega (arith, e, on, none)) refl refl refl
 
 all_free : (n s : ℕ) (b : Bool) → slice_get (replicate n true) s ≡ Some b → b ≡ true
 all_free zero s b e = cc
@@ -50,13 +43,13 @@ no_set (suc k) = refl
 
 first_held : (n : ℕ) (h : Holder) → holding (free_table n) (λ k. held.Dead) h ≡ None
 first_held n (Home k) = refl
-first_held n (Behind f) = ap (λ (r : Record). slot_of r.backing) (at_blank n f)
+first_held n (Behind f) = ap (λ (r : Record). slot_of r.backing) (record_at_start n f)
 
 pub sound_at : (m : MachineOf) (n : ℕ) (k : LineKind) → Sound (life_at m n k)
 sound_at m n k = record {
   standing = first_stands m.frames;
   owned = record {
-    owned = λ f k e. let bad : None ≡ Some k = sym (ap (λ (r : Record). r.owner) (at_blank m.frames f)) ∙ e in cc;
+    owned = λ f k e. let bad : None ≡ Some k = sym (ap (λ (r : Record). r.owner) (record_at_start m.frames f)) ∙ e in cc;
     owner = λ k f e. cc;
   };
   held = record {
@@ -69,7 +62,7 @@ sound_at m n k = record {
   shown = record {
     places = [];
     once = λ p. refl;
-    shares = λ f. sym (ap (λ (r : Record). r.shares) (at_blank m.frames f));
+    shares = λ f. sym (ap (λ (r : Record). r.shares) (record_at_start m.frames f));
     resident = λ pid. sym (ap residents (no_set pid));
     fits = λ p f k e w. cc;
     below = λ pid s e. let bad : None ≡ Some s = sym (no_set pid) ∙ e in cc;
@@ -77,7 +70,7 @@ sound_at m n k = record {
   paged = record { keys = []; once = λ k. refl; long = refl };
   homed = record {
     home = λ k. refl;
-    backing = λ f k e. let bad : None ≡ Some k = sym (ap (λ (r : Record). r.owner) (at_blank m.frames f)) ∙ e in cc;
+    backing = λ f k e. let bad : None ≡ Some k = sym (ap (λ (r : Record). r.owner) (record_at_start m.frames f)) ∙ e in cc;
   };
   limited = omega arith;
   few = λ a b. omega arith;

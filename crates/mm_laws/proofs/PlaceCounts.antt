@@ -43,7 +43,7 @@ place_or_not p q = elim (same_place p q) as (λ b. same_place p q ≡ b → ((p 
 place_differs : (p q : Place) → p ≢ q → same_place p q ≡ false
 place_differs p q n = elim (place_or_not p q) [ inl e ↦ absurd (n e.0) | inr e ↦ e.1 ]
 
-place_here : {V : Type 0} (f : Place → V) (p : Place) (v : V) → changed same_place f p v p ≡ v
+pub place_here : {V : Type 0} (f : Place → V) (p : Place) (v : V) → changed same_place f p v p ≡ v
 place_here f p v = ap (λ b. cond b v (f p)) (same_place-self p)
 
 place_else : {V : Type 0} (f : Place → V) (p q : Place) (v : V) → q ≢ p → changed same_place f p v q ≡ f q

@@ -37,6 +37,7 @@ use Rattle.mm_laws.proofs.KeyCounts.{homed_frame, backing_kept}
 use Rattle.mm_laws.proofs.Requests.{length-freed, write_has}
 use Rattle.mm_laws.proofs.Lowest.{lowest_free}
 use Rattle.mm_laws.proofs.Sound.{sound_frame, owner_passes, begun_long}
+use Rattle.mm_types.proofs.Options.{none_is}
 
 -- ---- small readings of conditions
 
@@ -48,10 +49,6 @@ record RoomInSet (o : Option ResidentSet) : Type 0 where
 room_in : (o : Option ResidentSet) → is_below_max o ≡ true → RoomInSet o
 room_in None e = cc
 room_in (Some s) e = record { set = s; is = refl; room = ltb-true s.resident s.max e }
-
-none_is : {A : Type 0} (o : Option A) → is_none o ≡ true → o ≡ None
-none_is None e = refl
-none_is (Some x) e = cc
 
 some_is : (o : Option Key) (k : Key) → o ≡ Some k → is_some o ≡ true
 some_is o k e = ap is_some e

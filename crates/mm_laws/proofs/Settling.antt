@@ -6,7 +6,7 @@ use Rattle.mm_types.specs.declared.numbers.Frame.{Frame}
 use Rattle.mm_types.specs.declared.numbers.Place.{Place}
 use Rattle.mm_types.specs.declared.frames.Record.{Record}
 use Rattle.mm_types.specs.declared.moves.Move.TheVariants as move
-use Rattle.mm_life.specs.Frames.{FrameTable, record_at, blank, has_request, is_read, is_write, is_again, is_idle, with_record, settled, settled_by, to_free, read_done, write_done, write_lost, unshared}
+use Rattle.mm_life.specs.Frames.{FrameTable, record_at, blank, has_request, is_read, is_write, is_idle, with_record, settled, settled_by, to_free, read_done, write_done, write_lost, unshared}
 use Rattle.mm_life.specs.Life.{FrameLife}
 use Rattle.mm_life.specs.Legal.{IsLegal, is_io, is_access, is_call}
 use Rattle.mm_life.specs.Effect.{after_move, after_unmap_at}
@@ -16,6 +16,7 @@ use Rattle.mm_laws.proofs.Requests.{requested, read_has, write_has}
 use Rattle.mm_laws.proofs.SetSizes.{frame_low}
 use Rattle.mm_laws.proofs.PlaceCounts.{has_shares}
 use Rattle.std.proofs.lemmas.Bool.{lt-ltb}
+use Rattle.mm_life.proofs.Records.{done_owner}
 
 -- the lists after a frame settles
 lists_settle : (x : FrameTable) (f : ℕ) (i c : Bool) → ListsAre (cond i (cond c (record x { modified = x.modified ++ f ∷ [] }) (record x { standby = x.standby ++ f ∷ [] })) x) x.zeroed x.free (joined (i && not c) f x.standby) (joined (i && c) f x.modified)
@@ -67,13 +68,6 @@ module _ (d : FrameTable) (f : ℕ) (low : f < length d.records) where
     | false ↦ λ o. frees
   ] refl
 
-write_done_owner : (r : Record) → (write_done r).owner ≡ r.owner
-write_done_owner r = at (is_again r.request) refl
-  where
-    at : (b : Bool) → is_again r.request ≡ b → (write_done r).owner ≡ r.owner
-    at true e = ap (λ (b : Bool). (cond b (write_lost r) (record (read_done r) { changed = false })).owner) e
-    at false e = ap (λ (b : Bool). (cond b (write_lost r) (record (read_done r) { changed = false })).owner) e
-
 module _ (l : FrameLife) (s : Sound l) (f : Frame) where
   low_of : has_request (record_at l.frames f.0).request ≡ true → f.0 < length l.frames.records
   low_of busy = (requested l.frames l.flight f.0 s.standing busy).low
@@ -91,7 +85,7 @@ module _ (l : FrameLife) (s : Sound l) (f : Frame) where
   pub wrote_settles : IsLegal (move.Wrote f) l → Settles l.frames (after_move l (move.Wrote f)).frames f.0 (ended_as write_done (record_at l.frames f.0))
   wrote_settles h =
       let write = (and_parts (is_write (record_at l.frames f.0).request) (is_io l.kind || is_access l.kind || is_call l.kind) h).0 in
-      settles_or_frees l.frames f.0 (low_of (write_has (record_at l.frames f.0).request write)) write_done (write_done_owner (record_at l.frames f.0))
+      settles_or_frees l.frames f.0 (low_of (write_has (record_at l.frames f.0).request write)) write_done (done_owner (record_at l.frames f.0))
 
   pub lost_settles : IsLegal (move.Lost f) l → Settles l.frames (after_move l (move.Lost f)).frames f.0 (ended_as write_lost (record_at l.frames f.0))
   lost_settles h =

@@ -13,6 +13,7 @@ use Rattle.mm_laws.proofs.Tallies.{times-rest_same, times-rest_other}
 use Rattle.mm_laws.proofs.Fits.{fit_being_read}
 use Rattle.mm_laws.proofs.Sights.{same_sight, is_inside, kept_inside, kept_not_fresh, on_fresh, on_standby}
 use Rattle.mm_laws.proofs.Changes.{Changes, Flights, flights_begun, changes_freed, changes_written}
+use Rattle.mm_types.proofs.Booleans.{one_at_most}
 
 -- what is known of an idle frame
 pub record Idle (r : Record) : Type 0 where
@@ -25,10 +26,6 @@ pub idle_is : (r : Record) → is_some r.owner ≡ true → is_idle r ≡ true �
 idle_is r o i =
     let h = and_parts (r.shares == 0) (not (has_request r.request)) i in
     record { owned = o; kept = or_left (is_some r.owner) (has_request r.request) o; unshared = eqb-true r.shares 0 h.0; quiet = not-true (has_request r.request) h.1 }
-
-one_at_most : (b : Bool) → one_if b ≤ 1
-one_at_most true = omega arith
-one_at_most false = omega arith
 
 module _ (d : FrameTable) (q : List ℕ) (f : ℕ) (stands : Stands d q) where
   pub record Standby : Type 0 where

@@ -1,4 +1,5 @@
 -- What is true of each record by itself.
+-- Profile, "Logs of moves".
 use Rattle.std.specs.Prelude.{◌≡◌, Bool, true, false, ◌||◌, nat_lt, is_some, None}
 use Rattle.mm_types.specs.declared.frames.Record.{Record}
 use Rattle.mm_types.specs.declared.frames.Backing.{Backing}

@@ -1,4 +1,5 @@
 -- What holds a page-file slot.
+-- Profile, "Logs of moves".
 use Rattle.std.specs.Prelude.{ℕ, Option}
 use Rattle.mm_types.specs.declared.numbers.Key.{Key}
 use Rattle.mm_types.specs.declared.frames.Held.{Held}

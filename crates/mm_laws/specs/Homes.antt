@@ -1,4 +1,5 @@
 -- The page-file keys by where each stands, and the taken slots by what holds each.
+-- Profile, "Logs of moves".
 use Rattle.std.specs.Prelude.{◌≡◌, ◌+◌, Bool, true, false, not, is_some, List, length, count_by}
 use Rattle.mm_types.specs.declared.numbers.Key.{Key}
 use Rattle.mm_types.specs.declared.frames.Record.{Record}

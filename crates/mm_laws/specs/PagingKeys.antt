@@ -1,4 +1,5 @@
 -- Page-file keys and file keys.
+-- Profile, "Logs of moves".
 use Rattle.std.specs.Prelude.{◌≡◌, Bool, true, not, ◌&&◌, List, length}
 use Rattle.mm_types.specs.declared.numbers.Key.{Key}
 use Rattle.mm_types.specs.declared.frames.Backing.{Backing}

@@ -1,4 +1,5 @@
 -- How many places are valid: for a frame, and in a process.
+-- Profile, "Logs of moves".
 use Rattle.std.specs.Prelude.{◌≡◌, ℕ, ◌+◌, Bool, false, ◌==◌, is_some, List, [], ◌∷◌, Option, Some, None}
 use Rattle.mm_types.specs.declared.numbers.Frame.{Frame}
 use Rattle.mm_types.specs.declared.numbers.Place.{Place}

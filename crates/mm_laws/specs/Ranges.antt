@@ -1,4 +1,5 @@
 -- The numbers of a machine and of processes.
+-- Profile, "Logs of moves".
 use Rattle.std.specs.Prelude.{◌≡◌, ◌≤◌, true, length}
 use Rattle.mm_types.specs.Machine.{IsMachine}
 use Rattle.mm_life.specs.Life.{FrameLife}

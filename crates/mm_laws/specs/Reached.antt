@@ -1,4 +1,5 @@
 -- The states that replays reach.
+-- Profile, "Logs of moves".
 use Rattle.std.specs.Prelude.{Bool, false, ◌&&◌, ◌==◌, List}
 use Rattle.mm_types.specs.declared.moves.LineKind.TheVariants as kind
 use Rattle.mm_types.specs.declared.moves.Move.{Move}

@@ -1,4 +1,5 @@
 -- Where a request can begin.
+-- Profile, "Logs of moves".
 use Rattle.std.specs.Prelude.{Bool, ◌&&◌, ◌||◌}
 use Rattle.mm_life.specs.Life.{FrameLife}
 use Rattle.mm_life.specs.Legal.{is_access, is_call, is_thread, is_writer, has_depth}

@@ -1,4 +1,5 @@
 -- What a move leaves of the frame database that ends a request, or takes a share away.
+-- Profile, "Logs of moves".
 use Rattle.std.specs.Prelude.{◌≡◌, ◌≢◌, ℕ, Bool, not, ◌&&◌, if◌then◌else◌, is_some, List, [], ◌∷◌, ◌++◌, length}
 use Rattle.mm_types.specs.declared.frames.Record.{Record}
 use Rattle.mm_life.specs.Frames.{FrameTable, blank, record_at, is_idle}
@@ -18,7 +19,7 @@ pub record ListsAre (d : FrameTable) (z u s m : List ℕ) : Type 0 where
 abbrev pub ended_as : (Record → Record) → Record → Record
 ended_as change r = if is_some r.owner then change r else blank
 
--- the frame has this record now and is put where it says, behind all others; all else stays
+-- the frame has this record now and is put where it says, after all others; all else stays
 pub record Settles (d d' : FrameTable) (f : ℕ) (r : Record) : Type 0 where
   pub here : record_at d' f ≡ r
   pub others : (g : ℕ) → g ≢ f → record_at d' g ≡ record_at d g

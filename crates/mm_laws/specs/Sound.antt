@@ -1,4 +1,5 @@
 -- What each legal move keeps, and so holds of each state that a replay reaches.
+-- Profile, "Logs of moves".
 use Rattle.std.specs.Prelude.{◌≡◌, ◌≤◌, ℕ, Bool, true, false, not, is_some, List, length, Option, Some, None, slice_get}
 use Rattle.mm_types.specs.Machine.{limit_of}
 use Rattle.mm_types.specs.declared.numbers.Frame.{Frame}

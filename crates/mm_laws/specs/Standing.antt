@@ -1,4 +1,5 @@
 -- Where page frames stand.
+-- Profile, "Logs of moves".
 use Rattle.std.specs.Prelude.{◌≡◌, ℕ, ◌+◌, true, false, is_some, None}
 use Rattle.mm_types.specs.declared.answers.Counts.{Counts}
 use Rattle.mm_types.specs.declared.frames.Record.{Record}

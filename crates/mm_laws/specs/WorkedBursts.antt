@@ -1,4 +1,5 @@
 -- Logs in which one line begins more requests than the depth of the machine.
+-- Profile, "Logs of moves".
 use Rattle.std.specs.Prelude.{ℕ, ◌+◌, List, [], ◌∷◌, ◌++◌, Some}
 use Rattle.mm_types.specs.declared.numbers.Block.{Block}
 use Rattle.mm_types.specs.declared.numbers.Key.{Key}

@@ -147,7 +147,7 @@ is_at_max (Some s) = s.resident == s.max
 abbrev pub is_short : FrameLife → Bool
 is_short l = is_empty l.frames.zeroed && is_empty l.frames.free && is_empty l.frames.standby
 
--- an end of pages; a trim above the minimum; a full working set; want of frames in an access of any process; a copy
+-- an end of pages; a trim above the minimum; a full working set; an access of any process that found no frame; a copy
 abbrev pub may_unmap : FrameLife → Place → Record → Bool
 may_unmap l place r =
     unbinds place.pid.0 l.kind

@@ -1,10 +1,12 @@
 -- Where a key's bytes stand, and how the bytes of frames and of the two devices fit a replay's state.
+-- Profile, "Logs of moves".
 use Rattle.std.specs.Prelude.{◌≡◌, ℕ, true, false, if◌then◌else◌, is_some, List, length, replicate, Option, Some, None, slice_get, slice_index_or}
 use Rattle.mm_types.specs.declared.numbers.Frame.{Frame}
 use Rattle.mm_types.specs.declared.numbers.Key.{Key}
 use Rattle.mm_types.specs.declared.frames.Record.{Record}
 use Rattle.mm_types.specs.declared.frames.Held.{Held}
 use Rattle.mm_types.specs.declared.frames.Held.TheVariants as held
+use Rattle.mm_types.specs.Address.{page_size}
 use Rattle.mm_life.specs.Frames.{record_at, is_read, is_on}
 use Rattle.mm_life.specs.Life.{FrameLife, is_live}
 use Rattle.mm_life.specs.Effect.{home_at}
@@ -38,7 +40,7 @@ BlockBytes = List (List ℕ)
 
 -- a page of zeros
 abbrev pub zero_page : List ℕ
-zero_page = replicate 4096 0
+zero_page = replicate page_size 0
 
 abbrev pub page_at : FrameBytes → ℕ → Option (List ℕ)
 page_at ram f = slice_index_or ram f None

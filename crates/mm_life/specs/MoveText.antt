@@ -13,7 +13,7 @@ use Rattle.mm_types.specs.declared.moves.Stored.TheVariants as stored
 use Rattle.mm_types.specs.declared.moves.Move.{Move}
 use Rattle.mm_types.specs.declared.moves.Move.TheVariants as move
 
--- Each text is written in front of what comes behind it.
+-- Each text is written in front of what comes after it.
 
 -- a word's text, one space, and a number
 abbrev pub numbered : Text → ℕ → Text → Text

@@ -1,4 +1,4 @@
--- Numbers at the places of a list: one more behind the last, one taken out.
+-- Numbers at the places of a list: one more after the last, one taken out.
 use Rattle.std.proofs.Common.{◌≡◌, ◌≢◌, ◌⊎◌, ℕ, zero, suc, ◌<◌, ◌≤◌, Bool, List, [], ◌∷◌, ◌++◌, length, drop, Some, None, refl, ap, ◌∙◌, inl, inr, arith}
 use Rattle.std.specs.Prelude.{slice_get, not, cond}
 use Rattle.std.specs.Cmp.{unsigned_Decides}

@@ -3,3 +3,4 @@ pub mod Rows
 pub mod Linking
 pub mod Standing
 pub mod Changes
+pub mod Members

@@ -1,4 +1,4 @@
--- The links of one list, as a number is put behind it or taken out of it.
+-- The links of one list, as a number is put at its end or taken out of it.
 use Rattle.std.proofs.Common.{◌≡◌, ◌≢◌, ℕ, suc, ◌+◌, ◌-◌, ◌<◌, List, [], ◌∷◌, ◌++◌, length, get_or, set, Some, None, sym, ap, ◌∙◌, inl, inr, arith, length-set, get_or-set_same, get_or-set_other}
 use Rattle.std.specs.Prelude.{slice_get}
 use Rattle.std.proofs.lemmas.List.{length_push}
@@ -36,7 +36,7 @@ linked_first next prev owner j first last len [] x empty low owners l = record {
 }
 linked_first next prev owner j first last len (y ∷ xs) x empty low owners l = absurd (omega arith)
 
--- a number behind the last one of a list
+-- a number after the last one of a list
 pub linked_push : (next prev owner : List ℕ) (j first last len : ℕ) (xs : List ℕ) (x : ℕ) → 0 < length xs → x < length next → length prev ≡ length next → length owner ≡ length next → ((k : ℕ) → slice_get xs k ≡ Some x → ⊥) → Linked next prev owner j first last len xs → Linked (set next last x) (set prev x last) (set owner x j) j first x (len + 1) (xs ++ x ∷ [])
 linked_push next prev owner j first last len xs x some low prevs owners none l =
     let end = last_there xs some in

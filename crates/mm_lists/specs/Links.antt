@@ -1,4 +1,4 @@
--- Lists as links: for each number the one behind and the one before it, for each list its two ends.
+-- Lists as links: for each number the one after it and the one before it, for each list its two ends.
 use Rattle.std.specs.Prelude.{◌≡◌, ℕ, zero, suc, ◌<◌, ◌^◌, List, [], ◌∷◌, length, Some, slice_get, slice_index}
 use Rattle.mm_lists.specs.Lists.{list_at}
 

@@ -10,7 +10,7 @@ use std::marker::Model;
 /// Contracts see the bound, `numbers`, and the lists themselves, `lists`.
 #[derive(Drop)]
 pub struct Lists {
-    /// For each number on a list, the one behind it.
+    /// For each number on a list, the one after it.
     next: Vec<u32>,
     /// For each number on a list, the one before it.
     prev: Vec<u32>,
@@ -76,7 +76,7 @@ impl Lists {
         Some(self.firsts[list as usize])
     }
 
-    /// The number behind `x` on its list, `None` exactly where `x` is the last.
+    /// The number after `x` on its list, `None` exactly where `x` is the last.
     pub fn next(&self, x: u32) -> Option<u32>
         requires { IsOnOne self.now.lists x }
         ensures behind { (j k : ℕ) → number_at self.now.lists j k ≡ Some x
@@ -90,7 +90,7 @@ impl Lists {
         Some(self.next[x as usize])
     }
 
-    /// Puts `x`, which is on no list, behind the last number of the list.
+    /// Puts `x`, which is on no list, at the end of the list.
     pub fn push_back(&mut self, list: u32, x: u32)
         requires list_there { list < length self.old.lists }
         requires below { x < self.old.numbers }

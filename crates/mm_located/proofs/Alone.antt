@@ -13,6 +13,7 @@ use Rattle.mm_life.specs.Effect.{home_at}
 use Rattle.mm_life.specs.Located.{FrameBytes, BlockBytes, page_at, bytes_at, held_in, located, contents_of, BytesLocated}
 use Rattle.mm_located.specs.Carried.{Carries}
 use Rattle.mm_located.proofs.Moving.{calm_in, still, clean_by}
+use Rattle.mm_life.proofs.Records.{records_settled}
 
 -- ---- tables
 
@@ -21,14 +22,6 @@ others_set d d' f r e g n = ap (λ (xs : List Record). slice_index_or xs g blank
 
 pub here_set : (d d' : FrameTable) (f : ℕ) (r : Record) → d'.records ≡ slice_set d.records f r → f < length d.records → record_at d' f ≡ r
 here_set d d' f r e low = ap (λ (xs : List Record). slice_index_or xs f blank) e ∙ get_or-set_same d.records f r blank low
-
-records_settled : (r : Record) (d : FrameTable) (f : ℕ) → (settled_by r d f).records ≡ d.records
-records_settled r d f = by (is_idle r) r.changed
-  where
-    by : (i c : Bool) → (if i then (if c then record d { modified = d.modified ++ f ∷ [] } else record d { standby = d.standby ++ f ∷ [] }) else d).records ≡ d.records
-    by true true = refl
-    by true false = refl
-    by false c = refl
 
 zeroed_settled : (r : Record) (d : FrameTable) (f : ℕ) → (settled_by r d f).zeroed ≡ d.zeroed
 zeroed_settled r d f = by (is_idle r) r.changed

@@ -21,15 +21,17 @@ use Rattle.mm_laws.specs.Reached.{Reached}
 use Rattle.mm_laws.specs.Fits.{is_backed}
 use Rattle.mm_laws.specs.FileBlocks.{block_of, block_in}
 use Rattle.mm_ram.specs.Ram.{with_page}
-use Rattle.mm_laws.proofs.Requests.{read_has}
-use Rattle.mm_located.proofs.Facts.{facts_of}
+use Rattle.mm_laws.proofs.Facts.{facts_of}
 use Rattle.mm_located.proofs.Moving.{calm_in}
 use Rattle.mm_located.proofs.FrameMoves.{map_carries, unmap_carries, soil_carries, write_carries, lost_carries}
 use Rattle.mm_located.proofs.KeyMoves.{give_carries, read_carries, steal_carries, bad_carries, add_zero_carries, add_block_carries, drop_carries}
 use Rattle.mm_located.proofs.PageMoves.{clear_carries, got_carries, written_carries}
 use Rattle.mm_located.proofs.Written.{wrote_carries}
-use Rattle.mm_located.proofs.Lines.{at_carries, at_plain_carries, block_carries, start_carries}
+use Rattle.mm_located.proofs.Lines.{at_carries, at_plain_carries, block_carries}
 use Rattle.mm_located.specs.Carried.{Carries, slots_written, blocks_written, IsSoiled, grown}
+use Rattle.mm_life.proofs.Requests.{read_has}
+use Rattle.mm_life.proofs.Start.{located_at_start}
+use Rattle.std.proofs.lemmas.List.{length-replicate}
 
 module _ (l : FrameLife) (reached : ∥ Reached l ∥₁) (ram : FrameBytes) (slots blocks : BlockBytes) (kept : BytesLocated l ram slots blocks) where
   pub carries_at : (n : ℕ) (k : LineKind) → 1 ≤ l.line → IsLegal (move.At n k) l
@@ -122,4 +124,7 @@ module _ (l : FrameLife) (reached : ∥ Reached l ∥₁) (ram : FrameBytes) (sl
 
 pub carries_start : (m : MachineOf) (slots blocks : BlockBytes) → length slots ≡ m.slots → length blocks ≡ m.blocks
     → Carries (after_move unstarted (move.At 1 (kind.Machine m.frames m.slots m.depth m.blocks))) (replicate m.frames None) slots blocks (λ _. None)
-carries_start m slots blocks a b = start_carries m slots blocks a b
+carries_start m slots blocks a b = record {
+  located = located_at_start m 1 (kind.Machine m.frames m.slots m.depth m.blocks) (replicate m.frames None) slots blocks (length-replicate m.frames None) a b;
+  bytes = refl;
+}

@@ -21,26 +21,15 @@ use Rattle.mm_laws.proofs.Requests.{write_has}
 use Rattle.mm_laws.proofs.Sights.{kept_inside}
 use Rattle.mm_laws.proofs.Sound.{owner_passes}
 use Rattle.mm_located.specs.Carried.{Carries}
-use Rattle.mm_located.proofs.Facts.{Facts}
+use Rattle.mm_laws.proofs.Facts.{Facts}
 use Rattle.mm_located.proofs.Alone.{Alone, alone_set, records_ended, zeroed_ended, carries_alone}
+use Rattle.mm_life.proofs.Requests.{write_not_read, calm}
 
 pub owned_low : (d : FrameTable) (f : ℕ) → is_some (record_at d f).owner ≡ true → f < length d.records
 owned_low d f o = kept_inside d f (or_left (is_some (record_at d f).owner) (has_request (record_at d f).request) o)
 
 pub asked_low : (d : FrameTable) (f : ℕ) → has_request (record_at d f).request ≡ true → f < length d.records
 asked_low d f h = kept_inside d f (or_right (is_some (record_at d f).owner) (has_request (record_at d f).request) h)
-
-pub not_reading : (q : Request) → is_write q ≡ true → is_read q ≡ false
-not_reading request.None e = refl
-not_reading request.Read e = cc
-not_reading request.Write e = refl
-not_reading request.WriteAgain e = refl
-
-pub quiet_calm : (q : Request) → has_request q ≡ false → is_read q ≡ false
-quiet_calm request.None e = refl
-quiet_calm request.Read e = cc
-quiet_calm request.Write e = cc
-quiet_calm request.WriteAgain e = cc
 
 -- a page that is valid somewhere is not being read
 pub shown_calm : (l : FrameLife) → Facts l → (f : ℕ) → 1 ≤ (record_at l.frames f).shares → is_read (record_at l.frames f).request ≡ false
@@ -121,7 +110,7 @@ module _ (l : FrameLife) (facts : Facts l) (ram : FrameBytes) (slots blocks : Bl
   begun : (f : Frame) (home : Backing) (m : FrameLife) → is_some (record_at l.frames f.0).owner ≡ true → (record_at l.frames f.0).changed ≡ true → has_request (record_at l.frames f.0).request ≡ false
       → Alone l m f.0 (being_written home (record_at l.frames f.0)) → Carries m ram slots blocks (contents_of l ram slots blocks)
   begun f home m owned dirty idle a =
-      carries_alone l m ram slots blocks kept f.0 (being_written home (record_at l.frames f.0)) a (quiet_calm (record_at l.frames f.0).request idle) refl (λ o c. let bad : true ≡ false = sym dirty ∙ c in cc)
+      carries_alone l m ram slots blocks kept f.0 (being_written home (record_at l.frames f.0)) a (calm (record_at l.frames f.0).request idle) refl (λ o c. let bad : true ≡ false = sym dirty ∙ c in cc)
 
   pub write_carries : (f : Frame) (s : Stored) → IsLegal (move.Write f s) l → Carries (after_move l (move.Write f s)) ram slots blocks (contents_of l ram slots blocks)
   write_carries f (stored.Slot s) legal =
@@ -155,7 +144,7 @@ module _ (l : FrameLife) (facts : Facts l) (ram : FrameBytes) (slots blocks : Bl
       let is = records_ended (is_some r.owner) (write_lost r) l.frames f.0 in
       carries_alone l (after_move l (move.Lost f)) ram slots blocks kept f.0 new
       (alone_set l (after_move l (move.Lost f)) f.0 new is low (zeroed_ended (is_some r.owner) (write_lost r) l.frames f.0) refl refl)
-      (not_reading r.request writing) (quiet r (is_some r.owner)) (λ o c. let bad : true ≡ false = sym (dirty r ((facts.standing f.0).fit.writing writing).0 (is_some r.owner) o) ∙ c in cc)
+      (write_not_read r.request writing) (quiet r (is_some r.owner)) (λ o c. let bad : true ≡ false = sym (dirty r ((facts.standing f.0).fit.writing writing).0 (is_some r.owner) o) ∙ c in cc)
     where
       quiet : (r : Record) (b : Bool) → is_read (if b then write_lost r else blank).request ≡ false
       quiet r true = refl

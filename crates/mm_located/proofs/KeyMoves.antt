@@ -17,19 +17,20 @@ use Rattle.mm_life.specs.Life.{FrameLife, changed, same_key, is_live, is_dead, i
 use Rattle.mm_life.specs.Legal.{IsLegal, is_zero, is_stored, is_touch, is_access, is_thread, is_call, is_io, has_depth}
 use Rattle.mm_life.specs.Effect.{after_move, home_at, backing_of, homed, dropped_at}
 use Rattle.mm_life.specs.Located.{FrameBytes, BlockBytes, zero_page, page_at, bytes_at, held_in, located, contents_of, BytesLocated}
-use Rattle.mm_laws.proofs.FreshMoves.{zero_is}
-use Rattle.mm_laws.specs.Fits.{is_backed}
+use Rattle.mm_laws.proofs.FreshMoves.{zero_is, stored_backed}
 use Rattle.mm_laws.specs.Sights.{Sight}
 use Rattle.mm_laws.proofs.Changes.{changes_give}
 use Rattle.mm_laws.proofs.Taking.{fresh_read, changes_read, changes_steal}
 use Rattle.mm_laws.proofs.Sound.{some_owner}
 use Rattle.mm_laws.proofs.Requests.{read_has}
 use Rattle.mm_located.specs.Carried.{Carries}
-use Rattle.mm_located.proofs.Facts.{Facts}
+use Rattle.mm_laws.proofs.Facts.{Facts}
 use Rattle.mm_located.proofs.Moving.{calm_in, read_in, one_moves, clean_by, same_live, same_contents}
 use Rattle.mm_located.proofs.Alone.{alone_set, others_set, here_set, carries_kept}
-use Rattle.mm_located.proofs.FrameMoves.{owned_low, asked_low, quiet_calm}
+use Rattle.mm_located.proofs.FrameMoves.{owned_low, asked_low}
 use Rattle.mm_located.proofs.Lists.{first_on, rest_on}
+use Rattle.mm_life.proofs.Held.{home_lives, stored_lives}
+use Rattle.mm_life.proofs.Requests.{calm}
 
 -- one frame has this record now, and one key stands there
 pub record Moves (l m : FrameLife) (f : ℕ) (r : Record) (k : Key) (h : Held) : Type 0 where
@@ -86,31 +87,12 @@ located_home m backing.None = refl
 located_home m (backing.Slot s) = refl
 located_home m (backing.Block c) = refl
 
-home_lives : (b : Backing) → is_dead (home_at b) ≡ false
-home_lives backing.None = refl
-home_lives (backing.Slot s) = refl
-home_lives (backing.Block c) = refl
-
-stored_backed : (h : Held) → is_stored h ≡ true → is_backed (backing_of h) ≡ true
-stored_backed (held.Frame f) e = cc
-stored_backed (held.Slot s) e = refl
-stored_backed (held.Block b) e = refl
-stored_backed held.Zero e = cc
-stored_backed held.Dead e = cc
-
 stored_home : (l : FrameLife) (h : Held) → is_stored h ≡ true → home_at (backing_of h) ≡ located l h
 stored_home l (held.Frame f) e = cc
 stored_home l (held.Slot s) e = refl
 stored_home l (held.Block b) e = refl
 stored_home l held.Zero e = cc
 stored_home l held.Dead e = cc
-
-stored_lives : (h : Held) → is_stored h ≡ true → is_dead h ≡ false
-stored_lives (held.Frame f) e = cc
-stored_lives (held.Slot s) e = refl
-stored_lives (held.Block b) e = refl
-stored_lives held.Zero e = cc
-stored_lives held.Dead e = cc
 
 module _ (l : FrameLife) (facts : Facts l) (ram : FrameBytes) (slots blocks : BlockBytes) (kept : BytesLocated l ram slots blocks) where
   -- a frame that nobody owns is no key's
@@ -191,7 +173,7 @@ module _ (l : FrameLife) (facts : Facts l) (ram : FrameBytes) (slots blocks : Bl
       let c = changes_steal l.frames l.flight f.0 facts.standing head in
       let m = after_move l (move.Steal f) in
       let at = facts.owned f.0 k owner.1 in
-      let calm = quiet_calm r.request is.quiet in
+      let calm = calm r.request is.quiet in
       carries_same l m ram slots blocks kept f.0 blank k (home_at r.backing)
       (record {
         others = λ g n. ap (λ (s : Sight). s.what) (c.elsewhere g n);

@@ -1,12 +1,10 @@
--- Lines, a block that no key ever had, and the machine's first line.
+-- Lines, and a block that no key ever had.
 use Rattle.std.proofs.Common.{◌≡◌, ◌≢◌, ℕ, zero, suc, ◌+◌, ◌<◌, ◌≤◌, Bool, true, false, List, [], ◌∷◌, ◌++◌, Some, None, refl, sym, ap, ◌∙◌, subst, arith, length, length-set, length-append, replicate}
-use Rattle.std.specs.Prelude.{◌==◌, ◌&&◌, is_some, nat_le, nat_lt, if◌then◌else◌, slice_get, slice_set, slice_index_or}
+use Rattle.std.specs.Prelude.{◌==◌, ◌&&◌, is_some, nat_le, nat_lt, if◌then◌else◌, slice_get, slice_set}
 use Rattle.std.proofs.lemmas.Bool.{and_parts, eqb-true, leb-true}
 use Rattle.mm_types.proofs.Bytes.{append_nil}
 use Rattle.mm_types.proofs.Cells.{get_set_other}
-use Rattle.mm_types.specs.Machine.{MachineOf}
 use Rattle.mm_types.specs.declared.numbers.Key.{Key}
-use Rattle.mm_types.specs.declared.frames.Record.{Record}
 use Rattle.mm_types.specs.declared.frames.Backing.{Backing}
 use Rattle.mm_types.specs.declared.frames.Backing.TheVariants as backing
 use Rattle.mm_types.specs.declared.frames.Held.{Held}
@@ -14,15 +12,16 @@ use Rattle.mm_types.specs.declared.frames.Held.TheVariants as held
 use Rattle.mm_types.specs.declared.moves.LineKind.{LineKind}
 use Rattle.mm_types.specs.declared.moves.LineKind.TheVariants as kind
 use Rattle.mm_types.specs.declared.moves.Move.TheVariants as move
-use Rattle.mm_life.specs.Frames.{blank, record_at, is_read, slot_of}
-use Rattle.mm_life.specs.Life.{FrameLife, unstarted}
+use Rattle.mm_life.specs.Frames.{record_at, is_read, slot_of}
+use Rattle.mm_life.specs.Life.{FrameLife}
 use Rattle.mm_life.specs.Legal.{IsLegal, is_legal_kind}
 use Rattle.mm_life.specs.Effect.{after_move, home_at, slot_at}
 use Rattle.mm_life.specs.Located.{FrameBytes, BlockBytes, zero_page, bytes_at, located, contents_of, BytesLocated}
 use Rattle.mm_laws.specs.FileBlocks.{block_of, block_in, block_held}
 use Rattle.mm_laws.proofs.Sound.{some_owner}
 use Rattle.mm_located.specs.Carried.{Carries, grown}
-use Rattle.mm_located.proofs.Facts.{Facts}
+use Rattle.mm_laws.proofs.Facts.{Facts}
+use Rattle.std.proofs.lemmas.List.{length-replicate}
 
 -- ---- a line that changes no frame, no key and no slot
 
@@ -53,10 +52,6 @@ there_stays : (xs ys : BlockBytes) (i : ℕ) → i < length xs → slice_get (xs
 there_stays [] ys i h = absurd (omega arith)
 there_stays (x ∷ xs) ys zero h = refl
 there_stays (x ∷ xs) ys (suc i) h = there_stays xs ys i (omega arith)
-
-length_repeat : {A : Type 0} (n : ℕ) (x : A) → length (replicate n x) ≡ n
-length_repeat zero x = refl
-length_repeat (suc n) x = let e = length_repeat n x in omega (arith, e)
 
 module _ (l : FrameLife) (facts : Facts l) (ram : FrameBytes) (slots blocks : BlockBytes) (kept : BytesLocated l ram slots blocks) where
   plain_by : (n : ℕ) (k : LineKind) → 1 ≤ l.line → grown k ≡ 0 → is_legal_kind l k ≡ true → Carries (after_move l (move.At n k)) ram slots blocks (contents_of l ram slots blocks)
@@ -103,7 +98,7 @@ module _ (l : FrameLife) (facts : Facts l) (ram : FrameBytes) (slots blocks : Bl
   grow_carries : (n c : ℕ) → Carries (after_move l (move.At n (kind.Grow c))) ram (slots ++ replicate c zero_page) blocks (contents_of l ram slots blocks)
   grow_carries n c =
       let ys = replicate c zero_page in
-      let size = length_repeat c zero_page in
+      let size = length-replicate c zero_page in
       let both = length-append slots ys in
       let was = kept.room in
       record {
@@ -172,24 +167,3 @@ module _ (l : FrameLife) (facts : Facts l) (ram : FrameBytes) (slots blocks : Bl
     };
     bytes = λ i. λ q. apart b page new q (l.stands q) refl i;
   }
-
--- ---- the first line
-
-all_blank : (n f : ℕ) → slice_index_or (replicate n blank) f blank ≡ blank
-all_blank zero f = refl
-all_blank (suc n) zero = refl
-all_blank (suc n) (suc f) = all_blank n f
-
-pub start_carries : (m : MachineOf) (slots blocks : BlockBytes) → length slots ≡ m.slots → length blocks ≡ m.blocks
-    → Carries (after_move unstarted (move.At 1 (kind.Machine m.frames m.slots m.depth m.blocks))) (replicate m.frames None) slots blocks (λ _. None)
-start_carries m slots blocks a b = record {
-  located = record {
-    clean = λ f o c n. let bad : false ≡ true = sym (ap (λ (x : Record). is_some x.owner) (all_blank m.frames f)) ∙ o in cc;
-    zeroed = λ f on. cc;
-    live = λ k. refl;
-    frame_room = length_repeat m.frames None;
-    room = a;
-    file_room = b;
-  };
-  bytes = refl;
-}

@@ -22,7 +22,7 @@ use Rattle.mm_laws.proofs.Requests.{read_has}
 use Rattle.mm_laws.proofs.Taking.{fresh_read}
 use Rattle.mm_ram.specs.Ram.{with_page}
 use Rattle.mm_located.specs.Carried.{Carries, IsSoiled, is_calm}
-use Rattle.mm_located.proofs.Facts.{Facts}
+use Rattle.mm_laws.proofs.Facts.{Facts}
 use Rattle.mm_located.proofs.Lists.{first_on, push_on}
 use Rattle.mm_located.proofs.Moving.{home_bytes, calm_in, read_in, elsewhere, clean_by}
 use Rattle.mm_located.proofs.Alone.{alone_set, records_ended, zeroed_ended, carries_kept}
@@ -34,7 +34,7 @@ page_here ram f page low = get_or-set_same ram f (Some page) None low
 pub page_else : (ram : FrameBytes) (f : ℕ) (page : List ℕ) (g : ℕ) → g ≢ f → page_at (with_page ram f page) g ≡ page_at ram g
 page_else ram f page g n = get_or-set_other ram f g (Some page) None n
 
-calm_is : (q : Request) → is_calm q ≡ true → is_read q ≡ false
+pub calm_is : (q : Request) → is_calm q ≡ true → is_read q ≡ false
 calm_is request.None e = refl
 calm_is request.Read e = cc
 calm_is request.Write e = cc

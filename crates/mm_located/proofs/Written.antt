@@ -23,9 +23,10 @@ use Rattle.mm_laws.specs.FileBlocks.{block_of, block_in, block_held}
 use Rattle.mm_laws.proofs.Owners.{same_key-true}
 use Rattle.mm_laws.proofs.Requests.{write_has}
 use Rattle.mm_located.specs.Carried.{Carries, slots_written, blocks_written}
-use Rattle.mm_located.proofs.Facts.{Facts}
+use Rattle.mm_laws.proofs.Facts.{Facts}
 use Rattle.mm_located.proofs.Alone.{others_set, here_set, records_ended, zeroed_ended}
 use Rattle.mm_located.proofs.FrameMoves.{asked_low}
+use Rattle.mm_life.proofs.Requests.{write_not_read}
 
 abbrev slot_held : Held → Option ℕ
 slot_held (held.Frame f) = None
@@ -131,15 +132,6 @@ module _ (l : FrameLife) (facts : Facts l) (f : Frame) (ram : FrameBytes) (slots
       number held.Zero = 0
       number held.Dead = 0
 
-  not_reading : is_read (record_at l.frames f.0).request ≡ false
-  not_reading = by (record_at l.frames f.0).request writing
-    where
-      by : (q : Request) → is_write q ≡ true → is_read q ≡ false
-      by request.None e = refl
-      by request.Read e = cc
-      by request.Write e = refl
-      by request.WriteAgain e = refl
-
   quiet_after : (o : Bool) → is_read (if o then write_done (record_at l.frames f.0) else blank).request ≡ false
   quiet_after false = refl
   quiet_after true = by (is_again (record_at l.frames f.0).request)
@@ -155,7 +147,7 @@ module _ (l : FrameLife) (facts : Facts l) (f : Frame) (ram : FrameBytes) (slots
       frame_case g e (inl s) =
           ap (λ (x : Record). bytes_at ram (slots_written b page slots) (blocks_written b page blocks) (held_in g x)) (ap (λ (x : ℕ). record_at (after_wrote l.frames f.0) x) s ∙ here_wrote)
           ∙ ap (λ c. bytes_at ram (slots_written b page slots) (blocks_written b page blocks) (if c then home_at (if is_some r.owner then write_done r else blank).backing else held.Frame g)) (quiet_after (is_some r.owner))
-          ∙ sym (ap (λ (x : ℕ). bytes_at ram slots blocks (held_in g (record_at l.frames x))) s ∙ ap (λ c. bytes_at ram slots blocks (if c then home_at r.backing else held.Frame g)) not_reading)
+          ∙ sym (ap (λ (x : ℕ). bytes_at ram slots blocks (held_in g (record_at l.frames x))) s ∙ ap (λ c. bytes_at ram slots blocks (if c then home_at r.backing else held.Frame g)) (write_not_read (record_at l.frames f.0).request writing))
       frame_case g e (inr n) =
           ap (λ (x : Record). bytes_at ram (slots_written b page slots) (blocks_written b page blocks) (held_in g x)) (others_wrote g.0 n) ∙ reading (is_read (record_at l.frames g.0).request)
         where

@@ -1,4 +1,5 @@
 -- Counting one move more.
+-- Profile, "Logs of moves".
 use Rattle.std.specs.Prelude.{◌≡◌, ℕ, ◌+◌, Bool, if◌then◌else◌, List, []}
 use Rattle.mm_types.specs.declared.moves.Move.{Move}
 use Rattle.mm_life.specs.LogCounts.{CountsOfLog, is_give, is_read_in, is_steal, is_wrote, soft_fault, brought_in}

@@ -1,4 +1,5 @@
 -- What a check of a log whose bytes are told has to say.
+-- Profile, "Logs of moves".
 use Rattle.std.specs.Prelude.{◌≡◌, ◌⊎◌, ℕ, List, [], ◌∷◌, Option, codes}
 use Rattle.mm_types.specs.Spelling.{Text}
 use Rattle.mm_types.specs.Outside.{Appended}

@@ -1,4 +1,5 @@
 -- What is asked of a log, and the text of the answer.
+-- Profile, "Logs of moves".
 use Rattle.std.specs.Prelude.{◌≡◌, ℕ, List, [], ◌∷◌, ◌++◌, codes}
 use Rattle.mm_types.specs.Spelling.{Text}
 use Rattle.mm_types.specs.declared.frames.Held.{Held}

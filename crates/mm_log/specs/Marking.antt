@@ -1,4 +1,5 @@
 -- Frames that are marked with the line in which they were brought in.
+-- Profile, "Logs of moves".
 use Rattle.std.specs.Prelude.{◌≡◌, ℕ, ◌≤◌, Bool, ◌==◌, List, slice_index}
 use Rattle.mm_life.specs.Frames.{is_on}
 

@@ -1,4 +1,5 @@
 -- How a check goes on, line by line.
+-- Profile, "Logs of moves".
 use Rattle.std.specs.Prelude.{◌≡◌, ◌⊎◌, ℕ, ◌≤◌, false, List, [], ◌∷◌, length, Option}
 use Rattle.mm_types.specs.Spelling.{Text}
 use Rattle.mm_types.specs.declared.moves.Move.{Move}
@@ -35,7 +36,7 @@ abbrev pub brought_after : List ℕ → List Move → List ℕ
 brought_after frames [] = frames
 brought_after frames (m ∷ ms) = brought_after (brought_in frames m) ms
 
--- n lines were taken, of moves that replay and were counted; these bytes are held behind them
+-- n lines were taken, of moves that replay and were counted; these bytes are held after them
 pub record Read (left left' : Option Text) (held : Text) (n total : ℕ) (l : FrameLife) (t : TallyOf) : Type 0 where
   pub moves : List Move
   pub replayed : Replayed left left' held moves l total

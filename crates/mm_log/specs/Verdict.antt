@@ -1,4 +1,5 @@
 -- What a check of a log says.
+-- Profile, "Logs of moves".
 use Rattle.std.specs.Prelude.{◌≡◌, ◌⊎◌, ℕ, ◌+◌, ◌<◌, ◌≤◌, false, List, [], ◌∷◌, ◌++◌, length, Option, Some, None}
 use Rattle.mm_types.specs.Outside.{Took, IsEnd, Appended}
 use Rattle.mm_types.specs.Spelling.{Text}
@@ -27,7 +28,7 @@ abbrev pub StuckBefore : Option Text → FrameLife → Text → Type 0
 StuckBefore None l bytes = Unit {0}
 StuckBefore (Some more) l bytes = IsStuck l (bytes ++ more)
 
--- Behind the moves of whole lines, which lead to this state, stand these bytes; so many were taken in all.
+-- After the moves of whole lines, which lead to this state, stand these bytes; so many were taken in all.
 abbrev pub EndsAt : Ending → Option Text → List Move → FrameLife → Text → ℕ → Type 0
 EndsAt ending.Yes left moves l held total = (held ≡ []) × IsEnd left × (total ≤ most_bytes)
 EndsAt (ending.No line) left moves l held total = (line ≡ length moves + 1) × StuckBefore left l held × (total ≤ most_bytes)
@@ -35,7 +36,7 @@ EndsAt ending.TooLong left moves l held total = most_bytes < total
 EndsAt ending.ReadFault left moves l held total = Unit {0}
 EndsAt ending.NoMemory left moves l held total = Unit {0}
 
--- Bytes were taken: the lines of moves that replay, and those behind them that are held.
+-- Bytes were taken: the lines of moves that replay, and those after them that are held.
 pub record Replayed (left left' : Option Text) (held : Text) (moves : List Move) (l : FrameLife) (total : ℕ) : Type 0 where
   pub taken : Text
   pub took : Took left left' taken

@@ -87,7 +87,7 @@ impl Checker {
     }
 
     #[tactic(auto, using(crate::proofs::Stories::stories))]
-    /// Reads and takes the next line, behind n lines and `total` bytes; answers how many bytes were taken then.
+    /// Reads and takes the next line, after n lines and `total` bytes; answers how many bytes were taken then.
     fn next_line<S: Source>(
         &mut self,
         held: &mut Held,
@@ -130,7 +130,7 @@ fn held_len(held: &Held) -> usize
     held.bytes().len()
 }
 
-/// The end of a log, behind n whole lines: nothing may be left.
+/// The end of a log, after n whole lines: nothing may be left.
 fn last_line(held: &Held, n: u64) -> Ending
     requires { n + 1 < 2 ^ 63 }
     ensures whole { held.now ≡ [] → result ≡ Ending.Yes }

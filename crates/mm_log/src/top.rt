@@ -19,7 +19,7 @@ use mm_moves::read_key;
 use mm_types::{Failed, Key};
 use std::alloc::Global;
 
-/// The status of a run in which a write to `out` failed, or the flush behind it.
+/// The status of a run in which a write to `out` failed, or the flush after it.
 const OUT_FAULT: u8 = 5;
 
 /// Whether a word is this text.

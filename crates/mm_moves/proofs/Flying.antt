@@ -7,7 +7,7 @@ use Rattle.mm_lists.specs.Lists.{ListsOf, IsOnNone, IsOnOne, list_at, number_at,
 use Rattle.mm_lists.proofs.Cuts.{without_other}
 use Rattle.mm_lists.proofs.Standing.{list_within}
 use Rattle.mm_moves.specs.Flying.{no_requests, flight_of, IsOne, AreFlagged}
-use Rattle.mm_moves.proofs.Members.{without_removes, list-without, push_found, push_keeps, push_new}
+use Rattle.mm_lists.proofs.Members.{without_removes, list-without, push_found, push_keeps, push_new}
 
 none_requested : (j k g : ℕ) → number_at no_requests.lists j k ≡ Some g → ⊥
 none_requested zero k g e = let bad : None ≡ Some g = e in cc

@@ -99,7 +99,7 @@ exact_failed a text e some = record {
   whole = λ h. let bad : true ≡ false = sym e ∙ h in cc;
 }
 
--- ---- two pieces, one behind the other
+-- ---- two pieces, one after the other
 
 cut_before : (a b c : Option (List ℕ)) (s t : List ℕ) (failed : Bool) → IsCut a b s → Told b c t true failed → IsCut a c (s ++ t)
 cut_before None None None s t failed cut told = tt

@@ -8,11 +8,7 @@ pub mod Slotting
 pub mod Holding
 pub mod Flags
 pub mod Lines
-pub mod Members
 pub mod Fresh
 pub mod Placing
-pub mod Owners
-pub mod Places
-pub mod Sharing
 pub mod Soundness
 pub mod Flying

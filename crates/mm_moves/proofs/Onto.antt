@@ -1,4 +1,4 @@
--- What is written in front of what comes behind it.
+-- What is written in front of what comes after it.
 use Rattle.std.proofs.Common.{◌≡◌, ℕ, zero, suc, ◌+◌, ◌/◌, ◌%◌, ◌≤◌, Bool, true, false, cond, List, [], ◌∷◌, ◌++◌, length, refl, sym, ap, ◌∙◌, arith, append_assoc, length-append}
 use Rattle.std.specs.Prelude.{nat_lt}
 use Rattle.mm_types.specs.Spelling.{Text, glyph, decimal, decimal_onto}

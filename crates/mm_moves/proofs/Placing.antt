@@ -2,10 +2,11 @@
 use Rattle.std.proofs.Common.{◌≡◌, ◌≢◌, ◌⊎◌, ℕ, zero, suc, ◌<◌, ◌≤◌, Bool, true, false, cond, List, [], ◌∷◌, ◌++◌, length, set, map, drop, Option, Some, None, refl, sym, ap, ◌∙◌, inl, inr, arith, length-set, get_or-set_same, get_or-set_other}
 use Rattle.std.specs.Prelude.{◌-◌, slice_get, ◌==◌, ◌&&◌, ◌||◌, not, nat_lt, is_some, if◌then◌else◌}
 use Rattle.std.specs.Cmp.{unsigned_Decides}
-use Rattle.std.proofs.lemmas.Bool.{and_parts}
+use Rattle.std.proofs.lemmas.Bool.{and_parts, not-true}
 use Rattle.std.proofs.lemmas.List.{get_or_past}
 use Rattle.mm_types.specs.declared.numbers.Key.{Key}
 use Rattle.mm_types.specs.declared.frames.Record.{Record}
+use Rattle.mm_types.proofs.Booleans.{not_true, or_right}
 use Rattle.mm_types.proofs.Cells.{same_or_not}
 use Rattle.mm_types.proofs.Tables.{differ}
 use Rattle.mm_life.specs.Frames.{blank, is_idle, has_request, is_read, is_first, is_empty, is_on, rest, off_lists}
@@ -13,7 +14,7 @@ use Rattle.mm_lists.specs.Lists.{ListsOf, IsOnOne, list_at, number_at, with_list
 use Rattle.mm_lists.proofs.Cuts.{without_other}
 use Rattle.mm_moves.specs.Listed.{AreFour, table_of, first_taken, put_behind, record_of, belongs, is_owned, is_changed_page, Kept, Off}
 use Rattle.mm_moves.specs.Sound.{Listed, IsEmptyFrame}
-use Rattle.mm_moves.proofs.Members.{Removes, pop_removes, without_removes, list-without, push_found, push_keeps, push_new}
+use Rattle.mm_lists.proofs.Members.{Removes, pop_removes, without_removes, list-without, push_found, push_keeps, push_new}
 
 -- ---- where a record belongs
 
@@ -252,14 +253,10 @@ pub empty_some : (x : ℕ) (xs : List ℕ) → slice_get xs 0 ≡ Some x → is_
 empty_some x [] e = let bad : None ≡ Some x = e in cc
 empty_some x (y ∷ xs) e = refl
 
-on_there : (f k : ℕ) (xs : List ℕ) → slice_get xs k ≡ Some f → is_on f xs ≡ true
+pub on_there : (f k : ℕ) (xs : List ℕ) → slice_get xs k ≡ Some f → is_on f xs ≡ true
 on_there f k [] e = let bad : None ≡ Some f = e in cc
 on_there f zero (x ∷ xs) e = let s : x ≡ f = cc in ap (λ (b : Bool). b || is_on f xs) ((unsigned_Decides x f).1 s)
-on_there f (suc k) (x ∷ xs) e = or_true (x == f) (is_on f xs) (on_there f k xs e)
-  where
-    or_true : (a b : Bool) → b ≡ true → (a || b) ≡ true
-    or_true true b e = refl
-    or_true false b e = e
+on_there f (suc k) (x ∷ xs) e = or_right (x == f) (is_on f xs) (on_there f k xs e)
 
 found : (f : ℕ) (xs : List ℕ) → is_on f xs ≡ true → (k : ℕ) × (slice_get xs k ≡ Some f)
 found f [] e = let bad : false ≡ true = e in cc
@@ -281,10 +278,6 @@ at_three true true false e = let bad : false ≡ true = e in cc
 at_three true false c e = let bad : false ≡ true = e in cc
 at_three false o c e = let bad : false ≡ true = e in cc
 
-not_yes : (b : Bool) → (b ≡ true → ⊥) → b ≡ false
-not_yes true h = absurd (h refl)
-not_yes false h = refl
-
 module _ (records : List Record) (v : ListsOf) (f : ℕ) (k : Kept records v) where
   modified_true : is_some (record_of records f).owner ≡ true → is_idle (record_of records f) ≡ true → (record_of records f).changed ≡ true → is_on f (list_at v.lists 3) ≡ true
   modified_true owned idle changed =
@@ -299,7 +292,7 @@ module _ (records : List Record) (v : ListsOf) (f : ℕ) (k : Kept records v) wh
         let h = found f (list_at v.lists 3) e in
         let yes = at_three (is_idle (record_of records f)) (is_some (record_of records f).owner) (record_of records f).changed (k.listed 3 h.0 f h.1) in
         sym (ap (λ (x : Bool). (x && idle) && changed) (sym a) ∙ ap (λ (y : Bool). (is_some (record_of records f).owner && y) && changed) (sym b) ∙ ap (λ (z : Bool). (is_some (record_of records f).owner && is_idle (record_of records f)) && z) (sym c) ∙ yes)
-    | false ↦ λ e. sym (not_yes ((owned && idle) && changed) (λ yes.
+    | false ↦ λ e. sym (not_true ((owned && idle) && changed) (λ yes.
         let p = and_parts (owned && idle) changed yes in
         let q = and_parts owned idle p.0 in
         let bad : true ≡ false = sym (modified_true (a ∙ q.0) (b ∙ q.1) (c ∙ p.1)) ∙ e in cc))
@@ -314,11 +307,7 @@ pub idle_alone : (r : Record) → is_idle r ≡ true → r.shares ≡ 0
 idle_alone r e = (unsigned_Decides r.shares 0).0 (and_parts (r.shares == 0) (not (has_request r.request)) e).0
 
 pub idle_quiet : (r : Record) → is_idle r ≡ true → has_request r.request ≡ false
-idle_quiet r e = not_so (has_request r.request) (and_parts (r.shares == 0) (not (has_request r.request)) e).1
-  where
-    not_so : (b : Bool) → not b ≡ true → b ≡ false
-    not_so true e = let bad : false ≡ true = e in cc
-    not_so false e = refl
+idle_quiet r e = not-true (has_request r.request) (and_parts (r.shares == 0) (not (has_request r.request)) e).1
 
 nobody : (o : Option Key) → (is_some o ≡ true → ⊥) → o ≡ None
 nobody None h = refl

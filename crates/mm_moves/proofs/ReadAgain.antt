@@ -37,7 +37,7 @@ pub read_key-onto : (k : Key) (b : Text) → IsKey k → ends_number b ≡ true 
 read_key-onto (Private p v) b h e = rw (read_pid-decimal p.0 (46 ∷ (decimal v.0 ++ b)) h.0 refl, read_number-decimal v.0 b h.1 e)
 read_key-onto (Shared a i) b h e = rw (read_number-decimal a.0 (46 ∷ (decimal i ++ b)) h.0 refl, read_number-decimal i b h.1 e)
 
--- the same with anything behind that does not begin with a digit
+-- the same with anything after that does not begin with a digit
 read_kind-onto : (k : LineKind) (b : Text) → IsKind k → ends_number b ≡ true → read_kind (kind_onto k b) ≡ Some (k, b)
 read_kind-onto (kind.Machine frames slots depth blocks) b h e =
     rw (
@@ -98,7 +98,7 @@ read_text-onto (move.Lost f) b h e = rw (read_number-decimal f.0 b h e)
 pub read_text-spelled : (m : Move) → IsMove m → read_text (move_text m) ≡ Some (m, [])
 read_text-spelled m h = read_text-onto m [] h refl
 
--- what was read, and what stands behind it
+-- what was read, and what stands after it
 abbrev pub value_of : {A : Type 0} → Option (A × Text) → Option A
 value_of None = None
 value_of (Some p) = Some p.0

@@ -1,6 +1,6 @@
--- What is read stands in the text: its spelling, in front of the text that is given behind it.
-use Rattle.std.proofs.Common.{◌≡◌, ◌==◌, ◌⊎◌, length, ℕ, ◌+◌, ◌-◌, ◌*◌, ◌/◌, ◌%◌, ◌^◌, ◌≤◌, ◌<◌, Bool, true, false, cond, [], ◌∷◌, ◌++◌, codes, Option, Some, None, refl, sym, ap, ◌∙◌, subst, inl, inr, arith, append_assoc, nat_le, nat_lt}
-use Rattle.std.proofs.lemmas.Bool.{lt-ltb, le-ltb, cases_lt, le-leb, lt-leb, and_from, and_left, and_right, eqb-true, ltb-true}
+-- What is read stands in the text: its spelling, in front of the text that is given after it.
+use Rattle.std.proofs.Common.{◌≡◌, ◌==◌, ◌⊎◌, length, ℕ, ◌+◌, ◌-◌, ◌*◌, ◌%◌, ◌^◌, ◌≤◌, ◌<◌, Bool, true, false, cond, [], ◌∷◌, ◌++◌, codes, Option, Some, None, refl, sym, ap, ◌∙◌, subst, inl, inr, arith, append_assoc, nat_le, nat_lt}
+use Rattle.std.proofs.lemmas.Bool.{lt-ltb, le-ltb, cases_lt, lt-leb, and_left, and_right, eqb-true, ltb-true}
 use Rattle.mm_types.specs.Spelling.{Text, glyph, decimal}
 use Rattle.mm_types.specs.declared.numbers.Pid.{Pid}
 use Rattle.mm_types.specs.declared.numbers.Frame.{Frame}
@@ -12,12 +12,12 @@ use Rattle.mm_types.specs.declared.moves.LineKind.TheVariants as kind
 use Rattle.mm_types.specs.declared.moves.Stored.TheVariants as stored
 use Rattle.mm_types.specs.declared.moves.Move.{Move}
 use Rattle.mm_types.specs.declared.moves.Move.TheVariants as move
-use Rattle.mm_life.specs.MoveText.{numbered, place_onto, key_onto, kind_onto, stored_onto, home_onto, move_onto, move_text, IsKey, IsPlace, IsKind, IsStored, IsBlock, IsMove}
+use Rattle.mm_life.specs.MoveText.{numbered, place_onto, key_onto, kind_onto, move_onto, IsKey, IsPlace, IsKind, IsMove}
 use Rattle.mm_moves.specs.Reading.{pid, vpn, area, frame, slot, block, place, reading, past, past_or, strip, number_from, below, is_digit, led_by, read_number, small, read_pid, number_behind, read_place, read_private, read_shared, read_key, read_frame, read_machine, read_process, read_unbind, read_access, read_thread, read_trim, read_grow, read_plain_kind, read_kind, kind_behind, read_at, home_behind, read_add, read_drop, key_behind, read_give, read_read, place_behind, read_map, read_unmap, stored_behind, read_write, read_clear, read_steal, read_got, read_bad, read_soil, read_wrote, read_lost, read_end, read_taking, read_text}
 use Rattle.mm_moves.proofs.Numbers.{number_digit, number_grows, is_digit-true}
 use Rattle.mm_moves.proofs.Written.{decimal_one, decimal_more}
 
--- a value that was read is spelled in front of the text behind it, and is one of those that are asked for
+-- a value that was read is spelled in front of the text after it, and is one of those that are asked for
 abbrev pub Sounds : {A : Type 0} → (A → Text → Text) → (A → Type 0) → Text → Option (A × Text) → Type 0
 Sounds onto Is text None = Unit {0}
 Sounds onto Is text (Some p) = (onto p.0 p.1 ≡ text) × Is p.0
@@ -37,7 +37,7 @@ strips [] text = refl
 strips (w ∷ ws) [] = tt
 strips (w ∷ ws) (c ∷ cs) = if_same (c == w) w c ws cs (strip ws cs) (eqb-true c w) (strips ws cs)
 
--- ---- readings one behind the other
+-- ---- readings one after the other
 
 then_reads : {A X : Type 0} (onto : A → Text → Text) (Is : A → Type 0) (onto_x : X → Text → Text) (IsX : X → Type 0) (inner outer : Text) (r : Option (A × Text)) (go : A → Text → Option (X × Text))
     → Sounds onto Is inner r → ((a : A) (rest : Text) → onto a rest ≡ inner → Is a → Sounds onto_x IsX outer (go a rest)) → Sounds onto_x IsX outer (reading r go)
@@ -364,7 +364,7 @@ text_sound text =
     (move_or (codes "drop ") text read_drop _ (λ rest e. then_reads key_onto IsKey move_onto IsMove rest text (read_key rest) (λ k last. Some (move.Drop k, last)) (key_sound rest) (λ k last g h. (ap (λ x. codes "drop " ++ x) g ∙ e, h)))
     (taking_sound text)))))
 
--- what was read with nothing behind it
+-- what was read with nothing after it
 pub all_read : {A : Type 0} (onto : A → Text → Text) (Is : A → Type 0) (text rest : Text) (r : Option (A × Text)) (a : A) → Sounds onto Is text r → Some (a, rest) ≡ r → rest ≡ [] → (onto a [] ≡ text) × Is a
 all_read onto Is text rest None a sound e none = cc
 all_read onto Is text rest (Some p) a sound e none =

@@ -1,7 +1,6 @@
 -- The digits of a number, the last apart from those before it.
 use Rattle.std.proofs.Common.{◌≡◌, ℕ, zero, suc, ◌+◌, ◌/◌, ◌%◌, ◌^◌, ◌≤◌, ◌<◌, [], ◌∷◌, ◌++◌, sym, ap, ◌∙◌, inl, inr, arith, append_assoc, length-append}
 use Rattle.std.proofs.lemmas.Bool.{cases_lt}
-use Rattle.std.proofs.lemmas.Nat.{div_below, mod_below}
 use Rattle.std.proofs.Math.Nat.{mod-eq_of_lt}
 use Rattle.mm_types.specs.Spelling.{Text, glyph, decimal, decimal_onto}
 use Rattle.mm_moves.proofs.Numbers.{step_last, step_more, below_power, onto_append}

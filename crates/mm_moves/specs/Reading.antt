@@ -1,4 +1,5 @@
--- A reader of a move's text: each reading gives a value and the text behind its spelling, which stood in front.
+-- A reader of a move's text: each reading gives a value and the text after its spelling, which stood in front.
+-- Profile, "Logs of moves".
 use Rattle.std.specs.Prelude.{ℕ, ◌+◌, ◌-◌, ◌*◌, ◌^◌, Bool, ◌==◌, ◌&&◌, nat_le, nat_lt, if◌then◌else◌, [], ◌∷◌, codes, Option, Some, None}
 use Rattle.mm_types.specs.Spelling.{Text}
 use Rattle.mm_types.specs.declared.numbers.Pid.{Pid}
@@ -37,7 +38,7 @@ block n = record { 0 = n }
 abbrev pub place : Pid → ℕ → Place
 place p v = record { pid = p; vpn = vpn v }
 
--- ---- what a reader gives: a value, and the text behind it
+-- ---- what a reader gives: a value, and the text after it
 
 abbrev pub reading : {A X : Type 0} → Option (A × Text) → (A → Text → Option X) → Option X
 reading None go = None
@@ -51,7 +52,7 @@ abbrev pub past_or : {X : Type 0} → Option Text → (Text → Option X) → Op
 past_or None go other = other
 past_or (Some text) go other = go text
 
--- what stands behind a word, where the text begins with it
+-- what stands after a word, where the text begins with it
 abbrev pub strip : Text → Text → Option Text
 strip [] text = Some text
 strip (w ∷ ws) [] = None
@@ -150,7 +151,7 @@ read_kind text =
     (past_or (strip (codes "process ") text) read_process
     (read_plain_kind text)))))
 
--- ---- moves, from what stands behind their first word
+-- ---- moves, from what stands after their first word
 
 abbrev pub kind_behind : ℕ → Text → Option (Move × Text)
 kind_behind n text = past (strip (codes " ") text) (λ behind. reading (read_kind behind) (λ k last. Some (move.At n k, last)))

@@ -1,4 +1,5 @@
 -- When a recorder of moves has failed.
+-- Profile, "Logs of moves".
 use Rattle.std.specs.Prelude.{◌≡◌, ◌+◌, ◌<◌, Bool, true, false, length, Option, Some, None}
 use Rattle.mm_types.specs.Spelling.{Text}
 use Rattle.mm_types.specs.Outside.{Appended}
@@ -13,7 +14,7 @@ IsCut (Some a) None text = ⊥
 IsCut (Some a) (Some b) text = length b < length a + length text
 
 -- The log has failed exactly where it had before, or the sink failed in this text: where the bytes are told, exactly
--- where not all of the text came behind them.
+-- where not all of the text came after them.
 pub record FailsExactly (old new : Log) (text : Text) : Type 0 where
   pub cut : new.failed ≡ true → IsCut old.bytes new.bytes text
   pub fresh : new.failed ≡ false → old.failed ≡ false

@@ -1,4 +1,5 @@
 -- The state of a replay, as the running check has it.
+-- Profile, "Logs of moves".
 use Rattle.std.specs.Prelude.{ℕ, Bool, false, List, slice_index_or}
 use Rattle.mm_life.specs.Life.{FrameLife}
 use Rattle.mm_moves.specs.declared.states.State.{State}

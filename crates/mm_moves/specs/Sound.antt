@@ -1,6 +1,6 @@
--- What holds wherever moves lead: frames and keys agree on who is where, a frame has a share for each valid place,
--- and the frames in flight have a request.
-use Rattle.std.specs.Prelude.{◌≡◌, ℕ, ◌<◌, ◌≤◌, true, false, List, [], ◌∷◌, length, Option, Some, None, slice_get}
+-- What a move has to know of the state before it: frames and keys agree on who is where, a frame with a valid place has a
+-- share, and the frames in flight have a request.
+use Rattle.std.specs.Prelude.{◌≡◌, ℕ, ◌<◌, ◌≤◌, true, false, List, length, Option, Some, None, slice_get}
 use Rattle.mm_types.specs.declared.numbers.Frame.{Frame}
 use Rattle.mm_types.specs.declared.numbers.Key.{Key}
 use Rattle.mm_types.specs.declared.numbers.Place.{Place}
@@ -8,7 +8,7 @@ use Rattle.mm_types.specs.declared.frames.Record.{Record}
 use Rattle.mm_types.specs.declared.frames.Held.{Held}
 use Rattle.mm_types.specs.declared.frames.Held.TheVariants as held
 use Rattle.mm_life.specs.Frames.{FrameTable, record_at, is_first, is_on, is_idle, has_request}
-use Rattle.mm_life.specs.Life.{FrameLife, same_place}
+use Rattle.mm_life.specs.Life.{FrameLife}
 use Rattle.mm_moves.specs.Listed.{record_of, is_owned}
 
 abbrev pub frame : ℕ → Frame
@@ -36,30 +36,10 @@ pub record Owned (owner : ℕ → Option Key) (stands : Key → Held) : Type 0 w
   pub there : (f : ℕ) (k : Key) → owner f ≡ Some k → stands k ≡ held.Frame (frame f)
   pub back : (k : Key) (f : Frame) → stands k ≡ held.Frame f → owner f.0 ≡ Some k
 
--- ---- places
-
--- the place is none of these
-abbrev pub IsNone : Place → List Place → Type 0
-IsNone p [] = Unit {0}
-IsNone p (q ∷ qs) = (same_place q p ≡ false) × IsNone p qs
-
-abbrev pub Differ : List Place → Type 0
-Differ [] = Unit {0}
-Differ (p ∷ ps) = IsNone p ps × Differ ps
-
-abbrev pub ValidFor : (Place → Option Frame) → ℕ → List Place → Type 0
-ValidFor valid f [] = Unit {0}
-ValidFor valid f (p ∷ ps) = (valid p ≡ Some (frame f)) × ValidFor valid f ps
-
--- a frame has at least as many shares as places are valid for it
-abbrev pub Counted : (ℕ → ℕ) → (Place → Option Frame) → Type 0
-Counted shares valid = (f : ℕ) (ps : List Place) → Differ ps → ValidFor valid f ps → length ps ≤ shares f
+-- ---- a state
 
 abbrev pub owner_in : FrameTable → ℕ → Option Key
 owner_in d f = (record_at d f).owner
-
-abbrev pub shares_in : FrameTable → ℕ → ℕ
-shares_in d f = (record_at d f).shares
 
 -- each frame in the list has a request
 abbrev pub Requested : List Record → List ℕ → Type 0
@@ -68,5 +48,5 @@ Requested records flight = (k f : ℕ) → slice_get flight k ≡ Some f → has
 pub record Sound (l : FrameLife) : Type 0 where
   pub sized : length l.frames.records ≡ l.machine.frames
   pub owned : Owned (owner_in l.frames) l.stands
-  pub counted : Counted (shares_in l.frames) l.valid
+  pub shared : (p : Place) (f : Frame) → l.valid p ≡ Some f → 1 ≤ (record_at l.frames f.0).shares
   pub requested : Requested l.frames.records l.flight

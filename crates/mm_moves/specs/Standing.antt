@@ -1,4 +1,5 @@
 -- The state of a replay that a running check stands at.
+-- Profile, "Logs of moves".
 use Rattle.mm_life.specs.Life.{FrameLife}
 use Rattle.mm_moves.specs.declared.lives.Life.{Life}
 use Rattle.mm_moves.specs.Replaying.{life as state_life}

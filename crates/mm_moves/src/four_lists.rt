@@ -88,7 +88,7 @@ impl FourLists {
         }
     }
 
-    /// Puts `x`, which is on no list, behind the last number of the list.
+    /// Puts `x`, which is on no list, after the last number of the list.
     pub(crate) fn push_back(&mut self, list: u32, x: u32)
         requires inside { list < 4 }
         requires below { x < self.old.numbers }

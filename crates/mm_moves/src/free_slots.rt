@@ -80,7 +80,7 @@ impl SlotTree {
         }
     }
 
-    /// `n` free slots behind the present ones, with memory that was reserved.
+    /// `n` free slots after the present ones, with memory that was reserved.
     fn grow(&mut self, n: u32)
         requires spare { n ≤ self.old.spare }
         requires small { length self.old.free + n < 2 ^ 32 }

@@ -1,4 +1,4 @@
-ghost use Rattle.std.specs.Prelude.{◌≡◌, ◌+◌, ◌-◌, ◌<◌, ◌≤◌, ◌==◌, true, false, [], ◌∷◌, ◌++◌, replicate, length, OnOk, OnErr, IfOk, Some, None, slice_set, slice_index_or};
+ghost use Rattle.std.specs.Prelude.{◌≡◌, ◌+◌, ◌-◌, ◌<◌, ◌≤◌, ◌==◌, true, false, [], ◌∷◌, ◌++◌, replicate, length, OnOk, OnErr, IfOk, IfNone, Some, None, slice_set, slice_index_or};
 ghost use Rattle.mm_types.specs.declared.frames.Held.TheVariants as held;
 ghost use Rattle.mm_life.specs.Life.{changed, same_key, same_place, is_dead};
 
@@ -85,11 +85,10 @@ impl Keys {
         ensures stands { stands_in self.new ≡ changed same_key (stands_in self.old) key held }
         ensures paging { paging_in self.new ≡ paging_in self.old }
     {
-        let paging = self.is_paging(key);
-        match self.map.insert(key, Alive { held, paging }) {
-            Ok(_) => {}
-            Err(_) => unreachable!(),
-        }
+        let Some(alive) = self.map.get_mut(&key) else {
+            unreachable!()
+        };
+        alive.held = held;
     }
 
     /// A key is not live from now on.
@@ -134,11 +133,13 @@ impl Places {
         Ok(())
     }
 
-    /// The place is not valid from now on.
-    pub(crate) fn remove(&mut self, place: Place)
-        ensures { frames_in self.new ≡ changed same_place (frames_in self.old) place None }
+    /// The place is not valid from now on. Answers the frame that it was valid for, if any.
+    pub(crate) fn remove(&mut self, place: Place) -> Option<Frame>
+        ensures value { result ≡ frames_in self.old place }
+        ensures removed { frames_in self.new ≡ changed same_place (frames_in self.old) place None }
+        ensures same { IfNone result (frames_in self.new ≡ frames_in self.old) }
     {
-        let _ = self.map.remove(&place);
+        self.map.remove(&place)
     }
 }
 

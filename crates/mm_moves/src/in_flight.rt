@@ -66,7 +66,7 @@ impl RequestList {
         }
     }
 
-    /// Puts `x`, which is not on the list, behind the last number.
+    /// Puts `x`, which is not on the list, after the last number.
     fn push_back(&mut self, x: u32)
         requires below { x < self.old.numbers }
         requires on_none { IsOnNone self.old.lists x }

@@ -4,7 +4,7 @@ ghost use Rattle.mm_life.specs.Legal.{is_legal, IsLegal};
 ghost use Rattle.mm_life.specs.Effect.{after_move};
 ghost use Rattle.mm_life.specs.Located.{held_at};
 ghost use Rattle.mm_moves.specs.Replaying.{life as life_of};
-ghost use Rattle.mm_moves.specs.Sound.{Sound};
+ghost use Rattle.mm_laws.specs.Reached.{Reached};
 
 use crate::conditions::is_legal;
 use crate::states::State;
@@ -24,7 +24,7 @@ pub enum ApplyFault {
 #[derive(Drop)]
 pub struct Life {
     state: State,
-    ghost sound: { Sound (life_of state) },
+    ghost reached: { ∥ Reached (life_of state) ∥₁ },
 }
 
 impl Life {

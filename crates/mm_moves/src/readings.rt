@@ -6,7 +6,7 @@ ghost use Rattle.mm_moves.specs.Reading.{strip, number_from, below, read_number,
 
 use mm_types::{Area, Block, Frame, Key, LineKind, Move, Pid, Place, Slot, Stored, Vpn};
 
-/// What stands behind a word, where the text begins with it.
+/// What stands after a word, where the text begins with it.
 fn behind<'a>(text: &'a [u8], word: &[u8]) -> Option<&'a [u8]>
     ensures { option_map (λ x. x.now) result ≡ strip word.now text.now }
 {
@@ -44,7 +44,7 @@ fn digits(first: u8, text: &[u8]) -> Option<(u32, &[u8])>
     Some((sum as u32, rest))
 }
 
-/// The number below 2^32 in front of a text, and what stands behind it. No zero stands in front of another digit.
+/// The number below 2^32 in front of a text, and what stands after it. No zero stands in front of another digit.
 fn number(text: &[u8]) -> Option<(u32, &[u8])>
     ensures { option_map (λ p. (p.0, p.1.now)) result ≡ read_number text.now }
 {
@@ -62,7 +62,7 @@ fn number(text: &[u8]) -> Option<(u32, &[u8])>
     }
 }
 
-/// The number behind a word.
+/// The number after a word.
 fn number_behind<'a>(text: &'a [u8], word: &[u8]) -> Option<(u32, &'a [u8])>
     ensures { option_map (λ p. (p.0, p.1.now)) result ≡ number_behind word.now text.now }
 {
@@ -112,7 +112,7 @@ fn shared_key(text: &[u8]) -> Option<(Key, &[u8])>
     Some((Key::Shared(Area(area), index), last))
 }
 
-/// The key in front of a text, and what stands behind it.
+/// The key in front of a text, and what stands after it.
 fn key(text: &[u8]) -> Option<(Key, &[u8])>
     ensures { option_map (λ p. (p.0, p.1.now)) result ≡ read_key text.now }
 {
@@ -303,7 +303,7 @@ fn taking_move(text: &[u8]) -> Option<(Move, &[u8])>
     end_move(text)
 }
 
-/// The move in front of a text, and what stands behind it.
+/// The move in front of a text, and what stands after it.
 fn move_in_front(text: &[u8]) -> Option<(Move, &[u8])>
     ensures { option_map (λ p. (p.0, p.1.now)) result ≡ read_text text.now }
 {

@@ -25,7 +25,7 @@ pub trait Moves {
         ensures in_range { IsMove m }
         ensures loans { loans self.new ≡ loans self.old };
 
-    /// Gives on the lines that were written. Where that fails the result alone says so: the bytes written stay,
+    /// Hands on the lines that were written. Where that fails the result alone says so: the bytes written stay,
     /// and so does whether a note failed.
     fn flush(&mut self) -> Result<(), Failed>
         ensures stays { log self.new ≡ record (log self.old) { faults = (log self.new).faults } }

@@ -414,10 +414,9 @@ impl State {
         requires { Sound (life self.old) }
         ensures { life self.new ≡ after_move (life self.old) (move.Unmap place) }
     {
-        match self.places.get(place) {
+        match self.places.remove(place) {
             Some(frame) => {
                 self.table.unmap(frame.0);
-                self.places.remove(place);
                 remove_resident(&mut self.sets, place.pid);
             }
             None => {}

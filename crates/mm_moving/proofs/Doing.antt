@@ -24,6 +24,7 @@ use Rattle.mm_pages.proofs.Passed.{waits_then, ages_then}
 use Rattle.mm_walks.specs.Walks.{Walk, walked, walked_all, waits_through, ages_through}
 use Rattle.mm_moving.specs.Shown.{StateOf, CalledFor, backing_of_frame, Made}
 use Rattle.mm_moving.specs.Doing.{Does, walk_of}
+use Rattle.mm_types.proofs.Bytes.{append_nil}
 
 -- ---- moves, one list behind another
 
@@ -125,10 +126,6 @@ does_called w ok x (backing.Block t) s z m c e g = record {
   files_are = sym g;
 }
 
-append-nil : {A : Type 0} (xs : List A) → xs ++ [] ≡ xs
-append-nil [] = refl
-append-nil (x ∷ xs) = ap (λ t. x ∷ t) (append-nil xs)
-
 pub does_one : (x : Move) (s z : StateOf) → Made x s z → Does (x ∷ []) s z
 does_one (move.At n k) s z m = does_quiet _ s z m m.calls.0 m.calls.1 refl refl
 does_one (move.Add k b) s z m = does_quiet _ s z m m.calls.0 m.calls.1 refl refl
@@ -137,14 +134,14 @@ does_one (move.Clear f) s z m = does_quiet _ s z m m.calls.0 m.calls.1 refl refl
 does_one (move.Steal f) s z m = does_quiet _ s z m m.calls.0 m.calls.1 refl refl
 does_one (move.Give f k) s z m = does_quiet _ s z m m.calls.0 m.calls.1 refl refl
 does_one (move.Read f k) s z m = does_quiet _ s z m m.calls.0 m.calls.1 refl refl
-does_one (move.Got f) s z m = does_called way.Read true _ (backing_of_frame s f) s z m m.calls (append-nil _) (append-nil _)
-does_one (move.Bad f) s z m = does_called way.Read false _ (backing_of_frame s f) s z m m.calls (append-nil _) (append-nil _)
+does_one (move.Got f) s z m = does_called way.Read true _ (backing_of_frame s f) s z m m.calls (append_nil _) (append_nil _)
+does_one (move.Bad f) s z m = does_called way.Read false _ (backing_of_frame s f) s z m m.calls (append_nil _) (append_nil _)
 does_one (move.Map f p) s z m = does_quiet _ s z m m.calls.0 m.calls.1 refl refl
 does_one (move.Unmap p) s z m = does_quiet _ s z m m.calls.0 m.calls.1 refl refl
 does_one (move.Soil f) s z m = does_quiet _ s z m m.calls.0 m.calls.1 refl refl
 does_one (move.Write f b) s z m = does_quiet _ s z m m.calls.0 m.calls.1 refl refl
-does_one (move.Wrote f) s z m = does_called way.Write true _ (backing_of_frame s f) s z m m.calls (append-nil _) (append-nil _)
-does_one (move.Lost f) s z m = does_called way.Write false _ (backing_of_frame s f) s z m m.calls (append-nil _) (append-nil _)
+does_one (move.Wrote f) s z m = does_called way.Write true _ (backing_of_frame s f) s z m m.calls (append_nil _) (append_nil _)
+does_one (move.Lost f) s z m = does_called way.Write false _ (backing_of_frame s f) s z m m.calls (append_nil _) (append_nil _)
 
 pub does_two : (x y : Move) (s t z : StateOf) → Made x s t → Made y t z → Does (x ∷ y ∷ []) s z
 does_two x y s t z p q = does_then (x ∷ []) (y ∷ []) s t z (does_one x s t p) (does_one y t z q)

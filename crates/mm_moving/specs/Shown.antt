@@ -1,4 +1,5 @@
 -- What a machine's joined state shows to the store of pages above it, and what its calls make of that.
+-- Profile, "Which frame moves, and when".
 use Rattle.std.specs.Prelude.{◌≡◌, ◌<◌, ◌⊎◌, ℕ, Bool, true, false, List, [], ◌∷◌, Option, Some, None}
 use Rattle.mm_types.specs.Outside.{Rose}
 use Rattle.mm_types.specs.declared.devices.Direction.{Direction}

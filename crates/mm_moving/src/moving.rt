@@ -24,6 +24,7 @@ ghost use Rattle.mm_frames.specs.Base.{modified_with_block};
 ghost use Rattle.mm_flight.specs.Requests.{nth_oldest, place_in};
 ghost use Rattle.mm_walks.specs.Chores.{all_aged};
 ghost use Rattle.mm_walks.specs.Waits.{Idle, ForFrame, wait_of};
+ghost use Rattle.mm_wset.specs.InOrder.{IsNextFrom};
 ghost use Rattle.mm_words.specs.Words.{changed_in, place_of};
 ghost use Rattle.mm_parts.specs.Moves.{front, front_for_read, own_after, own_ended, read_end, write_end, write_target, left_by, IsPlainLine, after_page};
 ghost use Rattle.mm_pages.specs.Reports.{with_named};
@@ -390,12 +391,6 @@ pub trait Moving {
         ensures first { option_map (λ f. f.0) result ≡ slice_get (shown self.now).life.frames.modified 0 }
         ensures there { IfSome result (λ f. f.0 < (shown self.now).life.machine.frames) };
 
-    /// The modified frame behind one; `None` exactly where that is the last.
-    fn next_modified(&self, f: Frame) -> Option<Frame>
-        requires { (k : ℕ) × (slice_get (shown self.now).life.frames.modified k ≡ Some f.0) }
-        ensures behind { (k : ℕ) → slice_get (shown self.now).life.frames.modified k ≡ Some f.0 → option_map (λ g. g.0) result ≡ slice_get (shown self.now).life.frames.modified (k + 1) }
-        ensures there { IfSome result (λ g. g.0 < (shown self.now).life.machine.frames) };
-
     /// How many modified frames have a block as backing. The others are written to slots.
     fn modified_with_block(&self) -> u32
         ensures { result ≡ length (modified_with_block (shown self.now).life.frames) };
@@ -404,12 +399,6 @@ pub trait Moving {
     fn front_modified_with_block(&self) -> Option<Frame>
         ensures first { option_map (λ f. f.0) result ≡ slice_get (modified_with_block (shown self.now).life.frames) 0 }
         ensures there { IfSome result (λ f. f.0 < (shown self.now).life.machine.frames) };
-
-    /// The next modified frame with a block behind one that has one; `None` exactly where that is the last of them.
-    fn next_modified_with_block(&self, f: Frame) -> Option<Frame>
-        requires { (k : ℕ) × (slice_get (modified_with_block (shown self.now).life.frames) k ≡ Some f.0) }
-        ensures behind { (k : ℕ) → slice_get (modified_with_block (shown self.now).life.frames) k ≡ Some f.0 → option_map (λ g. g.0) result ≡ slice_get (modified_with_block (shown self.now).life.frames) (k + 1) }
-        ensures there { IfSome result (λ g. g.0 < (shown self.now).life.machine.frames) };
 
     /// How many slots are free.
     fn free_slots(&self) -> u32
@@ -446,6 +435,11 @@ pub trait Moving {
         requires held { ForSome after (λ v. is_some ((shown self.now).life.valid (place_of pid v)) ≡ true) }
         ensures next { MatchOption result (NoneFollows (shown self.now).life (shown self.now).ages pid.0 (after_page pid after)) (λ v. IsNext (shown self.now).life (shown self.now).ages (after_page pid after) (place_of pid v)) };
 
+    /// The lowest valid page of an open process at `from` or above; none where there is none.
+    fn next_valid(&self, pid: Pid, from: Vpn) -> Option<Vpn>
+        requires { (shown self.now).is_open pid.0 ≡ true }
+        ensures { IsNextFrom (λ v. is_some ((shown self.now).life.valid (place_of pid (record { 0 = v })))) from.0 result };
+
     /// The frame of the i-th oldest request, counted from 1, the line's own among them. `None` comes at 0 and past the last.
     fn nth(&self, i: u32) -> Option<Frame>
         ensures { option_map (λ f. f.0) result ≡ nth_oldest i (shown self.now).life.flight };
@@ -462,7 +456,7 @@ pub trait Moving {
     fn moves_failed(&self) -> bool
         ensures { result ≡ (shown self.now).log.failed };
 
-    /// Gives on the moves that were noted. `Failed` comes only where the sink's count of faults rose; the moves stay noted then,
+    /// Hands on the moves that were noted. `Failed` comes only where the sink's count of faults rose; the moves stay noted then,
     /// and whether the sink has failed stays as it was.
     fn flush_moves(&mut self) -> Result<(), Failed>
         ensures rest { shown self.new ≡ record (shown self.old) { log = record ((shown self.old).log) { faults = (shown self.new).log.faults } } }

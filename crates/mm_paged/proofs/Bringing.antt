@@ -17,6 +17,7 @@ use Rattle.mm_moving.specs.Shown.{StateOf, SomeFault, called}
 use Rattle.mm_moving.specs.Doing.{Does}
 use Rattle.mm_paged.specs.Pieces.{Went, Stuck, Sought, Took, Missed, Begins, ReadsFor, Fails, Later}
 use Rattle.mm_paged.proofs.Doing.{sought_took, sought_missed}
+use Rattle.mm_blocks.proofs.Serving.{all_served_later}
 
 pub went_more : (a : Aim) (m n : ℕ) (s z : StateOf) → m ≤ n → Went a m s z → Went a n s z
 went_more a m n s z h w = record {
@@ -48,12 +49,8 @@ err_more (Err e) k s z h = λ a b. stuck_more a e 0 1 s z (omega arith) (h a b.n
 
 -- ---- faults of devices
 
-all_later : (cs : List Call) (a b : DeviceOf) → AllServed cs a b → a.faults ≤ b.faults
-all_later [] a b h = let e = ap (λ (d : DeviceOf). d.faults) h in omega (arith, e)
-all_later (x ∷ cs) a b h = let first = h.1.0.later in let more = all_later cs h.0 b h.1.1 in omega (arith, first, more)
-
 pub does_later : (ms : List Move) (s z : StateOf) → Does ms s z → Later s z
-does_later ms s z d = record { paging = all_later d.paging_calls s.paging z.paging d.paging; files = all_later d.file_calls s.files z.files d.files }
+does_later ms s z d = record { paging = all_served_later d.paging_calls s.paging z.paging d.paging; files = all_served_later d.file_calls s.files z.files d.files }
 
 pub fault_later : (s t z : StateOf) → Later s t → SomeFault t z → SomeFault s z
 fault_later s t z l (inl h) = inl (rose_later s.paging.faults t.paging.faults z.paging.faults l.paging h)
@@ -61,7 +58,7 @@ fault_later s t z l (inr h) = inr (rose_later s.files.faults t.files.faults z.fi
 
 -- ---- a page that is read
 
-absent : (l : FrameLife) (h : Held) → is_stored h ≡ true → is_had l h ≡ false
+pub absent : (l : FrameLife) (h : Held) → is_stored h ≡ true → is_had l h ≡ false
 absent l (held.Frame f) e = cc
 absent l (held.Slot t) e = refl
 absent l (held.Block b) e = refl

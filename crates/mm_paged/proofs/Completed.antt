@@ -47,6 +47,7 @@ use Rattle.mm_paged.proofs.Keeping.{blocks_kept, fetched_by}
 use Rattle.mm_paged.proofs.Serving.{InLine, served_by}
 use Rattle.mm_paged.proofs.Shows.{passes_of}
 use Rattle.mm_paged.proofs.Unmoved.{none_passes}
+use Rattle.mm_types.proofs.Naturals.{less}
 
 -- ---- the move with which a request ends
 
@@ -127,12 +128,9 @@ requested_low [] f h = cc
 requested_low (x ∷ xs) zero h = lt-ltb 0 (length (x ∷ xs)) (omega arith)
 requested_low (x ∷ xs) (suc f) h = let a = requested_low xs f h in grind (arith, a)
 
-low_of : (a b : ℕ) → nat_lt a b ≡ true → a < b
-low_of a b h = grind (arith, h)
-
 -- and is one of the machine's
 pub flight_low : (s : StateOf) (f : ℕ) → Holds s → has_request (record_at s.life.frames f).request ≡ true → f < s.life.machine.frames
-flight_low s f h e = low_of f s.life.machine.frames (∥∥₁_elim h.reached (hlevel props) (λ r.
+flight_low s f h e = less f s.life.machine.frames (∥∥₁_elim h.reached (hlevel props) (λ r.
     subst (λ (n : ℕ). nat_lt f n ≡ true) (reached_sound s.life r).framed (requested_low s.life.frames.records f e)))
 
 nth_back : (i n : ℕ) (xs : List ℕ) (o : Option ℕ) → 1 ≤ i → o ≡ nth_oldest i xs → slice_get xs (i - 1) ≡ o

@@ -14,7 +14,7 @@ use Rattle.mm_types.specs.declared.numbers.Place.{Place}
 use Rattle.mm_life.specs.Life.{FrameLife, changed, same_place, key_of_place, is_live, is_dead}
 use Rattle.mm_life.specs.Legal.{is_short, is_touch}
 use Rattle.mm_life.specs.Replay.{Replays}
-use Rattle.mm_laws.proofs.Owners.{key_or_not, changed_here, changed_else}
+use Rattle.mm_laws.proofs.Owners.{key_or_not, changed_here, changed_else, same_key-self}
 use Rattle.mm_laws.proofs.PlaceCounts.{same_place-true}
 use Rattle.mm_world.specs.World.{Page}
 use Rattle.mm_world.specs.Failure.{same_key as same_in_world, still_needs_frame, search_failed}
@@ -34,7 +34,7 @@ use Rattle.mm_paged.specs.Shown.{OwnOf, Kept, store_of, report_of, behind_of}
 use Rattle.mm_paged.proofs.Quiet.{calm_through}
 use Rattle.mm_paged.proofs.Ending.{in_line}
 use Rattle.mm_paged.proofs.Keeping.{block_same, blocks_kept, paging_has_none, dead_has_none, fetched_by}
-use Rattle.mm_paged.proofs.Reading.{framed_has, nothing_read, fails_not, short_counts, search_failed_by, same_again}
+use Rattle.mm_paged.proofs.Reading.{framed_has, nothing_read, fails_not, short_counts, search_failed_by}
 use Rattle.mm_paged.proofs.Serving.{served_by}
 use Rattle.mm_paged.proofs.Shows.{changed_keys, passes_of}
 
@@ -258,7 +258,7 @@ pub failed_ends_copy : (why : PageFault) (k : Key) (place : Place) (s z : StateO
 failed_ends_copy fault.Read k place s z o x g dead h b = record {
   ok = tt;
   had = tt;
-  read = λ e. ap (λ (r : Option Key). unwrap_or (option_map (same_in_world k) r) false) (h.read refl) ∙ same_again k;
+  read = λ e. ap (λ (r : Option Key). unwrap_or (option_map (same_in_world k) r) false) (h.read refl) ∙ same_key-self k;
   no_frame = λ e. cc;
 }
 failed_ends_copy fault.NoFrame k place s z o x g dead h b =

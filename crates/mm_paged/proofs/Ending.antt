@@ -31,6 +31,7 @@ use Rattle.mm_paged.proofs.Serving.{InLine, served_by}
 use Rattle.mm_life.specs.Legal.{is_thread}
 use Rattle.mm_pages.specs.Told.{Told}
 use Rattle.mm_paged.proofs.Quiet.{calm_through}
+use Rattle.mm_types.proofs.Options.{on_err}
 
 pub in_line : (a : Aim) (ms : List Move) (w : Walk) → Through (AccessMove a) w ms → InLine ms
 in_line a [] w h = tt
@@ -113,10 +114,6 @@ read_store k place s y z o u m h g e n r x b = ok_store false k place s y z o u 
 
 pub read_served : (k : Key) (place : Place) (s y z : StateOf) (o u : OwnOf) → Moves false k place s y → z ≡ record y { ages = changed same_place y.ages place 0 } → Served (store_of s o) (store_of z u)
 read_served k place s y z o u m r = ok_served false k place s y z o u y.contents m r
-
-pub on_err : {T E : Type 0} {P : Type 0} (r : Result T E) → P → OnErr r P
-on_err (Ok v) p = tt
-on_err (Err e) p = p
 
 pub some_is : {A : Type 0} (o : Option A) → IsSome o → is_some o ≡ true
 some_is (Some v) h = refl

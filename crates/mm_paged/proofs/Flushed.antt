@@ -56,11 +56,9 @@ use Rattle.mm_paged.proofs.Completed.{called_by_write}
 use Rattle.mm_paged.proofs.Keeping.{kept_same, kept_then, blocks_kept}
 use Rattle.mm_paged.proofs.Serving.{InLine, served_by}
 use Rattle.mm_paged.proofs.Shows.{passes_of}
+use Rattle.mm_types.proofs.Naturals.{same_number}
 
 -- ---- blocks
-
-same_self : (n : ℕ) → (n == n) ≡ true
-same_self n = (unsigned_Decides n n).1 refl
 
 -- a backing with this block
 block_is : (x : Backing) (n : ℕ) → block_at (in_backing x) ≡ Some n → x ≡ backing.Block (record { 0 = n })
@@ -260,7 +258,7 @@ quiet_frame s f h w c = ∥∥₁_elim h.reached (hlevel props) (λ r. no_reques
     let n = (((reached_sound s.life r).standing f.0).fit.reading e).1 in let bad : true ≡ false = sym c ∙ n in cc))
 
 is_its_block : (x : Backing) (b : Block) → x ≡ backing.Block b → is_block b.0 x ≡ true
-is_its_block x b e = ap (is_block b.0) e ∙ same_self b.0
+is_its_block x b e = ap (is_block b.0) e ∙ same_number b.0
 
 writes_in_call : (a b c d x y z : Bool) → a ≡ true → b ≡ true → c ≡ false → d ≡ true → z ≡ true → (a && b && not c && d && (x || y || z)) ≡ true
 writes_in_call true true false true true y z p q r s t = refl
@@ -317,7 +315,7 @@ own_done : (s y z : StateOf) (f : Frame) → s.own ≡ None → s.life.kind ≡ 
 own_done s y z f o k a e =
     e
     ∙ ap (λ (x : Option Frame). record (called y z) { own = own_ended x f.0 }) (ap (λ (x : StateOf). x.own) a ∙ ap (λ (x : LineKind). own_after x s.own f) k)
-    ∙ ap (λ (b : Bool). record (called y z) { own = if b then None else Some f }) (same_self f.0)
+    ∙ ap (λ (b : Bool). record (called y z) { own = if b then None else Some f }) (same_number f.0)
     ∙ ap (λ (x : StateOf). record (called x z) { own = None }) a
     ∙ ap (λ (x : Option Frame). record (called s z) { own = x }) (sym o)
 

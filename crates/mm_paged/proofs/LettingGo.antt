@@ -1,6 +1,6 @@
 -- Places that are let go, page by page, and keys that are no more.
 use Rattle.std.proofs.Common.{◌≡◌, ℕ, zero, suc, ◌+◌, ◌-◌, ◌^◌, ◌≤◌, ◌<◌, Bool, true, false, List, [], ◌∷◌, Option, Some, None, refl, sym, ap, ◌∙◌, subst, arith, inl, inr, ◌⊎◌}
-use Rattle.std.proofs.lemmas.Bool.{eqb-true}
+use Rattle.std.proofs.lemmas.Bool.{eqb-true, cases_lt}
 use Rattle.std.proofs.Math.Logic.{∥∥₁_elim}
 use Rattle.std.proofs.Props.{props}
 use Rattle.std.specs.Cmp.{unsigned_Decides}
@@ -18,6 +18,9 @@ use Rattle.mm_types.specs.declared.numbers.Key.TheVariants.{Private, Shared}
 use Rattle.mm_types.specs.declared.numbers.Pid.{Pid}
 use Rattle.mm_types.specs.declared.numbers.Vpn.{Vpn}
 use Rattle.mm_types.specs.declared.numbers.Place.{Place}
+use Rattle.mm_types.proofs.Booleans.{not_true}
+use Rattle.mm_types.proofs.Options.{none_of, some_found}
+use Rattle.mm_wset.specs.InOrder.{IsNextFrom, IsLowestFrom}
 use Rattle.mm_life.specs.Frames.{record_at}
 use Rattle.mm_life.specs.Life.{FrameLife, changed, same_key, same_place, set_of, key_of_place, is_shared, is_live, is_dead}
 use Rattle.mm_life.specs.Legal.{IsLegal, may_unmap, unbinds, trims, touches, is_above_min, is_at_max, is_access, is_touch, is_short, is_call, is_unbind, is_unmapped, owner_is, fits_place}
@@ -41,12 +44,13 @@ use Rattle.mm_pages.proofs.Passed.{ends_then, ends_more}
 use Rattle.mm_moving.specs.Shown.{StateOf, Made, moved, names_after_drop}
 use Rattle.mm_moving.specs.Holds.{Holds}
 use Rattle.mm_moving.proofs.Doing.{does_one, does_two}
-use Rattle.mm_paged.specs.Pieces.{LifeKept, Thins, LetsGo, LetGo, Still, Gone, OwnLetGo, MayLetGo, MayLetOwnGo}
+use Rattle.mm_paged.specs.Pieces.{LifeKept, Thins, LetsGo, LetGo, Still, Gone, OwnLetGo, MayLetGo, MayLetOwnGo, NextGone}
 use Rattle.mm_paged.specs.Shown.{OwnOf, store_of, report_of, behind_of}
 use Rattle.mm_paged.proofs.Unmoved.{turns_still, stands_nowhere}
 use Rattle.mm_paged.proofs.Keeping.{kept_same, kept_then, kept_unmap, blocks_kept, block_same, paging_has_none, dead_has_none}
 use Rattle.mm_paged.proofs.Placing.{unmapped_stands, unmapped_still}
 use Rattle.mm_paged.proofs.Shows.{passes_of, changed_keys}
+use Rattle.mm_reclaim.proofs.Chained.{moved_then}
 
 -- ---- one place
 
@@ -67,7 +71,7 @@ unmapped_less l p q f (Some g) e = at (same_place q p) e
     at true e = cc
     at false e = e
 
-unmapped_gone : (l : FrameLife) (p : Place) (o : Option Frame) → l.valid p ≡ o → (after_unmap_at o l p).valid p ≡ None
+pub unmapped_gone : (l : FrameLife) (p : Place) (o : Option Frame) → l.valid p ≡ o → (after_unmap_at o l p).valid p ≡ None
 unmapped_gone l p None e = e
 unmapped_gone l p (Some g) e = ap (λ (b : Bool). if b then None else l.valid p) (same_place-self p)
 
@@ -87,9 +91,6 @@ thins_unmap s z p m e = record {
 
 pub thins_none : (s : StateOf) → Thins s s
 thins_none s = record { life = kept_same s.life; stands = refl; valid = λ q f v. v; unmapped = λ q v. v; told = refl; waits = refl; same = refl }
-
-moved_then : (s y z : StateOf) → y ≡ moved s y → z ≡ moved y z → z ≡ moved s z
-moved_then s y z p q = q ∙ ap (λ (x : StateOf). moved x z) p
 
 pub thins_then : (s y z : StateOf) → Thins s y → Thins y z → Thins s z
 thins_then s y z p q = record {
@@ -128,10 +129,6 @@ pub invalid_of : (p : Place) (s z : StateOf) → LetGo p s z → z.life.valid p 
 invalid_of p s z (Still e v) = ap (λ (x : StateOf). x.life.valid p) e ∙ v
 invalid_of p s z (Gone m e) = gone_then s z p m
 
-pub lets_of : (p : Place) (s z : StateOf) → LetGo p s z → (held : Place → Bool) (from to : ℕ) → held p ≡ true → from ≤ p.vpn.0 → p.vpn.0 < to → LetsGo held from to s z
-lets_of p s z (Still e v) held from to h low high = subst (λ (x : StateOf). LetsGo held from to s x) (sym e) (lets_none s held from to)
-lets_of p s z (Gone m e) held from to h low high = lets_one s z p m e held from to h low high
-
 -- ---- pages of a range, one more at a time
 
 in_range : (range : Range) (page : ℕ) → range.first ≤ page → page < range.first + range.count → holds_page range page ≡ true
@@ -140,27 +137,64 @@ in_range range page l h = grind (arith, l, h)
 pub nth_in : (first n i : ℕ) → i < n → holds_page (record { first = first; count = n }) (first + i) ≡ true
 nth_in first n i h = in_range (record { first = first; count = n }) (first + i) (omega arith) (omega (arith, h))
 
-none_held : (first page : ℕ) → holds_page (record { first = first; count = 0 }) page ≡ true → ⊥
-none_held first page h = grind (arith, h)
+pub in_pages : (first n page : ℕ) → first ≤ page → page < first + n → holds_page (record { first = first; count = n }) page ≡ true
+in_pages first n page l h = in_range (record { first = first; count = n }) page l h
 
-last_or_before : (first i page : ℕ) → holds_page (record { first = first; count = i + 1 }) page ≡ true → (page ≡ first + i) ⊎ (holds_page (record { first = first; count = i }) page ≡ true)
-last_or_before first i page h = elim (nat_lt page (first + i)) as (λ b. nat_lt page (first + i) ≡ b → (page ≡ first + i) ⊎ (holds_page (record { first = first; count = i }) page ≡ true)) [
-  | true ↦ λ e. inr (grind (arith, h, e))
-  | false ↦ λ e. inl (grind (arith, h, e))
-] refl
+-- ---- the next valid page
+
+-- in a line that unbinds pages of its process a valid place can go
+pub may_legal : (s : StateOf) (p : Place) → is_some (s.life.valid p) ≡ true → MayLetGo p s → IsLegal (move.Unmap p) s.life
+may_legal s p h m = let f = some_found (s.life.valid p) h in unbind_legal s.life p f.0 f.1 (m f.0 f.1)
+
+not_valid : (s : StateOf) (p : Place) → (is_some (s.life.valid p) ≡ true → ⊥) → s.life.valid p ≡ None
+not_valid s p h = none_of (s.life.valid p) (not_true (is_some (s.life.valid p)) h)
+
+abbrev pub valid_in : StateOf → Pid → ℕ → Bool
+valid_in s pid page = is_some (s.life.valid (place_at pid page))
+
+still_next : (s : StateOf) (pid : Pid) (from end : ℕ) → from < end → ((w : ℕ) → valid_in s pid w ≡ true → from ≤ w → w < end → ⊥) → NextGone pid from end end s s
+still_next s pid from end h none = record {
+  more = h;
+  within = omega arith;
+  went = λ held e. lets_none s held from end;
+  thins = thins_none s;
+  invalid = λ page l g. not_valid s (place_at pid page) (λ v. none page v l g);
+}
+
+pub next_at : (has : ℕ → Bool) (from : ℕ) (r : Option Vpn) (v : Vpn) → r ≡ Some v → IsNextFrom has from r → IsLowestFrom has from v.0
+next_at has from r v e h = subst (λ (o : Option Vpn). IsNextFrom has from o) e h
+
+-- no page is valid from there on
+pub none_next : (s : StateOf) (pid : Pid) (from end : ℕ) (r : Option Vpn) → r ≡ None → from < end → IsNextFrom (valid_in s pid) from r → NextGone pid from end end s s
+none_next s pid from end None e h none = still_next s pid from end h (λ w v l g. none w v l)
+none_next s pid from end (Some w) e h next = cc
+
+-- the next one lies past the end
+pub past_next : (s : StateOf) (pid : Pid) (from end v : ℕ) → from < end → end ≤ v → IsLowestFrom (valid_in s pid) from v → NextGone pid from end end s s
+past_next s pid from end v h past next = still_next s pid from end h (λ w t l g. absurd (omega (arith, next.least w t l, past, g)))
+
+-- the next one is valid no more
+pub gone_next : (s z : StateOf) (pid : Pid) (from end v : ℕ) → v < end → IsLowestFrom (valid_in s pid) from v → Made (move.Unmap (place_at pid v)) s z → z ≡ moved s z → NextGone pid from end (v + 1) s z
+gone_next s z pid from end v h next m e = record {
+  more = omega (arith, next.low);
+  within = omega (arith, h);
+  went = λ held all. lets_one s z (place_at pid v) m e held from (v + 1) (all v next.low h) next.low (omega arith);
+  thins = thins_unmap s z (place_at pid v) m e;
+  invalid = λ page l g. elim (cases_lt page v) [
+    | inl less ↦ (thins_unmap s z (place_at pid v) m e).unmapped (place_at pid page) (not_valid s (place_at pid page) (λ t. absurd (omega (arith, next.least page t l, less))))
+    | inr more ↦ (let same : page ≡ v = omega (arith, more, g) in ap (λ (n : ℕ). z.life.valid (place_at pid n)) same ∙ gone_then s z (place_at pid v) m)
+  ];
+}
 
 -- the pages so far are let go
-abbrev pub GoneIn : Pid → ℕ → ℕ → StateOf → Type 0
-GoneIn pid first n s = (page : ℕ) → holds_page (record { first = first; count = n }) page ≡ true → s.life.valid (place_at pid page) ≡ None
+abbrev pub GoneUpTo : Pid → ℕ → ℕ → StateOf → Type 0
+GoneUpTo pid first end s = (page : ℕ) → first ≤ page → page < end → s.life.valid (place_at pid page) ≡ None
 
-pub gone_more : (pid : Pid) (first i : ℕ) (y z : StateOf) → Thins y z → GoneIn pid first i y → z.life.valid (place_at pid (first + i)) ≡ None → GoneIn pid first (i + 1) z
-gone_more pid first i y z t g e page h = elim (last_or_before first i page h) [
-  | inl q ↦ ap (λ (n : ℕ). z.life.valid (place_at pid n)) q ∙ e
-  | inr q ↦ t.unmapped (place_at pid page) (g page q)
+pub gone_more : (pid : Pid) (first from next : ℕ) (y z : StateOf) → Thins y z → GoneUpTo pid first from y → ((page : ℕ) → from ≤ page → page < next → z.life.valid (place_at pid page) ≡ None) → GoneUpTo pid first next z
+gone_more pid first from next y z t g e page l h = elim (cases_lt page from) [
+  | inl less ↦ t.unmapped (place_at pid page) (g page l less)
+  | inr more ↦ e page more h
 ]
-
-pub gone_none : (pid : Pid) (first : ℕ) (s : StateOf) → GoneIn pid first 0 s
-gone_none pid first s page h = absurd (none_held first page h)
 
 -- ---- the store
 
@@ -383,9 +417,6 @@ no_touch kind.Io h = cc
 no_touch kind.Call h = refl
 no_touch (kind.Grow n) h = cc
 
-pub gone_within : (first n i page : ℕ) → n ≤ i → holds_page (record { first = first; count = n }) page ≡ true → holds_page (record { first = first; count = i }) page ≡ true
-gone_within first n i page l h = grind (arith, l, h)
-
 -- a page-file key lives
 pub paging_lives : (s : StateOf) (k : Key) → Holds s → s.life.paging k ≡ true → is_live s.life k ≡ true
 paging_lives s k h e = at (s.life.stands k) (ap (λ (b : Bool). is_home_for b (s.life.stands k)) (sym e) ∙ h.homes k)
@@ -405,7 +436,7 @@ may_let_pages s o pid range h (inl e) page i f v = e
 may_let_pages s o pid range h (inr e) page i f v = absurd (unnamed_invalid s (place_at pid page) f h (e.1 page i) v)
 
 -- pages of 32 bits: the last one is a user page
-pub pages_low : (s : StateOf) (o : OwnOf) (pid : Pid) (first n : ℕ) → Holds s → AllBound (store_of s o) pid (record { first = first; count = n }) true → (n ≡ 0 → ⊥) → first + n ≤ 2 ^ 32
+pub pages_low : (s : StateOf) (o : OwnOf) (pid : Pid) (first n : ℕ) → Holds s → AllBound (store_of s o) pid (record { first = first; count = n }) true → (n ≡ 0 → ⊥) → first + n < 2 ^ 32
 pages_low s o pid first n h bound some =
     let low = h.user (place_at pid (first + (n - 1))) (bound (first + (n - 1)) (nth_in first n (n - 1) (below n some))) in
     low_sum first n some low
@@ -414,7 +445,7 @@ pages_low s o pid first n h bound some =
     below zero q = absurd (q refl)
     below (suc n) q = omega arith
 
-    low_sum : (first n : ℕ) → (n ≡ 0 → ⊥) → first + (n - 1) < 0x7FFF0 → first + n ≤ 2 ^ 32
+    low_sum : (first n : ℕ) → (n ≡ 0 → ⊥) → first + (n - 1) < 0x7FFF0 → first + n < 2 ^ 32
     low_sum first zero q l = absurd (q refl)
     low_sum first (suc n) q l = omega (arith, l)
 
@@ -425,9 +456,6 @@ pages_open s o pid first n h bound some = h.open_process (place_at pid first) (b
     nth_there : (first n : ℕ) → (n ≡ 0 → ⊥) → holds_page (record { first = first; count = n }) first ≡ true
     nth_there first zero q = absurd (q refl)
     nth_there first (suc n) q = grind arith
-
-pub in_pages : (first n page : ℕ) → first ≤ page → page < first + n → holds_page (record { first = first; count = n }) page ≡ true
-in_pages first n page l h = in_range (record { first = first; count = n }) page l h
 
 -- a key without bytes stands nowhere, once places were let go
 pub dead_still : (s y : StateOf) (k : Key) → Holds s → Thins s y → s.contents k ≡ None → y.life.stands k ≡ held.Dead

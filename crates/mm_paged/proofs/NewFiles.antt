@@ -14,7 +14,7 @@ use Rattle.mm_types.specs.declared.moves.Move.TheVariants as move
 use Rattle.mm_types.specs.declared.numbers.Area.{Area}
 use Rattle.mm_types.specs.declared.numbers.Key.{Key}
 use Rattle.mm_types.specs.declared.numbers.Key.TheVariants.{Private, Shared}
-use Rattle.mm_types.proofs.Bytes.{rose_later}
+use Rattle.mm_types.proofs.Bytes.{rose_later, append_nil}
 use Rattle.mm_types.proofs.Cells.{same_or_not, get_set_same, get_set_other}
 use Rattle.mm_blocks.specs.declared.device_calls.DeviceCall.{DeviceCall}
 use Rattle.mm_blocks.specs.Devices.{DeviceOf, Call, AllServed, logged_call}
@@ -34,15 +34,12 @@ use Rattle.mm_moving.specs.Shown.{StateOf, Made, Called, moved, written_if}
 use Rattle.mm_moving.proofs.Doing.{does_one, does_then, does_nothing}
 use Rattle.mm_paged.specs.NewFiles.{BlocksWritten, PagesAdded, with_pages, with_area, FileBuilt, UnmadeAs}
 use Rattle.mm_paged.specs.Shown.{OwnOf, store_of, behind_of}
+use Rattle.mm_types.proofs.Naturals.{none_below}
 
 -- ---- blocks are written
 
 abbrev one_write : Bool → ℕ → DeviceCall
 one_write ok b = record { direction = way.Write; block = b; succeeded = ok }
-
-append-nil : {A : Type 0} (xs : List A) → xs ++ [] ≡ xs
-append-nil [] = refl
-append-nil (x ∷ xs) = ap (λ t. x ∷ t) (append-nil xs)
 
 writes-suc : (first n : ℕ) → writes_from first (suc n) ≡ writes_from first n ++ one_write true (first + n) ∷ []
 writes-suc first zero = let e : first ≡ first + 0 = omega arith in ap (λ (b : ℕ). one_write true b ∷ []) e
@@ -98,7 +95,7 @@ one_written b byte value ok y z e c t w r = record {
 
 module _ (first i byte : ℕ) (s y z : StateOf) (p : BlocksWritten first i byte true s y) where
   calls_are : map logged_call p.calls ≡ writes_from first i
-  calls_are = p.are ∙ append-nil (writes_from first p.whole) ∙ ap (writes_from first) (p.all refl)
+  calls_are = p.are ∙ append_nil (writes_from first p.whole) ∙ ap (writes_from first) (p.all refl)
 
   more_are : (ok : Bool) → map logged_call (p.calls ++ call_for y (first + i) ok ∷ []) ≡ writes_from first i ++ one_write ok (first + i) ∷ []
   more_are ok = map-logged p.calls (call_for y (first + i) ok ∷ []) ∙ ap (λ (cs : List DeviceCall). cs ++ one_write ok (first + i) ∷ []) calls_are
@@ -124,7 +121,7 @@ module _ (first i byte : ℕ) (s y z : StateOf) (p : BlocksWritten first i byte 
     whole = i + 1;
     calls = p.calls ++ call_for y (first + i) true ∷ [];
     served = more_served true q;
-    are = more_are true ∙ sym (writes-more first i) ∙ sym (append-nil (writes_from first (i + 1)));
+    are = more_are true ∙ sym (writes-more first i) ∙ sym (append_nil (writes_from first (i + 1)));
     most = omega arith;
     all = λ e. refl;
     none_read = more_unread true;
@@ -182,9 +179,6 @@ module _ (first i byte : ℕ) (s y z : StateOf) (p : BlocksWritten first i byte 
 
 -- ---- pages come to be
 
-none_below : (i : ℕ) → nat_lt i 0 ≡ false
-none_below i = grind arith
-
 not_both : {V : Type 0} (b t : Bool) (v w : V) → t ≡ false → (if b && t then v else w) ≡ w
 not_both true true v w e = cc
 not_both true false v w e = refl
@@ -193,13 +187,6 @@ not_both false t v w e = refl
 with_none : {V : Type 0} (area : ℕ) (value : ℕ → V) (f : Key → V) (k : Key) → with_pages area 0 value f k ≡ f k
 with_none area value f (Private p v) = refl
 with_none area value f (Shared a i) = not_both (a.0 == area) (nat_lt i 0) (value i) (f (Shared a i)) (none_below i)
-
--- the next page is none of them
-with_past : {V : Type 0} (area : Area) (n : ℕ) (value : ℕ → V) (f : Key → V) → with_pages area.0 n value f (Shared area n) ≡ f (Shared area n)
-with_past area n value f = not_both (area.0 == area.0) (nat_lt n n) (value n) (f (Shared area n)) (not_below n)
-  where
-    not_below : (n : ℕ) → nat_lt n n ≡ false
-    not_below n = grind arith
 
 last_below : (i n : ℕ) → i ≡ n → nat_lt i (n + 1) ≡ false → ⊥
 last_below i n e h = grind (arith, e, h)

@@ -27,6 +27,7 @@ use Rattle.mm_paged.specs.Pieces.{Sought, Stuck, LifeKept}
 use Rattle.mm_paged.specs.Copies.{Pins, Spares}
 use Rattle.mm_paged.proofs.InFlight.{flight_same}
 use Rattle.mm_paged.proofs.Keeping.{kept_same, kept_then, kept_unmap}
+use Rattle.mm_paged.proofs.Placing.{unmapped_stands}
 
 -- ---- what it leaves
 
@@ -57,14 +58,10 @@ unmap_stays pinned l p q (Some f) n v = at (same_place q p) refl
     at true e = absurd (n e)
     at false e = v
 
-unmap_stands : (l : FrameLife) (p : Place) (o : Option Frame) → (after_unmap_at o l p).stands ≡ l.stands
-unmap_stands l p None = refl
-unmap_stands l p (Some f) = refl
-
 left_unmap : (pinned : Frame) (l : FrameLife) (p : Place) → may_go l (Some pinned) p ≡ true → Left pinned l (after_move l (move.Unmap p))
 left_unmap pinned l p g = record {
   life = kept_unmap l p (l.valid p);
-  stands = unmap_stands l p (l.valid p);
+  stands = unmapped_stands l p (l.valid p);
   valid = λ q v. unmap_stays pinned l p q (l.valid p) (λ e. not_pinned pinned (l.valid p) g (ap l.valid (sym (same_place-true q p e)) ∙ v)) v;
 }
 

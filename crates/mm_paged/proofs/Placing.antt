@@ -30,6 +30,8 @@ use Rattle.mm_parts.specs.Moves.{left_by}
 use Rattle.mm_paged.specs.Pieces.{Went, InFrame, Placed}
 use Rattle.mm_paged.proofs.Records.{mapped_quiet, unmap_requests}
 use Rattle.mm_moving.proofs.Doing.{does_one, does_two}
+use Rattle.mm_laws.proofs.PlaceCounts.{same_place-self}
+use Rattle.mm_types.proofs.Booleans.{not_false}
 
 pub own_test : (test : Key → Bool) (r : Record) (k : Key) → r.owner ≡ Some k → owner_is test r ≡ test k
 own_test test r k e = ap (λ (o : Option Key). unwrap_or (option_map test o) false) e
@@ -41,19 +43,12 @@ map_legal k f place s h i fits free touch below =
     let none : is_none (s.life.valid place) ≡ true = ap is_none free in
     grind (arith, own, quiet, none, touch, below)
 
-dead_by : (b : Bool) → not b ≡ false → b ≡ true
-dead_by true e = refl
-dead_by false e = cc
-
 -- a key without bytes is dead
 pub dead_of : (k : Key) (s : StateOf) → Holds s → s.contents k ≡ None → is_dead (s.life.stands k) ≡ true
-dead_of k s h e = dead_by (is_dead (s.life.stands k)) (h.live k ∙ ap is_some e)
+dead_of k s h e = not_false (is_dead (s.life.stands k)) (h.live k ∙ ap is_some e)
 
 pub may_map : (k : Key) (f : Frame) (place : Place) (s : StateOf) → Holds s → InFrame k f s → (is_shared k ≡ true → s.contents (key_of_place place) ≡ None) → MayMap s f place
 may_map k f place s h i alone = λ e. dead_of (key_of_place place) s h (alone (sym (own_test is_shared (record_at s.life.frames f.0) k (h.owner k f i.stands)) ∙ e))
-
-same_place-self : (p : Place) → same_place p p ≡ true
-same_place-self p = grind arith
 
 placed_same : (s z : StateOf) (place : Place) (n : Place → Option Key) → s.aside ≡ None → z ≡ record (moved s z) { names = n; aside = left_by s.aside place } → z ≡ record (called s z) { names = z.names }
 placed_same s z place n a e =
@@ -170,7 +165,7 @@ unmapped_still l p q (Some f) e = at (same_place q p)
 pub free_then : (s y : StateOf) (p q : Place) → s.life.valid q ≡ None → y.life ≡ after_move s.life (move.Unmap p) → y.life.valid q ≡ None
 free_then s y p q v e = ap (λ (x : FrameLife). x.valid q) e ∙ unmapped_still s.life p q (s.life.valid p) v
 
-unmapped_kind : (l : FrameLife) (p : Place) (o : Option Frame) → (after_unmap_at o l p).kind ≡ l.kind
+pub unmapped_kind : (l : FrameLife) (p : Place) (o : Option Frame) → (after_unmap_at o l p).kind ≡ l.kind
 unmapped_kind l p None = refl
 unmapped_kind l p (Some f) = refl
 

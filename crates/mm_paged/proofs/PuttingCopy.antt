@@ -26,15 +26,12 @@ use Rattle.mm_paged.proofs.Giving.{place_here}
 use Rattle.mm_paged.proofs.Placing.{own_test, map_legal, in_frame_then, kind_then, went_map}
 use Rattle.mm_paged.proofs.Records.{settled_record}
 use Rattle.mm_paged.proofs.Writing.{look_set}
+use Rattle.mm_paged.proofs.LettingGo.{unmapped_gone}
 
 -- ---- the page that was copied goes
 
 in_frame_live : (k : Key) (f : Frame) (s : StateOf) → InFrame k f s → is_live s.life k ≡ true
 in_frame_live k f s i = ap (λ (h : Held). not (is_dead h)) i.stands
-
-unmapped_gone : (l : FrameLife) (p : Place) (o : Option Frame) → l.valid p ≡ o → (after_unmap_at o l p).valid p ≡ None
-unmapped_gone l p None e = e
-unmapped_gone l p (Some f) e = place_here l.valid p None
 
 pub unmapped_here : (s y : StateOf) (p : Place) → Made (move.Unmap p) s y → y.life.valid p ≡ None
 unmapped_here s y p m = ap (λ (l : FrameLife). l.valid p) m.life ∙ unmapped_gone s.life p (s.life.valid p) refl

@@ -24,12 +24,9 @@ use Rattle.mm_walks.specs.Walks.{Walk, Through, walked, waits_through}
 use Rattle.mm_world.specs.Report.{Tally}
 use Rattle.mm_moving.specs.Shown.{StateOf}
 use Rattle.mm_moving.specs.Doing.{Does, walk_of}
+use Rattle.mm_paged.proofs.Placing.{unmapped_kind}
 
 -- ---- the line goes on
-
-unmapped_kind : (l : FrameLife) (p : Place) (o : Option Frame) → (after_unmap_at o l p).kind ≡ l.kind
-unmapped_kind l p None = refl
-unmapped_kind l p (Some f) = refl
 
 kind_after : (a : Aim) (w : Walk) (m : Move) (ms : List Move) → AccessMove a w m ms → (after_move w.life m).kind ≡ w.life.kind
 kind_after a w (move.At n k) ms h = absurd h
@@ -112,7 +109,7 @@ quiet_one a w (move.Lost f) ms t h i = absurd (no_write_end (is_write (record_at
 
 -- ---- lines that access no page
 
-thread_touches : (k : LineKind) → is_thread k ≡ true → is_touch k ≡ true
+pub thread_touches : (k : LineKind) → is_thread k ≡ true → is_touch k ≡ true
 thread_touches (kind.Machine a b c d) t = cc
 thread_touches (kind.Process pid min max) t = cc
 thread_touches (kind.Unbind pid) t = cc

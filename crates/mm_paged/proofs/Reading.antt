@@ -25,6 +25,7 @@ use Rattle.mm_paged.specs.Pieces.{Fails, Went, Stuck, Begins}
 use Rattle.mm_paged.specs.Shown.{OwnOf, report_of, store_of, behind_of}
 use Rattle.mm_moving.proofs.Doing.{does_nothing}
 use Rattle.mm_paged.proofs.Shows.{passes_of}
+use Rattle.mm_laws.proofs.Owners.{same_key-self}
 
 pub framed_has : (l : FrameLife) (h : Held) → is_framed h ≡ true → has_frame (where_of l h) ≡ true
 framed_has l (held.Frame f) e = at (is_read (record_at l.frames f.0).request) refl
@@ -44,10 +45,6 @@ unframed_has l (held.Block b) e = refl
 unframed_has l held.Zero e = refl
 unframed_has l held.Dead e = refl
 
-pub same_again : (k : Key) → same_key k k ≡ true
-same_again (key.Private p v) = grind arith
-same_again (key.Shared a i) = grind arith
-
 pub nothing_read : (k : Key) (r : Report) → r.last_failed_read ≡ None → read_failed (touch k) r ≡ false
 nothing_read k r e = ap (λ (o : Option Key). unwrap_or (option_map (same_key k) o) false) e
 
@@ -65,10 +62,6 @@ had_ends k z o e f =
       no_frame = λ h. cc;
     }
 
-empty_counts : (xs : List ℕ) → is_empty xs ≡ true → (length xs == 0) ≡ true
-empty_counts [] e = refl
-empty_counts (x ∷ xs) e = cc
-
 pub short_counts : (a b c : Bool) (x y z : List ℕ) → (is_empty x && is_empty y && is_empty z) ≡ true → ((length x == 0) && (length y == 0) && (length z == 0)) ≡ true
 short_counts a b c [] [] [] h = refl
 short_counts a b c [] [] (z ∷ zs) h = cc
@@ -83,7 +76,7 @@ pub failed_ends : (why : PageFault) (k : Key) (s z : StateOf) (o u : OwnOf) → 
 failed_ends fault.Read k s z o u h b = record {
   ok = tt;
   had = tt;
-  read = λ e. ap (λ (x : Option Key). unwrap_or (option_map (same_key k) x) false) (h.read refl) ∙ same_again k;
+  read = λ e. ap (λ (x : Option Key). unwrap_or (option_map (same_key k) x) false) (h.read refl) ∙ same_key-self k;
   no_frame = λ e. cc;
 }
 failed_ends fault.NoFrame k s z o u h b =

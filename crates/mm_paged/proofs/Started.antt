@@ -33,7 +33,7 @@ use Rattle.mm_paged.specs.Pieces.{Went, Took, ReadsFor, IsFor, Keeps, NamesFor, 
 use Rattle.mm_paged.specs.Shown.{OwnOf, report_of}
 use Rattle.mm_paged.specs.Started.{AimsAt, Begun, IsBeingRead, Reads, answered}
 use Rattle.mm_paged.proofs.Doing.{went_then, went_nothing, sought_took, sought_nothing}
-use Rattle.mm_paged.proofs.Bringing.{went_more}
+use Rattle.mm_paged.proofs.Bringing.{went_more, absent}
 use Rattle.mm_paged.proofs.Reading.{named_by}
 use Rattle.mm_paged.proofs.Records.{read_begun}
 use Rattle.mm_paged.proofs.Taking.{front_read}
@@ -269,13 +269,6 @@ reads_standby k s y z t none p q m e = record {
   took = λ a h. took_steal_read a (front_for_read y.life) k s y z t none p refl m h;
   same = e ∙ ap (λ (x : StateOf). moved x z) q;
 }
-
-absent : (l : FrameLife) (h : Held) → is_stored h ≡ true → is_had l h ≡ false
-absent l (held.Frame f) e = cc
-absent l (held.Slot t) e = refl
-absent l (held.Block b) e = refl
-absent l held.Zero e = cc
-absent l held.Dead e = cc
 
 reads_for : (a : Aim) (k : Key) (place : Place) (s : StateOf) → AimsAt a k place s → is_stored (s.life.stands k) ≡ true → ReadsFor a k
 reads_for a k place s b h = record { needs = b.needs; absent = absent a.start (a.start.stands k) (ap (λ (l : FrameLife). is_stored (l.stands k)) b.from ∙ h) }

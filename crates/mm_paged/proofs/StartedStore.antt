@@ -34,10 +34,11 @@ use Rattle.mm_paged.specs.Shown.{OwnOf, Kept, report_of, store_of, behind_of}
 use Rattle.mm_paged.specs.Started.{Begun, IsBeingRead, is_copy, ready_after}
 use Rattle.mm_paged.proofs.Ending.{aim_at}
 use Rattle.mm_paged.proofs.Keeping.{kept_all, blocks_kept}
-use Rattle.mm_paged.proofs.Quiet.{Rests, rests_through}
+use Rattle.mm_paged.proofs.Quiet.{Rests, rests_through, thread_touches}
 use Rattle.mm_paged.proofs.Reading.{unframed_has}
 use Rattle.mm_paged.proofs.Started.{shown_short}
 use Rattle.mm_paged.proofs.Unmoved.{stands_nowhere}
+use Rattle.mm_types.proofs.Booleans.{or_true, both}
 
 -- ---- what stays
 
@@ -124,10 +125,6 @@ pend_frame false true c d e f = cc
 pend_frame false false true d e f = cc
 pend_frame false false false d e f = ap (λ (x : Bool). if x then Some why.Frame else None) f
 
-or_true : (b : Bool) → (b || true) ≡ true
-or_true true = refl
-or_true false = refl
-
 -- a frame is still needed
 touch_needs : (k : Key) (y : StateOf) (u : OwnOf) → (is_framed (y.life.stands k) ≡ false) ⊎ (is_copy need.Touch ≡ true) → still_needs_frame (touch k) (report_of y u) ≡ true
 touch_needs k y u (inl e) = ap (λ (b : Bool). not b || false) (unframed_has y.life (y.life.stands k) e)
@@ -140,15 +137,12 @@ copy_needs k place y u h e =
     still : Option Whereabouts → Bool
     still w = not (has_frame (where_of y.life (y.life.stands k))) || not (not (is_none w))
 
-both_true : (a b : Bool) → a ≡ true → b ≡ true → (a && b) ≡ true
-both_true a b p q = (λ i. p i && q i)
-
 touch_pends : (k : Key) (place : Place) (r : Start) (w : Why) (s y : StateOf) (v : ℕ → Waiting) (o u : OwnOf) → Begun need.Touch k place r s y → r ≡ start.Pending w → pending s.life.machine.depth (touch k) (report_of s o) (report_of (waiting y v) u) ≡ Some w
 touch_pends k place start.Ready w s y v o u h e = cc
 touch_pends k place (start.Pending why.Read) w s y v o u h e = pend_at_once _ _ _ _ why.Read (h.at_once o) ∙ ap reason e
 touch_pends k place (start.Pending why.Full) w s y v o u h e = pend_at_once _ _ _ _ why.Full (h.at_once o) ∙ ap reason e
 touch_pends k place (start.Pending why.Frame) w s y v o u h e =
-    pend_frame _ _ _ _ (h.at_once o) (both_true _ _ (touch_needs k (waiting y v) u (h.wanting refl)) (shown_short (waiting y v) u ∙ h.short refl)) ∙ ap reason e
+    pend_frame _ _ _ _ (h.at_once o) (both _ _ (touch_needs k (waiting y v) u (h.wanting refl)) (shown_short (waiting y v) u ∙ h.short refl)) ∙ ap reason e
 
 copy_pends : (k : Key) (place : Place) (r : Start) (w : Why) (s y : StateOf) (v : ℕ → Waiting) (o u : OwnOf) → Begun need.Copy k place r s y → Holds (waiting y v) → s.contents (own_key place) ≡ None → r ≡ start.Pending w
     → pending s.life.machine.depth (copying k place) (report_of s o) (report_of (waiting y v) u) ≡ Some w
@@ -156,7 +150,7 @@ copy_pends k place start.Ready w s y v o u h hz d e = cc
 copy_pends k place (start.Pending why.Read) w s y v o u h hz d e = pend_at_once _ _ _ _ why.Read (h.at_once o) ∙ ap reason e
 copy_pends k place (start.Pending why.Full) w s y v o u h hz d e = pend_at_once _ _ _ _ why.Full (h.at_once o) ∙ ap reason e
 copy_pends k place (start.Pending why.Frame) w s y v o u h hz d e =
-    pend_frame _ _ _ _ (h.at_once o) (both_true _ _ (copy_needs k place (waiting y v) u hz (ap (λ (x : StateOf). x.contents (own_key place)) h.same ∙ d)) (shown_short (waiting y v) u ∙ h.short refl)) ∙ ap reason e
+    pend_frame _ _ _ _ (h.at_once o) (both _ _ (copy_needs k place (waiting y v) u hz (ap (λ (x : StateOf). x.contents (own_key place)) h.same ∙ d)) (shown_short (waiting y v) u ∙ h.short refl)) ∙ ap reason e
 
 pub started_pends : (n : Need) (k : Key) (place : Place) (r : Start) (w : Why) (s y z : StateOf) (v : ℕ → Waiting) (o u : OwnOf) → Begun n k place r s y → z ≡ waiting y v → Holds z → (n ≡ need.Copy → s.contents (own_key place) ≡ None) → r ≡ start.Pending w
     → pending s.life.machine.depth (need_for n k place) (report_of s o) (report_of z u) ≡ Some w
@@ -234,15 +228,12 @@ copy_needed : (n : Need) (k : Key) (place : Place) → is_some (need_for n k pla
 copy_needed need.Touch k place e = e
 copy_needed need.Copy k place e = refl
 
-thread_touch : (k : LineKind) → is_thread k ≡ true → is_touch k ≡ true
-thread_touch k e = ap (λ (b : Bool). is_access k || b) e ∙ or_true (is_access k)
-
 pub started_kept : (n : Need) (k : Key) (place : Place) (r : Start) (s y z : StateOf) (w : ℕ → Waiting) (o u : OwnOf) → Begun n k place r s y → z ≡ waiting y w → is_thread s.life.kind ≡ true → Kept s o → u.ready ≡ ready_after r n k place → u.blocks_used ≡ o.blocks_used → Kept z u
 started_kept n k place r s y z w o u h q t kept e used = subst (λ (x : StateOf). Kept x u) (sym q) (record {
   own = ap (λ (x : StateOf). x.own) h.same ∙ kept.own;
   aside = ap (λ (x : StateOf). x.aside) h.same ∙ kept.aside;
   ready = λ x f. let is = ready_is r n k place x (sym e ∙ f) in ap (λ (a : Ready). is_some (y.life.valid a.place)) is.1 ∙ h.valid is.0;
-  touching = λ x f. ap (λ (a : LineKind). is_touch a) life.kind ∙ thread_touch s.life.kind t;
+  touching = λ x f. ap (λ (a : LineKind). is_touch a) life.kind ∙ thread_touches s.life.kind t;
   room = λ x f c. let is = ready_is r n k place x (sym e ∙ f) in h.room is.0 (copy_needed n k place (ap (λ (a : Ready). is_some a.need.copy) (sym is.1) ∙ c));
   fresh = λ b low. ap (λ (f : ℕ → Bool). f b) life.added ∙ kept.fresh b (subst (λ (a : ℕ). a ≤ b) used low);
   calm = λ th. ap (λ (a : Told). a.search_writes) (begun_rests n k place r s y h t (kept.calm t)).told ∙ kept.calm t;

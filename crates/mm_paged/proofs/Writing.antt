@@ -36,6 +36,7 @@ use Rattle.mm_paged.specs.Pieces.{Soils, Was, Is}
 use Rattle.mm_paged.specs.Shown.{OwnOf, Kept, store_of, report_of, behind_of}
 use Rattle.mm_paged.proofs.Reading.{valid_passes, had_ends, framed_at, named_by}
 use Rattle.mm_paged.proofs.Shows.{changed_keys}
+use Rattle.mm_life.proofs.Records.{soiled_shares}
 
 -- what is looked at in the records, where one changes
 pub look_set : {A : Type 0} (look : Record → A) (xs : List Record) (f g : ℕ) (r : Record) → look r ≡ look (slice_index_or xs f blank) → look (slice_index_or (slice_set xs f r) g blank) ≡ look (slice_index_or xs g blank)
@@ -52,13 +53,6 @@ pub count_set : (test : Record → Bool) (xs : List Record) (f : ℕ) (r : Recor
 count_set test [] f r e = refl
 count_set test (x ∷ xs) zero r e = count_cons test r xs ∙ ap (λ (b : Bool). (0 + cond b 1 0) + count_by test xs) e ∙ sym (count_cons test x xs)
 count_set test (x ∷ xs) (suc f) r e = count_cons test x (slice_set xs f r) ∙ ap (λ (n : ℕ). (0 + cond (test x) 1 0) + n) (count_set test xs f r e) ∙ sym (count_cons test x xs)
-
-soiled_shares : (r : Record) → (soiled r).shares ≡ r.shares
-soiled_shares r = at (has_request r.request)
-  where
-    at : (b : Bool) → (if b then record r { request = request.WriteAgain } else record r { changed = true; backing = without_slot r.backing }).shares ≡ r.shares
-    at true = refl
-    at false = refl
 
 soiled_waits : (r : Record) → has_request (soiled r).request ≡ has_request r.request
 soiled_waits r = at (has_request r.request) refl

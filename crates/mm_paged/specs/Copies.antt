@@ -1,4 +1,5 @@
 -- Pieces of an access that makes a copy.
+-- Profile, "Accesses".
 use Rattle.std.specs.Prelude.{◌≡◌, ◌≤◌, ◌+◌, ◌⊎◌, ℕ, true, false, length, Option, Some, None, is_some}
 use Rattle.mm_types.specs.declared.faults.PageFault.{PageFault}
 use Rattle.mm_types.specs.declared.faults.PageFault.TheVariants as fault

@@ -1,4 +1,5 @@
 -- A page of a file that is written to its block.
+-- Profile, "Calls".
 use Rattle.std.specs.Prelude.{◌≡◌, ◌≢◌, ◌≤◌, ◌<◌, ◌⊎◌, ℕ, Bool, true, false, List, [], ◌∷◌, slice_get}
 use Rattle.mm_types.specs.Outside.{Rose}
 use Rattle.mm_types.specs.declared.frames.Backing.TheVariants as backing

@@ -1,4 +1,5 @@
 -- A file that is made: its blocks are written, and its pages come to be.
+-- Profile, "Calls".
 use Rattle.std.specs.Prelude.{◌≡◌, ◌≤◌, ◌<◌, ◌⊎◌, ◌+◌, ◌%◌, ℕ, Bool, true, false, ◌==◌, ◌&&◌, nat_lt, if◌then◌else◌, List, ◌++◌, map, length, slice_get, Some, Result, Ok, Err}
 use Rattle.mm_types.specs.Outside.{Rose}
 use Rattle.mm_types.specs.declared.devices.Direction.TheVariants as way

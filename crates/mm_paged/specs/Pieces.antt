@@ -1,4 +1,5 @@
 -- Pieces of an access: moves that end where a search could begin, and those with which it fails.
+-- Profile, "Which frame moves, and when".
 use Rattle.std.specs.Prelude.{length, ◌≡◌, ◌≤◌, ◌+◌, ◌⊎◌, ℕ, Bool, true, false, List, [], count_by, Option, Some, None, ◌<◌, ◌-◌, slice_get}
 use Rattle.mm_types.specs.declared.faults.PageFault.{PageFault}
 use Rattle.mm_types.specs.declared.faults.PageFault.TheVariants as fault
@@ -10,6 +11,7 @@ use Rattle.mm_types.specs.declared.numbers.Frame.{Frame}
 use Rattle.mm_types.specs.declared.numbers.Key.{Key}
 use Rattle.mm_types.specs.declared.numbers.Key.TheVariants.{Private, Shared}
 use Rattle.mm_types.specs.declared.numbers.Place.{Place}
+use Rattle.mm_types.specs.declared.numbers.Pid.{Pid}
 use Rattle.mm_life.specs.Frames.{record_at, is_read}
 use Rattle.mm_life.specs.Legal.{is_short}
 use Rattle.mm_walks.specs.Walks.{Walk, Through, walked_all, is_read_move, takes_frame, is_wrote_move}
@@ -19,6 +21,7 @@ use Rattle.mm_pages.specs.declared.outcomes.Done.{Done}
 use Rattle.mm_pages.specs.declared.outcomes.Done.TheVariants as done
 use Rattle.mm_pages.specs.Accesses.{Aim, AccessMove, is_had}
 use Rattle.mm_life.specs.Life.{FrameLife, changed, same_place}
+use Rattle.mm_pages.specs.Conditions.{place_at}
 use Rattle.mm_pages.specs.Housekeeping.{Turns, Ends}
 use Rattle.mm_pages.specs.Passing.{PassesIn}
 use Rattle.mm_paged.specs.Shown.{OwnOf, store_of, behind_of}
@@ -202,3 +205,11 @@ abbrev pub EndsAs : ℕ → Done → StateOf → StateOf → Type 0
 EndsAs i done.None s z = (length s.life.flight < i) × (z ≡ s)
 EndsAs i done.Ok s z = EndsOne i true s z
 EndsAs i done.Failed s z = EndsOne i false s z
+
+-- the lowest valid page of a process from `from` up to `end`, if there is one, is valid no more; `next` is the page to go on from
+pub record NextGone (pid : Pid) (from end next : ℕ) (s z : StateOf) : Type 0 where
+  pub more : from < next
+  pub within : next ≤ end
+  pub went : (held : Place → Bool) → ((page : ℕ) → from ≤ page → page < end → held (place_at pid page) ≡ true) → LetsGo held from next s z
+  pub thins : Thins s z
+  pub invalid : (page : ℕ) → from ≤ page → page < next → z.life.valid (place_at pid page) ≡ None

@@ -1,4 +1,5 @@
 -- How an access of a thread begins: what became of its page, and what it waits for.
+-- Profile, "Accesses".
 use Rattle.std.specs.Prelude.{◌≡◌, ◌⊎◌, Bool, true, false, Option, Some, None, is_some}
 use Rattle.mm_types.specs.declared.answers.Why.{Why}
 use Rattle.mm_types.specs.declared.answers.Why.TheVariants as why

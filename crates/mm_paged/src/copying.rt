@@ -250,7 +250,7 @@ impl<T: Moving> Paged<T> {
     ghost use Rattle.mm_paged.specs.Store.{contents, store, behind, loans};
 
     /// Copies a page to the key that is the place's own, which comes to be; the place then names it, and it is ready.
-    /// There is room for it. It fails as a read of `from` does, or for want of a frame; the place may then name `from`.
+    /// There is room for it. It fails as a read of `from` does, or because no frame can be had; the place may then name `from`.
     pub fn copy(&mut self, place: Place, from: Key, to: Key) -> Result<(), PageFault>
         requires at { IsAt (contents self.old) (store self.old) place from }
         requires own { to ≡ own_key place }

@@ -8,7 +8,7 @@ use mm_types::Failed;
 impl<T: Moving> Paged<T> {
     ghost use Rattle.mm_paged.specs.Store.{contents, store, behind, loans};
 
-    /// Gives on the moves that were noted. Nothing changes but the log's count of faults. `Failed` comes only where that rose; the
+    /// Hands on the moves that were noted. Nothing changes but the log's count of faults. `Failed` comes only where that rose; the
     /// moves stay noted then, and whether the log has failed stays as it was.
     pub fn flush_moves(&mut self) -> Result<(), Failed>
         ensures contents { contents self.new ≡ contents self.old }

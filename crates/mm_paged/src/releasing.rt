@@ -10,7 +10,7 @@ ghost use Rattle.mm_pages.specs.Housekeeping.{Turns, Ends as Ending};
 ghost use Rattle.mm_pages.specs.Passing.{PassesIn};
 ghost use Rattle.mm_pages.specs.Reports.{rearranged};
 ghost use Rattle.mm_pages.specs.Store.{changed, changed_in, unnamed};
-ghost use Rattle.mm_paged.specs.Pieces.{LetGo, LetsGo, MayLetGo, MayLetOwnGo, OwnLetGo, Thins};
+ghost use Rattle.mm_paged.specs.Pieces.{LetGo, LetsGo, MayLetGo, MayLetOwnGo, NextGone, OwnLetGo, Thins};
 
 use crate::paged::Paged;
 use mm_moving::Moving;
@@ -41,19 +41,40 @@ fn let_own_go<T: Moving>(state: &mut T, key: Key)
     }
 }
 
-/// Bound pages of a process are valid no more, in rising order.
-fn let_all_go<T: Moving>(state: &mut T, pid: Pid, first: Vpn, n: u32)
-    requires bound { (page : ℕ) → holds_page (record { first = first.0; count = n }) page ≡ true → (T.shown state.old).bound (place_at pid page) ≡ true }
-    requires may { (page : ℕ) → holds_page (record { first = first.0; count = n }) page ≡ true → MayLetGo (place_at pid page) (T.shown state.old) }
-    requires low { first.0 + n ≤ 2 ^ 32 }
-    ensures went { (held : Place → Bool) (from to : ℕ) → AreAmong held from to pid (record { first = first.0; count = n }) → LetsGo held from to (T.shown state.old) (T.shown state.new) }
-    ensures thins { Thins (T.shown state.old) (T.shown state.new) }
-    ensures invalid { (page : ℕ) → holds_page (record { first = first.0; count = n }) page ≡ true → (T.shown state.new).life.valid (place_at pid page) ≡ None }
+/// The lowest valid page of an open process from `from` up to `end` is valid no more. Answers the page after it; or `end`, where none is valid.
+fn let_next_go<T: Moving>(state: &mut T, pid: Pid, from: u32, end: u32) -> u32
+    requires some { from < end }
+    requires open { (T.shown state.old).is_open pid.0 ≡ true }
+    requires may { (page : ℕ) → from ≤ page → page < end → MayLetGo (place_at pid page) (T.shown state.old) }
+    ensures gone { NextGone pid from end result (T.shown state.old) (T.shown state.new) }
     ensures loans { T.loans state.new ≡ T.loans state.old }
 {
-    for i in 0..n {
-        let vpn = Vpn(first.0 + i);
-        let_go(state, Place { pid, vpn });
+    match state.next_valid(pid, Vpn(from)) {
+        None => end,
+        Some(vpn) => {
+            if vpn.0 < end {
+                state.unmap(Place { pid, vpn });
+                vpn.0 + 1
+            } else {
+                end
+            }
+        }
+    }
+}
+
+/// The pages of an open process in a range are valid no more, in rising order. Only those that are valid are gone through.
+fn let_all_go<T: Moving>(state: &mut T, pid: Pid, first: Vpn, n: u32)
+    requires open { (T.shown state.old).is_open pid.0 ≡ true }
+    requires may { (page : ℕ) → first.0 ≤ page → page < first.0 + n → MayLetGo (place_at pid page) (T.shown state.old) }
+    requires low { first.0 + n < 2 ^ 32 }
+    ensures went { (held : Place → Bool) (from to : ℕ) → AreAmong held from to pid (record { first = first.0; count = n }) → LetsGo held from to (T.shown state.old) (T.shown state.new) }
+    ensures thins { Thins (T.shown state.old) (T.shown state.new) }
+    ensures invalid { (page : ℕ) → first.0 ≤ page → page < first.0 + n → (T.shown state.new).life.valid (place_at pid page) ≡ None }
+    ensures loans { T.loans state.new ≡ T.loans state.old }
+{
+    let mut from = first.0;
+    while from < first.0 + n {
+        from = let_next_go(state, pid, from, first.0 + n);
     }
 }
 

@@ -1,11 +1,12 @@
 -- The page of a working set that goes next, as the place that goes next in its process.
-use Rattle.std.proofs.Common.{◌≡◌, ℕ, true, Option, Some, None, refl, sym, ap, ◌∙◌, subst, inl, inr}
+use Rattle.std.proofs.Common.{◌≡◌, ℕ, Bool, true, Option, Some, None, refl, sym, ap, ◌∙◌, subst, inl, inr}
 use Rattle.std.specs.Prelude.{is_some, option_map, unwrap_or, MatchOption, IfSome}
 use Rattle.std.specs.Option.{ForSome}
 use Rattle.mm_types.specs.declared.numbers.Pid.{Pid}
 use Rattle.mm_types.specs.declared.numbers.Vpn.{Vpn}
 use Rattle.mm_types.specs.declared.numbers.Place.{Place}
 use Rattle.mm_wset.specs.Ages.{GoesBefore}
+use Rattle.mm_wset.specs.InOrder.{IsNextFrom}
 use Rattle.mm_words.specs.Words.{place_of, is_valid}
 use Rattle.mm_words.specs.Oldest.{ages_in, GoesBehind, IsOldestOf, NoneBehind}
 use Rattle.mm_walks.specs.Order.{IsOldest}
@@ -72,6 +73,10 @@ module _ (t : JoinedParts) (aged : (p : Place) → is_some (t.ages p) ≡ is_val
       let none : Held None = (λ w e. cc) in
       let next = oldest_next None none v h in
       next_oldest (life_in t) (shown_of t).ages None None (place_of pid v) (λ q e g. tt) next (all_go (life_in t) (place_of pid v) ∙ next.valid)
+
+  -- the next page of those with an age is the next of the valid ones
+  pub next_shown : (from : ℕ) (r : Option Vpn) → IsNextFrom (λ v. is_some (ages_in t.ages pid v)) from r → IsNextFrom (λ v. is_some ((life_in t).valid (place_of pid (record { 0 = v })))) from r
+  next_shown from r h = subst (λ (f : ℕ → Bool). IsNextFrom f from r) (λ i. λ v. (aged (place_of pid (record { 0 = v })) ∙ valid_is (t.words.at (place_of pid (record { 0 = v })))) i) h
 
 -- the ages that the words show are of exactly the valid places
 pub ages_held : (t : JoinedParts) (pid : Pid) (after : Option Vpn) → ((p : Place) → is_some (t.ages p) ≡ is_valid (t.words.at p))

@@ -32,6 +32,7 @@ use Rattle.mm_parts.specs.Moves.{after, own_after, own_ended, flight_begun, flig
 use Rattle.mm_parts.proofs.FrameChanges.{Rewrites, rewrites_by, rewrites_none, settled_records, waits_frame, Quiet, quiet_by}
 use Rattle.mm_parts.proofs.Keeping.{Step, known, quiet_step}
 use Rattle.mm_parts.proofs.RequestLists.{ended_requests, ended_waits, ended_depth, ended_within, waits_ended, unread_waits, begun_requests, begun_within, begun_depth, begun_waits, waits_begun}
+use Rattle.mm_life.proofs.Requests.{write_not_read}
 
 -- ---- clear
 
@@ -133,12 +134,6 @@ done_by part r a b = by (is_again r.request)
     by : (c : Bool) → part (if c then record r { request = request.None; backing = without_slot r.backing } else record r { request = request.None; changed = false }) ≡ part r
     by true = a
     by false = b
-
-write_not_read : (q : Request) → is_write q ≡ true → is_read q ≡ false
-write_not_read request.None h = refl
-write_not_read request.Read h = cc
-write_not_read request.Write h = refl
-write_not_read request.WriteAgain h = refl
 
 abbrev pub table_end : Bool → FrameTable → ℕ → FrameTable
 table_end true d f = after_wrote d f

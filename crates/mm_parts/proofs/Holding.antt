@@ -27,6 +27,7 @@ use Rattle.mm_parts.proofs.Keeping.{known}
 use Rattle.mm_parts.proofs.RequestLists.{own_apart}
 use Rattle.mm_parts.proofs.Reading.{word_home}
 use Rattle.mm_parts.proofs.Using.{valid_there, valid_owned, valid_calm}
+use Rattle.mm_types.proofs.Booleans.{not_true}
 
 -- ---- lines
 
@@ -34,13 +35,9 @@ use Rattle.mm_parts.proofs.Using.{valid_there, valid_owned, valid_calm}
 pub read_once : (t : JoinedParts) → Kept t → (f : ℕ) → is_read (record_at t.table f).request ≡ true → times f (requests_in t) ≡ 1
 read_once t kept f h = ((known t kept).standing f).flight ∙ ap one_if (read_has (record_at t.table f).request h)
 
-no_own : (b : Bool) → (b ≡ true → ⊥) → b ≡ false
-no_own true h = absurd (h refl)
-no_own false h = refl
-
 -- a request in flight is not the line's own
 not_own : (t : JoinedParts) → Kept t → (f : ℕ) → is_in f t.flight.frames ≡ true → is_read (record_at t.table f).request ≡ true → own_is t.own f ≡ false
-not_own t kept f flies reads = no_own (own_is t.own f) (λ e. let bad : true ≡ false = sym flies ∙ own_apart f t.own t.flight.frames (read_once t kept f reads) e in cc)
+not_own t kept f flies reads = not_true (own_is t.own f) (λ e. let bad : true ≡ false = sym flies ∙ own_apart f t.own t.flight.frames (read_once t kept f reads) e in cc)
 
 some_place : (a : Option Aside) → is_some (option_map (λ (x : Aside). x.place) a) ≡ true → is_some a ≡ true
 some_place None h = cc

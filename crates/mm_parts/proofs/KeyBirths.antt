@@ -37,6 +37,7 @@ use Rattle.mm_parts.proofs.NameChanges.{names_none}
 use Rattle.mm_parts.proofs.Keeping.{Step, known}
 use Rattle.mm_parts.proofs.KeyChanges.{is_resting, is_beside, beyond, key_step, key_life, key_stands, key_paging, key_valid, places_kept}
 use Rattle.mm_parts.proofs.KeyLives.{word_only}
+use Rattle.mm_parts.proofs.LineSteps.{no_place}
 
 -- ---- add
 
@@ -340,10 +341,6 @@ is_copy t (Private p v) place e = by (is_touch t.line.kind) refl e
     by true g h = let same : place_of p v ≡ place = cc in record { key = ap (λ (x : Place). Private x.pid x.vpn) same; touch = g }
     by false g h = cc
 is_copy t (Shared a i) place e = cc
-
-no_place : (a : Option Aside) → option_map (λ x. x.place) a ≡ None → a ≡ None
-no_place None e = refl
-no_place (Some a) e = cc
 
 copy_alone : (t : JoinedParts) → Kept t → (p : Pid) (v : Vpn) → IsLegal (move.Add (Private p v) None) (life_in t) → is_touch t.line.kind ≡ true → IsClear (shown_of t) (Private p v) → t.words.aside ≡ None
 copy_alone t kept p v legal touch (inl none) =

@@ -48,7 +48,7 @@ zero_live (held.Block b) e = cc
 zero_live held.Zero e = refl
 zero_live held.Dead e = cc
 
-stored_live : (h : Held) → is_stored h ≡ true → not (is_dead h) ≡ true
+pub stored_live : (h : Held) → is_stored h ≡ true → not (is_dead h) ≡ true
 stored_live (held.Frame f) e = cc
 stored_live (held.Slot s) e = refl
 stored_live (held.Block b) e = refl

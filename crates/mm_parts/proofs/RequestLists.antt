@@ -16,17 +16,11 @@ use Rattle.mm_parts.specs.Shown.{requests, own_request, own_is, is_own_line}
 use Rattle.mm_parts.specs.Kept.{AreWaits}
 use Rattle.mm_parts.specs.Moves.{own_after, own_ended, flight_begun, flight_ended}
 use Rattle.mm_parts.proofs.FrameChanges.{Rewrites}
-
-without-append : (f : ℕ) (xs ys : List ℕ) → without f (xs ++ ys) ≡ without f xs ++ without f ys
-without-append f xs ys = filter-append (λ x. not (x == f)) xs ys
+use Rattle.mm_laws.proofs.Lists.{without_append, without_none}
 
 absent_head : (f x : ℕ) (xs : List ℕ) (b : Bool) → (x == f) ≡ b → times f (x ∷ xs) ≡ 0 → without f xs ≡ xs → without f (x ∷ xs) ≡ x ∷ xs
 absent_head f x xs true h e rest = let one = ap one_if h in absurd (omega (arith, e, one))
 absent_head f x xs false h e rest = ap (λ b. if not b then x ∷ without f xs else without f xs) h ∙ ap (λ zs. x ∷ zs) rest
-
-without_absent : (f : ℕ) (xs : List ℕ) → times f xs ≡ 0 → without f xs ≡ xs
-without_absent f [] e = refl
-without_absent f (x ∷ xs) e = absent_head f x xs (x == f) refl e (without_absent f xs (omega (arith, e)))
 
 pub times-append : (f : ℕ) (xs ys : List ℕ) → times f (xs ++ ys) ≡ times f xs + times f ys
 times-append f [] ys = omega arith
@@ -58,10 +52,10 @@ own_out f (Some g) xs once is =
     let one = ap one_if is in
     let sum = times-append f xs (g.0 ∷ []) in
     let none : times f xs ≡ 0 = omega (arith, once, one, sum) in
-    sym (without-append f xs (g.0 ∷ []) ∙ ap (λ zs. zs ++ without f (g.0 ∷ [])) (without_absent f xs none) ∙ ap (λ b. xs ++ (if not b then g.0 ∷ [] else [])) is)
+    sym (without_append f xs (g.0 ∷ []) ∙ ap (λ zs. zs ++ without f (g.0 ∷ [])) (without_none f xs none) ∙ ap (λ b. xs ++ (if not b then g.0 ∷ [] else [])) is)
 
 other_out : (f : ℕ) (own : Option Frame) (xs : List ℕ) → own_is own f ≡ false → requests (without f xs) own ≡ without f (requests xs own)
-other_out f own xs n = sym (without-append f xs (own_request own) ∙ ap (λ zs. without f xs ++ zs) (own_stays f own n))
+other_out f own xs n = sym (without_append f xs (own_request own) ∙ ap (λ zs. without f xs ++ zs) (own_stays f own n))
 
 -- once a request has ended, the others are there in their order
 pub ended_requests : (q : FlightOf) (own : Option Frame) (f : ℕ) (ok : Bool) → times f (requests q.frames own) ≡ 1

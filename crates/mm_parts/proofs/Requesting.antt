@@ -31,6 +31,7 @@ use Rattle.mm_parts.specs.Kept.{Kept}
 use Rattle.mm_parts.specs.Moves.{lowest_free, goes_to, write_target, backing_to}
 use Rattle.mm_parts.proofs.Keeping.{known}
 use Rattle.mm_parts.proofs.RequestLists.{not_in_flight}
+use Rattle.mm_parts.proofs.FrameSteps.{no_block}
 
 or_split : (a b c : Bool) → a ≡ false → (a || (b && c)) ≡ true → c ≡ true
 or_split true b c e h = cc
@@ -107,11 +108,6 @@ pub record CanWrite (t : JoinedParts) (f : Frame) (s : Stored) : Type 0 where
 can_slot : (n : ℕ) (b : Bool) → n ≡ 0 → b ≡ false → ((n == 0) && not b) ≡ true
 can_slot n b e f = rw (e, f) refl
 
-slot_or_none : (b : Bool) (x : Backing) → b ≡ true → is_backing_for b x ≡ true → has_block x ≡ false
-slot_or_none b backing.None e h = refl
-slot_or_none b (backing.Slot s) e h = refl
-slot_or_none b (backing.Block c) e h = let bad : false ≡ true = sym (ap not e) ∙ h in cc
-
 write_slot : (t : JoinedParts) → Kept t → (f : Frame) (s : Slot) → IsLegal (move.Write f (stored.Slot s)) (life_in t) → CanWrite t f (stored.Slot s)
 write_slot t kept f s legal =
     let facts = known t kept in
@@ -128,7 +124,7 @@ write_slot t kept f s legal =
       owned = on.0;
       changed = on.1.1;
       quiet = idle.quiet;
-      goes = can_slot r.shares (has_block r.backing) idle.unshared (slot_or_none (l.paging passes.key) r.backing passes.passes (facts.backing f.0 passes.key passes.is));
+      goes = can_slot r.shares (has_block r.backing) idle.unshared (no_block (l.paging passes.key) r.backing passes.passes (facts.backing f.0 passes.key passes.is));
       fewer = λ other. room_in t kept (or_split (is_access t.line.kind) (is_writer t.line.kind) (has_depth l) (not_own t.line.kind other).0 z.1);
     }
 

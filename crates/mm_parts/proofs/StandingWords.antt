@@ -30,6 +30,8 @@ use Rattle.mm_parts.proofs.Keeping.{known}
 use Rattle.mm_parts.proofs.Stands.{at_place}
 use Rattle.mm_parts.proofs.NameChanges.{is_used}
 use Rattle.mm_parts.proofs.KeyChanges.{is_resting}
+use Rattle.mm_parts.proofs.FrameSteps.{no_block}
+use Rattle.mm_parts.proofs.PrivateKeys.{stored_live}
 
 -- ---- a key in a frame
 
@@ -208,16 +210,11 @@ stored_paging d d' held.Dead f e b = cc
 
 -- ---- private pages are on no block
 
-no_block_for : (b : Bool) (x : Backing) → b ≡ true → is_backing_for b x ≡ true → has_block x ≡ false
-no_block_for b backing.None e h = refl
-no_block_for b (backing.Slot s) e h = refl
-no_block_for b (backing.Block c) e h = let bad : false ≡ true = sym (ap not e) ∙ h in cc
-
 pub own_backing : (t : JoinedParts) → Kept t → (k : Key) (f : Frame) → (record_at t.table f.0).owner ≡ Some k → is_shared k ≡ false → has_block (record_at t.table f.0).backing ≡ false
 own_backing t kept k f owner own =
     let facts = known t kept in
     let live : is_live (life_in t) k ≡ true = ap (λ h. not (is_dead h)) (facts.owned f.0 k owner) in
-    no_block_for ((life_in t).paging k) (record_at t.table f.0).backing (facts.paged k own live) (facts.backing f.0 k owner)
+    no_block ((life_in t).paging k) (record_at t.table f.0).backing (facts.paged k own live) (facts.backing f.0 k owner)
 
 pub home_aside : (t : JoinedParts) → Kept t → (k : Key) (f : Frame) → (record_at t.table f.0).owner ≡ Some k → is_shared k ≡ false → is_aside_entry (home_entry (record_at t.table f.0).backing) ≡ true
 home_aside t kept k f owner own = home_own (record_at t.table f.0).backing (own_backing t kept k f owner own)
@@ -231,16 +228,9 @@ away_used d own (entry.Transition f) h k p = cc
 away_used d own (entry.Valid f n) h k p = cc
 away_used d own (entry.Proto a i) h k p = cc
 
-stored_lives : (h : Held) → is_stored h ≡ true → not (is_dead h) ≡ true
-stored_lives (held.Frame f) e = cc
-stored_lives (held.Slot s) e = refl
-stored_lives (held.Block b) e = refl
-stored_lives held.Zero e = cc
-stored_lives held.Dead e = cc
-
 -- a private page on a device is in a slot
 pub stored_used : (t : JoinedParts) → Kept t → (k : Key) → is_stored (stands_of (owners t.table) t.words k) ≡ true → is_shared k ≡ false → is_used (word_of t.words k) ≡ true
 stored_used t kept k stored own =
     let facts = known t kept in
-    let live : is_live (life_in t) k ≡ true = stored_lives (stands_of (owners t.table) t.words k) stored in
+    let live : is_live (life_in t) k ≡ true = stored_live (stands_of (owners t.table) t.words k) stored in
     away_used t.table (owned_by (owners t.table) k) (word_of t.words k) (stored_word (owned_by (owners t.table) k) (word_of t.words k) stored) (facts.home k) (facts.paged k own live)

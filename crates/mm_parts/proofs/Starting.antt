@@ -21,11 +21,7 @@ use Rattle.mm_parts.specs.Shown.{owners, stands_of, is_paging, life_in}
 use Rattle.mm_parts.specs.Start.{started, started_parts, first_kind, first_move}
 use Rattle.mm_parts.proofs.Stands.{same_life}
 use Rattle.mm_parts.proofs.Keeping.{Step}
-
-both : (a b : Bool) → a ≡ true → b ≡ true → (a && b) ≡ true
-both true true e f = refl
-both true false e f = f
-both false b e f = e
+use Rattle.mm_types.proofs.Booleans.{both}
 
 machine_passes : (m : MachineOf) → IsMachine m → is_machine m ≡ true
 machine_passes m h =

@@ -24,6 +24,7 @@ use Rattle.mm_parts.specs.Reading.{walked, walked_or, waits_of}
 use Rattle.mm_parts.proofs.Keeping.{Step, known}
 use Rattle.mm_parts.proofs.RequestLists.{in_flight, own_apart, times-append}
 use Rattle.mm_parts.proofs.Holding.{read_once}
+use Rattle.mm_laws.proofs.Sums.{one_most}
 
 -- ---- how many
 
@@ -104,10 +105,6 @@ place_own f xs g none e = sym (place_is f (xs ++ g.0 ∷ []) ∙ ap (option_map 
 own_once : (f : ℕ) (own : Option Frame) → own_is own f ≡ true → 1 ≤ times f (own_request own)
 own_once f None h = cc
 own_once f (Some g) h = let one = ap one_if h in omega (arith, one)
-
-one_most : (b : Bool) → one_if b ≤ 1
-one_most true = omega arith
-one_most false = omega arith
 
 -- the line's own request is the last
 pub place_last : (f : ℕ) (xs : List ℕ) (own : Option Frame) → own_is own f ≡ true → is_in f xs ≡ false → Some (length xs + 1) ≡ place_in f (requests xs own)

@@ -3,6 +3,7 @@ ghost use Rattle.std.specs.Option.{ForSome};
 ghost use Rattle.mm_life.specs.Life.{set_of};
 ghost use Rattle.mm_life.specs.Legal.{is_at_max, is_above_min};
 ghost use Rattle.mm_walks.specs.Order.{IsOldest};
+ghost use Rattle.mm_wset.specs.InOrder.{IsNextFrom};
 ghost use Rattle.mm_words.specs.Words.{place_of};
 ghost use Rattle.mm_room.specs.Order.{IsNext, NoneFollows};
 ghost use Rattle.mm_parts.specs.Moves.{after_page};
@@ -65,5 +66,14 @@ impl Parts {
     {
         self.words.working_sets_hold();
         self.words.oldest(pid, after)
+    }
+
+    /// The lowest valid page of an open process at `from` or above; none where there is none.
+    pub fn next_valid(&self, pid: Pid, from: Vpn) -> Option<Vpn>
+        requires { (shown self.now).is_open pid.0 ≡ true }
+        ensures { IsNextFrom (λ v. is_some ((shown self.now).life.valid (place_of pid (record { 0 = v })))) from.0 result }
+    {
+        self.words.working_sets_hold();
+        self.words.next_from(pid, from)
     }
 }

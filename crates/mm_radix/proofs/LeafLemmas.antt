@@ -18,6 +18,7 @@ use Rattle.mm_radix.specs.LeafWords.{leaf_word, Changed, no_word}
 use Rattle.mm_radix.specs.Directory.{Leaves, leaf_of, word_in, numbers_from, end_of_pages, words_of, IsWhole, IsDirectory, HasPlace, with_leaf, with_word, SameWords, Changes, IsPart, HaveWords, PlacesMore}
 use Rattle.mm_radix.proofs.WordLemmas.{none_after}
 use Rattle.std.proofs.lemmas.List.{length-replicate}
+use Rattle.mm_types.proofs.Options.{on_err}
 
 numbers_within : (start count i : ℕ) → i < count → slice_get (numbers_from start count) i ≡ Some (start + i)
 unfolding numbers_from
@@ -249,10 +250,6 @@ module _ (f : Option ℕ → Option ℕ) where
       (λ l u. is.words.within q l u ∙ ap f (sym at_old))
       (λ u. is.words.below q u ∙ sym at_old)
       (λ l. is.words.above q l ∙ sym at_old)
-
-pub on_err : {T E : Type 0} {P : Type 0} (r : Result T E) → P → OnErr r P
-on_err (Ok x) p = tt
-on_err (Err e) p = p
 
 -- a page that the map knows has a word
 pub worded : (leaves : Leaves) (m : FinMap nat_cmp ℕ) (page : ℕ) → words_of leaves ≡ m → IsDirectory leaves → IsSome (finite.get m page) → IsSome (word_in leaves page)

@@ -5,9 +5,10 @@ use Rattle.std.proofs.Math.ListN.{get_or-map}
 use Rattle.std.proofs.Math.Seq.{map-set_same}
 use Rattle.std.proofs.lemmas.List.{ext_get_or, length-map, map-set, length-replicate, get_or_past, length-take-le}
 use Rattle.mm_types.proofs.Cells.{same_or_not}
-use Rattle.mm_ram.specs.Ram.{page_at, bytes_of, overwritten, page_size}
+use Rattle.mm_ram.specs.Ram.{page_at, bytes_of, overwritten}
 use Rattle.mm_ram.specs.Places.{IsFilled}
 use Rattle.mm_ram.specs.Frames.{is_written, IsRam}
+use Rattle.mm_types.specs.Address.{page_size}
 
 filled_if : (o : Option (List ℕ)) → is_written o ≡ true → (x : List ℕ) × (o ≡ Some x)
 filled_if None e = cc

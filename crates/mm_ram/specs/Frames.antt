@@ -1,6 +1,7 @@
 -- The frames of a machine in one block of memory, beside a flag for each that says whether it was written.
 use Rattle.std.specs.Prelude.{◌≡◌, ℕ, Bool, true, false, List, length, map, Option, Some, None}
-use Rattle.mm_ram.specs.Ram.{page_at, page_size}
+use Rattle.mm_ram.specs.Ram.{page_at}
+use Rattle.mm_types.specs.Address.{page_size}
 
 abbrev pub is_written : Option (List ℕ) → Bool
 is_written None = false

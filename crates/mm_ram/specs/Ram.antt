@@ -1,12 +1,10 @@
 -- The bytes of page frames: for each frame its 4,096 bytes, or nothing where it was never written.
 use Rattle.std.specs.Prelude.{ℕ, ◌+◌, List, [], ◌++◌, length, take, drop, replicate, Option, Some, None, slice_index_or, slice_set, unwrap_or}
-
-abbrev pub page_size : ℕ
-page_size = 4096
+use Rattle.mm_types.specs.Address.{page_size}
 
 -- a page of zeros
 unfoldable pub zero_page : List ℕ
-zero_page = replicate 4096 0
+zero_page = replicate page_size 0
 
 abbrev pub page_at : List (Option (List ℕ)) → ℕ → Option (List ℕ)
 page_at ram f = slice_index_or ram f None

@@ -1,6 +1,7 @@
 ghost use Rattle.std.specs.Prelude.{◌≡◌, ◌≢◌, ℕ, List, ◌+◌, ◌<◌, ◌≤◌, false, length, replicate, Some, None, IfOk, IsSome, map};
 ghost use Rattle.mm_ram.specs.Frames.{is_written};
-ghost use Rattle.mm_ram.specs.Ram.{page_at, bytes_of, bytes_from, overwritten, with_page, zero_page, page_size};
+ghost use Rattle.mm_ram.specs.Ram.{page_at, bytes_of, bytes_from, overwritten, with_page, zero_page};
+ghost use Rattle.mm_types.specs.Address.{page_size};
 
 use crate::cells::{Base, Cells, Deed, allocate, deallocate};
 use mm_types::{Frame, NoMemory};

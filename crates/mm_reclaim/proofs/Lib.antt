@@ -1,3 +1,4 @@
+pub mod Props
 pub mod Ranks
 pub mod Bests
 pub mod Steps

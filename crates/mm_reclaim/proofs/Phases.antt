@@ -1,5 +1,5 @@
 -- A search in its two phases, over the replay alone: the walk over the modified list, and the turns.
-use Rattle.std.proofs.Common.{◌≡◌, ◌⊎◌, ℕ, ◌+◌, ◌<◌, ◌≤◌, Bool, true, false, cond, List, [], ◌∷◌, ◌++◌, length, Some, None, refl, sym, ap, ◌∙◌, subst, inl, inr, append_assoc, arith}
+use Rattle.std.proofs.Common.{◌≡◌, ◌⊎◌, ℕ, ◌+◌, ◌<◌, ◌≤◌, Bool, true, false, List, [], ◌∷◌, ◌++◌, length, Some, None, refl, sym, ap, ◌∙◌, subst, inl, inr, append_assoc, arith}
 use Rattle.std.specs.Prelude.{◌==◌, ◌&&◌, ◌||◌, not, filter, slice_get}
 use Rattle.std.specs.Cmp.{unsigned_Decides}
 use Rattle.std.proofs.lemmas.Bool.{or_left, or_right}
@@ -27,43 +27,16 @@ use Rattle.mm_laws.proofs.PlaceCounts.{has_shares}
 use Rattle.mm_laws.proofs.FromSound.{modified_frame}
 use Rattle.mm_room.specs.Room.{IsWithinDepth}
 use Rattle.mm_room.specs.Steps.{walked, is_last, Unmapped, after_failed, put_last}
-use Rattle.mm_room.specs.Searches.{failed_write, lost_in, is_lost_of, Walking, first_passing, is_untried, next_try}
+use Rattle.mm_room.specs.Searches.{failed_write, lost_in, Walking, first_passing, is_untried, next_try}
 use Rattle.mm_room.proofs.Unmapping.{unmapped}
 use Rattle.mm_room.proofs.Writing.{failed}
-use Rattle.mm_room.proofs.Walks.{walk_begins, walk_on, walk_passes_all, walk_fails, writes_same, writers_same, on_append, on_last, on_left, any_append, or_none, lost_still}
+use Rattle.mm_room.proofs.Walks.{walk_begins, walk_on, walk_passes_all, walk_fails, writes_same, writers_same, on_append, on_last, on_left, lost_still}
 use Rattle.mm_room.proofs.Turns.{walk_then, turn_kept, turn_failed}
 use Rattle.mm_types.proofs.Bytes.{append_nil}
 use Rattle.mm_reclaim.specs.Seeking.{writable_modified, WalkedTo, SoughtTo}
 use Rattle.mm_reclaim.proofs.Writables.{FirstOf, first_of, front_behind, none_passes}
-
-false_if : (b : Bool) → (b ≡ true → ⊥) → b ≡ false
-false_if true h = absurd (h refl)
-false_if false h = refl
-
-passes_first : (test : ℕ → Bool) (xs rest : List ℕ) (f : ℕ) → ((x : ℕ) → is_on x xs ≡ true → test x ≡ false) → test f ≡ true → first_passing test (xs ++ (f ∷ rest)) ≡ Some f
-passes_first test [] rest f none here = ap (λ b. cond b (Some f) (first_passing test rest)) here
-passes_first test (x ∷ xs) rest f none here =
-    ap (λ b. cond b (Some x) (first_passing test (xs ++ (f ∷ rest)))) (none x (or_left (x == x) (is_on x xs) ((unsigned_Decides x x).1 refl)))
-    ∙ passes_first test xs rest f (λ y h. none y (or_right (x == y) (is_on y xs) h)) here
-
-passes_none : (test : ℕ → Bool) (xs : List ℕ) → ((x : ℕ) → is_on x xs ≡ true → test x ≡ false) → first_passing test xs ≡ None
-passes_none test [] none = refl
-passes_none test (x ∷ xs) none =
-    ap (λ b. cond b (Some x) (first_passing test xs)) (none x (or_left (x == x) (is_on x xs) ((unsigned_Decides x x).1 refl))) ∙ passes_none test xs (λ y h. none y (or_right (x == y) (is_on y xs) h))
-
-untried_not : (c t : Bool) → (c ≡ true → t ≡ true) → (c && not t) ≡ false
-untried_not true t h = ap not (h refl)
-untried_not false t h = refl
-
-lost_more : (moves : List Move) (f : Frame) (home : Stored) (g : ℕ) → lost_in (moves ++ failed_write f home) g ≡ true → (lost_in moves g ≡ true) ⊎ (g ≡ f.0)
-lost_more moves f home g h = at (lost_in moves g) refl (sym (any_append (λ m. is_lost_of g m) moves (failed_write f home)) ∙ h)
-  where
-    at : (b : Bool) → lost_in moves g ≡ b → (b || lost_in (failed_write f home) g) ≡ true → (lost_in moves g ≡ true) ⊎ (g ≡ f.0)
-    at true e k = inl e
-    at false e k = inr (sym ((unsigned_Decides f.0 g).0 (sym (or_none (f.0 == g)) ∙ k)))
-
-not_lost : (moves : List Move) (place : Place) (g : ℕ) → lost_in (moves ++ move.Unmap place ∷ []) g ≡ lost_in moves g
-not_lost moves place g = any_append (λ m. is_lost_of g m) moves (move.Unmap place ∷ []) ∙ or_none (lost_in moves g)
+use Rattle.mm_types.proofs.Booleans.{untried_not, not_true}
+use Rattle.mm_room.proofs.InOrder.{passes_first, passes_none, lost_more, not_lost}
 
 -- ---- the walk
 
@@ -140,7 +113,7 @@ module _ (start l : FrameLife) (moves : List Move) (n i : ℕ) (w : WalkedTo sta
 
     -- it was not tried, and is the next
     fresh : lost_in moves f.0 ≡ false
-    fresh = false_if (lost_in moves f.0) (λ h.
+    fresh = not_true (lost_in moves f.0) (λ h.
         let on = w.only f.0 h in
         let once = sym (ap (λ (xs : List ℕ). times f.0 xs) list) ∙ (modified_frame l sound f.0 on_list).once in
         let a = tally-append (λ x. x == f.0) before (f.0 ∷ (next.behind ++ w.lost)) in
@@ -186,7 +159,7 @@ module _ (start l : FrameLife) (moves : List Move) (begun : Sound start) (o : So
     u = unmapped l sound_turn place f there
 
     off_list : is_on f.0 l.frames.modified ≡ false
-    off_list = false_if (is_on f.0 l.frames.modified) (λ h.
+    off_list = not_true (is_on f.0 l.frames.modified) (λ h.
         let none = (modified_frame l sound_turn f.0 h).unshared in
         let some = has_shares l.valid l.frames l.sets sound_turn.shown place f there in
         absurd (omega (arith, none, some)))
@@ -214,7 +187,7 @@ module _ (start l : FrameLife) (moves : List Move) (begun : Sound start) (o : So
           at false h = let bad : true ≡ false = sym h ∙ off_list in cc
 
       fresh_now : lost_in (moves ++ move.Unmap place ∷ []) f.0 ≡ false
-      fresh_now = not_lost moves place f.0 ∙ false_if (lost_in moves f.0) (λ h. let bad : true ≡ false = sym (o.listed f.0 h) ∙ off_list in cc)
+      fresh_now = not_lost moves place f.0 ∙ not_true (lost_in moves f.0) (λ h. let bad : true ≡ false = sym (o.listed f.0 h) ∙ off_list in cc)
 
       pub tries_now : can_be_written m f.0 ≡ true → next_try m (moves ++ move.Unmap place ∷ []) ≡ Some f.0
       tries_now can =

@@ -34,11 +34,12 @@ use Rattle.mm_types.proofs.Bytes.{rose_later}
 use Rattle.mm_types.specs.declared.devices.Direction.TheVariants as way
 use Rattle.mm_types.specs.declared.frames.Record.{Record}
 use Rattle.mm_types.specs.declared.moves.Stored.TheVariants as stored
-use Rattle.mm_blocks.specs.Devices.{DeviceOf, Call, AllServed}
+use Rattle.mm_blocks.specs.Devices.{DeviceOf}
 use Rattle.mm_laws.specs.Reached.{Reached}
 use Rattle.mm_laws.proofs.Deduced.{reached_sound}
 use Rattle.mm_room.specs.Steps.{backing_to}
 use Rattle.mm_room.proofs.Writing.{write_record}
+use Rattle.mm_blocks.proofs.Serving.{all_served_later}
 
 -- ---- which frame is next
 
@@ -72,11 +73,6 @@ searches_then pin flight xs ys w p q = through_then (SearchMove pin flight) (sea
 
 lost_then : (xs ys : List Move) (g : ℕ) → lost_in (xs ++ ys) g ≡ (lost_in xs g || lost_in ys g)
 lost_then xs ys g = any_append (λ m. is_lost_of g m) xs ys
-
--- faults never fall
-pub all_served_later : (cs : List Call) (a b : DeviceOf) → AllServed cs a b → a.faults ≤ b.faults
-all_served_later [] a b e = let n = ap (λ (d : DeviceOf). d.faults) e in omega (arith, n)
-all_served_later (c ∷ cs) a b p = let one = p.1.0.later in let rest = all_served_later cs p.0 b p.1.1 in omega (arith, one, rest)
 
 -- ---- one write
 

@@ -4,7 +4,6 @@ use Rattle.std.specs.Prelude.{◌==◌, ◌&&◌, ◌||◌, is_some, option_map,
 use Rattle.std.specs.Cmp.{unsigned_Decides}
 use Rattle.std.proofs.lemmas.Bool.{and_from, ltb-true, ltb-false}
 use Rattle.std.proofs.Math.Logic.{∥∥₁_elim}
-use Rattle.std.proofs.Props.{props}
 use Rattle.mm_types.specs.declared.frames.Record.{Record}
 use Rattle.mm_types.specs.declared.moves.LineKind.TheVariants as kind
 use Rattle.mm_types.specs.declared.moves.Move.{Move}
@@ -36,6 +35,8 @@ use Rattle.mm_moving.specs.Holds.{Holds}
 use Rattle.mm_moving.proofs.Doing.{does_nothing, does_then, does_one, walked_here}
 use Rattle.mm_reclaim.specs.Chores.{TrimsOne, UnmapsOldest, Trimmed, TrimsTo}
 use Rattle.mm_reclaim.proofs.Chained.{moved_then}
+use Rattle.mm_types.proofs.Booleans.{one_only_if}
+use Rattle.mm_reclaim.proofs.Props.{empty_prop}
 
 -- ---- one place
 
@@ -69,20 +70,13 @@ some_resident : (o : Option ResidentSet) → is_above_min o ≡ true → 1 ≤ r
 some_resident None h = cc
 some_resident (Some set) h = let a = ltb-true set.min set.resident h in omega (arith, a)
 
-empty_prop : IsProp ⊥
-empty_prop = hlevel props
-
-some_if : (b : Bool) → 1 ≤ one_if b → b ≡ true
-some_if true h = refl
-some_if false h = absurd (omega (arith, h))
-
 -- in a list of valid places, each once, none is of a process without any
 none_of : (pid : ℕ) (valid : Place → Option Frame) (places : List Place) → ((p : Place) → tally (same_place p) places ≤ one_if (is_some (valid p))) → ((q : Place) → q.pid.0 ≡ pid → is_some (valid q) ≡ true → ⊥) → tally (is_of pid) places ≡ 0
 none_of pid valid [] once none = refl
 none_of pid valid (x ∷ xs) once none = at (x.pid.0 == pid) refl (none_of pid valid xs fewer none)
   where
     here : is_some (valid x) ≡ true
-    here = let one : one_if (same_place x x) ≡ 1 = ap one_if (same_place-self x) in let most = once x in some_if (is_some (valid x)) (omega (arith, one, most))
+    here = let one : one_if (same_place x x) ≡ 1 = ap one_if (same_place-self x) in let most = once x in one_only_if (is_some (valid x)) (omega (arith, one, most))
 
     fewer : (p : Place) → tally (same_place p) xs ≤ one_if (is_some (valid p))
     fewer p = let most = once p in omega (arith, most)
@@ -130,7 +124,7 @@ kind_unmapped l place = at (l.valid place)
     at None = refl
     at (Some f) = refl
 
--- a trim's move says nothing of those behind it
+-- a trim's move says nothing of those after it
 alone : (pid : Pid) (w : Walk) (x : Move) (ms ns : List Move) → TrimMove pid w x ms → TrimMove pid w x ns
 alone pid w (move.At n k) ms ns h = absurd h
 alone pid w (move.Add k b) ms ns h = absurd h

@@ -32,7 +32,7 @@ use Rattle.mm_reclaim.proofs.Steps.{Target, Stays, seeks_failed, wrote_found, ba
 
 -- ---- what a write tells
 
-one_some : (n : ℕ) → 0 < min (n + 1) (2 ^ 64 - 1)
+pub one_some : (n : ℕ) → 0 < min (n + 1) (2 ^ 64 - 1)
 one_some n = omega arith
 
 told_failed : (b : Backing) (t : Told) → b ≢ backing.None → 0 < (with_write false b t).search_writes.failed
@@ -52,7 +52,7 @@ told_read ok (backing.Block c) t = refl
 
 -- ---- what a write leaves
 
-kind_write : (l : FrameLife) (f : Frame) (home : Stored) → (after_move l (move.Write f home)).kind ≡ l.kind
+pub kind_write : (l : FrameLife) (f : Frame) (home : Stored) → (after_move l (move.Write f home)).kind ≡ l.kind
 kind_write l f (stored.Slot t) = refl
 kind_write l f (stored.Block b) = refl
 

@@ -35,18 +35,10 @@ use Rattle.mm_reclaim.specs.Searching.{AfterUnmap, Freed, Unchanged, Changed, Tu
 use Rattle.mm_reclaim.proofs.Steps.{Target, Stays, begun_then, moved_called, seeks_unmapped, unmapped_found, starves}
 use Rattle.mm_reclaim.proofs.Trying.{target_of, failed_on, wrote_on, two_life}
 use Rattle.mm_reclaim.proofs.Phases.{none_left, turn_over, tries_now, turn_lost}
-
-empty_prop : IsProp ⊥
-empty_prop = hlevel props
-
-next_set : (a b : Option ℕ) → IsProp (a ≡ b)
-next_set a b = hlevel props
+use Rattle.mm_reclaim.proofs.Props.{empty_prop, next_set, nat_set}
 
 le_prop : (a b : ℕ) → IsProp (a ≤ b)
 le_prop a b = hlevel props
-
-nat_set : (a b : ℕ) → IsProp (a ≡ b)
-nat_set a b = hlevel props
 
 pub may_unmap : (s : StateOf) (place : Place) (f : Frame) → Begun s → is_short s.life ≡ true → s.life.valid place ≡ Some f → IsLegal (move.Unmap place) s.life
 may_unmap s place f begun short there = unmap_legal s.life place f begun.access short there

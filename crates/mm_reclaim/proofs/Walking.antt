@@ -3,7 +3,6 @@ use Rattle.std.proofs.Common.{◌≡◌, ℕ, ◌+◌, ◌<◌, ◌≤◌, true,
 use Rattle.std.specs.Prelude.{slice_get}
 use Rattle.std.proofs.Math.Logic.{∥∥₁_elim}
 use Rattle.std.proofs.Math.Bool.{Bool-set}
-use Rattle.std.proofs.Props.{props}
 use Rattle.mm_types.specs.declared.numbers.Frame.{Frame}
 use Rattle.mm_life.specs.Frames.{record_at, is_on}
 use Rattle.mm_life.specs.Legal.{is_short}
@@ -17,12 +16,7 @@ use Rattle.mm_reclaim.specs.Seeking.{Begun, Tries, Seeks, Walks, Seeking, writab
 use Rattle.mm_reclaim.proofs.Steps.{Target}
 use Rattle.mm_reclaim.proofs.Trying.{target_of, failed_on, wrote_on, two_life}
 use Rattle.mm_reclaim.proofs.Phases.{walk_start, walk_done, not_none, on_list, can, tries, walk_lost}
-
-empty_prop : IsProp ⊥
-empty_prop = hlevel props
-
-next_set : (a b : Option ℕ) → IsProp (a ≡ b)
-next_set a b = hlevel props
+use Rattle.mm_reclaim.proofs.Props.{empty_prop, next_set}
 
 -- a search that has made no move
 seeks_begins : (pin : Option Frame) (s : StateOf) → Begun s → ((f : Frame) → pin ≡ Some f → 1 ≤ (record_at s.life.frames f.0).shares) → is_short s.life ≡ true → Seeks pin s s []

@@ -103,7 +103,7 @@ front_behind p (x ∷ xs) ys none =
 
 -- ---- all where a slot is free, else those with a block
 
-block_is : (b : Backing) → is_some (block_of b) ≡ has_block b
+pub block_is : (b : Backing) → is_some (block_of b) ≡ has_block b
 block_is backing.None = refl
 block_is (backing.Slot t) = refl
 block_is (backing.Block c) = refl
@@ -112,14 +112,10 @@ or_false : (a b : Bool) → b ≡ false → (a || b) ≡ a
 or_false true b e = refl
 or_false false b e = e
 
-or_true : (a b : Bool) → b ≡ true → (a || b) ≡ true
-or_true true b e = refl
-or_true false b e = e
-
 module _ (s : StateOf) (h : Holds s) (n : ℕ) (counted : n ≡ count_by (λ b. b) s.life.free_slots) where
   pub all_writable : not (n == 0) ≡ true → writable_modified s.life ≡ s.life.frames.modified
   all_writable some = filter_all (can_be_written s.life) s.life.frames.modified
-      (λ f on. sym (writable_is s h f on n counted) ∙ or_true (is_some (block_of (record_at s.life.frames f).backing)) (not (n == 0)) some)
+      (λ f on. sym (writable_is s h f on n counted) ∙ or_right (is_some (block_of (record_at s.life.frames f).backing)) (not (n == 0)) some)
 
   pub blocks_writable : not (n == 0) ≡ false → writable_modified s.life ≡ modified_with_block s.life.frames
   blocks_writable none = filter_same (can_be_written s.life) (λ f. has_block (record_at s.life.frames f).backing) s.life.frames.modified

@@ -6,7 +6,6 @@ use Rattle.std.specs.Cmp.{unsigned_Decides}
 use Rattle.std.proofs.lemmas.Bool.{or_left, or_right, lt-ltb}
 use Rattle.std.proofs.Math.Logic.{∥∥₁_elim}
 use Rattle.std.proofs.Math.Bool.{Bool-set}
-use Rattle.std.proofs.Props.{props}
 use Rattle.mm_types.specs.declared.frames.Backing.{Backing}
 use Rattle.mm_types.specs.declared.frames.Backing.TheVariants as backing
 use Rattle.mm_types.specs.declared.frames.Record.{Record}
@@ -38,6 +37,10 @@ use Rattle.mm_moving.specs.Shown.{StateOf, Made, moved}
 use Rattle.mm_moving.specs.Holds.{Holds}
 use Rattle.mm_reclaim.specs.Chores.{Rounds, writings}
 use Rattle.mm_reclaim.proofs.Targets.{target_is}
+use Rattle.mm_types.proofs.Booleans.{or_false}
+use Rattle.mm_reclaim.proofs.Writables.{block_is}
+use Rattle.mm_reclaim.proofs.Trying.{kind_write}
+use Rattle.mm_reclaim.proofs.Props.{nat_set}
 
 -- ---- the first that passes a test
 
@@ -45,7 +48,7 @@ abbrev NonePass : (ℕ → Bool) → List ℕ → Type 0
 NonePass test [] = Unit {0}
 NonePass test (x ∷ xs) = (test x ≡ false) × NonePass test xs
 
--- it, those before it and those behind it
+-- it, those before it and those after it
 record Split (test : ℕ → Bool) (xs : List ℕ) (f : ℕ) : Type 0 where
   before : List ℕ
   behind : List ℕ
@@ -94,20 +97,11 @@ none_free free n e none = sym (free_counted free) ∙ ap (nat_lt 0) (sym e ∙ n
 pub first_of_all : (l : FrameLife) (n : ℕ) → n ≡ count_by (λ b. b) l.free_slots → n ≢ 0 → first_passing (can_be_written l) l.frames.modified ≡ slice_get l.frames.modified 0
 first_of_all l n e some = first_any (can_be_written l) l.frames.modified (λ x. or_right (owner_is (λ k. not (l.paging k)) (record_at l.frames x)) (list_any (λ b. b) l.free_slots) (any_free l.free_slots n e some))
 
-same_block : (b : Backing) → is_some (block_of b) ≡ has_block b
-same_block backing.None = refl
-same_block (backing.Slot t) = refl
-same_block (backing.Block b) = refl
-
-or_nothing : (b : Bool) → (b || false) ≡ b
-or_nothing true = refl
-or_nothing false = refl
-
 pub first_with_block : (s : StateOf) (n : ℕ) → Holds s → n ≡ count_by (λ b. b) s.life.free_slots → n ≡ 0 → first_passing (can_be_written s.life) s.life.frames.modified ≡ slice_get (modified_with_block s.life.frames) 0
 first_with_block s n h e none = first_filtered (can_be_written s.life) (λ f. has_block (record_at s.life.frames f).backing) s.life.frames.modified (λ x on.
     ∥∥₁_elim h.reached (Bool-set _ _) (λ r. which_writes s.life (reached_sound s.life r) x on)
     ∙ ap (λ b. is_some (block_of (record_at s.life.frames x).backing) || b) (none_free s.life.free_slots n e none)
-    ∙ or_nothing (is_some (block_of (record_at s.life.frames x).backing)) ∙ same_block (record_at s.life.frames x).backing)
+    ∙ or_false (is_some (block_of (record_at s.life.frames x).backing)) ∙ block_is (record_at s.life.frames x).backing)
 
 -- ---- where it is written to
 
@@ -182,10 +176,6 @@ list_after : (l : FrameLife) (f : Frame) (home : Stored) → (after_move l (move
 list_after l f (stored.Slot t) = refl
 list_after l f (stored.Block b) = refl
 
-kind_after : (l : FrameLife) (f : Frame) (home : Stored) → (after_move l (move.Write f home)).kind ≡ l.kind
-kind_after l f (stored.Slot t) = refl
-kind_after l f (stored.Block b) = refl
-
 -- ---- the writes as the definition has them
 
 -- where they stop at once
@@ -241,9 +231,6 @@ first_begun n l f fs depth can =
 
 -- ---- a round
 
-nat_set : (a b : ℕ) → IsProp (a ≡ b)
-nat_set a b = hlevel props
-
 module _ (s z : StateOf) (f : Frame) (home : Stored) (h : Holds s) (depth : has_depth s.life ≡ true) (first : first_passing (can_be_written s.life) s.life.frames.modified ≡ Some f.0) (to : home ≡ write_target s.life f) (m : Made (move.Write f home) s z) where
   parts : Split (can_be_written s.life) s.life.frames.modified f.0
   parts = split (can_be_written s.life) s.life.frames.modified f.0 first
@@ -275,7 +262,7 @@ module _ (s z : StateOf) (f : Frame) (home : Stored) (h : Holds s) (depth : has_
     first = move.Write f home;
     made = m;
     left = left_is;
-    kind = ap (λ (l : FrameLife). l.kind) m.life ∙ kind_after s.life f home;
+    kind = ap (λ (l : FrameLife). l.kind) m.life ∙ kind_write s.life f home;
     same = rest ∙ ap (λ (x : LineKind). record (moved s z) { own = own_after x s.own f }) k;
   }
 

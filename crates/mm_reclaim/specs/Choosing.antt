@@ -1,4 +1,5 @@
 -- Which place a search unmaps, as the code finds it.
+-- Profile, "Which frame moves, and when".
 use Rattle.std.specs.Prelude.{◌≡◌, ◌<◌, ◌-◌, ◌+◌, ◌*◌, ℕ, true, false, is_some, Option, Some, None}
 use Rattle.mm_types.specs.declared.numbers.Frame.{Frame}
 use Rattle.mm_types.specs.declared.numbers.Pid.{Pid}

@@ -1,4 +1,5 @@
 -- One turn of a search: a place is unmapped, and its frame written where it can be.
+-- Profile, "Which frame moves, and when".
 use Rattle.std.specs.Prelude.{◌≡◌, Bool, true, false}
 use Rattle.mm_types.specs.declared.numbers.Frame.{Frame}
 use Rattle.mm_types.specs.declared.numbers.Place.{Place}

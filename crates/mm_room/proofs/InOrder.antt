@@ -28,23 +28,20 @@ use Rattle.mm_laws.specs.Settling.{joined}
 use Rattle.mm_laws.proofs.FromSound.{modified_frame}
 use Rattle.mm_room.proofs.Writing.{failed}
 use Rattle.mm_room.proofs.Walks.{any_append, or_none, on_append, on_last, on_left, lost_still, walk_on, writes_same, writers_same}
+use Rattle.mm_types.proofs.Booleans.{untried_not, not_true}
 
 -- ---- the first that passes
 
-passes_first : (test : ℕ → Bool) (xs rest : List ℕ) (f : ℕ) → ((x : ℕ) → is_on x xs ≡ true → test x ≡ false) → test f ≡ true → first_passing test (xs ++ (f ∷ rest)) ≡ Some f
+pub passes_first : (test : ℕ → Bool) (xs rest : List ℕ) (f : ℕ) → ((x : ℕ) → is_on x xs ≡ true → test x ≡ false) → test f ≡ true → first_passing test (xs ++ (f ∷ rest)) ≡ Some f
 passes_first test [] rest f none here = ap (λ b. cond b (Some f) (first_passing test rest)) here
 passes_first test (x ∷ xs) rest f none here =
     ap (λ b. cond b (Some x) (first_passing test (xs ++ (f ∷ rest)))) (none x (or_left (x == x) (is_on x xs) ((unsigned_Decides x x).1 refl)))
     ∙ passes_first test xs rest f (λ y h. none y (or_right (x == y) (is_on y xs) h)) here
 
-passes_none : (test : ℕ → Bool) (xs : List ℕ) → ((x : ℕ) → is_on x xs ≡ true → test x ≡ false) → first_passing test xs ≡ None
+pub passes_none : (test : ℕ → Bool) (xs : List ℕ) → ((x : ℕ) → is_on x xs ≡ true → test x ≡ false) → first_passing test xs ≡ None
 passes_none test [] none = refl
 passes_none test (x ∷ xs) none =
     ap (λ b. cond b (Some x) (first_passing test xs)) (none x (or_left (x == x) (is_on x xs) ((unsigned_Decides x x).1 refl))) ∙ passes_none test xs (λ y h. none y (or_right (x == y) (is_on y xs) h))
-
-untried_not : (c t : Bool) → (c ≡ true → t ≡ true) → (c && not t) ≡ false
-untried_not true t h = ap not (h refl)
-untried_not false t h = refl
 
 -- ---- moves in a row
 
@@ -63,19 +60,15 @@ open_failed : (made : List Move) (f : Frame) (home : Stored) → open_write (mad
 open_failed made f home = ap open_write (sym (append_assoc made (move.Write f home ∷ []) (move.Lost f ∷ []))) ∙ open_push (made ++ move.Write f home ∷ []) (move.Lost f)
 
 -- failed writes among more moves
-lost_more : (moves : List Move) (f : Frame) (home : Stored) (g : ℕ) → lost_in (moves ++ failed_write f home) g ≡ true → (lost_in moves g ≡ true) ⊎ (g ≡ f.0)
+pub lost_more : (moves : List Move) (f : Frame) (home : Stored) (g : ℕ) → lost_in (moves ++ failed_write f home) g ≡ true → (lost_in moves g ≡ true) ⊎ (g ≡ f.0)
 lost_more moves f home g h = at (lost_in moves g) refl (sym (any_append (λ m. is_lost_of g m) moves (failed_write f home)) ∙ h)
   where
     at : (b : Bool) → lost_in moves g ≡ b → (b || lost_in (failed_write f home) g) ≡ true → (lost_in moves g ≡ true) ⊎ (g ≡ f.0)
     at true e k = inl e
     at false e k = inr (sym ((unsigned_Decides f.0 g).0 (sym (or_none (f.0 == g)) ∙ k)))
 
-not_lost : (moves : List Move) (place : Place) (g : ℕ) → lost_in (moves ++ move.Unmap place ∷ []) g ≡ lost_in moves g
+pub not_lost : (moves : List Move) (place : Place) (g : ℕ) → lost_in (moves ++ move.Unmap place ∷ []) g ≡ lost_in moves g
 not_lost moves place g = any_append (λ m. is_lost_of g m) moves (move.Unmap place ∷ []) ∙ or_none (lost_in moves g)
-
-false_if : (b : Bool) → (b ≡ true → ⊥) → b ≡ false
-false_if true h = absurd (h refl)
-false_if false h = refl
 
 -- ---- the walk
 
@@ -85,7 +78,7 @@ walk_in l ages pinned = record { steps = tt; closed = refl; only = λ g h. h }
 module _ (start l : FrameLife) (ages : Ages) (pinned : Option Frame) (passed left lost : List ℕ) (moves : List Move) (f : Frame) (w : Walking start l passed (f.0 ∷ left) lost moves) (o : InWalk start ages pinned lost moves) (s : Sound l) (r : Replays moves start l) (can : can_be_written l f.0 ≡ true) where
   -- it was not tried
   fresh : lost_in moves f.0 ≡ false
-  fresh = false_if (lost_in moves f.0) (λ h.
+  fresh = not_true (lost_in moves f.0) (λ h.
       let on = o.only f.0 h in
       let list : l.frames.modified ≡ walked passed (f.0 ∷ left) lost = ap (λ (k : FrameLife). k.frames.modified) w.now in
       let once = sym (ap (λ (xs : List ℕ). times f.0 xs) list) ∙ (modified_frame l s f.0 (walk_on start l passed left lost moves f w)).once in
@@ -144,7 +137,7 @@ module _ (start l : FrameLife) (ages : Ages) (pinned : Option Frame) (moves : Li
 
   -- the place's frame is not on the list
   off_list : is_on f.0 l.frames.modified ≡ false
-  off_list = false_if (is_on f.0 l.frames.modified) (λ h.
+  off_list = not_true (is_on f.0 l.frames.modified) (λ h.
       let zero = (modified_frame l sound f.0 h).unshared in
       let some = has_shares l.valid l.frames l.sets sound.shown place f there in
       absurd (omega (arith, zero, some)))
@@ -172,7 +165,7 @@ module _ (start l : FrameLife) (ages : Ages) (pinned : Option Frame) (moves : Li
         at false h = let bad : true ≡ false = sym h ∙ off_list in cc
 
     fresh_now : lost_in (moves ++ move.Unmap place ∷ []) f.0 ≡ false
-    fresh_now = not_lost moves place f.0 ∙ false_if (lost_in moves f.0) (λ h. let bad : true ≡ false = sym (o.listed f.0 h) ∙ off_list in cc)
+    fresh_now = not_lost moves place f.0 ∙ not_true (lost_in moves f.0) (λ h. let bad : true ≡ false = sym (o.listed f.0 h) ∙ off_list in cc)
 
     tries_now : next_try m (moves ++ move.Unmap place ∷ []) ≡ Some f.0
     tries_now =

@@ -1,4 +1,5 @@
 -- What a search for a frame can empty: modified frames that can be written, and places whose frame is not pinned.
+-- Profile, "Which frame moves, and when".
 use Rattle.std.specs.Prelude.{◌≡◌, ◌≤◌, ℕ, Bool, true, false, not, length, Option, Some, None}
 use Rattle.mm_types.specs.declared.numbers.Frame.{Frame}
 use Rattle.mm_types.specs.declared.numbers.Place.{Place}

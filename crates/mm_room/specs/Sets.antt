@@ -1,4 +1,5 @@
 -- The working set of a process as a map from pages to ages, and the places of the process.
+-- Profile, "Which frame moves, and when".
 use Rattle.std.specs.Prelude.{◌≡◌, ℕ, true, is_some, Option, Some, option_map}
 use Rattle.std.specs.Ordering.{nat_cmp}
 use Rattle.std.specs.FinMap as finite

@@ -8,7 +8,7 @@ use Rattle.mm_slots.specs.Slots.{free_count}
 unfoldable pub has_bit : ℕ → ℕ → Bool
 has_bit word i = bit_at word i == 1
 
--- whether the words, one behind another, have the bit
+-- whether the words, one after another, have the bit
 unfoldable pub have_bit : List ℕ → ℕ → Bool
 have_bit words i = has_bit (slice_index words (i / 64)) (i % 64)
 

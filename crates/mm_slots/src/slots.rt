@@ -121,7 +121,7 @@ impl Slots {
         Ok(())
     }
 
-    /// `n` free slots behind the present ones, with memory that was reserved.
+    /// `n` free slots after the present ones, with memory that was reserved.
     pub fn grow(&mut self, n: u32)
         requires spare { n ≤ self.old.spare }
         requires small { length self.old.free + n < 2 ^ 32 }

@@ -98,7 +98,7 @@ pub struct Level<A: Numbers> {
     ghost small: { length words.items ≤ 2 ^ 26 },
 }
 
-/// Zeros behind the words, until there are `n`.
+/// Zeros after the words, until there are `n`.
 fn fill(words: &mut Vec<u64>, n: usize) -> Result<(), NoMemory>
     ensures same { (k : ℕ) → slice_index words.new.items k ≡ slice_index words.old.items k }
     ensures ok { OnOk result (n ≤ length words.new.items) }

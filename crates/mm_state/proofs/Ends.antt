@@ -26,8 +26,9 @@ use Rattle.mm_pages.specs.Told.{Told, told_after, with_write}
 use Rattle.mm_parts.specs.Moves.{read_end, write_end, page_filled}
 use Rattle.mm_located.specs.Carried.{Carries, slots_written, blocks_written}
 use Rattle.mm_located.proofs.Carrying.{carries_got, carries_bad, carries_wrote, carries_lost}
-use Rattle.mm_located.proofs.Facts.{facts_of}
-use Rattle.mm_located.proofs.FrameMoves.{asked_low, not_reading}
+use Rattle.mm_laws.proofs.Facts.{facts_of}
+use Rattle.mm_life.proofs.Requests.{write_not_read}
+use Rattle.mm_located.proofs.FrameMoves.{asked_low}
 use Rattle.mm_located.proofs.Moving.{home_bytes}
 use Rattle.mm_parts.specs.Reading.{waits_of}
 use Rattle.mm_parts.proofs.Waiting.{waits_ended}
@@ -113,7 +114,7 @@ write_calls true f s z h = h
 write_calls false f s z h = h
 
 pub write_calm : (l : FrameLife) (f : Frame) → IsLegal (move.Wrote f) l → is_read (record_at l.frames f.0).request ≡ false
-write_calm l f legal = not_reading (record_at l.frames f.0).request (is_writing l f legal)
+write_calm l f legal = write_not_read (record_at l.frames f.0).request (is_writing l f legal)
 
 pub same_page : (a b : List ℕ) → Some a ≡ Some b → a ≡ b
 same_page a b e = cc

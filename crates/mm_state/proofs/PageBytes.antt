@@ -21,7 +21,7 @@ use Rattle.mm_entry.specs.declared.entries.Entry.TheVariants as entry
 use Rattle.mm_words.specs.Words.{WordsOf, valid_frame}
 use Rattle.mm_parts.specs.Shown.{Owners, named_by, names_of, valid_of}
 use Rattle.mm_located.proofs.Carrying.{page_of_key}
-use Rattle.mm_located.proofs.Facts.{facts_of}
+use Rattle.mm_laws.proofs.Facts.{facts_of}
 use Rattle.mm_located.proofs.FrameMoves.{shown_calm}
 
 pub pick : {A : Type 0} (o : Option A) → IsSome o → (x : A) × (o ≡ Some x)

@@ -14,7 +14,7 @@ use Rattle.mm_life.specs.Located.{FrameBytes, BlockBytes, zero_page, bytes_at, l
 use Rattle.mm_laws.specs.Reached.{Reached}
 use Rattle.mm_world.specs.World.{filled}
 use Rattle.mm_pages.specs.Standing as pages
-use Rattle.mm_located.proofs.Facts.{facts_of}
+use Rattle.mm_laws.proofs.Facts.{facts_of}
 
 zero_filled : Some zero_page ≡ Some (filled 0)
 unfolding filled

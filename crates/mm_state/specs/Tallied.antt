@@ -1,4 +1,5 @@
 -- What a call of a device leaves: the counts of a line.
+-- Profile, "Paging, as far as answers show it".
 use Rattle.std.specs.Prelude.{◌≡◌, ◌<◌, ◌+◌, ℕ, is_some, Bool, true, false, List, Option, Some, None}
 use Rattle.mm_types.specs.declared.frames.Backing.{Backing}
 use Rattle.mm_types.specs.declared.numbers.Key.{Key}

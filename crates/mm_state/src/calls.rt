@@ -183,20 +183,12 @@ impl<P: Inject, F: Inject, M: Moves> Moving for State<P, F, M> {
         self.front_modified()
     }
 
-    fn next_modified(&self, f: Frame) -> Option<Frame> {
-        self.next_modified(f)
-    }
-
     fn modified_with_block(&self) -> u32 {
         self.modified_with_block()
     }
 
     fn front_modified_with_block(&self) -> Option<Frame> {
         self.front_modified_with_block()
-    }
-
-    fn next_modified_with_block(&self, f: Frame) -> Option<Frame> {
-        self.next_modified_with_block(f)
     }
 
     fn free_slots(&self) -> u32 {
@@ -225,6 +217,10 @@ impl<P: Inject, F: Inject, M: Moves> Moving for State<P, F, M> {
 
     fn oldest(&self, pid: Pid, after: Option<Vpn>) -> Option<Vpn> {
         self.oldest(pid, after)
+    }
+
+    fn next_valid(&self, pid: Pid, from: Vpn) -> Option<Vpn> {
+        self.next_valid(pid, from)
     }
 
     fn nth(&self, i: u32) -> Option<Frame> {

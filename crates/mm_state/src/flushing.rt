@@ -9,7 +9,7 @@ use mm_types::Failed;
 impl<P: Inject, F: Inject, M: Moves> State<P, F, M> {
     ghost use Rattle.mm_state.specs.StateShown.{shown, loans};
 
-    /// Gives on the moves that were noted. `Failed` comes only where the sink's count of faults rose; the moves stay noted then,
+    /// Hands on the moves that were noted. `Failed` comes only where the sink's count of faults rose; the moves stay noted then,
     /// and whether the sink has failed stays as it was.
     pub fn flush_moves(&mut self) -> Result<(), Failed>
         ensures rest { shown self.new ≡ record (shown self.old) { log = record ((shown self.old).log) { faults = (shown self.new).log.faults } } }

@@ -99,16 +99,6 @@ impl<P: Inject, F: Inject, M: Moves> State<P, F, M> {
         self.parts.front_modified()
     }
 
-    /// The modified frame behind one; `None` exactly where that is the last.
-    pub fn next_modified(&self, f: Frame) -> Option<Frame>
-        requires { (k : ℕ) × (slice_get (shown self.now).life.frames.modified k ≡ Some f.0) }
-        ensures behind { (k : ℕ) → slice_get (shown self.now).life.frames.modified k ≡ Some f.0 → option_map (λ g. g.0) result ≡ slice_get (shown self.now).life.frames.modified (k + 1) }
-        ensures there { IfSome result (λ g. g.0 < (shown self.now).life.machine.frames) }
-        ensures rests { IfSome result (λ g. IsAtRest true (record_at (shown self.now).life.frames g.0)) }
-    {
-        self.parts.next_modified(f)
-    }
-
     /// How many modified frames have a block as backing. The others are written to slots.
     pub fn modified_with_block(&self) -> u32
         ensures { result ≡ length (modified_with_block (shown self.now).life.frames) }
@@ -124,17 +114,6 @@ impl<P: Inject, F: Inject, M: Moves> State<P, F, M> {
         ensures block { IfSome result (λ f. has_block (record_at (shown self.now).life.frames f.0).backing ≡ true) }
     {
         self.parts.front_modified_with_block()
-    }
-
-    /// The next modified frame with a block behind one that has one; `None` exactly where that is the last of them.
-    pub fn next_modified_with_block(&self, f: Frame) -> Option<Frame>
-        requires { (k : ℕ) × (slice_get (modified_with_block (shown self.now).life.frames) k ≡ Some f.0) }
-        ensures behind { (k : ℕ) → slice_get (modified_with_block (shown self.now).life.frames) k ≡ Some f.0 → option_map (λ g. g.0) result ≡ slice_get (modified_with_block (shown self.now).life.frames) (k + 1) }
-        ensures there { IfSome result (λ g. g.0 < (shown self.now).life.machine.frames) }
-        ensures rests { IfSome result (λ g. IsAtRest true (record_at (shown self.now).life.frames g.0)) }
-        ensures block { IfSome result (λ g. has_block (record_at (shown self.now).life.frames g.0).backing ≡ true) }
-    {
-        self.parts.next_modified_with_block(f)
     }
 
     /// How many slots are free.

@@ -6,7 +6,7 @@ use Rattle.std.specs.FinMap as finite
 use Rattle.std.specs.FinMap.{FinMap}
 use Rattle.std.proofs.lemmas.Bool.{and_parts, leb-true, ltb-true}
 use Rattle.mm_types.proofs.Cells.{same_or_not}
-use Rattle.mm_types.proofs.Finite.{same}
+use Rattle.mm_types.proofs.Finite.{same, len_more, len_less}
 use Rattle.mm_types.specs.Address.{holds_page}
 use Rattle.mm_types.specs.declared.numbers.Frame.{Frame}
 use Rattle.mm_wset.specs.Ages.{WorkingSetOf, AgesBy, older}
@@ -19,7 +19,7 @@ use Rattle.mm_radix.specs.Pages.{pages, Releases}
 use Rattle.mm_words.specs.Words.{bare, is_valid}
 use Rattle.mm_words.specs.Processes.{IsProcess, place_in, set_place}
 use Rattle.mm_words.proofs.ReadWords.{no_set_place, plain_place}
-use Rattle.mm_words.proofs.PageChanges.{here, elsewhere, gone, left, len_more, len_less}
+use Rattle.mm_words.proofs.PageChanges.{here, elsewhere, gone, left}
 
 place_here : (t : FinMap nat_cmp ℕ) (v : ℕ) (e : Entry) → IsEntry e → place_in (finite.insert t v (word_of e)) v ≡ set_place e
 place_here t v e is = ap (λ o. set_place (entry_or o)) (here t v (word_of e)) ∙ ap set_place (entry_again e is)

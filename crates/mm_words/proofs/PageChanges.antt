@@ -2,10 +2,10 @@
 use Rattle.std.proofs.Common.{◌≡◌, ◌≢◌, ℕ, ◌+◌, ◌-◌, Bool, true, false, cond, Option, Some, None, refl, sym, ap, ◌∙◌, subst}
 use Rattle.std.specs.Prelude.{◌==◌, is_some, if◌then◌else◌}
 use Rattle.std.specs.Ordering.{nat_cmp}
-use Rattle.std.specs.Cmp.{nat_cmp_total, unsigned_Decides}
+use Rattle.std.specs.Cmp.{unsigned_Decides}
 use Rattle.std.specs.FinMap as finite
 use Rattle.std.specs.FinMap.{FinMap}
-use Rattle.mm_types.proofs.Finite.{get-insert, get-remove}
+use Rattle.mm_types.proofs.Finite.{get-insert, get-remove, len_more, len_less}
 use Rattle.mm_types.proofs.Tables.{differ}
 use Rattle.mm_types.specs.Address.{Range, holds_page}
 use Rattle.mm_wset.specs.Ages.{WorkingSetOf}
@@ -33,12 +33,6 @@ gone m k = get-remove m k k ∙ ap (λ b. cond b None (finite.get m k)) ((unsign
 
 pub left : {X : Type 0} (m : FinMap nat_cmp X) (k q : ℕ) → q ≢ k → finite.get (finite.remove m k) q ≡ finite.get m q
 left m k q other = get-remove m k q ∙ ap (λ b. cond b None (finite.get m q)) (differ q k other)
-
-pub len_more : (m : FinMap nat_cmp ℕ) (k x : ℕ) → finite.get m k ≡ None → finite.len (finite.insert m k x) ≡ finite.len m + 1
-len_more m k x h = finite.len-insert nat_cmp_total m k x ∙ ap (λ (o : Option ℕ). cond (is_some o) (finite.len m) (finite.len m + 1)) h
-
-pub len_less : (m : FinMap nat_cmp ℕ) (k x : ℕ) → finite.get m k ≡ Some x → finite.len (finite.remove m k) ≡ finite.len m - 1
-len_less m k x h = finite.len-remove nat_cmp_total m k ∙ ap (λ (o : Option ℕ). cond (is_some o) (finite.len m - 1) (finite.len m)) h
 
 -- ---- one word is set
 

@@ -25,6 +25,7 @@ use Rattle.mm_words.specs.Shown.{shown, bare_aside}
 use Rattle.mm_words.specs.declared.processes.Process.{Process}
 use Rattle.mm_words.specs.Changes.{bound_of, at_of, age_of, resident_of, resident_set, resident_by_numbers, Becomes, Rebinds, Begins, KeepsPages}
 use Rattle.mm_words.specs.Tables.{process_in, read_or, bound_in, at_in, age_in, is_open_in, AsideBound}
+use Rattle.mm_types.proofs.Lists.{get_last}
 
 there_by : (o : Option Process) (page : ℕ) → read_or (λ p. bound_of p page) false o ≡ true → is_some o ≡ true
 there_by None page h = cc
@@ -143,14 +144,11 @@ module _ (ps : List Process) (k : ℕ) (p q : Process) (within : k < length ps) 
   pub table_bound : q.table ≡ p.table → (v : ℕ) → bound_of q v ≡ bound_of p v
   table_bound table v = ap (λ (t : FinMap nat_cmp ℕ). is_some (finite.get t v)) table
 
-set_there_by : (ps : List Process) (pid : ℕ) → is_some (set_in (map resident_of ps) pid) ≡ true → is_some (process_in ps pid) ≡ true
-set_there_by ps zero h = cc
-set_there_by [] (suc k) h = cc
-set_there_by (p ∷ ps) (suc zero) h = refl
-set_there_by (p ∷ ps) (suc (suc k)) h = set_there_by ps (suc k) h
-
 pub set_there : (ps : List Process) (pid : ℕ) → is_some (set_in (map resident_of ps) pid) ≡ true → is_some (process_in ps pid) ≡ true
-set_there = set_there_by
+set_there ps zero h = cc
+set_there [] (suc k) h = cc
+set_there (p ∷ ps) (suc zero) h = refl
+set_there (p ∷ ps) (suc (suc k)) h = set_there ps (suc k) h
 
 pub set_at_index : (ps : List Process) (k pid : ℕ) (p : Process) → k < length ps → p ≡ slice_index_or ps k p → pid ≡ k + 1 → set_in (map resident_of ps) pid ≡ Some (resident_of p)
 set_at_index ps k pid p within value next =
@@ -284,9 +282,6 @@ no_aside None h ps a is = cc
 no_aside (Some b) h ps a is = cc
 
 -- ---- one process more
-append_end : {A : Type 0} (xs : List A) (x : A) → slice_get (xs ++ x ∷ []) (length xs) ≡ Some x
-append_end [] x = refl
-append_end (y ∷ ys) x = append_end ys x
 
 append_other : {A : Type 0} (xs : List A) (x : A) (k : ℕ) → k ≢ length xs → slice_get (xs ++ x ∷ []) k ≡ slice_get xs k
 append_other [] x zero h = absurd (h refl)
@@ -310,7 +305,7 @@ module _ (ps : List Process) (p : Process) where
   pub more_reads : {A : Type 0} (read : Process → A) (none : A) → read p ≡ none → (pid : ℕ) → read_or read none (process_in (ps ++ p ∷ []) pid) ≡ read_or read none (process_in ps pid)
   more_reads read none same zero = refl
   more_reads read none same (suc k) = elim (same_or_not k (length ps)) [
-    | inl e ↦ ap (λ n. read_or read none (slice_get (ps ++ p ∷ []) n)) e ∙ ap (read_or read none) (append_end ps p) ∙ same
+    | inl e ↦ ap (λ n. read_or read none (slice_get (ps ++ p ∷ []) n)) e ∙ ap (read_or read none) (get_last ps p) ∙ same
         ∙ sym (ap (λ n. read_or read none (slice_get ps n)) e ∙ ap (read_or read none) (past_end ps))
     | inr d ↦ ap (read_or read none) (append_other ps p k d)
   ]

@@ -4,6 +4,7 @@ ghost use Rattle.mm_life.specs.Life.{changed};
 ghost use Rattle.mm_entry.specs.Words.{IsEntry};
 ghost use Rattle.mm_entry.specs.declared.entries.Entry.TheVariants as entry;
 ghost use Rattle.mm_wset.specs.Ages.{older};
+ghost use Rattle.mm_wset.specs.InOrder.{IsNextFrom};
 ghost use Rattle.mm_radix.specs.Pages.{pages};
 ghost use Rattle.mm_types.specs.Address.{holds_page, first_user_page, end_of_user_pages};
 ghost use Rattle.mm_entry.specs.Entries.{entry_or};
@@ -181,5 +182,12 @@ impl Process {
         ensures { MatchOption result (NoneBehind (age_of self.now) (option_map (λ w. w.0) after)) (λ v. IsOldestOf (age_of self.now) (option_map (λ w. w.0) after) v.0) }
     {
         self.set.oldest(after)
+    }
+
+    /// The lowest valid page at `from` or above.
+    pub fn next_from(&self, from: Vpn) -> Option<Vpn>
+        ensures { IsNextFrom (λ v. is_some (age_of self.now v)) from.0 result }
+    {
+        self.set.next_from(from)
     }
 }

@@ -9,6 +9,7 @@ ghost use Rattle.mm_entry.specs.declared.entries.Entry.TheVariants as entry;
 ghost use Rattle.mm_types.specs.declared.numbers.Key.{Key};
 ghost use Rattle.mm_types.specs.declared.numbers.Place.{Place};
 ghost use Rattle.mm_wset.specs.Ages.{older};
+ghost use Rattle.mm_wset.specs.InOrder.{IsNextFrom};
 ghost use Rattle.mm_radix.specs.Pages.{pages};
 ghost use Rattle.mm_types.specs.Address.{first_user_page, end_of_user_pages};
 ghost use Rattle.std.specs.Option.{ForSome};
@@ -366,6 +367,15 @@ impl Words {
     {
         let at = index_of(&self.processes, pid);
         self.processes[at].oldest(after)
+    }
+
+    /// The lowest valid page of an open process at `from` or above; none where there is none.
+    pub fn next_from(&self, pid: Pid, from: Vpn) -> Option<Vpn>
+        requires { (words self.now).is_open pid.0 ≡ true }
+        ensures { IsNextFrom (λ v. is_some (ages_in (ages self.now) pid v)) from.0 result }
+    {
+        let at = index_of(&self.processes, pid);
+        self.processes[at].next_from(from)
     }
 
     /// The working set of a process: its sizes, and how many of its places are valid.

@@ -1,5 +1,6 @@
 pub mod PageLemmas
 pub mod FirstLemmas
+pub mod InOrder
 pub mod ForkLemmas
 pub mod UserLemmas
 pub mod AgeLemmas

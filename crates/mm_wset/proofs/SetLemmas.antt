@@ -1,15 +1,14 @@
 -- What each call leaves of a working set.
-use Rattle.std.proofs.Common.{◌≡◌, ℕ, zero, suc, ◌+◌, ◌-◌, ◌^◌, ◌<◌, ◌≤◌, min, Bool, true, false, cond, List, [], ◌∷◌, length, set, map, replicate, get_or, Option, Some, None, refl, sym, ap, ◌∙◌, subst, inl, inr, arith}
+use Rattle.std.proofs.Common.{◌≡◌, ℕ, zero, suc, ◌+◌, ◌-◌, ◌^◌, ◌<◌, ◌≤◌, min, Bool, true, false, List, [], ◌∷◌, length, set, map, replicate, get_or, Option, Some, None, refl, sym, ap, ◌∙◌, subst, inl, inr, arith}
 use Rattle.std.proofs.lemmas.Bool.{cases_lt, cases_eq}
 use Rattle.std.proofs.lemmas.List.{get_or_default, get_or_past, get_or-replicate, length-replicate, length-map, length-set, nil_from_length}
 use Rattle.std.specs.Prelude.{slice_get, IsSome, is_some}
 use Rattle.std.specs.Ordering.{nat_cmp}
-use Rattle.std.specs.Cmp.{nat_cmp_total}
 use Rattle.std.specs.FinMap as finite
 use Rattle.std.specs.FinMap.{FinMap}
 use Rattle.mm_types.specs.Table.{found}
 use Rattle.mm_types.proofs.Tables.{get_table, is_insert, is_remove}
-use Rattle.mm_types.proofs.Finite.{same}
+use Rattle.mm_types.proofs.Finite.{same, len_more, len_less}
 use Rattle.slab.specs.Slab as slabs
 use Rattle.slab.specs.Slab.{Slab, slab_len, Updates}
 use Rattle.mm_wset.specs.declared.trees.Aged.{Aged}
@@ -63,12 +62,6 @@ in_use places m p view held =
     let P : Option ℕ → Type 0 = λ o. IsSome o in
     subst P (ap (λ (n : FinMap nat_cmp ℕ). finite.get n p) (sym view) ∙ get-places places p) held
 
-one_more : (m : FinMap nat_cmp ℕ) (k x : ℕ) → finite.get m k ≡ None → finite.len (finite.insert m k x) ≡ finite.len m + 1
-one_more m k x none = finite.len-insert nat_cmp_total m k x ∙ ap (λ t. cond t (finite.len m) (finite.len m + 1)) (ap is_some none)
-
-one_fewer : (m : FinMap nat_cmp ℕ) (k x : ℕ) → finite.get m k ≡ Some x → finite.len (finite.remove m k) ≡ finite.len m - 1
-one_fewer m k x held = finite.len-remove nat_cmp_total m k ∙ ap (λ t. cond t (finite.len m - 1) (finite.len m)) (ap is_some held)
-
 less_one : (n k m : ℕ) → n ≡ k - 1 → k ≡ m + 1 → n ≡ m
 less_one n k m e f = omega (arith, e, f)
 
@@ -98,7 +91,7 @@ module _ (most : ℕ) (old new : Slab ℕ) (pages : List Aged) (spare spare_room
       let P : FinMap nat_cmp ℕ → FinMap nat_cmp ℕ → Type 0 = λ a m. EachAtOnePlace (maps a m) in
       let Q : FinMap nat_cmp ℕ → FinMap nat_cmp ℕ → Type 0 = λ a m. KnowsUses a m rounds (set used_in place stamp) in
       subst (λ (a : List Aged). IsWorkingSet most new a spare' spare_room' rounds (set used_in place stamp)) (sym is_after) (record {
-        counted = ap finite.len places_is ∙ one_more (places_of old) place v insert_vacant ∙ ap (λ n. n + 1) is.counted ∙ sym more;
+        counted = ap finite.len places_is ∙ len_more (places_of old) place v insert_vacant ∙ ap (λ n. n + 1) is.counted ∙ sym more;
         as_many = length-add fresh_page pages ∙ ap (λ n. n + 1) is.as_many ∙ sym more;
         stocked = omega (arith, is.stocked, more, fewer);
         room_for_spare = omega (arith, is.room_for_spare, same_room);
@@ -141,7 +134,7 @@ module _ (most : ℕ) (old new : Slab ℕ) (pages : List Aged) (spare spare_room
       let P : FinMap nat_cmp ℕ → FinMap nat_cmp ℕ → Type 0 = λ a m. EachAtOnePlace (maps a m) in
       let Q : FinMap nat_cmp ℕ → FinMap nat_cmp ℕ → Type 0 = λ a m. KnowsUses a m rounds used_in in
       subst (λ (a : List Aged). IsWorkingSet most new a spare' spare_room' rounds used_in) (sym is_after) (record {
-        counted = less_one (finite.len (places_of new)) (finite.len (places_of old)) (slab_len new) (ap finite.len places_left ∙ one_fewer (places_of old) place v remove_page_at) (is.counted ∙ sym fewer);
+        counted = less_one (finite.len (places_of new)) (finite.len (places_of old)) (slab_len new) (ap finite.len places_left ∙ len_less (places_of old) place v remove_page_at) (is.counted ∙ sym fewer);
         as_many = omega (arith, length-removed v pages remove_held, is.as_many, fewer);
         stocked = omega (arith, is.stocked, more, fewer);
         room_for_spare = omega (arith, is.room_for_spare, same_room);

@@ -1,4 +1,5 @@
 -- Pages in rising order, each with its age: what a tree of them holds, and which of them goes first.
+-- Profile, "Which frame moves, and when".
 use Rattle.std.specs.Prelude.{◌≡◌, ◌⊎◌, ℕ, ◌+◌, ◌<◌, ◌≤◌, Bool, ◌&&◌, ◌==◌, nat_lt, nat_le, if◌then◌else◌, List, [], ◌∷◌, Option, Some, None}
 use Rattle.std.specs.List.{list_any}
 use Rattle.mm_wset.specs.declared.trees.Aged.{Aged}

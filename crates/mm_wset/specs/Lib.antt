@@ -1,4 +1,5 @@
 pub mod Ages
+pub mod InOrder
 pub mod AgedPages
 pub mod Shape
 pub mod Nodes

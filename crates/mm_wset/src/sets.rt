@@ -1,7 +1,8 @@
-ghost use Rattle.std.specs.Prelude.{◌≡◌, ◌==◌, ◌+◌, ◌-◌, ◌^◌, ◌<◌, ◌≤◌, ℕ, true, false, min, length, Some, None, IfOk, OnOk, OnErr, MatchOption, IsSome, option_map, vec_len, vec_capacity};
+ghost use Rattle.std.specs.Prelude.{◌≡◌, ◌==◌, ◌+◌, ◌-◌, ◌^◌, ◌<◌, ◌≤◌, ℕ, true, false, min, length, Some, None, IfOk, OnOk, OnErr, MatchOption, IsSome, is_some, option_map, vec_len, vec_capacity};
 ghost use Rattle.std.specs.Option.{ForSome};
 ghost use Rattle.std.specs.FinMap as finite;
 ghost use Rattle.mm_wset.specs.Ages.{EachAtOnePlace, AgesBy, older, IsOldest, NoneFollows};
+ghost use Rattle.mm_wset.specs.InOrder.{IsNextFrom};
 ghost use Rattle.mm_wset.specs.AgedPages.{IsSorted, age_in, add_page, remove_page};
 ghost use Rattle.mm_wset.specs.Held.{last_round};
 
@@ -225,6 +226,13 @@ impl WorkingSet {
             Some(aged) => Some(Vpn(aged.page)),
             None => None,
         }
+    }
+
+    /// The lowest page of the set at `from` or above. `None` comes exactly where there is none.
+    pub fn next_from(&self, from: Vpn) -> Option<Vpn>
+        ensures { IsNextFrom (λ v. is_some (finite.get self.now.ages v)) from.0 result }
+    {
+        self.pages.lowest_from(from.0)
     }
 
     /// Each page is at one place, no age is above 7, and a set without room has no page.

@@ -1,10 +1,12 @@
-ghost use Rattle.std.specs.Prelude.{◌≡◌, ◌==◌, ◌+◌, ◌^◌, ◌<◌, ◌≤◌, ℕ, max, [], ◌∷◌, ◌++◌, length, map, Some, None, IsSome, IfSome, MatchOption, find};
+ghost use Rattle.std.specs.Prelude.{◌≡◌, ◌==◌, ◌+◌, ◌^◌, ◌<◌, ◌≤◌, ℕ, max, [], ◌∷◌, ◌++◌, length, map, Some, None, IsSome, IfSome, MatchOption, find, is_some};
 ghost use Rattle.std.specs.Int.{bit_at};
 ghost use Rattle.mm_wset.specs.Ages.{older, GoesBefore};
 ghost use Rattle.mm_wset.specs.AgedPages.{IsSorted, age_in, add_page, remove_page, just_used, older_aged, is_from, IsFirstOf, NoneOf, IsBelow};
+ghost use Rattle.mm_wset.specs.InOrder.{IsNextFrom};
 ghost use Rattle.mm_wset.specs.Shape.{IsShaped, IsFork, IsBalanced, DifferByAtMost};
 ghost use Rattle.mm_wset.specs.Nodes.{kept_over, IsSpan, IsNode};
 
+use mm_types::Vpn;
 use std::marker::Model;
 use std::mem;
 
@@ -88,6 +90,7 @@ impl Node {
 }
 
 impl Tree {
+    /// The tree without pages.
     pub fn new() -> Tree
         ensures { result ≡ record { pages = []; height = 0 } }
     {
@@ -256,6 +259,21 @@ impl Tree {
         match node.left.first_from(age, from) {
             None if node.aged.age == age => Some(node.aged),
             None => node.right.first_from(age, from),
+            found => found,
+        }
+    }
+
+    /// The lowest page at `from` or above.
+    pub fn lowest_from(&self, from: u32) -> Option<Vpn>
+        requires { IsSorted 0 self.now.pages }
+        ensures { IsNextFrom (λ v. is_some (age_in self.now.pages v)) from result }
+    {
+        let node = self.top()?;
+        if node.aged.page < from {
+            return node.right.lowest_from(from);
+        }
+        match node.left.lowest_from(from) {
+            None => Some(Vpn(node.aged.page)),
             found => found,
         }
     }

@@ -1,7 +1,8 @@
 use Rattle.std.proofs.Common.{◌++◌, ◌∷◌, [], List, ℕ, sym, ap, ◌∙◌}
 use Rattle.mm_lists.specs.Lists.{ListsOf, list_at, number_at, with_list}
 use Rattle.mm_moves.specs.Listed.{free_alone}
-use Rattle.mm_moves.proofs.Fresh.{not_yet, numbers_more}
+use Rattle.mm_life.proofs.Numbers.{numbers_next}
+use Rattle.mm_moves.proofs.Fresh.{not_yet}
 use Rattle.mm_moves.proofs.listings.push_all.Goals as goal
 
 pub push_back-requires-clause-on_none : goal.push_back-requires-clause-on_none
@@ -13,6 +14,6 @@ loop-f-preserved c = record {
   pushed =
       c.push_back.ensures.pushed
       ∙ ap (λ (v : ListsOf). with_list v 1 (list_at v.lists 1 ++ c.loop-f.f ∷ [])) c.loop-f.invariant.pushed
-      ∙ ap (λ (xs : List ℕ). record { numbers = c.args.n; lists = free_alone xs }) (numbers_more c.loop-f.f);
+      ∙ ap (λ (xs : List ℕ). record { numbers = c.args.n; lists = free_alone xs }) (sym (numbers_next c.loop-f.f));
   four = c.push_back.ensures.four;
 }

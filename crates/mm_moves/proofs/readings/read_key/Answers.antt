@@ -1,6 +1,5 @@
 use Rattle.std.proofs.Common.{◌≡◌, ◌==◌, true, [], Some, None, length, refl, sym, ap, ◌∙◌}
 use Rattle.mm_types.specs.Spelling.{Text}
-use Rattle.mm_types.specs.declared.numbers.Key.{Key}
 use Rattle.mm_life.specs.MoveText.{key_onto, IsKey}
 use Rattle.mm_moves.specs.Reading.{read_key}
 use Rattle.mm_moves.proofs.ReadAgain.{read_key-onto, value_of, rest_of}

@@ -1,6 +1,5 @@
 use Rattle.std.proofs.Common.{◌≡◌, ◌==◌, true, [], Some, None, length, sym, ap, ◌∙◌}
 use Rattle.mm_types.specs.Spelling.{Text}
-use Rattle.mm_types.specs.declared.moves.Move.{Move}
 use Rattle.mm_life.specs.MoveText.{move_onto, IsMove}
 use Rattle.mm_moves.specs.Reading.{read_text}
 use Rattle.mm_moves.proofs.ReadAgain.{read_text-spelled, value_of, rest_of}

@@ -1,11 +1,11 @@
 use Rattle.std.proofs.Common.{ap, ◌∙◌}
 use Rattle.mm_life.specs.Legal.{touches}
 use Rattle.mm_moving.specs.Shown.{StateOf}
-use Rattle.mm_paged.proofs.Ending.{on_err}
 use Rattle.mm_paged.proofs.HeldCopy.{room_then}
 use Rattle.mm_paged.proofs.HeldShared.{stuck_life}
 use Rattle.mm_paged.proofs.CopyPage.{ok_map, err_map, err_stuck, err_fails_to_copy, both_fail, readied_life, still_dead, page_went, page_stuck, page_copied, page_unready, page_names, page_same, page_life, page_fails, page_access}
 use Rattle.mm_paged.proofs.copying.copy_page.Goals as goal
+use Rattle.mm_types.proofs.Options.{on_err}
 
 pub copy_held-requires-clause-access : goal.copy_held-requires-clause-access
 copy_held-requires-clause-access g c = page_access c.args.from c.in_ok-f.f c.args.place _ _ c.in_ok-f.ensures.readied c.requires.access c.requires.frame

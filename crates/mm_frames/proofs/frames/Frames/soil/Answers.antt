@@ -6,10 +6,11 @@ use Rattle.mm_ram.specs.Ram.{page_at}
 use Rattle.mm_frames.specs.declared.standing.Standing.TheVariants.{Bound}
 use Rattle.mm_frames.specs.Base.{FramesOf, can_be_soiled}
 use Rattle.mm_frames.specs.Placing.{AreFrames, AreBacked, Holds, is_kept}
-use Rattle.mm_frames.proofs.Placings.{kept_owned, shared_kept, shared_owned, shared_busy, frame_written, busy_on_none, busy_stays, busy_list, soiled_shares, soiled_owned}
+use Rattle.mm_frames.proofs.Placings.{kept_owned, shared_kept, shared_owned, shared_busy, frame_written, busy_on_none, busy_stays, busy_list}
 use Rattle.mm_frames.proofs.Departures.{soiled_no_read}
 use Rattle.mm_frames.proofs.WithBlock.{backed_record}
 use Rattle.mm_frames.proofs.frames.Frames.soil.Goals as goal
+use Rattle.mm_life.proofs.Records.{soiled_shares, soiled_owner}
 
 pub invariant_of-self : goal.invariant_of-self
 invariant_of-self c =
@@ -22,7 +23,7 @@ invariant_of-self c =
     let now : c.set.new.self ≡ set i.records f (soiled (get_or i.records f blank)) = c.set.ensures ∙ ap (λ (q : Record). set i.records f q) c.soiled.ensures ∙ ap (λ (q : Record). set i.records f (soiled q)) c.get-r.ensures in
     let new = soiled (get_or i.records f blank) in
     let still : 1 ≤ new.shares = subst (λ (n : ℕ). 1 ≤ n) (sym (soiled_shares (get_or i.records f blank))) some in
-    let owned : is_some new.owner ≡ true = soiled_owned (get_or i.records f blank) (shared_owned (get_or i.records f blank) some kept) in
+    let owned : is_some new.owner ≡ true = ap is_some (soiled_owner (get_or i.records f blank)) ∙ shared_owned (get_or i.records f blank) some kept in
     let holds : Holds Bound new (page_at i.ram f) = record {
       empty = λ d. absurd (d refl);
       kept = λ e. kept_owned new owned;

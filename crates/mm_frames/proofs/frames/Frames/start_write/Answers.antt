@@ -5,9 +5,10 @@ use Rattle.mm_life.specs.Frames.{FrameTable, blank, record_at, is_idle, has_requ
 use Rattle.mm_lists.specs.Lists.{ListsOf, AreApart, without}
 use Rattle.mm_frames.specs.Base.{FramesOf, is_modified_with_block}
 use Rattle.mm_frames.specs.Placing.{AreFrames, is_kept, table_of}
-use Rattle.mm_frames.proofs.Placings.{kept_owned, frame_written, idle_on_one, busy_on_none, left_busy, off_table, written_off, no_request_no_read}
+use Rattle.mm_frames.proofs.Placings.{kept_owned, frame_written, idle_on_one, busy_on_none, left_busy, off_table, written_off}
 use Rattle.mm_frames.proofs.WithBlock.{with_block_on, without_block_off, left_now}
 use Rattle.mm_frames.proofs.frames.Frames.start_write.Goals as goal
+use Rattle.mm_life.proofs.Requests.{calm}
 
 pub leave-requires-clause-on_one : goal.leave-requires-clause-on_one
 leave-requires-clause-on_one c = λ e.
@@ -55,7 +56,7 @@ invariant_of-self c =
       empty = λ d. absurd (d refl);
       kept = λ e. kept_owned (being_written c.args.backing (get_or i.records f blank)) owned;
       zero = λ e. cc;
-      written = λ e d. frame_written i.records i.standing.items i.lists i.ram c.self.invariant.placed f kept (no_request_no_read (get_or i.records f blank).request (ap (λ (w : FramesOf). has_request (record_at w.table f).request) c.self.view_is ∙ c.requires.no_request));
+      written = λ e d. frame_written i.records i.standing.items i.lists i.ram c.self.invariant.placed f kept (calm (get_or i.records f blank).request (ap (λ (w : FramesOf). has_request (record_at w.table f).request) c.self.view_is ∙ c.requires.no_request));
     }) in
     record {
       placed =

@@ -6,11 +6,11 @@ use Rattle.mm_moves.proofs.states.State.write.Goals as goal
 pub begin-requires-clause-low : goal.begin-requires-clause-low
 begin-requires-clause-low c =
     let s = c.args.self.now in
-    let ready = write_ready (life s) c.requires.listed c.requires.sound c.args.frame.0 c.args.stored c.requires.legal in
+    let ready = write_ready (life s) c.requires.listed c.args.frame.0 c.args.stored c.requires.legal in
     subst (λ (n : ℕ). c.args.frame.0 < n) (sym s.requested) (ready_low (life s) c.requires.sound c.args.frame.0 ready)
 
 pub begin-requires-clause-none : goal.begin-requires-clause-none
 begin-requires-clause-none c =
     let s = c.args.self.now in
-    let ready = write_ready (life s) c.requires.listed c.requires.sound c.args.frame.0 c.args.stored c.requires.legal in
+    let ready = write_ready (life s) c.requires.listed c.args.frame.0 c.args.stored c.requires.legal in
     ready_quiet (life s) c.requires.sound c.args.frame.0 ready

@@ -1,5 +1,6 @@
-use Rattle.mm_radix.proofs.LeafLemmas.{on_err, placed_map, reserve_map}
+use Rattle.mm_radix.proofs.LeafLemmas.{placed_map, reserve_map}
 use Rattle.mm_radix.proofs.tables.Table.reserve.Goals as goal
+use Rattle.mm_types.proofs.Options.{on_err}
 
 pub returns-in_err-take_directory-clause-err : goal.returns-in_err-take_directory-clause-err
 returns-in_err-take_directory-clause-err c =

@@ -1,9 +1,10 @@
--- What is on the lists after a number left them or was put behind one.
+-- What is on the lists after a number left them or was put at the end of one.
 use Rattle.std.proofs.Common.{◌≡◌, ◌≢◌, ◌⊎◌, ℕ, zero, suc, ◌<◌, Bool, cond, List, [], ◌∷◌, ◌++◌, length, set, map, drop, Some, None, refl, sym, ap, ◌∙◌, inl, inr, arith, get_or-set_same, get_or-set_other}
 use Rattle.std.specs.Prelude.{slice_get, not}
 use Rattle.std.specs.Cmp.{unsigned_Decides}
 use Rattle.std.proofs.lemmas.List.{set-get_or}
 use Rattle.mm_types.proofs.Cells.{same_or_not, get_within}
+use Rattle.mm_types.proofs.Lists.{get_last}
 use Rattle.mm_types.proofs.Tables.{differ}
 use Rattle.mm_lists.specs.Lists.{IsOnNone, list_at, number_at, without}
 use Rattle.mm_lists.proofs.Cuts.{same, push_cases, push_low, without_other}
@@ -14,7 +15,7 @@ pub record Removes (f : ℕ) (lists lists' : List (List ℕ)) : Type 0 where
 
 -- ---- a number leaves all lists
 
-without_found : (f : ℕ) (xs : List ℕ) (k g : ℕ) → slice_get (without f xs) k ≡ Some g → (g ≢ f) × ((m : ℕ) × (slice_get xs m ≡ Some g))
+pub without_found : (f : ℕ) (xs : List ℕ) (k g : ℕ) → slice_get (without f xs) k ≡ Some g → (g ≢ f) × ((m : ℕ) × (slice_get xs m ≡ Some g))
 without_found f [] k g e = let bad : None ≡ Some g = e in cc
 without_found f (x ∷ xs) k g e = elim (same_or_not x f) [
   | inl s ↦
@@ -101,7 +102,7 @@ pop_nothing lists i none = ap (λ (xs : List ℕ). set lists i xs) (nothing (lis
     nothing [] e = refl
     nothing (x ∷ xs) e = let bad : Some x ≡ None = e in cc
 
--- ---- a number is put behind a list
+-- ---- a number is put at the end of a list
 
 module _ (lists : List (List ℕ)) (i x : ℕ) (inside : i < length lists) where
   pub push_found : (j k g : ℕ) → number_at (set lists i (list_at lists i ++ x ∷ [])) j k ≡ Some g → ((j ≡ i) × (g ≡ x)) ⊎ (number_at lists j k ≡ Some g)
@@ -127,11 +128,7 @@ module _ (lists : List (List ℕ)) (i x : ℕ) (inside : i < length lists) where
 
   pub push_new : number_at (set lists i (list_at lists i ++ x ∷ [])) i (length (list_at lists i)) ≡ Some x
   push_new =
-      ap (λ (xs : List ℕ). slice_get xs (length (list_at lists i))) (get_or-set_same lists i (list_at lists i ++ x ∷ []) [] inside) ∙ at_end (list_at lists i) x
-    where
-      at_end : (xs : List ℕ) (x : ℕ) → slice_get (xs ++ x ∷ []) (length xs) ≡ Some x
-      at_end [] x = refl
-      at_end (y ∷ xs) x = at_end xs x
+      ap (λ (xs : List ℕ). slice_get xs (length (list_at lists i))) (get_or-set_same lists i (list_at lists i ++ x ∷ []) [] inside) ∙ get_last (list_at lists i) x
 
 pub without_none : (f : ℕ) (lists : List (List ℕ)) → IsOnNone lists f → map (without f) lists ≡ lists
 without_none f [] none = refl
