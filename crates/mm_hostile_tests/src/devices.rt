@@ -24,7 +24,7 @@ fn without(alloc: Global, text: &str, place: usize) -> Result<String, AllocError
     Ok(rest)
 }
 
-/// A text with one more line behind its first one.
+/// A text with one more line after its first one.
 fn with_second(alloc: Global, text: &str, second: &str) -> Result<String, AllocError> {
     let mut more = String::new(alloc);
     for (i, line) in text.lines().enumerate() {
@@ -63,7 +63,7 @@ fn failed_move(moves: &str) -> Option<(usize, &str)> {
     None
 }
 
-/// A line of a text, counted from 0; an empty one behind its end.
+/// A line of a text, counted from 0; an empty one after its end.
 fn line_at(text: &str, place: usize) -> &str {
     for (i, line) in text.lines().enumerate() {
         if i == place {
@@ -154,7 +154,7 @@ fn assert_as_quiet(
     Ok(())
 }
 
-/// The first call of a device opens it. Behind the last one nothing fails.
+/// The first call of a device opens it. After the last one nothing fails.
 #[test]
 fn each_call_of_a_device_fails_once(rt: HostRuntime) -> Result<(), Fail> {
     let alloc = rt.alloc();

@@ -3,7 +3,7 @@ use std::alloc::{AllocError, Global};
 use std::process::Abort;
 use std::test::Fail;
 
-/// Sixty pages over eight frames are written and then read, in one order. There is a line behind `process`, or none.
+/// Sixty pages over eight frames are written and then read, in one order. There is a line after `process`, or none.
 fn script(alloc: Global, line: &str) -> Result<String, AllocError> {
     let mut text = String::from_str(alloc, "machine 8 64 1 0\nprocess 0 32\n")?;
     text.push_str(line)?;

@@ -29,7 +29,7 @@ fn a_source_that_fails(rt: HostRuntime) -> Result<(), Fail> {
     Ok(())
 }
 
-/// Each answer is one write. Behind the last one nothing is written.
+/// Each answer is one write. After the last one nothing is written.
 #[test]
 fn answers_that_are_not_taken(rt: HostRuntime) -> Result<(), Fail> {
     let alloc = rt.alloc();
@@ -94,7 +94,7 @@ fn devices_that_are_not_opened(rt: HostRuntime) -> Result<(), Fail> {
     assert_not_opened(&rt, alloc, files)
 }
 
-/// Asserts what a script that ends here comes to: all is well behind a line feed, else the fault is behind its last byte.
+/// Asserts what a script that ends here comes to: all is well after a line feed, else the fault stands after its last byte.
 fn assert_cut(rt: &impl Abort, alloc: Global, script: &str) -> Result<(), Fail> {
     let mut whole: usize = 0;
     let mut cut: usize = 0;

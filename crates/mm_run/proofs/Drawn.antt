@@ -31,7 +31,7 @@ fixed_later =
     ∷ line.CreateFile (record { 0 = 2 }) (codes "data") 0x4 None
     ∷ line.Map (record { 0 = 2 }) 8 0x1 0x0 0x0 0x0 ∷ []
 
--- the events behind the first one
+-- the events after the first one
 abbrev pub later_events : ℕ → ℕ → List Event
 later_events seed count = fixed_later ++ drawn_events count (outputs (seeded seed))
 

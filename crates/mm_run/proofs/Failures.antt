@@ -116,7 +116,7 @@ module _ (o : Outset) (s z : Scene) (e : Event) (a : Answer) (ms : List Move) (d
     | inr rose ↦ rose_from o s z calm.paging_later calm.files_later rose
   ]
 
--- ---- the lines behind the first
+-- ---- the lines after the first
 
 record Quiet (o : Outset) (s : Scene) (lines : List DecidedLine) (z : Scene) : Type 0 where
   pub calm : Calm o z
@@ -208,7 +208,7 @@ first_calm o e a ms s b r =
 
 -- ---- the end
 
--- what stands at the end, behind a quiet last stage
+-- what stands at the end, after a quiet last stage
 record Ended (o : Outset) (s z : Scene) : Type 0 where
   pub paging_later : s.paging.faults ≤ z.paging.faults
   pub files_later : s.files.faults ≤ z.files.faults

@@ -1,4 +1,4 @@
--- The first line, and lines behind it.
+-- The first line, and lines after it.
 use Rattle.std.proofs.Common.{◌≡◌, ◌<◌, ◌≤◌, ℕ, zero, suc, ◌+◌, List, [], ◌∷◌, take, drop, length, refl, sym, ap, ◌∙◌, subst, arith}
 use Rattle.std.specs.Prelude.{Option, Some, None, MatchOption, Result, Ok, Err, Bool, true, false}
 use Rattle.mm_types.specs.Outside.{Appended}

@@ -2,6 +2,7 @@
 use Rattle.std.proofs.Common.{◌≡◌, ◌⊎◌, ℕ, ◌≤◌, Bool, true, false, List, [], ◌∷◌, ◌++◌, Option, Some, None, refl, sym, ap, ◌∙◌, inl, inr, arith}
 use Rattle.std.specs.Prelude.{map, if◌then◌else◌, is_some, ◌&&◌, ◌||◌, ◌==◌, not, unwrap_or, option_map}
 use Rattle.mm_types.specs.Outside.{Rose}
+use Rattle.mm_types.proofs.Booleans.{or_left, or_right}
 use Rattle.mm_types.proofs.Bytes.{rose_then, rose_later}
 use Rattle.mm_types.specs.declared.answers.Answer.{Answer}
 use Rattle.mm_types.specs.declared.events.Event.{Event}
@@ -65,14 +66,6 @@ lost_by : (m : Move) (waits : ℕ → Waiting) (t : ℕ) → is_lost (waits_afte
 lost_by (move.Got f) waits t h = inl (ended_well f.0 (waits t) h)
 lost_by (move.Bad f) waits t h = inr refl
 lost_by m waits t h = inl h
-
-or_left : (a b : Bool) → a ≡ true → (a || b) ≡ true
-or_left true b e = refl
-or_left false b e = cc
-
-or_right : (a b : Bool) → b ≡ true → (a || b) ≡ true
-or_right true b e = refl
-or_right false b e = e
 
 pub lost_through : (ms : List Move) (waits : ℕ → Waiting) (t : ℕ) → is_lost (waits_through ms waits t) ≡ true → (is_lost (waits t) ≡ true) ⊎ (has_bad ms ≡ true)
 lost_through [] waits t h = inl h

@@ -15,7 +15,8 @@ use Rattle.mm_world.specs.World.{World, ProcessOf, RegionOf, KeptOf, Page, Numbe
 use Rattle.mm_world.specs.Find.{Found, process_of}
 use Rattle.mm_world.specs.Keys.{Home, Own, InSection, Committed, set_row, set_shared, committed_at, guard_off}
 use Rattle.mm_world.specs.Outcome.{OutcomeOf, done, refused}
-use Rattle.mm_world.specs.Alloc.{alloc, commit_in, commit_type}
+use Rattle.mm_types.specs.Allocation.{commit_type}
+use Rattle.mm_world.specs.Alloc.{alloc, commit_in}
 use Rattle.mm_world.specs.Free.{free}
 use Rattle.mm_world.specs.Protect.{protect}
 use Rattle.mm_world.specs.Query.{query}

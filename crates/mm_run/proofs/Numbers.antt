@@ -7,7 +7,7 @@ use Rattle.mm_types.specs.Spelling.{Text}
 use Rattle.mm_text.specs.Field.{digit_value, value_in, are_digits}
 use Rattle.mm_run.specs.Bulk.{below_64, word_value}
 
--- the value of digits behind others of the value n, where all are digits and the value stays below the limit
+-- the value of digits after others of the value n, where all are digits and the value stays below the limit
 abbrev pub scan : ℕ → Text → Option ℕ
 scan n [] = below_64 n
 scan n (c ∷ cs) = cond (nat_lt (digit_value c) 10) (scan (n * 10 + digit_value c) cs) None

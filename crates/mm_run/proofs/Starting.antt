@@ -2,6 +2,7 @@
 use Rattle.std.proofs.Common.{◌≡◌, ◌≤◌, ℕ, zero, suc, List, [], ◌∷◌, Option, None, true, false, length, replicate, slice_get, refl, sym, ap, ◌∙◌, subst, arith}
 use Rattle.std.specs.Prelude.{Bool, ◌&&◌, ◌+◌, ◌*◌, nat_le}
 use Rattle.std.proofs.lemmas.Bool.{le-leb}
+use Rattle.mm_types.proofs.Booleans.{both}
 use Rattle.mm_types.specs.Machine.{MachineOf, IsMachine}
 use Rattle.mm_life.specs.Legal.{IsLegal}
 use Rattle.mm_types.specs.declared.numbers.Key.{Key}
@@ -35,11 +36,6 @@ nobody_waits : (n t : ℕ) → walked_or (slice_get (replicate n waiting.Nothing
 nobody_waits zero t = refl
 nobody_waits (suc n) zero = refl
 nobody_waits (suc n) (suc t) = nobody_waits n t
-
-both : (a b : Bool) → a ≡ true → b ≡ true → (a && b) ≡ true
-both true true e f = refl
-both true false e f = f
-both false b e f = e
 
 -- the first line is legal
 pub first_legal : (m : MachineOf) → IsMachine m → IsLegal (first_move m) unstarted

@@ -101,7 +101,7 @@ module _ (a b : Around) (events : List Event) (status : ℕ) where
       either (inl six) = inl six
       either (inr own) = inr (own, not_done e h.stops h.some)
 
-  -- the moves were given on behind the last event
+  -- the moves were handed on after the last event
   module _ (x : Left) (m : b.beside.moves ≡ x.moves) (l : x.moves_faults ≤ b.beside.moves_faults) (p : b.beside.paging ≡ x.paging) (f : b.beside.files ≡ x.files) where
     leaves_here : (end : Stage) → Leaves end x → Leaves end b.beside
     leaves_here end h = leaves_counted end x b.beside h m l p f

@@ -15,7 +15,7 @@ use Rattle.mm_world.specs.System.{System, first_system, outcome, is_watched_type
 use Rattle.mm_watch.proofs.Apart.{equals}
 use Rattle.mm_system.specs.Live.{are_live}
 use Rattle.mm_system.specs.Writes.{writes_of, write_of}
-use Rattle.mm_system.proofs.Regions.{or-right}
+use Rattle.mm_types.proofs.Booleans.{or_right}
 use Rattle.mm_system.proofs.Reserving.{makes_apart, in_alloc}
 use Rattle.mm_run.specs.Scenes.{Scene, Outset, Stage, NotBegun, Running, Follows, with_faults, log_of}
 use Rattle.mm_run.specs.Steps.{AreWatched, Begins, Decides, Stepped}
@@ -31,11 +31,11 @@ watched_cases : (type addr : ℕ) → is_watched_type type ≡ true → is_reser
 watched_cases type addr e = by_first (0x202000 == type) refl e
   where
     by_second : (b : Bool) → (0x203000 == type) ≡ b → (b || false) ≡ true → is_reserving addr (type - 0x200000) ≡ true
-    by_second true is h = subst (λ (t : ℕ). is_reserving addr (t - 0x200000) ≡ true) (equals 0x203000 type is) (or-right (addr == 0) true refl)
+    by_second true is h = subst (λ (t : ℕ). is_reserving addr (t - 0x200000) ≡ true) (equals 0x203000 type is) (or_right (addr == 0) true refl)
     by_second false is h = cc
 
     by_first : (b : Bool) → (0x202000 == type) ≡ b → (b || ((0x203000 == type) || false)) ≡ true → is_reserving addr (type - 0x200000) ≡ true
-    by_first true is h = subst (λ (t : ℕ). is_reserving addr (t - 0x200000) ≡ true) (equals 0x202000 type is) (or-right (addr == 0) true refl)
+    by_first true is h = subst (λ (t : ℕ). is_reserving addr (t - 0x200000) ≡ true) (equals 0x202000 type is) (or_right (addr == 0) true refl)
     by_first false is h = by_second (0x203000 == type) refl h
 
 reserving : (type addr : ℕ) (b : Bool) → is_watched_type type ≡ b → b ≡ true → is_reserving addr (cond b (type - 0x200000) type) ≡ true

@@ -3,6 +3,7 @@ use Rattle.std.proofs.Common.{◌≡◌, ◌≢◌, ℕ, zero, suc, ◌+◌, ◌
 use Rattle.std.specs.Prelude.{◌==◌, ◌&&◌, not, map, nat_le, take, filter, slice_index_or, slice_set, unwrap_or}
 use Rattle.std.specs.List.{range_with_len}
 use Rattle.std.proofs.lemmas.List.{get_or-set_same, get_or-set_other, length-replicate, get_or-map}
+use Rattle.mm_types.proofs.Booleans.{parts, all_three}
 use Rattle.mm_types.specs.declared.answers.Answer.{Answer}
 use Rattle.mm_types.specs.declared.answers.Answer.TheVariants as answer
 use Rattle.mm_types.specs.declared.events.AccessSpec.{AccessSpec}
@@ -13,7 +14,7 @@ use Rattle.mm_types.specs.declared.numbers.Place.{Place}
 use Rattle.mm_types.specs.Address.{Range, page_of, range_of, holds_page, lies_within}
 use Rattle.mm_world.specs.World.{World, KeptOf}
 use Rattle.mm_world.specs.Find.{Found, first_where, one_later}
-use Rattle.mm_world.specs.Free.{release_type}
+use Rattle.mm_types.specs.Allocation.{release_type}
 use Rattle.mm_world.specs.Step.{kept_by}
 use Rattle.mm_world.specs.System.{is_watched_type, reserved_range, written_by, written_by_kept, watches_after}
 use Rattle.mm_world.specs.Watch.{WatchOf, watch_around, watched_range, begun, mark_written, one_page, unwrite, keep_watches, is_watch_at, is_watch_in, written_in}
@@ -21,12 +22,13 @@ use Rattle.mm_watch.specs.Bits.{flag_at}
 use Rattle.mm_watch.specs.Watches.{AreApart, is_unwatched}
 use Rattle.mm_watch.specs.Told.{HadRegion, flag_of, is_flagged, line_ends, line_clears, line_writes, written_next, access_writes, kept_writes}
 use Rattle.mm_watch.proofs.Marks.{NonePasses, AtMostOne, single, none_from_search}
-use Rattle.mm_watch.proofs.Apart.{around, is_around, at_most_one, equal, equals, both, all_three, same_process, same_pages, marked_one}
+use Rattle.mm_watch.proofs.Apart.{around, is_around, at_most_one, equal, equals, same_process, same_pages, marked_one}
 use Rattle.mm_watch.proofs.ToldLemmas.{here, passes_found, search_none, is_at_most}
 use Rattle.mm_watch.proofs.Lines.{line_tells, new_is_unwritten, range_tells}
 use Rattle.mm_core.specs.Forgetting.{ends_none}
 use Rattle.mm_system.specs.Writes.{page_written, write_of, writes_of, unless_in, writes_after}
 use Rattle.mm_run.specs.Written.{Marks, keeps_after, line_begins, line_wrote, written_after, marks_after}
+use Rattle.mm_types.proofs.Booleans.{parts, all_three}
 
 -- ---- the write that a thread keeps
 
@@ -268,8 +270,8 @@ module _ (m : ℕ → ℕ → Marks) (w : World) (ws : List WatchOf) (e : Event)
 
     begins_so : (e : Event) (a : Answer) (b : Bool) → MakesNew ws e a → line_begins pid page e a ≡ true → flag_of (watches_after w ws e a) pid page ≡ Some b → b ≡ false
     begins_so (line.Alloc by addr size type prot) (answer.At base) b new q flag =
-        let h = both (by.0 == pid) (is_watched_type type && holds_page (reserved_range addr size base) page) q in
-        let t = both (is_watched_type type) (holds_page (reserved_range addr size base) page) h.1 in
+        let h = parts (by.0 == pid) (is_watched_type type && holds_page (reserved_range addr size base) page) q in
+        let t = parts (is_watched_type type) (holds_page (reserved_range addr size base) page) h.1 in
         let process = equals by.0 pid h.0 in
         let range = reserved_range addr size base in
         let unwatched = ap (λ (p : ℕ). is_unwatched ws p range) (sym process) ∙ new t.0 in

@@ -1,4 +1,5 @@
 -- The lines of a run, one after another.
+-- Profile, "A run".
 use Rattle.std.specs.Prelude.{◌≡◌, ℕ, suc, true, List, [], ◌∷◌, map, Ok}
 use Rattle.std.specs.List.{flat_map}
 use Rattle.mm_types.specs.Spelling.{Text}

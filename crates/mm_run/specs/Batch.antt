@@ -1,4 +1,5 @@
 -- Where a run of a generated script stands, between its events.
+-- Profile, "A run".
 use Rattle.std.specs.Prelude.{◌≡◌, ◌<◌, ℕ, false, List, ◌++◌, length, count_by, Result, Ok, Err}
 use Rattle.std.specs.List.{AllByRecursion}
 use Rattle.mm_types.specs.declared.events.Event.{Event}

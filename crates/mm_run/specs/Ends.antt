@@ -1,4 +1,5 @@
 -- How the end of a run stands to its last answered line, and what is left then on devices and in the log of moves.
+-- Profile, "A run".
 use Rattle.std.specs.Prelude.{◌≡◌, ◌⊎◌, ◌≤◌, ℕ, true, List, [], Option}
 use Rattle.mm_types.specs.Spelling.{Text}
 use Rattle.mm_types.specs.declared.events.Event.{Event}

@@ -1,4 +1,5 @@
 -- What a run shows between two lines.
+-- Profile, "A run".
 use Rattle.std.specs.Prelude.{◌≡◌, ◌≤◌, ℕ, false, List, Option}
 use Rattle.mm_life.specs.Life.{FrameLife, unstarted}
 use Rattle.mm_life.specs.Logs.{Log}

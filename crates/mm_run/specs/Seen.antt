@@ -1,4 +1,5 @@
 -- What sources, sinks and devices show: the words of a run, said of these themselves.
+-- Profile, "A run".
 use Rattle.mm_io.specs.declared.Source.{Ghosts as SourceGhosts}
 use Rattle.mm_io.specs.declared.Sink.{Ghosts as SinkGhosts}
 use Rattle.mm_blocks.specs.declared.Blocks.{Ghosts as DeviceGhosts}

@@ -1,4 +1,5 @@
 -- What one line does.
+-- Profile, "A run".
 use Rattle.std.specs.Prelude.{◌≡◌, ◌⊎◌, ◌≤◌, ◌+◌, ℕ, Bool, true, false, List, [], ◌∷◌, length, replicate, unwrap_or}
 use Rattle.mm_types.specs.Machine.{MachineOf, limit_of}
 use Rattle.mm_types.specs.declared.answers.Answer.{Answer}
@@ -96,10 +97,10 @@ pub record Decides (s : Scene) (e : Event) (a : Answer) (moves : List Move) (z :
   pub kept : writes_of z.system.world ≡ writes_after (writes_of s.system.world) e a
   -- sections and names live while something refers to them
   pub lives : IsTidy (tables_of z.system.world)
-  -- the calls of a device in this line are those of its log and of the report
+  -- but of `grow` and `fail` lines, the calls of a device in this line are those of its log and of the report
   pub asked_paging : is_fail e ≡ false → is_grow e ≡ false → AskedPaging s.paging z.paging z.report
   pub asked_files : is_fail e ≡ false → AskedFiles s.files z.files z.report
-  -- but for these: a `file` line writes the blocks of its file in rising order, `grow` asks the paging device to grow, and `fail` names calls
+  -- what these lines ask beside: a `file` line writes the blocks of its file in rising order, `grow` asks the paging device to grow, and `fail` names calls
   pub beside : AskedBeside s.system.world.blocks_used e a s.paging z.paging s.files z.files
   pub named : Named false e a s.paging z.paging s.files z.files
   -- no more calls of a device are named than `fail` lines were answered `ok`

@@ -108,7 +108,7 @@ fn decide_event<G: FlushesMoves>(
     }
 }
 
-/// Decides the events behind the first one. It gives how many answers begin with `ok`, and how many are `none`.
+/// Decides the events after the first one. It gives how many answers begin with `ok`, and how many are `none`.
 fn decide_later<G: FlushesMoves>(
     alloc: Global,
     events: &[Event],
@@ -297,7 +297,7 @@ fn spell_tally(tally: Tally) -> LineBuf
     text
 }
 
-/// Writes the four lines of a tally and gives them on, and says with which status the run ends.
+/// Writes the four lines of a tally and hands them on, and says with which status the run ends.
 fn tell_tally<O: Sink>(out: &mut O, tally: Tally) -> u8
     ensures told { ((result ≡ 0) × Appended (O.taken out.old) (O.taken out.new) (four_lines tally.lines tally.ok tally.none tally.charge tally.limit))
         ⊎ ((result ≡ 5) × TornText (O.taken out.old) (O.taken out.new) (four_lines tally.lines tally.ok tally.none tally.charge tally.limit)) }
@@ -314,7 +314,7 @@ fn tell_tally<O: Sink>(out: &mut O, tally: Tally) -> u8
     }
 }
 
-/// Runs a generated script: decides its events, gives on their moves, and then writes the four lines.
+/// Runs a generated script: decides its events, hands on their moves, and then writes the four lines.
 pub(crate) fn bulk<O: Sink, M: Sink, P: Blocks, F: Blocks>(
     alloc: Global,
     seed: u64,

@@ -50,7 +50,7 @@ fn write_answer<O: Sink>(answer: &Answer, out: &mut O) -> Result<(), Failed>
     }
 }
 
-/// Writes an answer, and goes behind its line.
+/// Writes an answer, and goes past its line.
 pub(crate) fn tell<O: Sink>(
     held: &mut Held,
     len: usize,
@@ -185,7 +185,7 @@ fn answer_line<G: FlushesMoves, O: Sink>(
     answer_event(alloc, held, len, n, &event, system, out)
 }
 
-/// What a run comes to at the input's end, behind n lines and so many bytes.
+/// What a run comes to at the input's end, after n lines and so many bytes.
 pub(crate) fn at_end(n: u32, len: usize) -> Ending
     requires short { len ≤ 256 }
     requires few { n < 1000000 }
@@ -237,7 +237,7 @@ fn read_line<G: FlushesMoves, S: Source, O: Sink>(
     }
 }
 
-/// Gives on the moves that were noted.
+/// Hands on the moves that were noted.
 fn flush_moves<G: FlushesMoves>(system: &mut System<G>) -> Result<(), Failed>
     ensures follows { Follows (Running (scene system.old)) (Running (scene system.new)) }
     ensures cause { HasCause (behind system.old).log.faults (behind system.new).log.faults result }
@@ -249,7 +249,7 @@ fn flush_moves<G: FlushesMoves>(system: &mut System<G>) -> Result<(), Failed>
     system.flush_moves()
 }
 
-/// Gives on the moves and then the answers that were written.
+/// Hands on the moves and then the answers that were written.
 fn flush<G: FlushesMoves, O: Sink>(system: &mut System<G>, out: &mut O) -> Option<Ending>
     ensures follows { Follows (Running (scene system.old)) (Running (scene system.new)) }
     ensures taken { O.taken out.new ≡ O.taken out.old }
@@ -272,10 +272,13 @@ fn flush<G: FlushesMoves, O: Sink>(system: &mut System<G>, out: &mut O) -> Optio
     }
 }
 
+/// The bytes that a line may have.
+const LONGEST_LINE: usize = 256;
+
 /// Whether the bytes tell what stands in front, so that none need be read before it: a whole line is among them, or they are more than
 /// a line may have. The latter is asked first, since it mostly holds and costs nothing.
 fn has_front(bytes: &[u8]) -> bool {
-    bytes.len() > 256 || bytes.iter().any(|byte| *byte == b'\n')
+    bytes.len() > LONGEST_LINE || bytes.iter().any(|byte| *byte == b'\n')
 }
 
 /// Flushes both sinks where more has to be read.
@@ -339,7 +342,7 @@ fn decide_line<G: FlushesMoves, S: Source, O: Sink>(
     }
 }
 
-/// What a run comes to behind the last line that it may have.
+/// What a run comes to after the last line that it may have.
 fn behind_last<S: Source>(held: &mut Held, source: &mut S) -> Ending
     requires given { length held.old < 4096 }
     ensures came { (z : Scene) (took : Option (List ℕ)) → Came (outside (S.left source.old) took) (outside (S.left source.new) took) (stand held.old LINES (Running z)) result (Running z) }
@@ -355,7 +358,7 @@ fn behind_last<S: Source>(held: &mut Held, source: &mut S) -> Ending
     }
 }
 
-/// Decides the lines of a source behind the first one, and writes the answers.
+/// Decides the lines of a source after the first one, and writes the answers.
 pub(crate) fn decide_rest<G: FlushesMoves, S: Source, O: Sink>(
     alloc: Global,
     held: &mut Held,

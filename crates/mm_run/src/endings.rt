@@ -4,7 +4,7 @@ ghost use Rattle.mm_run.specs.Texts.{status_of};
 /// What ends a run.
 #[derive(Clone, Copy, PartialEq, Eq, Debug)]
 pub enum Ending {
-    /// The input ended behind a whole line, and every line was decided.
+    /// The input ended after a whole line, and every line was decided.
     Done,
     /// A request for memory was refused.
     NoMemory,

@@ -89,7 +89,7 @@ fn read_later(line: &[u8]) -> Result<Event, u32>
     }
 }
 
-/// The event of a line behind n others, or the column of its fault.
+/// The event of a line after n others, or the column of its fault.
 pub(crate) fn read_event(line: &[u8], n: u32) -> Result<Event, u32>
     requires given { length line.now ≤ 256 }
     ensures reads { result ≡ reading n line.now }

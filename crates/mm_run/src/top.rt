@@ -39,7 +39,7 @@ pub(crate) fn put_number(out: &mut LineBuf, n: u32)
     put_decimal(out, n as u64);
 }
 
-/// The text behind the answers.
+/// The text after the answers.
 fn spell_last(ending: Ending) -> LineBuf
     ensures { result ≡ last_text ending }
 {
@@ -63,7 +63,7 @@ fn spell_last(ending: Ending) -> LineBuf
     text
 }
 
-/// Writes the text behind the answers.
+/// Writes the text after the answers.
 fn write_last<O: Sink>(out: &mut O, ending: Ending) -> Result<(), Failed>
     ensures wrote { WroteLast (O.taken out.old) (O.taken out.new) ending (is_err result) }
     ensures cause { HasCause (O.faults out.old) (O.faults out.new) result }
@@ -100,7 +100,7 @@ fn come_to<S: Source, O: Sink, M: Sink, P: Blocks, F: Blocks>(
     }
 }
 
-/// Gives on what both sinks hold, at the end of a run with this status, and says with which status it ends then.
+/// Hands on what both sinks hold, at the end of a run with this status, and says with which status it ends then.
 fn give_on<O: Sink, M: Sink>(moves: &mut M, out: &mut O, status: u8) -> u8
     ensures taken { O.taken out.new ≡ O.taken out.old }
     ensures moves_taken { M.taken moves.new ≡ M.taken moves.old }

@@ -72,7 +72,10 @@ fn is_spelled(answer: &Answer, wanted: &[u8]) -> bool {
 
 /// Whether a line reads, writes or executes.
 fn is_access(event: &Event) -> bool {
-    matches!(event, Event::Read(..) | Event::Write(..) | Event::Exec(..))
+    matches!(
+        event,
+        Event::Read { .. } | Event::Write { .. } | Event::Exec { .. }
+    )
 }
 
 /// One line over both worlds: whether it is an access, of which both answers are the one that is wanted.
@@ -143,7 +146,7 @@ fn read_both<G: Pages, H: Pages>(
     decide_both(alloc, unpaged, paged, n, &event, wanted)
 }
 
-/// The first line of a text without its line feed, and what is behind it.
+/// The first line of a text without its line feed, and what stands after it.
 fn split_line(text: &[u8]) -> (&[u8], &[u8]) {
     for i in 0..text.len() {
         if text[i] == b'\n' {
@@ -153,7 +156,7 @@ fn split_line(text: &[u8]) -> (&[u8], &[u8]) {
     (text, &text[text.len()..])
 }
 
-/// The lines of a row behind its first, over two worlds in which the first line was decided: how many accesses there were.
+/// The lines of a row after its first, over two worlds in which the first line was decided: how many accesses there were.
 fn all_lines<G: Pages, H: Pages>(
     alloc: Global,
     unpaged: &mut World<G>,
@@ -184,7 +187,7 @@ fn all_lines<G: Pages, H: Pages>(
     Err(Stopped::Long)
 }
 
-/// The lines behind the first over a world, and over one that pages on devices that were opened for it.
+/// The lines after the first over a world, and over one that pages on devices that were opened for it.
 fn over_both<'a, G: Pages>(
     alloc: Global,
     machine: Machine,

@@ -1,4 +1,5 @@
 -- A page of a file is read for a thread and copied, the paging file grows, and the process ends: the moves, and what the joined state shows after so many of them.
+-- Profile, "Logs of moves".
 use Rattle.std.specs.Prelude.{◌≡◌, ℕ, true, false, ◌==◌, List, [], ◌∷◌, take, Some, None}
 use Rattle.mm_types.specs.declared.moves.LineKind.TheVariants as kind
 use Rattle.mm_types.specs.declared.moves.Move.{Move}

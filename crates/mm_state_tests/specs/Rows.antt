@@ -1,4 +1,5 @@
 -- A page rewritten while its write is in flight: what the joined state shows after so many of the moves.
+-- Profile, "Logs of moves".
 use Rattle.std.specs.Prelude.{◌≡◌, ℕ, true, List, [], ◌∷◌, take, Option, None}
 use Rattle.mm_types.specs.declared.moves.Move.{Move}
 use Rattle.mm_types.specs.declared.numbers.Key.{Key}

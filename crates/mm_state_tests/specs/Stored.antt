@@ -1,4 +1,5 @@
 -- A page of a process over the store that pages, in a line that accesses pages of the process.
+-- Profile, "Accesses".
 use Rattle.std.specs.Prelude.{◌≡◌, ℕ, Option}
 use Rattle.mm_types.specs.Machine.{MachineOf}
 use Rattle.mm_types.specs.declared.moves.LineKind.TheVariants as kind

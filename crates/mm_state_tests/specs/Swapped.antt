@@ -1,4 +1,5 @@
 -- A page that is written to a slot, loses its frame and is read in again: the moves, and what the joined state shows after so many of them.
+-- Profile, "Logs of moves".
 use Rattle.std.specs.Prelude.{◌≡◌, ℕ, true, false, ◌==◌, List, [], ◌∷◌, ◌++◌, take, None}
 use Rattle.mm_types.specs.declared.moves.LineKind.TheVariants as kind
 use Rattle.mm_types.specs.declared.moves.Stored.TheVariants as stored

@@ -1,4 +1,4 @@
-//! Tests of the joined state, and one of the store that pages over it, in a crate of their own, so that each is proved once.
+//! Tests of the joined state, one of the store that pages over it, and one of a world over that store, in a crate of their own, so that each is proved once.
 #![tactic(auto)]
 
 #[cfg(test)]
@@ -13,3 +13,5 @@ mod rewritten;
 mod store;
 #[cfg(test)]
 mod swapped;
+#[cfg(test)]
+mod worlds;

@@ -1,4 +1,4 @@
-ghost use Rattle.std.specs.Prelude.{◌≡◌, true, IsSome, IfSome, OnOk, replicate};
+ghost use Rattle.std.specs.Prelude.{◌≡◌, true, IsSome, is_some, IfSome, OnOk, replicate};
 ghost use Rattle.std.specs.Bool.{OnTrue};
 ghost use Rattle.mm_blocks.specs.Traffic.{empty_block};
 ghost use Rattle.mm_life.specs.Frames.{record_at};
@@ -85,6 +85,35 @@ fn change_in_frame<P: Inject, F: Inject, M: Moves>(store: &mut Paged<State<P, F,
     ensures { MayUse (paged.contents store.new) (paged.store store.new) }
 {
     match modified_frame(&store.state) {
+        Some(f) => {
+            write_frame(&mut store.state, f, &[0x77]);
+            true
+        }
+        None => false,
+    }
+}
+
+/// The first modified frame, where it is in no request.
+fn first_modified<T: Moving>(state: &T) -> Option<Frame>
+    ensures owned { IfSome result (λ f. IsSome (record_at (T.shown state.now).life.frames f.0).owner) }
+    ensures soiled { IfSome result (λ f. IsSoiled (record_at (T.shown state.now).life.frames f.0)) }
+{
+    let f = state.front_modified()?;
+    let r = state.look(f);
+    match (r.owner, r.changed, r.request) {
+        (Some(_), true, Request::None) => Some(f),
+        _ => None,
+    }
+}
+
+/// The first byte of the first modified page is changed behind the store. False where none is modified.
+pub(crate) fn change_modified<P: Inject, F: Inject, M: Moves>(
+    store: &mut Paged<State<P, F, M>>,
+) -> bool
+    ensures live { (k : Key) → is_some (paged.contents store.new k) ≡ is_some (paged.contents store.old k) }
+    ensures rest { paged.store store.new ≡ paged.store store.old }
+{
+    match first_modified(&store.state) {
         Some(f) => {
             write_frame(&mut store.state, f, &[0x77]);
             true
