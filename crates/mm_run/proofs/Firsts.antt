@@ -7,6 +7,7 @@ use Rattle.mm_types.specs.AnswerText.{spelling}
 use Rattle.mm_lines.specs.Looking.{HasLine}
 use Rattle.mm_script.specs.declared.faults.LineFault.{LineFault}
 use Rattle.mm_script.specs.Grammar.{IsLine as IsLineFor}
+use Rattle.mm_script.specs.Place.{without_return}
 use Rattle.mm_script.specs.Reading.{parse}
 use Rattle.mm_types.specs.declared.events.Event.{Event}
 use Rattle.mm_types.specs.declared.answers.Answer.{Answer}
@@ -20,7 +21,7 @@ use Rattle.mm_types.specs.declared.moves.Move.{Move}
 use Rattle.mm_run.specs.declared.endings.Ending.{Ending}
 use Rattle.mm_run.specs.declared.endings.Ending.TheVariants as ending
 use Rattle.mm_system.specs.Lines.{is_machine}
-use Rattle.mm_run.specs.Reading.{reading, read_first, read_later, is_machine_word, without_return}
+use Rattle.mm_run.specs.Reading.{reading, read_first, read_later, is_machine_word}
 use Rattle.mm_run.specs.Scenes.{Scene, Outset, Stage, NotBegun, Running, HasNoted, log_of}
 use Rattle.mm_run.specs.Steps.{IsDecided, IsMade}
 use Rattle.mm_run.specs.Texts.{TornText}

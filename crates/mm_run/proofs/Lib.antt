@@ -5,6 +5,8 @@ pub mod Stories
 pub mod Words
 pub mod Failures
 pub mod Firsts
+pub mod Later
+pub mod Finding
 pub mod Logs
 pub mod Lost
 pub mod Named

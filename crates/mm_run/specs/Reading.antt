@@ -1,16 +1,12 @@
 -- The event of a line, by where the line stands.
 -- Profile, "Script".
-use Rattle.std.specs.Prelude.{ℕ, zero, suc, ◌-◌, Bool, if◌then◌else◌, [], ◌∷◌, Result, Ok, Err, codes, bytes_eq, ◌==◌, ◌&&◌, ◌||◌, take, length, nat_eq, slice_index}
-use Rattle.std.specs.List.{ends_with}
+use Rattle.std.specs.Prelude.{ℕ, zero, suc, Bool, if◌then◌else◌, Result, Ok, Err, codes, bytes_eq, ◌==◌, ◌&&◌, ◌||◌, take, length, slice_index}
 use Rattle.mm_types.specs.Spelling.{Text}
 use Rattle.mm_types.specs.declared.events.Event.{Event}
 use Rattle.mm_script.specs.declared.faults.LineFault.{LineFault}
+use Rattle.mm_script.specs.Place.{without_return}
 use Rattle.mm_script.specs.Reading.{parse}
 use Rattle.mm_system.specs.Lines.{is_machine}
-
--- One carriage return at the end of a line is no part of it.
-abbrev pub without_return : Text → Text
-without_return text = if ends_with nat_eq text (0x0D ∷ []) then take (length text - 1) text else text
 
 -- the first word is `machine`
 abbrev pub is_machine_word : Text → Bool

@@ -1,4 +1,4 @@
-ghost use Rattle.std.specs.Prelude.{◌≡◌, ◌≢◌, ◌<◌, ◌≤◌, ◌+◌, ◌⊎◌, ℕ, true, false, List, Option, Some, None, length, drop, take, Ok, MatchOption, IfNone, IfSome, IfOk, OnOk, OnErr, is_err};
+ghost use Rattle.std.specs.Prelude.{◌≡◌, ◌≢◌, ◌<◌, ◌≤◌, ◌+◌, ◌⊎◌, ℕ, true, false, List, Option, Some, None, length, drop, take, Ok, Err, MatchOption, MatchResult, IfNone, IfSome, IfOk, IfErr, OnOk, OnErr, is_err};
 ghost use Rattle.mm_types.specs.Outside.{Appended, Rose, HasCause};
 ghost use Rattle.mm_types.specs.AnswerText.{spelling};
 ghost use Rattle.mm_io.specs.Io.{Wrote};
@@ -9,18 +9,19 @@ ghost use Rattle.mm_system.specs.Shown.{line_of, loans, behind};
 ghost use Rattle.mm_system.specs.Lines.{is_machine};
 ghost use Rattle.mm_core.specs.Built.{takes_memory};
 ghost use Rattle.mm_run.specs.Reading.{reading};
-ghost use Rattle.mm_run.specs.Scenes.{Scene, Running, Follows, scene};
+ghost use Rattle.mm_run.specs.Scenes.{Scene, Stage, Running, Follows, scene};
 ghost use Rattle.mm_run.specs.Steps.{Moved, Breaks};
 ghost use Rattle.mm_run.specs.Texts.{TornText};
 ghost use Rattle.mm_run.specs.Story.{Went, Came, IsBlamed, EndsAt, outside, stand, counts_with};
 ghost use Rattle.mm_run.specs.Seen.{outside_seen};
 
 use crate::endings::Ending;
-use crate::readings::read_event;
+use crate::readings::later_event;
 use mm_answer::spell;
 use mm_flushing::FlushesMoves;
 use mm_io::{Sink, Source, write_all};
-use mm_lines::{Found, Held};
+use mm_lines::{Found, Held, Look};
+use mm_script::parse_line;
 use mm_system::System;
 use mm_text::LineBuf;
 use mm_types::{Answer, Event, Failed, NoMemory};
@@ -93,14 +94,10 @@ pub(crate) fn decide<G: FlushesMoves>(
     ensures ready { OnOk result (system.new.spent ≡ false) }
     ensures loans { loans system.new ≡ loans system.old }
 {
-    match system.step(alloc, n, event) {
-        Ok(answer) => {
-            system.world.pages.sound();
-            system.sound();
-            Ok(answer)
-        }
-        Err(NoMemory) => Err(NoMemory),
-    }
+    let decided = system.step(alloc, n, event);
+    system.world.pages.sound();
+    system.sound();
+    decided
 }
 
 /// Decides a line, which is not the first, and answers it once its moves are written.
@@ -137,18 +134,18 @@ fn answer_event<G: FlushesMoves, O: Sink>(
     ensures form { result ≢ Some Ending.Usage }
     ensures loans { loans system.new ≡ loans system.old }
 {
-    match decide(alloc, n + 1, event, system) {
+    match &decide(alloc, n + 1, event, system) {
         Ok(answer) => {
             if system.world.pages.moves_failed() {
                 return Some(Ending::MovesFault);
             }
-            tell(held, len, &answer, out)
+            tell(held, len, answer, out)
         }
         Err(_) => Some(Ending::NoMemory),
     }
 }
 
-/// Decides and answers the line in front, which is not the first.
+/// Decides and answers the line in front, which is not the first. Its event is large, and stays where it was parsed.
 fn answer_line<G: FlushesMoves, O: Sink>(
     alloc: Global,
     held: &mut Held,
@@ -178,11 +175,12 @@ fn answer_line<G: FlushesMoves, O: Sink>(
     ensures form { result ≢ Some Ending.Usage }
     ensures loans { loans system.new ≡ loans system.old }
 {
-    let event = match read_event(&held.bytes()[..len], n) {
-        Ok(event) => event,
-        Err(column) => return Some(Ending::Script(n + 1, column)),
-    };
-    answer_event(alloc, held, len, n, &event, system, out)
+    let line = &held.bytes()[..len];
+    let parsed = parse_line(line);
+    match later_event(line, &parsed) {
+        Ok(event) => answer_event(alloc, held, len, n, event, system, out),
+        Err(column) => Some(Ending::Script(n + 1, column)),
+    }
 }
 
 /// What a run comes to at the input's end, after n lines and so many bytes.
@@ -198,42 +196,25 @@ pub(crate) fn at_end(n: u32, len: usize) -> Ending
     }
 }
 
-/// Reads, decides and answers one line, which is not the first, with nothing held back that was written before.
-fn read_line<G: FlushesMoves, S: Source, O: Sink>(
-    alloc: Global,
-    held: &mut Held,
-    n: u32,
-    system: &mut System<G>,
-    source: &mut S,
-    out: &mut O,
-) -> Option<Ending>
-    requires some { 0 < n }
+/// Reads until it is known what stands in front: a line of so many bytes, or what a run comes to there after n lines.
+fn next_line<S: Source>(held: &mut Held, n: u32, source: &mut S) -> Result<usize, Ending>
     requires few { n < 1000000 }
     requires held { length held.old < 4096 }
-    requires count { line_of system.old ≡ n }
-    requires ready { system.old.spent ≡ false }
-    requires paged { G.unpaged ≡ false }
-    requires noted { (behind system.old).log.failed ≡ false }
-    ensures went { MatchOption result
-        (Went (outside_seen S.Source O.Sink source.old out.old) (outside_seen S.Source O.Sink source.new out.new) (stand held.old n (Running (scene system.old))) (stand held.new (n + 1) (Running (scene system.new))))
-        (λ e. Came (outside_seen S.Source O.Sink source.old out.old) (outside_seen S.Source O.Sink source.new out.new) (stand held.old n (Running (scene system.old))) e (Running (scene system.new))) }
-    ensures few { IfNone result (length held.new < 4096) }
-    ensures count { IfNone result (line_of system.new ≡ n + 1) }
-    ensures ready { IfNone result (system.new.spent ≡ false) }
-    ensures noted { IfNone result ((behind system.new).log.failed ≡ false) }
-    ensures blame { IfSome result (λ e. IsBlamed e ⊥ (counts_with (S.faults source.old) (O.faults out.old) (behind system.old).log.faults) (counts_with (S.faults source.new) (O.faults out.new) (behind system.new).log.faults)) }
-    ensures idle { MatchOption result (S.idle source.new ≤ S.idle source.old) (λ _. S.idle source.new ≤ S.idle source.old + 1) }
+    ensures line { IfOk result (λ len. HasLine held.new len) }
+    ensures behind { IfOk result (λ len. length held.new < len + 1 + 4096) }
+    ensures went { (z : Stage) (took : Option (List ℕ)) → MatchResult result
+        (λ _. Went (outside (S.left source.old) took) (outside (S.left source.new) took) (stand held.old n z) (stand held.new n z))
+        (λ e. Came (outside (S.left source.old) took) (outside (S.left source.new) took) (stand held.old n z) e z) }
+    ensures blame { IfErr result (λ e. (o m : ℕ) → IsBlamed e ⊥ (counts_with (S.faults source.old) o m) (counts_with (S.faults source.new) o m)) }
+    ensures idle { MatchResult result (λ _. S.idle source.new ≤ S.idle source.old) (λ _. S.idle source.new ≤ S.idle source.old + 1) }
     ensures source_later { S.faults source.old ≤ S.faults source.new }
-    ensures out_later { O.faults out.old ≤ O.faults out.new }
-    ensures moves_later { (behind system.old).log.faults ≤ (behind system.new).log.faults }
-    ensures form { result ≢ Some Ending.Usage }
-    ensures loans { loans system.new ≡ loans system.old }
+    ensures form { result ≢ Err Ending.Usage }
 {
     match held.next(source) {
-        Ok(Found::Line(len)) => answer_line(alloc, held, len, n, system, out),
-        Ok(Found::Long) => Some(Ending::TooLong(n + 1)),
-        Ok(Found::End) => Some(at_end(n, held.bytes().len())),
-        Err(_) => Some(Ending::ReadFault),
+        Ok(Found::Line(len)) => Ok(len),
+        Ok(Found::Long) => Err(Ending::TooLong(n + 1)),
+        Ok(Found::End) => Err(at_end(n, held.bytes().len())),
+        Err(_) => Err(Ending::ReadFault),
     }
 }
 
@@ -272,15 +253,6 @@ fn flush<G: FlushesMoves, O: Sink>(system: &mut System<G>, out: &mut O) -> Optio
     }
 }
 
-/// The bytes that a line may have.
-const LONGEST_LINE: usize = 256;
-
-/// Whether the bytes tell what stands in front, so that none need be read before it: a whole line is among them, or they are more than
-/// a line may have. The latter is asked first, since it mostly holds and costs nothing.
-fn has_front(bytes: &[u8]) -> bool {
-    bytes.len() > LONGEST_LINE || bytes.iter().any(|byte| *byte == b'\n')
-}
-
 /// Flushes both sinks where more has to be read.
 fn flush_before_read<G: FlushesMoves, O: Sink>(
     held: &Held,
@@ -298,10 +270,74 @@ fn flush_before_read<G: FlushesMoves, O: Sink>(
     ensures ready { system.new.spent ≡ system.old.spent }
     ensures loans { loans system.new ≡ loans system.old }
 {
-    if has_front(held.bytes()) {
-        None
-    } else {
-        flush(system, out)
+    match held.look() {
+        Look::Open => flush(system, out),
+        _ => None,
+    }
+}
+
+/// Reads until a line stands in front, with nothing held back that was written before.
+fn read_line<G: FlushesMoves, S: Source, O: Sink>(
+    held: &mut Held,
+    n: u32,
+    system: &mut System<G>,
+    source: &mut S,
+    out: &mut O,
+) -> Result<usize, Ending>
+    requires few { n < 1000000 }
+    requires held { length held.old < 4096 }
+    ensures line { IfOk result (λ len. HasLine held.new len) }
+    ensures behind { IfOk result (λ len. length held.new < len + 1 + 4096) }
+    ensures went { MatchResult result
+        (λ _. Went (outside_seen S.Source O.Sink source.old out.old) (outside_seen S.Source O.Sink source.new out.new) (stand held.old n (Running (scene system.old))) (stand held.new n (Running (scene system.new))))
+        (λ e. Came (outside_seen S.Source O.Sink source.old out.old) (outside_seen S.Source O.Sink source.new out.new) (stand held.old n (Running (scene system.old))) e (Running (scene system.new))) }
+    ensures blame { IfErr result (λ e. IsBlamed e ⊥ (counts_with (S.faults source.old) (O.faults out.old) (behind system.old).log.faults) (counts_with (S.faults source.new) (O.faults out.new) (behind system.new).log.faults)) }
+    ensures idle { MatchResult result (λ _. S.idle source.new ≤ S.idle source.old) (λ _. S.idle source.new ≤ S.idle source.old + 1) }
+    ensures source_later { S.faults source.old ≤ S.faults source.new }
+    ensures out_later { O.faults out.old ≤ O.faults out.new }
+    ensures moves_later { (behind system.old).log.faults ≤ (behind system.new).log.faults }
+    ensures noted { (behind system.new).log.failed ≡ (behind system.old).log.failed }
+    ensures count { line_of system.new ≡ line_of system.old }
+    ensures ready { system.new.spent ≡ system.old.spent }
+    ensures form { result ≢ Err Ending.Usage }
+    ensures loans { loans system.new ≡ loans system.old }
+{
+    match flush(system, out) {
+        Some(ending) => Err(ending),
+        None => next_line(held, n, source),
+    }
+}
+
+/// Finds the line in front, by one search where it is held whole, as most are.
+fn find_line<G: FlushesMoves, S: Source, O: Sink>(
+    held: &mut Held,
+    n: u32,
+    system: &mut System<G>,
+    source: &mut S,
+    out: &mut O,
+) -> Result<usize, Ending>
+    requires few { n < 1000000 }
+    requires held { length held.old < 4096 }
+    ensures line { IfOk result (λ len. HasLine held.new len) }
+    ensures behind { IfOk result (λ len. length held.new < len + 1 + 4096) }
+    ensures went { MatchResult result
+        (λ _. Went (outside_seen S.Source O.Sink source.old out.old) (outside_seen S.Source O.Sink source.new out.new) (stand held.old n (Running (scene system.old))) (stand held.new n (Running (scene system.new))))
+        (λ e. Came (outside_seen S.Source O.Sink source.old out.old) (outside_seen S.Source O.Sink source.new out.new) (stand held.old n (Running (scene system.old))) e (Running (scene system.new))) }
+    ensures blame { IfErr result (λ e. IsBlamed e ⊥ (counts_with (S.faults source.old) (O.faults out.old) (behind system.old).log.faults) (counts_with (S.faults source.new) (O.faults out.new) (behind system.new).log.faults)) }
+    ensures idle { MatchResult result (λ _. S.idle source.new ≤ S.idle source.old) (λ _. S.idle source.new ≤ S.idle source.old + 1) }
+    ensures source_later { S.faults source.old ≤ S.faults source.new }
+    ensures out_later { O.faults out.old ≤ O.faults out.new }
+    ensures moves_later { (behind system.old).log.faults ≤ (behind system.new).log.faults }
+    ensures noted { (behind system.new).log.failed ≡ (behind system.old).log.failed }
+    ensures count { line_of system.new ≡ line_of system.old }
+    ensures ready { system.new.spent ≡ system.old.spent }
+    ensures form { result ≢ Err Ending.Usage }
+    ensures loans { loans system.new ≡ loans system.old }
+{
+    match held.look() {
+        Look::Line(len) => Ok(len),
+        Look::Long => Err(Ending::TooLong(n + 1)),
+        Look::Open => read_line(held, n, system, source, out),
     }
 }
 
@@ -336,9 +372,9 @@ fn decide_line<G: FlushesMoves, S: Source, O: Sink>(
     ensures form { result ≢ Some Ending.Usage }
     ensures loans { loans system.new ≡ loans system.old }
 {
-    match flush_before_read(held, system, out) {
-        Some(ending) => Some(ending),
-        None => read_line(alloc, held, n, system, source, out),
+    match find_line(held, n, system, source, out) {
+        Ok(len) => answer_line(alloc, held, len, n, system, out),
+        Err(ending) => Some(ending),
     }
 }
 

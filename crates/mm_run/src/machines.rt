@@ -13,7 +13,7 @@ ghost use Rattle.mm_run.specs.Seen.{counts_seen, left_seen, outset_seen, outside
 
 use crate::decisions::{at_end, decide_rest, tell};
 use crate::endings::Ending;
-use crate::readings::read_event;
+use crate::readings::read_first;
 use mm_blocks::{Blocks, Injected};
 use mm_flushing::FlushesMoves;
 use mm_io::{Sink, Source};
@@ -209,7 +209,7 @@ fn decide_first<S: Source, O: Sink, M: Sink, P: Blocks, F: Blocks>(
     ensures moves_later { M.faults moves.old ≤ M.faults moves.new }
     ensures form { result ≢ Ending.Usage }
 {
-    let event = match read_event(&held.bytes()[..len], 0) {
+    let event = match read_first(&held.bytes()[..len]) {
         Ok(event) => event,
         Err(column) => return Ending::Script(1, column),
     };

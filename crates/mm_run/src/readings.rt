@@ -1,23 +1,14 @@
-ghost use Rattle.std.specs.Prelude.{◌≡◌, ◌≤◌, length, IfOk, IfErr};
+ghost use Rattle.std.specs.Prelude.{◌≡◌, ◌≤◌, length, Ok, Err, IfOk, IfErr, MatchResult};
 ghost use Rattle.mm_types.specs.declared.events.Event.{Event};
 ghost use Rattle.mm_script.specs.Grammar.{IsLine};
 ghost use Rattle.mm_run.specs.Story.{IsMisplaced};
 ghost use Rattle.mm_script.specs.Printed.{IsWellFormed};
+ghost use Rattle.mm_script.specs.Reading.{parse};
 ghost use Rattle.mm_system.specs.Lines.{is_machine};
-ghost use Rattle.mm_run.specs.Reading.{reading, without_return, is_machine_word};
+ghost use Rattle.mm_run.specs.Reading.{reading, is_machine_word};
 
-use mm_script::parse_line;
+use mm_script::{LineFault, parse_line, without_return};
 use mm_types::Event;
-
-/// A line without the one carriage return that may stand at its end.
-fn without_return(line: &[u8]) -> &[u8]
-    ensures { result.now ≡ without_return line.now }
-{
-    match line {
-        [front @ .., b'\r'] => front,
-        _ => line,
-    }
-}
 
 /// Whether the first word of a line is `machine`.
 fn is_machine_word(line: &[u8]) -> bool
@@ -38,7 +29,7 @@ fn is_machine(event: &Event) -> bool
 }
 
 /// The event of the first line, or the column of its fault.
-fn read_first(line: &[u8]) -> Result<Event, u32>
+pub(crate) fn read_first(line: &[u8]) -> Result<Event, u32>
     requires given { length line.now ≤ 256 }
     ensures reads { result ≡ reading 0 line.now }
     ensures well_formed { IfOk result (λ e. IsWellFormed e) }
@@ -63,22 +54,17 @@ fn read_first(line: &[u8]) -> Result<Event, u32>
     }
 }
 
-/// The event of a later line, or the column of its fault.
-fn read_later(line: &[u8]) -> Result<Event, u32>
-    requires given { length line.now ≤ 256 }
-    ensures reads { result ≡ reading 1 line.now }
-    ensures well_formed { IfOk result (λ e. IsWellFormed e) }
-    ensures grammar { IfOk result (λ e. IsLine line.now e) }
-    ensures refused { IfErr result (λ _. (e : Event) → IsLine line.now e → IsMisplaced 1 e) }
+/// The event of a later line, which stands in what the line was parsed to, or the column of its fault.
+pub(crate) fn later_event<'a>(
+    line: &[u8],
+    parsed: &'a Result<Event, LineFault>,
+) -> Result<&'a Event, u32>
+    requires parsed { parsed.now ≡ parse line.now }
+    ensures reads { MatchResult result (λ e. reading 1 line.now ≡ Ok e.now) (λ column. reading 1 line.now ≡ Err column) }
+    ensures same { IfOk result (λ e. parsed.now ≡ Ok e.now) }
 {
-    match parse_line(line) {
-        Ok(event) => {
-            if is_machine(&event) {
-                Err(1)
-            } else {
-                Ok(event)
-            }
-        }
+    match parsed {
+        Ok(event) => { if is_machine(event) { Err(1) } else { Ok(event) } }
         Err(fault) => {
             if is_machine_word(without_return(line)) {
                 Err(1)
@@ -86,20 +72,5 @@ fn read_later(line: &[u8]) -> Result<Event, u32>
                 Err(fault.column)
             }
         }
-    }
-}
-
-/// The event of a line after n others, or the column of its fault.
-pub(crate) fn read_event(line: &[u8], n: u32) -> Result<Event, u32>
-    requires given { length line.now ≤ 256 }
-    ensures reads { result ≡ reading n line.now }
-    ensures well_formed { IfOk result (λ e. IsWellFormed e) }
-    ensures grammar { IfOk result (λ e. IsLine line.now e) }
-    ensures refused { IfErr result (λ _. (e : Event) → IsLine line.now e → IsMisplaced n e) }
-{
-    if n == 0 {
-        read_first(line)
-    } else {
-        read_later(line)
     }
 }

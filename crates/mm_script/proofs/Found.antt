@@ -67,6 +67,11 @@ pub found_sorted : (word : Text) (r : Option Keyword) → r ≡ keyword_among (k
 unfolding keyword_of
 found_sorted word r h = h ∙ same_ways word (keyword_among keywords word) (sought word) refl refl
 
+-- a word that is a keyword's text is that keyword
+pub found_word : (word : Text) (k : Keyword) → bytes_eq word (text_of k) ≡ true → Some k ≡ keyword_of word
+unfolding keyword_of
+found_word word k same = sym (ap (keyword_among keywords) ((bytes_eq-Decides word (text_of k)).0 same) ∙ (both_ways k).0)
+
 pub keyword_is : (word : Text) (k : Keyword) → keyword_of word ≡ Some k → word ≡ text_of k
 unfolding keyword_of
 keyword_is word k h = among_is keywords word k h

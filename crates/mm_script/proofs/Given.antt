@@ -1,5 +1,5 @@
 -- The value of the next word, or its fault.
-use Rattle.std.proofs.Common.{◌≡◌, ℕ, ◌-◌, [], Option, Some, None, Result, Ok, Err, sym, ap, ◌∙◌, subst, arith}
+use Rattle.std.proofs.Common.{◌≡◌, ℕ, ◌-◌, [], Option, Some, None, Result, Ok, Err, refl, sym, ap, ◌∙◌, subst, arith}
 use Rattle.std.specs.Option.{ok_or}
 use Rattle.mm_types.specs.Spelling.{Text}
 use Rattle.mm_script.specs.declared.faults.LineFault.{LineFault}
@@ -22,8 +22,8 @@ given_at old new text f t e None =
 given_at old new text f t e (Some x) = ap (λ (r : Rest). Ok (x, r)) (taken_rest old new text t)
 
 -- a word's value, or the fault at it
-pub given : {A : Type 0} (reads : Text → Option A) (old new : Rest) (text : Text) (f : LineFault) (r : Result A LineFault) → TakesWord old text new → f ≡ fault_at new.last (new.number - 1) → r ≡ ok_or (reads text) f → Gives r new (word_as reads old)
-given reads old new text f r t e h =
+given_or : {A : Type 0} (reads : Text → Option A) (old new : Rest) (text : Text) (f : LineFault) (r : Result A LineFault) → TakesWord old text new → f ≡ fault_at new.last (new.number - 1) → r ≡ ok_or (reads text) f → Gives r new (word_as reads old)
+given_or reads old new text f r t e h =
     subst (λ (q : Result _ LineFault). Gives q new (word_as reads old)) (sym h)
     (subst (λ (w : _). Gives (ok_or (reads text) f) new w) (sym (read_taken reads old new text t)) (given_at old new text f t e (reads text)))
 
@@ -31,3 +31,15 @@ given reads old new text f r t e h =
 pub missing : {A : Type 0} (reads : Text → Option A) (old : Rest) (f : LineFault) → old.left ≡ [] → f ≡ fault_at old.end old.number → word_as reads old ≡ Err f
 unfolding word_as
 missing reads old f l e = ap (first_read reads old) l ∙ ap (λ (g : LineFault). Err g) (sym e)
+
+-- the word has a value
+pub given_value : {A : Type 0} (reads : Text → Option A) (old new : Rest) (text : Text) (x : A) → TakesWord old text new → Some x ≡ reads text → word_as reads old ≡ Ok (x, new)
+given_value reads old new text x t e =
+    let f : LineFault = fault_at new.last (new.number - 1) in
+    given_or reads old new text f (Ok x) t refl (ap (λ o. ok_or o f) e)
+
+-- the word has none
+pub given_fault : {A : Type 0} (reads : Text → Option A) (old new : Rest) (text : Text) (f : LineFault) → TakesWord old text new → None ≡ reads text → f ≡ fault_at new.last (new.number - 1) → word_as reads old ≡ Err f
+given_fault reads old new text f t e at = given_or reads old new text f (Err f) t at (ap (λ o. ok_or o f) e)
+
+pub ruleset given = (given_value, given_fault, missing)

@@ -49,6 +49,7 @@ impl<'a> Fields<'a> {
     }
 
     /// The next word; the fault stands after the line's end where no word is left. Either way one word more is counted.
+    #[inline(always)]
     fn next(&mut self) -> Result<&'a [u8], LineFault>
         requires few { self.old.number < MOST_WORDS }
         ensures word { Takes self.old result self.new }
@@ -78,6 +79,7 @@ impl<'a> Fields<'a> {
     }
 
     /// That no word is left; the fault stands at the next one.
+    #[inline(always)]
     #[tactic(auto, unfolding(crate::specs::Reading::ended))]
     pub fn end(&mut self) -> Result<(), LineFault>
         ensures ended { result ≡ ended self.old }
@@ -93,7 +95,8 @@ impl<'a> Fields<'a> {
     }
 
     /// A number from `least` to `most`.
-    #[tactic(auto, using(crate::proofs::Given::given, crate::proofs::Given::missing))]
+    #[inline(always)]
+    #[tactic(auto, using(crate::proofs::Given::given))]
     pub fn number_in(&mut self, least: u32, most: u32) -> Result<u32, LineFault>
         requires few { self.old.number < MOST_WORDS }
         ensures value { Gives result self.new (word_as (read (Number least most)) self.old) }
@@ -101,127 +104,167 @@ impl<'a> Fields<'a> {
         ensures range { IfOk result (λ n. (least ≤ n) × (n ≤ most)) }
     {
         let word = self.next()?;
-        values::number_within(word, least, most).ok_or(self.fault())
+        match values::number_within(word, least, most) {
+            Some(value) => Ok(value),
+            None => Err(self.fault()),
+        }
     }
 
     /// A number below 2^32.
-    #[tactic(auto, using(crate::proofs::Given::given, crate::proofs::Given::missing))]
+    #[inline(always)]
+    #[tactic(auto, using(crate::proofs::Given::given))]
     pub fn number(&mut self) -> Result<u32, LineFault>
         requires few { self.old.number < MOST_WORDS }
         ensures value { Gives result self.new (word_as (read AnyNumber) self.old) }
         ensures counts { self.new.number ≡ self.old.number + 1 }
     {
         let word = self.next()?;
-        number(word).ok_or(self.fault())
+        match number(word) {
+            Some(value) => Ok(value),
+            None => Err(self.fault()),
+        }
     }
 
     /// A number that a byte holds.
-    #[tactic(auto, using(crate::proofs::Given::given, crate::proofs::Given::missing))]
+    #[tactic(auto, using(crate::proofs::Given::given))]
     pub fn byte(&mut self) -> Result<u8, LineFault>
         requires few { self.old.number < MOST_WORDS }
         ensures value { Gives result self.new (word_as (read (Number 0 255)) self.old) }
         ensures counts { self.new.number ≡ self.old.number + 1 }
     {
         let word = self.next()?;
-        values::byte(word).ok_or(self.fault())
+        match values::byte(word) {
+            Some(value) => Ok(value),
+            None => Err(self.fault()),
+        }
     }
 
     /// A process's number, 0 to 255.
-    #[tactic(auto, using(crate::proofs::Given::given, crate::proofs::Given::missing))]
+    #[inline(always)]
+    #[tactic(auto, using(crate::proofs::Given::given))]
     pub fn pid(&mut self) -> Result<Pid, LineFault>
         requires few { self.old.number < MOST_WORDS }
         ensures value { Gives result self.new (word_as (read PidNumber) self.old) }
         ensures counts { self.new.number ≡ self.old.number + 1 }
     {
         let word = self.next()?;
-        values::pid(word).ok_or(self.fault())
+        match values::pid(word) {
+            Some(value) => Ok(value),
+            None => Err(self.fault()),
+        }
     }
 
     /// A thread's number, 0 to 255.
-    #[tactic(auto, using(crate::proofs::Given::given, crate::proofs::Given::missing))]
+    #[tactic(auto, using(crate::proofs::Given::given))]
     pub fn tid(&mut self) -> Result<Tid, LineFault>
         requires few { self.old.number < MOST_WORDS }
         ensures value { Gives result self.new (word_as (read TidNumber) self.old) }
         ensures counts { self.new.number ≡ self.old.number + 1 }
     {
         let word = self.next()?;
-        values::tid(word).ok_or(self.fault())
+        match values::tid(word) {
+            Some(value) => Ok(value),
+            None => Err(self.fault()),
+        }
     }
 
     /// 0 or 1.
-    #[tactic(auto, using(crate::proofs::Given::given, crate::proofs::Given::missing))]
+    #[tactic(auto, using(crate::proofs::Given::given))]
     pub fn flag(&mut self) -> Result<bool, LineFault>
         requires few { self.old.number < MOST_WORDS }
         ensures value { Gives result self.new (word_as (read FlagNumber) self.old) }
         ensures counts { self.new.number ≡ self.old.number + 1 }
     {
         let word = self.next()?;
-        values::flag(word).ok_or(self.fault())
+        match values::flag(word) {
+            Some(value) => Ok(value),
+            None => Err(self.fault()),
+        }
     }
 
     /// 1 to 64 bytes, as pairs of hexadecimal digits.
-    #[tactic(auto, using(crate::proofs::Given::given, crate::proofs::Given::missing))]
+    #[inline(always)]
+    #[tactic(auto, using(crate::proofs::Given::given))]
     pub fn bytes(&mut self) -> Result<ByteBuf, LineFault>
         requires few { self.old.number < MOST_WORDS }
         ensures value { Gives result self.new (word_as (read ByteWord) self.old) }
         ensures counts { self.new.number ≡ self.old.number + 1 }
     {
         let word = self.next()?;
-        bytes(word).ok_or(self.fault())
+        match bytes(word) {
+            Some(value) => Ok(value),
+            None => Err(self.fault()),
+        }
     }
 
     /// A name.
-    #[tactic(auto, using(crate::proofs::Given::given, crate::proofs::Given::missing))]
+    #[tactic(auto, using(crate::proofs::Given::given))]
     pub fn name(&mut self) -> Result<Name, LineFault>
         requires few { self.old.number < MOST_WORDS }
         ensures value { Gives result self.new (word_as (read NameWord) self.old) }
         ensures counts { self.new.number ≡ self.old.number + 1 }
     {
         let word = self.next()?;
-        name(word).ok_or(self.fault())
+        match name(word) {
+            Some(value) => Ok(value),
+            None => Err(self.fault()),
+        }
     }
 
     /// A name, or `-` for none.
-    #[tactic(auto, using(crate::proofs::Given::given, crate::proofs::Given::missing))]
+    #[tactic(auto, using(crate::proofs::Given::given))]
     pub fn name_or_dash(&mut self) -> Result<Option<Name>, LineFault>
         requires few { self.old.number < MOST_WORDS }
         ensures value { Gives result self.new (word_as (read NameOrDash) self.old) }
         ensures counts { self.new.number ≡ self.old.number + 1 }
     {
         let word = self.next()?;
-        values::name_or_dash(word).ok_or(self.fault())
+        match values::name_or_dash(word) {
+            Some(value) => Ok(value),
+            None => Err(self.fault()),
+        }
     }
 
     /// `paging` or `file`.
-    #[tactic(auto, using(crate::proofs::Given::given, crate::proofs::Given::missing))]
+    #[tactic(auto, using(crate::proofs::Given::given))]
     pub fn device(&mut self) -> Result<Device, LineFault>
         requires few { self.old.number < MOST_WORDS }
         ensures value { Gives result self.new (word_as (read DeviceWord) self.old) }
         ensures counts { self.new.number ≡ self.old.number + 1 }
     {
         let word = self.next()?;
-        values::device(word).ok_or(self.fault())
+        match values::device(word) {
+            Some(value) => Ok(value),
+            None => Err(self.fault()),
+        }
     }
 
     /// `read` or `write`.
-    #[tactic(auto, using(crate::proofs::Given::given, crate::proofs::Given::missing))]
+    #[tactic(auto, using(crate::proofs::Given::given))]
     pub fn direction(&mut self) -> Result<Direction, LineFault>
         requires few { self.old.number < MOST_WORDS }
         ensures value { Gives result self.new (word_as (read DirectionWord) self.old) }
         ensures counts { self.new.number ≡ self.old.number + 1 }
     {
         let word = self.next()?;
-        values::direction(word).ok_or(self.fault())
+        match values::direction(word) {
+            Some(value) => Ok(value),
+            None => Err(self.fault()),
+        }
     }
 
     /// The first word of a line.
-    #[tactic(auto, using(crate::proofs::Given::given, crate::proofs::Given::missing))]
+    #[inline(always)]
+    #[tactic(auto, using(crate::proofs::Given::given))]
     pub fn keyword(&mut self) -> Result<Keyword, LineFault>
         requires few { self.old.number < MOST_WORDS }
         ensures value { Gives result self.new (word_as keyword_of self.old) }
         ensures counts { self.new.number ≡ self.old.number + 1 }
     {
         let word = self.next()?;
-        Keyword::of(word).ok_or(self.fault())
+        match Keyword::of(word) {
+            Some(value) => Ok(value),
+            None => Err(self.fault()),
+        }
     }
 }

@@ -1,4 +1,4 @@
-ghost use Rattle.std.specs.Prelude.{◌≡◌, length};
+ghost use Rattle.std.specs.Prelude.{◌≡◌, length, bytes_eq, codes};
 ghost use Rattle.mm_script.specs.Keywords.{keyword_of, keyword_among};
 ghost use Rattle.mm_script.specs.Sorted.{keywords_of_length, four_letter_keywords, five_letter_keywords, six_letter_keywords, other_keywords};
 
@@ -41,15 +41,44 @@ pub enum Keyword {
 }
 
 impl Keyword {
-    /// The keyword that a word is.
+    /// The keyword that a word is. The commonest two are tested first, with no search.
     pub fn of(word: &[u8]) -> Option<Keyword>
         ensures { result ≡ keyword_of word.now }
     {
+        if is_read(word) {
+            return Some(Keyword::Read);
+        }
+        if is_write(word) {
+            return Some(Keyword::Write);
+        }
         by_length(word)
     }
 }
 
+/// Whether a word is `read`.
+#[inline(always)]
+fn is_read(word: &[u8]) -> bool
+    ensures { result ≡ bytes_eq word.now (codes "read") }
+{
+    match word {
+        b"read" => true,
+        _ => false,
+    }
+}
+
+/// Whether a word is `write`.
+#[inline(always)]
+fn is_write(word: &[u8]) -> bool
+    ensures { result ≡ bytes_eq word.now (codes "write") }
+{
+    match word {
+        b"write" => true,
+        _ => false,
+    }
+}
+
 /// The keyword that a word is, sought among those of its length.
+#[inline(never)]
 fn by_length(word: &[u8]) -> Option<Keyword>
     ensures { result ≡ keyword_among (keywords_of_length (length word.now)) word.now }
 {

@@ -17,6 +17,7 @@ use crate::keywords::Keyword;
 use mm_types::Event;
 
 /// The words after a keyword.
+#[inline(never)]
 fn fields_after(keyword: Keyword, fields: &mut Fields) -> Result<Event, LineFault>
     requires { fields.old.number ≡ 2 }
     ensures { result ≡ line_of keyword fields.old }
@@ -58,8 +59,8 @@ fn fields_after(keyword: Keyword, fields: &mut Fields) -> Result<Event, LineFaul
     }
 }
 
-/// A line without one carriage return at its end.
-fn without_return(line: &[u8]) -> &[u8]
+/// A line without the one carriage return that may stand at its end.
+pub fn without_return(line: &[u8]) -> &[u8]
     ensures body { result.now ≡ without_return line.now }
     ensures short { length result.now ≤ length line.now }
 {
@@ -69,18 +70,24 @@ fn without_return(line: &[u8]) -> &[u8]
     }
 }
 
+/// Reads and writes, most lines of a script, are told apart here: each of the three calls writes its event where the caller wants it.
+#[inline(always)]
 #[tactic(auto, unfolding(crate::specs::Reading::parse))]
 fn parse(line: &[u8]) -> Result<Event, LineFault>
     requires { length line.now + 1 < 2 ^ 32 }
     ensures { result ≡ parse line.now }
 {
     let mut fields = Fields::new(without_return(line));
-    let keyword = fields.keyword()?;
-    fields_after(keyword, &mut fields)
+    match fields.keyword()? {
+        Keyword::Read => accesses::read(&mut fields),
+        Keyword::Write => accesses::write(&mut fields),
+        keyword => fields_after(keyword, &mut fields),
+    }
 }
 
 /// The event of a line, from its bytes before the line feed; one carriage return at their end is taken off. `Err` exactly
 /// where the grammar has no event for the line: the place of its first fault.
+#[inline(always)]
 pub fn parse_line(line: &[u8]) -> Result<Event, LineFault>
     requires { length line.now + 1 < 2 ^ 32 }
     // What is answered is the line's event, with its fields in their ranges.

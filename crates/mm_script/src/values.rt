@@ -5,6 +5,7 @@ use mm_text::{name, number};
 use mm_types::{Device, Direction, Name, Pid, Tid};
 
 /// The number of a word, where it is from `least` to `most`.
+#[inline(always)]
 #[tactic(auto, unfolding(crate::specs::Shape::read, crate::specs::Shape::number_in))]
 pub fn number_within(word: &[u8], least: u32, most: u32) -> Option<u32>
     ensures value { result ≡ read (Number least most) word.now }
@@ -19,6 +20,7 @@ pub fn number_within(word: &[u8], least: u32, most: u32) -> Option<u32>
 }
 
 /// A number that a byte holds.
+#[inline(always)]
 fn small(word: &[u8], most: u8) -> Option<u8>
     ensures { result ≡ read (Number 0 most) word.now }
 {
@@ -34,6 +36,7 @@ pub fn byte(word: &[u8]) -> Option<u8>
 }
 
 /// A process's number, 0 to 255.
+#[inline(always)]
 #[tactic(auto, unfolding(crate::specs::Shape::read))]
 pub fn pid(word: &[u8]) -> Option<Pid>
     ensures { result ≡ read PidNumber word.now }

@@ -10,8 +10,8 @@ ghost use Rattle.mm_system.specs.Writes.{writes_of, write_of};
 ghost use Rattle.mm_system.specs.Lines.{said, told_of_range, written_pages, CanWatch, is_gone, pages_asked, with_room, asks_written};
 ghost use Rattle.mm_core.specs.Built.{takes_memory};
 
-use crate::built::is_watched_type;
 use crate::kept_writes::KeptWrites;
+use mm_core::is_watched_type;
 use mm_spaces::PageRange;
 use mm_types::{
     AccessSpec, AllocFlags, Answer, Code, Event, GRANULE_PAGES, GRANULE_SIZE, NoMemory, PAGE_SIZE,

@@ -1,95 +1,74 @@
 -- Calls that give up pages, one after another: their moves, the pages of a range, the regions of a process, and its end.
 use Rattle.std.specs.Prelude.{remove, ◌==◌, ◌/◌, ◌%◌, option_and_then, IfSome}
-use Rattle.std.proofs.Common.{option_map, slice_get, ◌≡◌, ℕ, ◌+◌, ◌≤◌, ◌<◌, Bool, true, false, List, [], ◌∷◌, ◌++◌, Option, Some, None, refl, sym, ap, ◌∙◌, subst, arith, ◌-◌, cond, length, set, get_or, is_some, nat_lt, ◌&&◌, inl, inr, zero, suc, ◌*◌, length-set, map, sum_by, count_by, not}
+use Rattle.std.proofs.Common.{option_map, slice_get, ◌≡◌, ℕ, ◌+◌, ◌≤◌, ◌<◌, Bool, true, false, List, [], ◌∷◌, ◌++◌, Option, Some, None, refl, sym, ap, ◌∙◌, subst, arith, ◌-◌, cond, length, set, is_some, nat_lt, ◌&&◌, inl, inr, zero, suc, ◌*◌, length-set, map, sum_by, count_by, not}
 use Rattle.std.specs.Cmp.{unsigned_Decides}
-use Rattle.std.proofs.lemmas.List.{get_or-set_other}
+use Rattle.std.proofs.lemmas.List.{get_or-set_other, set-set}
 use Rattle.std.proofs.lemmas.List.Sums.{sum_by-cons}
-use Rattle.mm_types.specs.declared.moves.Move.{Move}
 use Rattle.mm_types.specs.declared.numbers.Pid.{Pid}
 use Rattle.mm_types.specs.declared.numbers.Place.{Place}
-use Rattle.mm_types.specs.Address.{Range, holds_page, end_of, end_of_user_pages, address_of, first_user_page}
+use Rattle.mm_types.specs.Address.{Range, holds_page, end_of, end_of_user_pages, address_of}
 use Rattle.mm_types.specs.declared.answers.Answer.TheVariants as answer
 use Rattle.mm_types.specs.declared.codes.Code.TheVariants as code
 use Rattle.mm_types.specs.declared.moves.LineKind.TheVariants as line_kind
 use Rattle.mm_types.specs.declared.numbers.Key.{Key}
 use Rattle.mm_types.specs.declared.views.Kind.{Kind}
 use Rattle.mm_types.specs.declared.views.Kind.TheVariants as kind
-use Rattle.mm_types.specs.Machine.{MachineOf}
-use Rattle.mm_types.specs.Allocation.{release_type}
 use Rattle.mm_types.specs.declared.views.View.{View}
 use Rattle.mm_types.proofs.Booleans.{both, not_true}
-use Rattle.mm_types.proofs.Cells.{same_or_not}
-use Rattle.mm_world.specs.World.{RegionOf, ProcessOf, pages_of, Page, AreaOf, Numbered, KeptOf, SectionOf, numbered}
+use Rattle.mm_types.proofs.Cells.{same_or_not, get_within}
+use Rattle.mm_types.proofs.Options.{some_found, same_found, some_map}
+use Rattle.std.proofs.lemmas.List.Edits.{length-remove}
+use Rattle.mm_world.specs.World.{RegionOf, ProcessOf, pages_of, Page, Numbered, SectionOf, numbered}
 use Rattle.mm_world.specs.Find.{process_of, Found, first_where, one_later, set_regions, region_around, is_private, set_process, section_of}
 use Rattle.mm_world.specs.Contents.{Tables}
 use Rattle.mm_world.specs.WellFormed.{IsSpace, LaidOut, WellFormed}
 use Rattle.mm_world.specs.Charge.{charge, region_charge}
-use Rattle.mm_world.specs.Free.{private_at}
 use Rattle.mm_world.specs.Outcome.{find_or, done}
 use Rattle.mm_world.specs.Sections.{is_view_of, settle, handle_section, is_handle_to}
 use Rattle.mm_world.specs.Processes.{kept_of_others}
 use Rattle.mm_world.specs.Views.{view_at}
-use Rattle.mm_world.proofs.Keeps.{free_keeps, exit_keeps}
+use Rattle.mm_world.proofs.Keeps.{exit_keeps}
 use Rattle.mm_world.proofs.Charges.{charge-set_process}
-use Rattle.mm_walks.specs.Walks.{waits_through, ages_through}
 use Rattle.mm_pages.specs.Behind.{Behind}
 use Rattle.mm_pages.specs.Conditions.{AreAmong, place_at}
-use Rattle.mm_pages.specs.Housekeeping.{Turn, Ends, AllTurn, page_gone, with_some, pages_gone, Rises, Turns}
+use Rattle.mm_pages.specs.Housekeeping.{Turn, Ends, pages_gone, Rises, Turns}
 use Rattle.mm_pages.specs.Passing.{PassesIn}
 use Rattle.mm_pages.specs.Store.{StoreOf, changed}
-use Rattle.mm_pages.proofs.Passed.{Joins, passes_then, waits_then, ages_then, ends_then, ends_more}
+use Rattle.mm_pages.proofs.Passed.{Joins, passes_then, all_turn_then, moved_then, gone_then, rises_wider, ends_anywhere, ends_then, ends_more}
 use Rattle.mm_commit.specs.Charge.{CommitOf}
-use Rattle.mm_sections.specs.Directories.{CountedSection, DirectoryOf}
+use Rattle.mm_sections.specs.Directories.{CountedSection}
 use Rattle.mm_sections.specs.Handles.{held}
 use Rattle.mm_spaces.specs.Tables.{info_of, owned_in, found_info}
 use Rattle.mm_spaces.specs.declared.spaces.RegionInfo.{RegionInfo}
 use Rattle.mm_tables.specs.Endings.{Fewer, CanRelease, Released, Less, Toward, Closes, HasNoHandle, nowhere}
 use Rattle.mm_tables.specs.declared.tables.Process.{Process}
+use Rattle.mm_tables.specs.declared.tables.Tables.TheInside.{Inside}
 use Rattle.mm_tables.specs.References.{IsTidy, handles_to, views_of, NobodyKeeps}
-use Rattle.mm_tables.specs.Shown.{shown_process, shown_processes, tables_with}
+use Rattle.mm_tables.specs.Shown.{shown_process}
 use Rattle.mm_tables.specs.Sound.{IsKept}
 use Rattle.mm_tables.specs.Fits.{Fits, Settled, beside, paging_count}
-use Rattle.mm_tables.proofs.EndingFits.{regions_of, carries_less, Loses, same_loses, process_same, less_then, beside_then}
+use Rattle.mm_tables.proofs.EndingFits.{regions_of, Loses, same_loses, process_same, at_each, less_then, beside_then}
 use Rattle.mm_tables.proofs.OneProcess.{regions_in, paging-set_process}
-use Rattle.mm_tables.proofs.Keeping.{lives_put, others_all, keepers_less}
-use Rattle.mm_tables.proofs.EndingSettles.{removed_views, handles_put, views_put, holds_count, views_count, settle_same, tidy_settled, ends_same, ends_after}
-use Rattle.mm_tables.proofs.EndingSteps.{Standing, standing, Landed}
-use Rattle.mm_tables.proofs.EndingUnmap.{unmapped, ends_within, is_around, can_release, charge_removed, fits_removed, owned_charge, length_removed, laid_end}
-use Rattle.mm_tables.proofs.Standing.{shown_set}
-use Rattle.mm_tables.proofs.ViewAdded.{process_is}
-use Rattle.mm_tables.proofs.EndingClose.{closed, has_process, made_with, HasProcess, alive_shown}
+use Rattle.mm_tables.proofs.Keeping.{others_all, keepers_less, kept_after}
+use Rattle.mm_tables.proofs.Regional.{release_stands}
+use Rattle.mm_tables.proofs.EndingSettles.{handles_put, views_put, holds_count, views_count, settle_same, tidy_settled, ends_same}
+use Rattle.mm_tables.proofs.EndingSteps.{Landed, landed_by}
+use Rattle.mm_tables.proofs.EndingUnmap.{unmapped, ends_within, all_around, can_release, charge_removed, fits_removed, owned_charge}
+use Rattle.mm_tables.proofs.Standing.{shown_with}
+use Rattle.mm_tables.proofs.EndingClose.{closed, Known, by_shown, same_process, put_process}
 
 -- ---- the last page of one call is the first of the next
 
-all_turn : (held : Place → Bool) (a b c d : ℕ) (xs ys : List Move) → AllTurn (Ends held a b) xs → AllTurn (Ends held c d) ys → AllTurn (Ends held a d) (xs ++ ys)
-all_turn held a b c d [] ys p q = q
-all_turn held a b c d (x ∷ xs) ys p q = (p.0, all_turn held a b c d xs ys p.1 q)
-
-with-some-then : (o : Option ℕ) (ps qs : List ℕ) → with_some o (ps ++ qs) ≡ with_some o ps ++ qs
-with-some-then None ps qs = refl
-with-some-then (Some p) ps qs = refl
-
-gone_then : (xs ys : List Move) → pages_gone (xs ++ ys) ≡ pages_gone xs ++ pages_gone ys
-gone_then [] ys = refl
-gone_then (x ∷ xs) ys = ap (with_some (page_gone x)) (gone_then xs ys) ∙ with-some-then (page_gone x) (pages_gone xs) (pages_gone ys)
-
-rises_lower : (low from to : ℕ) (ps : List ℕ) → low ≤ from → Rises from to ps → Rises low to ps
-rises_lower low from to [] l r = tt
-rises_lower low from to (p ∷ ps) l r = (omega (arith, l, r.0), r.1, r.2)
-
 rises_meet : (from page to : ℕ) (ps qs : List ℕ) → from ≤ page → page < to → Rises from (page + 1) ps → Rises page to qs → Rises from to (ps ++ qs)
-rises_meet from page to [] qs l h p q = rises_lower from page to qs l q
+rises_meet from page to [] qs l h p q = rises_wider page from to to qs l (omega arith) q
 rises_meet from page to (x ∷ ps) qs l h p q = (p.0, omega (arith, h, p.1), rises_meet x page to ps qs (omega (arith, p.1)) h p.2 q)
 
 meet_join : (held : Place → Bool) (from page to : ℕ) → from ≤ page → page < to → Joins (Turns (Ends held from (page + 1))) (Turns (Ends held page to)) (Turns (Ends held from to))
 meet_join held from page to l h = record {
   join = λ b c d xs ys r p q. record {
-    all = all_turn held from (page + 1) page to xs ys p.all q.all;
+    all = all_turn_then (Ends held from to) xs ys p.all q.all;
     order = subst (Rises from to) (sym (gone_then xs ys)) (rises_meet from page to (pages_gone xs) (pages_gone ys) l h p.order q.order);
-    moved = record {
-      waits = q.moved.waits ∙ ap (waits_through ys) p.moved.waits ∙ sym (waits_then xs ys b.waits);
-      ages = q.moved.ages ∙ ap (ages_through ys) p.moved.ages ∙ sym (ages_then xs ys b.ages);
-    };
+    moved = moved_then b c d xs ys p.moved q.moved;
     slots = q.slots ∙ p.slots;
   };
 }
@@ -98,32 +77,7 @@ pub ends_meet : (u : Bool) (held : Place → Bool) (from page to : ℕ) (s y z :
 ends_meet u held from page to s y z b c d l h p q =
     passes_then u (Turns (Ends held from (page + 1))) (Turns (Ends held page to)) (Turns (Ends held from to)) s y z b c d (meet_join held from page to l h) p q
 
--- ---- calls of which no page of a process goes
-
-none_rises : (from to : ℕ) (ps : List ℕ) → Rises 0 0 ps → Rises from to ps
-none_rises from to [] r = tt
-none_rises from to (p ∷ ps) r = absurd (omega (arith, r.1))
-
--- where no page goes, none goes from anywhere to anywhere
-pub ends_anywhere : (u : Bool) (held : Place → Bool) (from to : ℕ) (s z : StoreOf) (b c : Behind) → PassesIn u (Turns (Ends held 0 0)) s z b c → PassesIn u (Turns (Ends held from to)) s z b c
-ends_anywhere true held from to s z b c p = p
-ends_anywhere false held from to s z b c p =
-    record {
-      moves = p.moves;
-      in_range = p.in_range;
-      grew = p.grew;
-      replays = p.replays;
-      that = record { all = p.that.all; order = none_rises from to (pages_gone p.moves) p.that.order; moved = p.that.moved; slots = p.that.slots };
-      report = p.report;
-      paging_calls = p.paging_calls;
-      paging = p.paging;
-      paging_are = p.paging_are;
-      file_calls = p.file_calls;
-      files = p.files;
-      files_are = p.files_are;
-    }
-
--- two such calls
+-- two calls of which no page of a process goes
 pub sections_then : (u : Bool) (s y z : StoreOf) (b c d : Behind) → ((held : Place → Bool) (from to : ℕ) → PassesIn u (Turns (Ends held from to)) s y b c) → ((held : Place → Bool) (from to : ℕ) → PassesIn u (Turns (Ends held from to)) y z c d) → (held : Place → Bool) (from to : ℕ) → PassesIn u (Turns (Ends held from to)) s z b d
 sections_then u s y z b c d p q held from to =
     ends_anywhere u held from to s z b d (ends_then u held 0 0 0 s y z b c d (omega arith) (omega arith) (p held 0 0) (q held 0 0))
@@ -201,137 +155,72 @@ has_lowest p range k e = by_region (slice_get p.regions 0) refl e
         let same : ◌≡◌ {A = RegionInfo} (info_of r) (record { pages = range; kind = k }) = cc in
         record { region = r; at = at; pages = ap (λ (i : RegionInfo). i.pages) same; is = ap (λ (i : RegionInfo). i.kind) same }
 
-module _ {B : Type 0} where
-  pub first_passes : (test : RegionOf B → Bool) (rs : List (RegionOf B)) (r : RegionOf B) → slice_get rs 0 ≡ Some r → test r ≡ true → first_where test rs ≡ Some (record { place = 0; thing = r })
-  first_passes test [] r at passes = cc
-  first_passes test (x ∷ rs) r at passes =
-      let same : x ≡ r = cc in
-      subst (λ (r : RegionOf B). first_where test (x ∷ rs) ≡ Some (record { place = 0; thing = r })) same
-      (ap (λ b. cond b (Some (record { place = 0; thing = x })) (option_map one_later (first_where test rs))) (ap test same ∙ passes))
+lowest_passes : (test : RegionOf (Unit {0}) → Bool) (rs : List (RegionOf (Unit {0}))) (r : RegionOf (Unit {0})) → slice_get rs 0 ≡ Some r → test r ≡ true → first_where test rs ≡ Some (record { place = 0; thing = r })
+lowest_passes test [] r at passes = cc
+lowest_passes test (x ∷ rs) r at passes =
+    let same : x ≡ r = cc in
+    ap (λ b. cond b (Some (record { place = 0; thing = x })) (option_map one_later (first_where test rs))) (ap test same ∙ passes) ∙ (λ i. Some (record { place = 0; thing = same i }))
 
-  pub lowest_passes : (test : RegionOf B → Bool) (rs : List (RegionOf B)) (r : RegionOf B) → slice_get rs 0 ≡ Some r → test r ≡ true → first_where test rs ≡ Some (record { place = 0; thing = r })
-  lowest_passes test rs r at passes = first_passes test rs r at passes
-
-some_length : {A : Type 0} (xs : List A) (x : A) → slice_get xs 0 ≡ Some x → 1 ≤ length xs
-some_length [] x e = cc
-some_length (y ∷ ys) x e = omega arith
-
-module _ (t : Tables) (pid : ℕ) (p : ProcessOf (Unit {0})) (r : RegionOf (Unit {0})) (lives : process_of t pid ≡ Some p) (at : slice_get p.regions 0 ≡ Some r) (is : r.kind ≡ kind.Private) (tidy : IsTidy t) where
-  abbrev u : Tables
-  u = set_regions t pid p (remove p.regions 0)
-
-  sound_after : WellFormed t → WellFormed (set_regions t pid p (remove p.regions 0))
-  sound_after sound =
-      let addr = address_of r.base in
-      let passes : (is_private r.kind && (address_of r.base == addr)) ≡ true = both (is_private r.kind) (address_of r.base == addr) (ap is_private is) ((unsigned_Decides (address_of r.base) addr).1 refl) in
-      let found : private_at p.regions addr ≡ Some (record { place = 0; thing = r }) = lowest_passes (λ r. is_private r.kind && (address_of r.base == addr)) p.regions r at passes in
-      subst (λ (w : Tables). WellFormed w)
-      (ap (λ (o : Option (ProcessOf (Unit {0}))). (find_or t code.InvalidHandle o (λ p. find_or t code.InvalidAddress (private_at p.regions addr) (λ r. done answer.Ok (set_regions t pid p (remove p.regions r.place))))).world) lives
-      ∙ ap (λ (o : Option (Found (RegionOf (Unit {0})))). (find_or t code.InvalidAddress o (λ r. done answer.Ok (set_regions t pid p (remove p.regions r.place)))).world) found)
-      (free_keeps t pid addr 0 release_type sound)
-
-  views_same : (n : ℕ) → views_of (set_regions t pid p (remove p.regions 0)) n ≡ views_of t n
-  views_same n =
-      omega (arith, views_put t pid n p (Some (unmapped p 0)) lives, removed_views p.regions 0 n r at, ap {B = ℕ} (λ (k : Kind). cond (is_view_of n k) 1 0) is)
-
-  handles_same : (n : ℕ) → handles_to (set_regions t pid p (remove p.regions 0)) n ≡ handles_to t n
-  handles_same n = omega (arith, handles_put t pid n p (Some (unmapped p 0)) lives)
-
-  tidy_after : IsTidy (set_regions t pid p (remove p.regions 0))
-  tidy_after =
-      let now = set_regions t pid p (remove p.regions 0) in
-      subst (λ (w : Tables). IsTidy w)
-      (settle_same t now.processes tidy.settled (λ n. (
-        holds_count now n ∙ ap (nat_lt 0) (handles_same n) ∙ sym (holds_count t n),
-        views_count now n ∙ ap (nat_lt 0) (views_same n) ∙ sym (views_count t n),
-      )))
-      (tidy_settled t now.processes tidy (λ tid k e. lives_put t.processes pid k.pid (unmapped p 0) (tidy.keepers tid k e)))
-
-  pub kept_private : (entries : Numbered CountedSection) (commit after : CommitOf) → IsKept t entries commit → after.charge ≡ charge (set_regions t pid p (remove p.regions 0)) → after.limit ≡ commit.limit → IsKept (set_regions t pid p (remove p.regions 0)) entries after
-  kept_private entries commit after kept charged limited =
-      record {
-        sound = sound_after kept.sound;
-        tidy = tidy_after;
-        counted = λ n c e. let was = kept.counted n c e in record { handles = was.handles ∙ sym (handles_same n); views = was.views ∙ sym (views_same n) };
-        charged = charged;
-        limited = limited ∙ kept.limited;
-      }
-
-module _ (m : MachineOf) (items : List (Option Process)) (dir : DirectoryOf) (areas : List (AreaOf (Unit {0}))) (used fails : ℕ) (accesses : Numbered KeptOf) (commit : CommitOf) (t : Tables) (shape : tables_with m (shown_processes items) dir.entries areas dir.files used fails accesses ≡ t) (kept : IsKept (tables_with m (shown_processes items) dir.entries areas dir.files used fails accesses) dir.entries commit) (pid : Pid) (x : Option Process) (range : Range) (alive : is_some (process_of t pid.0) ≡ true) (found : x ≡ get_or items (pid.0 - 1) x) (there : (p : ProcessOf (Unit {0})) → process_of t pid.0 ≡ Some p → option_map info_of (slice_get p.regions 0) ≡ Some (record { pages = range; kind = kind.Private })) (c : Key → Option Page) (s : StoreOf) (fits : Fits t c s) where
-  st : Standing t items dir.entries areas commit
-  st = standing m items dir.entries areas dir.files used fails accesses commit t shape kept
-
-  h : HasProcess t items pid.0 x
-  h = has_process t items pid.0 x st.processes alive found
-
-  v : HasLowest h.process range kind.Private
-  v = has_lowest h.process range kind.Private (there h.process h.lives)
-
-  of_process : (P : ProcessOf (Unit {0}) → Type 0) → P h.process → (p : ProcessOf (Unit {0})) → option_map shown_process x ≡ Some p → P p
-  of_process P at p shown = subst P (process_is (option_map shown_process x) h.process p h.shown shown) at
-
-  pub lowest_end : end_of range ≤ end_of_user_pages
-  lowest_end = ends_within t pid h.process 0 v.region range h.lives v.at v.pages st.kept.sound
-
-  pub lowest_lives : is_some x ≡ true
-  lowest_lives = alive_shown x h.process h.shown
+module _ {i : Inside} {t : Tables} {x : Option Process} (pid : Pid) (k : Known i t pid.0 x) {range : Range} (there : (p : ProcessOf (Unit {0})) → process_of t pid.0 ≡ Some p → option_map info_of (slice_get p.regions 0) ≡ Some (record { pages = range; kind = kind.Private })) where
+  v : HasLowest k.process range kind.Private
+  v = has_lowest k.process range kind.Private (there k.process k.lives)
 
   pub lowest_there : (p : ProcessOf (Unit {0})) → option_map shown_process x ≡ Some p → 1 ≤ length p.regions
-  lowest_there = of_process (λ p. 1 ≤ length p.regions) (some_length h.process.regions v.region v.at)
+  lowest_there = by_shown k (λ p. 1 ≤ length p.regions) (let few : 0 < length k.process.regions = get_within k.process.regions 0 v.region v.at in omega (arith, few))
 
   pub lowest_around : (p : ProcessOf (Unit {0})) → option_map shown_process x ≡ Some p → is_some (region_around p.regions range) ≡ true
-  lowest_around = of_process (λ p. is_some (region_around p.regions range) ≡ true) (is_around t pid h.process 0 v.region range h.lives v.at v.pages st.kept.sound)
+  lowest_around = by_shown k (λ p. is_some (region_around p.regions range) ≡ true) (all_around t pid k.process 0 v.region range k.lives v.at v.pages k.kept.sound)
 
-  pub lowest_can : s.kind ≡ line_kind.Unbind pid → (p : ProcessOf (Unit {0})) → option_map shown_process x ≡ Some p → CanRelease pid range p.regions c s
-  lowest_can unbinding = of_process (λ p. CanRelease pid range p.regions c s) (can_release t pid h.process 0 v.region range h.lives v.at v.pages st.kept.sound c s fits unbinding)
+  module _ {c : Key → Option Page} {s : StoreOf} (fits : Fits t c s) where
+    pub lowest_end : end_of range ≤ end_of_user_pages
+    lowest_end = ends_within t pid k.process 0 v.region range k.lives v.at v.pages k.kept.sound c s fits
 
-  module _ (owned : ℕ) (y : Option Process) (c1 : Key → Option Page) (s1 : StoreOf) (removed : (p : ProcessOf (Unit {0})) → option_map shown_process x ≡ Some p → option_map shown_process y ≡ Some (unmapped p 0)) (counts : (p : ProcessOf (Unit {0})) → option_map shown_process x ≡ Some p → owned ≡ owned_in p.regions range) (released : (p : ProcessOf (Unit {0})) → option_map shown_process x ≡ Some p → Released pid range p.regions c c1 s s1) where
-    owned_is : owned ≡ region_charge v.region
-    owned_is = counts h.process h.shown ∙ owned_charge t pid h.process 0 v.region range h.lives v.at v.pages st.kept.sound v.is
+    pub lowest_can : s.kind ≡ line_kind.Unbind pid → (p : ProcessOf (Unit {0})) → option_map shown_process x ≡ Some p → CanRelease pid range p.regions c s
+    lowest_can unbinding = by_shown k (λ p. CanRelease pid range p.regions c s) (can_release t pid k.process 0 v.region range k.lives v.at v.pages k.kept.sound c s fits unbinding)
 
-    less_charge : charge (set_regions t pid.0 h.process (remove h.process.regions 0)) + region_charge v.region ≡ charge t
-    less_charge = charge_removed t pid h.process 0 v.region range h.lives v.at v.pages st.kept.sound
+    module _ {owned : ℕ} (counts : (p : ProcessOf (Unit {0})) → option_map shown_process x ≡ Some p → owned ≡ owned_in p.regions range) where
+      less_charge : charge (set_regions t pid.0 k.process (remove k.process.regions 0)) + owned ≡ charge t
+      less_charge =
+          omega (
+            arith,
+            counts k.process k.shown,
+            owned_charge t pid k.process 0 v.region range k.lives v.at v.pages k.kept.sound v.is,
+            charge_removed t pid k.process 0 v.region range k.lives v.at v.pages k.kept.sound,
+          )
 
-    pub lowest_charged : owned ≤ commit.charge
-    lowest_charged = omega (arith, owned_is, less_charge, st.kept.charged)
+      pub lowest_charged : owned ≤ i.commit.charge
+      lowest_charged = omega (arith, less_charge, k.kept.charged)
 
-    processes : shown_processes (set items (pid.0 - 1) y) ≡ set t.processes pid.0 (Some (unmapped h.process 0))
-    processes = shown_set items pid.0 y h.low ∙ (λ i. set (st.processes i) pid.0 (removed h.process h.shown i))
-
-    pub lowest_landed : (commit1 : CommitOf) → commit1 ≡ record commit { charge = commit.charge - owned } → (p : ProcessOf (Unit {0})) → process_of t pid.0 ≡ Some p → Landed (set_regions t pid.0 p (remove p.regions 0)) (tables_with m (shown_processes (set items (pid.0 - 1) y)) dir.entries areas dir.files used fails accesses) dir.entries commit1 c c1 s s1
-    lowest_landed commit1 refunded p lives =
-        let lost = (released h.process h.shown).lost in
-        let after = set_regions t pid.0 h.process (remove h.process.regions 0) in
-        let is : tables_with m (shown_processes (set items (pid.0 - 1) y)) dir.entries areas dir.files used fails accesses ≡ after =
-        made_with m (shown_processes items) dir.entries areas dir.files dir.files used fails accesses t shape (shown_processes (set items (pid.0 - 1) y)) (set t.processes pid.0 (Some (unmapped h.process 0))) dir.entries dir.entries areas t.areas processes refl st.areas_are refl
-        ∙ (λ i. record t { processes = set t.processes pid.0 (Some (unmapped h.process 0)); sections = st.sections i }) in
-        let kept_now = kept_private t pid.0 h.process v.region h.lives v.at v.is st.kept.tidy dir.entries commit commit1 st.kept (omega (arith, ap (λ (k : CommitOf). k.charge) refunded, st.kept.charged, less_charge, owned_is)) (ap (λ (k : CommitOf). k.limit) refunded) in
-        let fits_now = fits_removed t pid h.process 0 v.region range h.lives v.at v.pages st.kept.sound c c1 s s1 fits (released h.process h.shown) in
-        subst (λ (p : ProcessOf (Unit {0})). Landed (set_regions t pid.0 p (remove p.regions 0)) (tables_with m (shown_processes (set items (pid.0 - 1) y)) dir.entries areas dir.files used fails accesses) dir.entries commit1 c c1 s s1) (process_is (process_of t pid.0) h.process p h.lives lives)
-        (record {
-          is = is;
-          kept = subst (λ (w : Tables). IsKept w dir.entries commit1) (sym is) kept_now;
-          settled = record { fits = subst (λ (w : Tables). Fits w c1 s1) (sym is) fits_now; carries = carries_less c c1 lost.less; rest = lost.rest };
-          less_live = lost.less;
-        })
+      pub lowest_landed : {commit : CommitOf} {d : Key → Option Page} {z : StoreOf} (y : Option Process) → ((p : ProcessOf (Unit {0})) → option_map shown_process x ≡ Some p → option_map shown_process y ≡ Some (unmapped p 0))
+          → ((p : ProcessOf (Unit {0})) → option_map shown_process x ≡ Some p → Released pid range p.regions c d s z) → commit ≡ record i.commit { charge = i.commit.charge - owned }
+          → (p : ProcessOf (Unit {0})) → process_of t pid.0 ≡ Some p → Landed (set_regions t pid.0 p (remove p.regions 0)) (shown_with i (set i.processes.items (pid.0 - 1) y)) i.directory.entries commit c d s z
+      lowest_landed {commit} {d} {z} y removed released refunded p lives =
+          let gone = released k.process k.shown in
+          let now = set_regions t pid.0 k.process (remove k.process.regions 0) in
+          let stands = release_stands t pid.0 k.process 0 v.region k.lives k.kept.sound v.at (ap is_private v.is) in
+          subst (λ (p : ProcessOf (Unit {0})). Landed (set_regions t pid.0 p (remove p.regions 0)) (shown_with i (set i.processes.items (pid.0 - 1) y)) i.directory.entries commit c d s z) (same_process k p lives)
+          (landed_by now (shown_with i (set i.processes.items (pid.0 - 1) y)) i.directory.entries commit c d s z (put_process k y (Some (unmapped k.process 0)) (removed k.process k.shown))
+          (kept_after t pid.0 k.process (remove k.process.regions 0) k.lives stands i.directory.entries i.commit commit k.kept
+          (omega (arith, ap (λ (k : CommitOf). k.charge) refunded, k.kept.charged, less_charge)) (ap (λ (k : CommitOf). k.limit) refunded ∙ k.kept.limited) (omega (arith, less_charge, k.kept.sound.charged)))
+          (fits_removed t pid k.process 0 v.region range k.lives v.at v.pages k.kept.sound c s fits d z gone) gone.lost.less gone.lost.rest)
 
 -- ---- steps towards the end
 
-pub toward_then : (pid : ℕ) (t u v : Tables) (c d e : Key → Option Page) (s z y : StoreOf) → Toward pid t u c d s z → Toward pid u v d e z y → Toward pid t v c e s y
-toward_then pid t u v c d e s z y a b =
+pub toward_then : {pid : ℕ} {t u v : Tables} {c d e : Key → Option Page} {s z y : StoreOf} → Toward pid t u c d s z → Toward pid u v d e z y → Toward pid t v c e s y
+toward_then {c = c} {d = d} {e = e} {s = s} {z = z} {y = y} a b =
     record { same = b.same ∙ a.same; fits = b.fits; less = less_then c d e a.less b.less; rest = beside_then s z y a.rest b.rest }
 
 -- no thread comes to keep an access
-pub toward_nobody : (pid : ℕ) (t u : Tables) (c d : Key → Option Page) (s z : StoreOf) → Toward pid t u c d s z → NobodyKeeps pid t → NobodyKeeps pid u
-toward_nobody pid t u c d s z a nobody tid k e = nobody tid k (ap (λ (w : Tables). numbered w.kept tid) (sym a.same) ∙ e)
+pub toward_nobody : {pid : ℕ} {t u : Tables} {c d : Key → Option Page} {s z : StoreOf} → Toward pid t u c d s z → NobodyKeeps pid t → NobodyKeeps pid u
+toward_nobody a nobody tid k e = nobody tid k (ap (λ (w : Tables). numbered w.kept tid) (sym a.same) ∙ e)
 
-pub toward_settled : (pid : ℕ) (t v : Tables) (q : Option (ProcessOf (Unit {0}))) (c d : Key → Option Page) (s z : StoreOf) → v ≡ settle (set_process t pid q) → Settled v c d s z → Less c d → Toward pid t v c d s z
-toward_settled pid t v q c d s z is settled less =
+pub toward_settled : (pid : ℕ) (t : Tables) (q : Option (ProcessOf (Unit {0}))) {v : Tables} {c d : Key → Option Page} {s z : StoreOf} → v ≡ settle (set_process t pid q) → Settled v c d s z → Less c d → Toward pid t v c d s z
+toward_settled pid t q is settled less =
     record { same = ap (λ (w : Tables). settle (set_process w pid None)) is ∙ ends_same t pid q; fits = settled.fits; less = less; rest = settled.rest }
 
-pub toward_set : (pid : ℕ) (t v : Tables) (q : Option (ProcessOf (Unit {0}))) (c d : Key → Option Page) (s z : StoreOf) → v ≡ set_process t pid q → Settled v c d s z → Less c d → Toward pid t v c d s z
-toward_set pid t v q c d s z is settled less =
-    record { same = ap (λ (w : Tables). settle (set_process w pid None)) is ∙ ends_after t pid q; fits = settled.fits; less = less; rest = settled.rest }
+pub toward_set : (pid : ℕ) (t : Tables) (q : Option (ProcessOf (Unit {0}))) {v : Tables} {c d : Key → Option Page} {s z : StoreOf} → v ≡ set_process t pid q → Settled v c d s z → Less c d → Toward pid t v c d s z
+toward_set pid t q is settled less =
+    record { same = ap (λ (w : Tables). settle (set_process w pid None)) is ∙ ap (λ (ps : List (Option (ProcessOf (Unit {0})))). settle (record t { processes = ps })) (set-set t.processes pid q None); fits = settled.fits; less = less; rest = settled.rest }
 
 -- the process after a step
 pub after_settled : (t v : Tables) (pid : ℕ) (p q : ProcessOf (Unit {0})) → process_of t pid ≡ Some p → v ≡ settle (set_process t pid (Some q)) → process_of v pid ≡ Some q
@@ -348,11 +237,8 @@ none_at (x ∷ hs) zero = refl
 none_at (x ∷ hs) (suc i) = none_at hs i
 
 none_still : (hs : Numbered ℕ) (i k : ℕ) → numbered hs k ≡ None → numbered (set hs i None) k ≡ None
-none_still [] i k e = e
-none_still (x ∷ hs) zero zero e = refl
-none_still (x ∷ hs) zero (suc k) e = e
-none_still (x ∷ hs) (suc i) zero e = e
-none_still (x ∷ hs) (suc i) (suc k) e = none_still hs i k e
+none_still hs i k e =
+    elim (same_or_not k i) [ inl same ↦ ap (numbered (set hs i None)) same ∙ none_at hs i | inr other ↦ get_or-set_other hs i k None None other ∙ e ]
 
 held_at : (hs : Numbered ℕ) (index : ℕ) → held hs (4 * index) ≡ numbered hs index
 held_at hs index =
@@ -372,33 +258,36 @@ closes_one p q index same =
 
 -- the section of a handle lives
 pub section_there : (t : Tables) (pid : ℕ) (p : ProcessOf (Unit {0})) (index : ℕ) → WellFormed t → process_of t pid ≡ Some p → is_some (held p.handles (4 * index)) ≡ true → is_some (handle_section t p (4 * index)) ≡ true
-section_there t pid p index sound lives some = by_held (held p.handles (4 * index)) refl some
-  where
-    by_section : (n : ℕ) (o : Option SectionOf) → is_some o ≡ true → is_some (option_map (λ s. let f : Found SectionOf = record { place = n; thing = s } in f) o) ≡ true
-    by_section n None e = cc
-    by_section n (Some s) e = refl
-
-    by_held : (o : Option ℕ) → held p.handles (4 * index) ≡ o → is_some o ≡ true → is_some (option_and_then (λ n. option_map (λ s. let f : Found SectionOf = record { place = n; thing = s } in f) (section_of t n)) o) ≡ true
-    by_held None h e = cc
-    by_held (Some n) h e = by_section n (section_of t n) ((sound.references.processes pid p lives).handles index n (sym (held_at p.handles index) ∙ h))
+section_there t pid p index sound lives some =
+    let n = some_found (held p.handles (4 * index)) some in
+    ap (λ (o : Option ℕ). is_some (option_and_then (λ n. option_map (λ (s : SectionOf). let f : Found SectionOf = record { place = n; thing = s } in f) (section_of t n)) o)) n.1
+    ∙ some_map (λ (s : SectionOf). let f : Found SectionOf = record { place = n.0; thing = s } in f) (section_of t n.0)
+    ∙ (sound.references.processes pid p lives).handles index n.0 (sym (held_at p.handles index) ∙ n.1)
 
 -- ---- regions
 
-pub fewer_by : (p q : ProcessOf (Unit {0})) (r : RegionOf (Unit {0})) → slice_get p.regions 0 ≡ Some r → q ≡ unmapped p 0 → Fewer p q
-fewer_by p q r at same =
+-- what a step is told in which the lowest region goes
+pub record Dropped (pid : ℕ) (t v : Tables) (c d : Key → Option Page) (s z : StoreOf) : Type 0 where
+  pub toward : Toward pid t v c d s z
+  pub lives : is_some (process_of v pid) ≡ true
+  pub fewer : (p q : ProcessOf (Unit {0})) → process_of t pid ≡ Some p → process_of v pid ≡ Some q → Fewer p q
+
+pub dropped : (pid : ℕ) (t v : Tables) (p : ProcessOf (Unit {0})) (r : RegionOf (Unit {0})) {c d : Key → Option Page} {s z : StoreOf} → process_of t pid ≡ Some p → slice_get p.regions 0 ≡ Some r → process_of v pid ≡ Some (unmapped p 0) → Toward pid t v c d s z → Dropped pid t v c d s z
+dropped pid t v p r lives at now toward =
+    let fewer : Fewer p (unmapped p 0) = record { left = refl; count = length-remove p.regions 0 (get_within p.regions 0 r at); same = refl } in
     record {
-      left = ap (λ (q : ProcessOf (Unit {0})). q.regions) same;
-      count = ap (λ (q : ProcessOf (Unit {0})). length q.regions + 1) same ∙ length_removed p.regions 0 r at;
-      same = ap (λ (q : ProcessOf (Unit {0})). q.handles) same;
+      toward = toward;
+      lives = ap is_some now;
+      fewer = λ o q was is. subst (λ (o : ProcessOf (Unit {0})). Fewer o q) (same_found (process_of t pid) p o lives was) (subst (Fewer p) (same_found (process_of v pid) (unmapped p 0) q now is) fewer);
     }
 
 -- the lowest region, a view, is found at its address
-pub lowest_view : (p : ProcessOf (Unit {0})) (range : Range) (view : View) (lowest : HasLowest p range (kind.View view)) → view_at p.regions (range.first * 4096) ≡ Some (record { place = 0; thing = lowest.region })
-lowest_view p range view lowest =
-    let base : lowest.region.base ≡ range.first = ap (λ (range : Range). range.first) lowest.pages in
-    lowest_passes (λ r. not (is_private r.kind) && (address_of r.base == range.first * 4096)) p.regions lowest.region lowest.at
-    (both (not (is_private lowest.region.kind)) (address_of lowest.region.base == range.first * 4096) (ap (λ (k : Kind). not (is_private k)) lowest.is)
-    ((unsigned_Decides (address_of lowest.region.base) (range.first * 4096)).1 (ap address_of base)))
+pub view_lowest : (p : ProcessOf (Unit {0})) (range : Range) (view : View) (first : ℕ) (lowest : HasLowest p range (kind.View view)) → first ≡ range.first → view_at p.regions (first * 4096) ≡ Some (record { place = 0; thing = lowest.region })
+view_lowest p range view first lowest is =
+    let base : lowest.region.base ≡ first = ap (λ (range : Range). range.first) lowest.pages ∙ sym is in
+    lowest_passes (λ r. not (is_private r.kind) && (address_of r.base == first * 4096)) p.regions lowest.region lowest.at
+    (both (not (is_private lowest.region.kind)) (address_of lowest.region.base == first * 4096) (ap (λ (k : Kind). not (is_private k)) lowest.is)
+    ((unsigned_Decides (address_of lowest.region.base) (first * 4096)).1 (ap address_of base)))
 
 pub no_region : (rs : List (RegionOf (Unit {0}))) → option_map info_of (slice_get rs 0) ≡ None → rs ≡ []
 no_region [] e = refl
@@ -407,16 +296,9 @@ no_region (r ∷ rs) e = cc
 -- ---- the end
 
 no_handle : (hs : Numbered ℕ) (n : ℕ) → ((k : ℕ) → numbered hs k ≡ None) → count_by (is_handle_to n) hs ≡ 0
-no_handle hs n none = count-all hs none
-  where
-    count-all : (hs : Numbered ℕ) → ((k : ℕ) → numbered hs k ≡ None) → count_by (is_handle_to n) hs ≡ 0
-    count-all [] none = refl
-    count-all (x ∷ hs) none =
-        omega (arith, sum_by-cons (λ o. cond (is_handle_to n o) 1 0) x hs, ap {B = ℕ} (λ o. cond (is_handle_to n o) 1 0) (none 0), count-all hs (λ k. none (suc k)))
-
--- tables in which no thread keeps an access of the process
-pub none_dropped : (t : Tables) (pid : ℕ) → NobodyKeeps pid t → record t { kept = map (kept_of_others pid) t.kept } ≡ t
-none_dropped t pid nobody = λ i. record t { kept = others_all pid t.kept nobody i }
+no_handle [] n none = refl
+no_handle (x ∷ hs) n none =
+    omega (arith, sum_by-cons (λ o. cond (is_handle_to n o) 1 0) x hs, ap {B = ℕ} (λ o. cond (is_handle_to n o) 1 0) (none 0), no_handle hs n (λ k. none (suc k)))
 
 module _ (t : Tables) (pid : ℕ) (p : ProcessOf (Unit {0})) (lives : process_of t pid ≡ Some p) (none : HasNoHandle p) (empty : p.regions ≡ []) (nobody : NobodyKeeps pid t) where
   handles_none : (n : ℕ) → handles_to (set_process t pid None) n ≡ handles_to t n
@@ -444,11 +326,11 @@ module _ (t : Tables) (pid : ℕ) (p : ProcessOf (Unit {0})) (lives : process_of
   sound_none tidy sound =
       subst (λ (w : Tables). WellFormed w)
       (ap (λ (o : Option (ProcessOf (Unit {0}))). (find_or t code.InvalidHandle o (λ p. done answer.Ok (settle (set_process (record t { kept = map (kept_of_others pid) t.kept }) pid None)))).world) lives
-      ∙ ap (λ (w : Tables). settle (set_process w pid None)) (none_dropped t pid nobody)
+      ∙ (λ i. settle (set_process (record t { kept = others_all pid t.kept nobody i }) pid None))
       ∙ settled_none tidy)
       (exit_keeps t pid sound)
 
-  pub kept_none : (entries : Numbered CountedSection) (commit : CommitOf) → IsKept t entries commit → IsKept (set_process t pid None) entries commit
+  kept_none : (entries : Numbered CountedSection) (commit : CommitOf) → IsKept t entries commit → IsKept (set_process t pid None) entries commit
   kept_none entries commit kept =
       record {
         sound = sound_none kept.tidy kept.sound;
@@ -463,7 +345,10 @@ module _ (t : Tables) (pid : ℕ) (p : ProcessOf (Unit {0})) (lives : process_of
       let loses : Loses (λ k. false) nowhere 0 t (set_process t pid None) = same_loses t pid p None lives (sym empty) (omega (arith, charge_none)) count_none in
       record {
         machine = f.machine;
-        opened = λ n. by_pid n;
+        opened = λ n.
+            ap (cond (n == pid) false) (f.opened n)
+            ∙ at_each t pid p None lives (λ n o x. cond (n == pid) false (is_some o) ≡ is_some x) (ap (λ b. cond b false true) ((unsigned_Decides pid pid).1 refl))
+            (λ n o other. ap (λ b. cond b false (is_some o)) (not_true (n == pid) (λ e. other ((unsigned_Decides n pid).0 e)))) n;
         last_pid = f.last_pid ∙ sym loses.made;
         areas = f.areas;
         bound = λ place. f.bound place ∙ sym (loses.reserved place);
@@ -478,49 +363,30 @@ module _ (t : Tables) (pid : ℕ) (p : ProcessOf (Unit {0})) (lives : process_of
         named_paging = f.named_paging;
         named_file = f.named_file;
       }
-    where
-      by_pid : (n : ℕ) → cond (n == pid) false (s.is_open n) ≡ is_some (process_of (set_process t pid None) n)
-      by_pid n =
-          elim (same_or_not n pid) [
-            | inl e ↦ ap (λ b. cond b false (s.is_open n)) ((unsigned_Decides n pid).1 e) ∙ sym (ap (λ (k : ℕ). is_some (process_of (set_process t pid None) k)) e ∙ ap is_some (process_same t pid p None lives))
-            | inr other ↦ ap (λ b. cond b false (s.is_open n)) (not_true (n == pid) (λ e. other ((unsigned_Decides n pid).0 e))) ∙ f.opened n ∙ sym (ap is_some (get_or-set_other t.processes pid n None None other))
-          ]
 
-  pub ended_settled : (made : Tables) (c d : Key → Option Page) (s z : StoreOf) → made ≡ set_process t pid None → Fits t c s → d ≡ c → z ≡ record s { is_open = changed ◌==◌ s.is_open pid false } → Settled made c d s z
-  ended_settled made c d s z is f same after =
-      record {
-        fits = subst (λ (w : Tables). Fits w d z) (sym is) (subst (λ (z : StoreOf). Fits (set_process t pid None) d z) (sym after) (subst (λ (x : Key → Option Page). Fits (set_process t pid None) x (record s { is_open = changed ◌==◌ s.is_open pid false })) (sym same) (fits_none c s f)));
-        carries = carries_less c d (λ key some. ap (λ (x : Key → Option Page). x key) same);
-        rest = after ∙ ap (beside s) (sym after);
-      }
+  pub process_landed : {made : Tables} {entries : Numbered CountedSection} {commit : CommitOf} {c d : Key → Option Page} {s z : StoreOf} → made ≡ set_process t pid None → IsKept t entries commit → Fits t c s → d ≡ c → z ≡ record s { is_open = changed ◌==◌ s.is_open pid false } → Landed (settle (set_process t pid None)) made entries commit c d s z
+  process_landed {made} {entries} {commit} {c} {d} {s} {z} is kept f same after =
+      let still = sym (settled_none kept.tidy) in
+      let now : Fits (set_process t pid None) d z =
+      subst (λ (z : StoreOf). Fits (set_process t pid None) d z) (sym after) (subst (λ (x : Key → Option Page). Fits (set_process t pid None) x (record s { is_open = changed ◌==◌ s.is_open pid false })) (sym same) (fits_none c s f)) in
+      landed_by (settle (set_process t pid None)) made entries commit c d s z (is ∙ still) (subst (λ (w : Tables). IsKept w entries commit) still (kept_none entries commit kept))
+      (subst (λ (w : Tables). Fits w d z) still now) (λ key some. ap (λ (x : Key → Option Page). x key) same) (after ∙ ap (beside s) (sym after))
 
-  pub ended_is : (made : Tables) → IsTidy t → made ≡ set_process t pid None → made ≡ settle (set_process t pid None)
-  ended_is made tidy is = is ∙ sym (settled_none tidy)
-
--- the whole of what is kept, when a process has ended
-pub made_none : (m : MachineOf) (items : List (Option Process)) (dir : DirectoryOf) (areas : List (AreaOf (Unit {0}))) (used fails : ℕ) (accesses : Numbered KeptOf) (t : Tables) (shape : tables_with m (shown_processes items) dir.entries areas dir.files used fails accesses ≡ t) (pid : ℕ) (x : Option Process) → HasProcess t items pid x → tables_with m (shown_processes (set items (pid - 1) None)) dir.entries areas dir.files used fails accesses ≡ set_process t pid None
-made_none m items dir areas used fails accesses t shape pid x h =
-    (λ i. record (tables_with m (shown_processes items) dir.entries areas dir.files used fails accesses) { processes = shown_set items pid None h.low i })
-    ∙ (λ i. record (shape i) { processes = set (shape i).processes pid None })
+laid_low : (from : ℕ) (rs : List (RegionOf (Unit {0}))) → LaidOut from rs → from ≤ end_of_user_pages
+laid_low from [] h = h
+laid_low from (r ∷ rs) h = omega (arith, h.0.later, laid_low (end_of (pages_of r)) rs h.1)
 
 pub lowest_within : (rs : List (RegionOf (Unit {0}))) (result : Option RegionInfo) → IsSpace rs → result ≡ option_map info_of (slice_get rs 0) → IfSome result (λ info. end_of info.pages ≤ end_of_user_pages)
 lowest_within rs result space e = subst (λ (o : Option RegionInfo). IfSome o (λ info. end_of info.pages ≤ end_of_user_pages)) (sym e) (by_region rs space)
   where
     by_region : (rs : List (RegionOf (Unit {0}))) → IsSpace rs → IfSome (option_map info_of (slice_get rs 0)) (λ info. end_of info.pages ≤ end_of_user_pages)
     by_region [] space = tt
-    by_region (r ∷ rs) space = laid_end first_user_page 0 (r ∷ rs) r space.laid_out refl
-
-pub view_lowest : (p : ProcessOf (Unit {0})) (range : Range) (view : View) (first : ℕ) (lowest : HasLowest p range (kind.View view)) → first ≡ range.first → view_at p.regions (first * 4096) ≡ Some (record { place = 0; thing = lowest.region })
-view_lowest p range view first lowest is = ap (λ (n : ℕ). view_at p.regions (n * 4096)) is ∙ lowest_view p range view lowest
+    by_region (r ∷ rs) space = laid_low (end_of (pages_of r)) rs space.laid_out.1
 
 pub view_info : (p : ProcessOf (Unit {0})) (range : Range) (view : View) (first : ℕ) (lowest : HasLowest p range (kind.View view)) → first ≡ range.first → option_map found_info (view_at p.regions (first * 4096)) ≡ Some (record { pages = range; kind = kind.View view })
 view_info p range view first lowest is = ap (option_map found_info) (view_lowest p range view first lowest is) ∙ (λ i. Some (record { pages = lowest.pages i; kind = lowest.is i }))
 
--- a process without handles keeps none
-pub still_none : (p q : ProcessOf (Unit {0})) → Fewer p q → HasNoHandle p → HasNoHandle q
-still_none p q fewer none k = ap (λ (hs : Numbered ℕ). numbered hs k) fewer.same ∙ none k
-
--- and it has fewer regions, in tables too
+-- a process has fewer regions, in tables too
 pub regions_fewer : (t v : Tables) (pid : ℕ) (p q : ProcessOf (Unit {0})) → process_of t pid ≡ Some p → process_of v pid ≡ Some q → Fewer p q → length (regions_in v pid) < length (regions_in t pid)
 regions_fewer t v pid p q lives now fewer =
     omega (arith, ap (λ (o : Option (ProcessOf (Unit {0}))). length (regions_of o)) lives, ap (λ (o : Option (ProcessOf (Unit {0}))). length (regions_of o)) now, fewer.count)

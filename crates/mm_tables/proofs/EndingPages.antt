@@ -1,5 +1,5 @@
 -- Keys that are removed one after another: the pages of a range, of a process, of an area.
-use Rattle.std.proofs.Common.{◌≡◌, ◌≢◌, inl, inr, ℕ, zero, suc, ◌+◌, ◌-◌, ◌≤◌, ◌<◌, Bool, true, false, Option, Some, None, List, [], ◌∷◌, refl, sym, ◌∙◌, ap, subst, cond, arith, is_some, ◌&&◌, ◌||◌, length, slice_get, count_by}
+use Rattle.std.proofs.Common.{◌≡◌, inl, inr, ℕ, zero, suc, ◌+◌, ◌-◌, ◌≤◌, ◌<◌, Bool, true, false, Option, Some, None, List, [], ◌∷◌, refl, sym, ◌∙◌, ap, subst, cond, arith, is_some, ◌&&◌, ◌||◌, length, count_by}
 use Rattle.std.specs.Prelude.{◌==◌}
 use Rattle.std.specs.Cmp.{unsigned_Decides}
 use Rattle.std.proofs.Math.Path.{fun_ext}
@@ -11,75 +11,40 @@ use Rattle.mm_types.specs.declared.numbers.Place.{Place}
 use Rattle.mm_types.specs.Address.{Range, holds_page}
 use Rattle.mm_types.specs.declared.moves.LineKind.TheVariants as line_kind
 use Rattle.mm_types.specs.declared.numbers.Pid.{Pid}
-use Rattle.mm_types.proofs.Booleans.{not_true, both, and_false, or_left, or_right, either, cond_twice}
-use Rattle.mm_types.proofs.Options.{none_of}
+use Rattle.mm_types.proofs.Booleans.{both, and_false, or_left, or_right, cond_twice}
+use Rattle.mm_types.proofs.Cells.{same_or_not}
+use Rattle.mm_types.proofs.Options.{none_of, some_found}
 use Rattle.mm_world.specs.World.{Page, AreaOf, numbered, RegionOf}
 use Rattle.mm_world.specs.Failure.{same_key}
 use Rattle.mm_world.proofs.Finding.{numbered_inside}
-use Rattle.mm_world.proofs.LaidOut.{and-true}
+use Rattle.mm_world.proofs.KindsAndKeys.{same_again}
 use Rattle.mm_pages.specs.Store.{StoreOf, own_key, changed, changed_in, is_place_in}
 use Rattle.mm_pages.specs.Reports.{rearranged}
 use Rattle.mm_pages.specs.Conditions.{MayRemove, IsReleasing, AllBound, place_at}
-use Rattle.mm_tables.specs.Fits.{beside}
-use Rattle.mm_tables.specs.Endings.{among, owned_among, without, without_paging, without_names, Gone, CanGo, CanGoAll, shared_at, is_committed_in, Less, is_shared_in, CanEnd, Emptied, is_owned_at, is_key_in, CanRelease, CanGiveUp, GivenUp, Released}
+use Rattle.mm_tables.specs.Endings.{among, owned_among, without, without_paging, without_names, Gone, CanGo, CanGoAll, shared_at, is_committed_in, is_shared_in, CanEnd, Emptied, is_owned_at, is_key_in, CanRelease, CanGiveUp, GivenUp, Released}
 use Rattle.mm_tables.specs.Effects.{Ends, Stored}
 use Rattle.mm_tables.specs.Ranges.{passing, is_live, CanRemove, only, front}
-use Rattle.mm_tables.proofs.PageByPage.{key_in_more, place_in_more, not_yet, next_held, outside, only_is, no_key_in, no_place_in, own, key_in_only, place_in_only, by_same}
-
--- ---- tests
+use Rattle.mm_tables.proofs.PageByPage.{key_in_more, not_yet, next_held, outside, only_is, no_key_in, no_place_in, own, key_in_only, place_in_only, by_same}
 
 -- ---- keys
 
-pub key_is : (k j : Key) → same_key k j ≡ true → k ≡ j
-key_is (key.Private p v) (key.Private q w) e =
-    let h = and-true (p.0 == q.0) (v.0 == w.0) e in
-    let a = (unsigned_Decides p.0 q.0).0 h.0 in
-    let b = (unsigned_Decides v.0 w.0).0 h.1 in
-    λ i. key.Private (record { 0 = a i }) (record { 0 = b i })
-key_is (key.Shared a i) (key.Shared b j) e =
-    let h = and-true (a.0 == b.0) (i == j) e in
-    let x = (unsigned_Decides a.0 b.0).0 h.0 in
-    let y = (unsigned_Decides i j).0 h.1 in
-    λ n. key.Shared (record { 0 = x n }) (y n)
-key_is (key.Private p v) (key.Shared b j) e = cc
-key_is (key.Shared a i) (key.Private q w) e = cc
+pub here : (pid : Pid) (range : Range) (page : ℕ) → holds_page range page ≡ true → is_place_in pid range (place_at pid page) ≡ true
+here pid range page e = both (pid.0 == pid.0) (holds_page range page) ((unsigned_Decides pid.0 pid.0).1 refl) e
 
-pub key_same : (k : Key) → same_key k k ≡ true
-key_same (key.Private p v) = both (p.0 == p.0) (v.0 == v.0) ((unsigned_Decides p.0 p.0).1 refl) ((unsigned_Decides v.0 v.0).1 refl)
-key_same (key.Shared a i) = both (a.0 == a.0) (i == i) ((unsigned_Decides a.0 a.0).1 refl) ((unsigned_Decides i i).1 refl)
-
--- which of the keys it is
-pub record IsAmong (at : ℕ → Key) (owned : ℕ → Bool) (n : ℕ) (k : Key) : Type 0 where
-  pub index : ℕ
-  pub few : index < n
-  pub is_owned : owned index ≡ true
-  pub is : k ≡ at index
-
-pub among_true : (at : ℕ → Key) (owned : ℕ → Bool) (n : ℕ) (k : Key) → among at owned n k ≡ true → IsAmong at owned n k
-among_true at owned zero k e = cc
-among_true at owned (suc n) k e =
-    elim (either (owned n && same_key k (at n)) (among at owned n k) e) [
-      | inl h ↦ (let b = and-true (owned n) (same_key k (at n)) h in record { index = n; few = omega arith; is_owned = b.0; is = key_is k (at n) b.1 })
-      | inr h ↦ (let r = among_true at owned n k h in record { index = r.index; few = omega (arith, r.few); is_owned = r.is_owned; is = r.is })
-    ]
-
-pub among_one : (at : ℕ → Key) (owned : ℕ → Bool) (n i : ℕ) (k : Key) → i < n → owned i ≡ true → k ≡ at i → among at owned n k ≡ true
+among_one : (at : ℕ → Key) (owned : ℕ → Bool) (n i : ℕ) (k : Key) → i < n → owned i ≡ true → k ≡ at i → among at owned n k ≡ true
 among_one at owned zero i k few o e = absurd (omega (arith, few))
-among_one at owned (suc n) i k few o e = by_place (λ less. among_one at owned n i k less o e) (i == n) refl
-  where
-    by_place : (i < n → among at owned n k ≡ true) → (b : Bool) → (i == n) ≡ b → among at owned (suc n) k ≡ true
-    by_place later true h =
-        let same : i ≡ n = (unsigned_Decides i n).0 h in
-        or_left (owned n && same_key k (at n)) (among at owned n k)
-        (both (owned n) (same_key k (at n)) (ap owned (sym same) ∙ o) (ap (λ (j : Key). same_key k j) (sym (e ∙ ap at same)) ∙ key_same k))
-    by_place later false h =
-        let other : i ≢ n = λ same. (let bad : true ≡ false = sym ((unsigned_Decides i n).1 same) ∙ h in cc) in
-        or_right (owned n && same_key k (at n)) (among at owned n k) (later (omega (arith, few, other)))
+among_one at owned (suc n) i k few o e =
+    elim (same_or_not i n) [
+      | inl same ↦
+          or_left (owned n && same_key k (at n)) (among at owned n k)
+          (both (owned n) (same_key k (at n)) (ap owned (sym same) ∙ o) (ap (λ (j : Key). same_key k j) (sym (e ∙ ap at same)) ∙ same_again k))
+      | inr other ↦ or_right (owned n && same_key k (at n)) (among at owned n k) (among_one at owned n i k (omega (arith, few, other)) o e)
+    ]
 
 -- ---- the loops
 
-pub gone_then : (at : ℕ → Key) (owned : ℕ → Bool) (n : ℕ) (c d e : Key → Option Page) (s z y : StoreOf) → Gone (among at owned n) (owned_among owned n) c d s z → Gone (λ k. owned n && same_key k (at n)) (cond (owned n) 1 0) d e z y → Gone (among at owned (n + 1)) (owned_among owned (n + 1)) c e s y
-gone_then at owned n c d e s z y a b =
+pub gone_then : (at : ℕ → Key) (owned : ℕ → Bool) (n : ℕ) {c d e : Key → Option Page} {s z y : StoreOf} → Gone (among at owned n) (owned_among owned n) c d s z → Gone (λ k. owned n && same_key k (at n)) (cond (owned n) 1 0) d e z y → Gone (among at owned (n + 1)) (owned_among owned (n + 1)) c e s y
+gone_then at owned n {c = c} {e = e} {s = s} {y = y} a b =
     let more : suc n ≡ n + 1 = omega arith in
     let step : Key → Bool = λ k. owned n && same_key k (at n) in
     let count : s.paging_keys - owned_among owned n - cond (owned n) 1 0 ≡ s.paging_keys - owned_among owned (suc n) = omega arith in
@@ -101,9 +66,9 @@ none_still : (b : Bool) (o : Option Key) → o ≡ None → cond b None o ≡ No
 none_still true o e = refl
 none_still false o e = e
 
-some_before : (b : Bool) (o : Option Key) (k : Key) → cond b None o ≡ Some k → o ≡ Some k
-some_before true o k e = cc
-some_before false o k e = e
+named_still : (b : Bool) (o : Option Key) (k : Key) → cond b None o ≡ Some k → (o ≡ Some k) × (b ≡ false)
+named_still true o k e = cc
+named_still false o k e = (e, refl)
 
 may_still : (held : Key → Bool) (k : Key) (s z : StoreOf) → z.kind ≡ s.kind → z.names ≡ without_names held s.names → MayRemove s k → MayRemove z k
 may_still held (key.Private pid vpn) s z kind names may =
@@ -117,7 +82,7 @@ may_still held (key.Private pid vpn) s z kind names may =
     ]
 may_still held (key.Shared area index) s z kind names may = (
   subst IsReleasing (sym kind) may.0,
-  λ place e. may.1 place (some_before (held (own_key place)) (s.names place) (key.Shared area index) (sym (ap (λ (f : Place → Option Key). f place) names) ∙ e)),
+  λ place e. may.1 place (named_still (held (own_key place)) (s.names place) (key.Shared area index) (sym (ap (λ (f : Place → Option Key). f place) names) ∙ e)).0,
 )
 
 among_apart : (at : ℕ → Key) (owned : ℕ → Bool) (n j : ℕ) → ((a b : ℕ) → a < b → same_key (at b) (at a) ≡ false) → n ≤ j → among at owned n (at j) ≡ false
@@ -127,8 +92,8 @@ among_apart at owned (suc n) j apart few =
     ∙ ap (λ b. b || among at owned n (at j)) (and_false (owned n))
     ∙ among_apart at owned n j apart (omega (arith, few))
 
-pub can_go_next : (at : ℕ → Key) (owned : ℕ → Bool) (n i : ℕ) (c d : Key → Option Page) (s z : StoreOf) → CanGoAll at owned n s → i < n → Gone (among at owned i) (owned_among owned i) c d s z → CanGo (at i) (owned i) z
-can_go_next at owned n i c d s z can few g =
+pub can_go_next : (at : ℕ → Key) (owned : ℕ → Bool) (n i : ℕ) {c d : Key → Option Page} {s z : StoreOf} → CanGoAll at owned n s → i < n → Gone (among at owned i) (owned_among owned i) c d s z → CanGo (at i) (owned i) z
+can_go_next at owned n i {s = s} {z = z} can few g =
     record {
       paging = λ o.
           ap (λ (x : StoreOf). x.paging (at i)) g.store
@@ -139,84 +104,52 @@ can_go_next at owned n i c d s z can few g =
 
 -- ---- what is left
 
-pub gone_less : (held : Key → Bool) (n : ℕ) (c d : Key → Option Page) (s z : StoreOf) → Gone held n c d s z → Less c d
-gone_less held n c d s z g k e = ap (λ (f : Key → Option Page). f k) g.contents ∙ by_test (held k) (sym (ap (λ (f : Key → Option Page). is_some (f k)) g.contents) ∙ e)
-  where
-    by_test : (b : Bool) → is_some (cond b None (c k)) ≡ true → cond b None (c k) ≡ c k
-    by_test true e = cc
-    by_test false e = refl
-
--- a test of keys, in which those that are not owned were false already
-gone_test : (b h : Bool) (f : Key → Bool) (k : Key) → (b ≡ true → h ≡ true) → (h ≡ true → b ≡ false → f k ≡ false) → cond b false (f k) ≡ cond h false (f k)
-gone_test true true f k up dead = refl
-gone_test true false f k up dead = absurd (let bad : false ≡ true = up refl in cc)
-gone_test false true f k up dead = dead refl refl
-gone_test false false f k up dead = refl
-
-pub some_gone : (b : Bool) (o : Option Page) → is_some (cond b None o) ≡ cond b false (is_some o)
+some_gone : (b : Bool) (o : Option Page) → is_some (cond b None o) ≡ cond b false (is_some o)
 some_gone true o = refl
 some_gone false o = refl
 
--- the keys that are held are those of the family, whether they are owned or not
-pub record Family (at : ℕ → Key) (owned : ℕ → Bool) (n : ℕ) (held : Key → Bool) (c : Key → Option Page) (s : StoreOf) : Type 0 where
-  pub up : (i : ℕ) → i < n → held (at i) ≡ true
-  pub dead : (k : Key) → held k ≡ true → among at owned n k ≡ false → (is_some (c k) ≡ false) × (s.paging k ≡ false)
-
-pub family_up : (at : ℕ → Key) (owned : ℕ → Bool) (n : ℕ) (held : Key → Bool) (c : Key → Option Page) (s : StoreOf) (k : Key) → Family at owned n held c s → among at owned n k ≡ true → held k ≡ true
-family_up at owned n held c s k f e = let a = among_true at owned n k e in ap held a.is ∙ f.up a.index a.few
-
-pub gone_live : (at : ℕ → Key) (owned : ℕ → Bool) (n : ℕ) (held : Key → Bool) (c d : Key → Option Page) (s z : StoreOf) → Family at owned n held c s → Gone (among at owned n) (owned_among owned n) c d s z → (k : Key) → is_some (d k) ≡ cond (held k) false (is_some (c k))
-gone_live at owned n held c d s z f g k =
-    ap (λ (x : Key → Option Page). is_some (x k)) g.contents ∙ some_gone (among at owned n k) (c k)
-    ∙ gone_test (among at owned n k) (held k) (λ k. is_some (c k)) k (family_up at owned n held c s k f) (λ h b. (f.dead k h b).0)
-
-pub gone_paging : (at : ℕ → Key) (owned : ℕ → Bool) (n : ℕ) (held : Key → Bool) (c d : Key → Option Page) (s z : StoreOf) → Family at owned n held c s → Gone (among at owned n) (owned_among owned n) c d s z → (k : Key) → z.paging k ≡ cond (held k) false (s.paging k)
-gone_paging at owned n held c d s z f g k =
-    ap (λ (x : StoreOf). x.paging k) g.store
-    ∙ gone_test (among at owned n k) (held k) s.paging k (family_up at owned n held c s k f) (λ h b. (f.dead k h b).1)
-
-pub gone_names : (held : Key → Bool) (n : ℕ) (c d : Key → Option Page) (s z : StoreOf) → Gone held n c d s z → (place : Place) (k : Key) → z.names place ≡ Some k → s.names place ≡ Some k
-gone_names held n c d s z g place k e = some_before (held (own_key place)) (s.names place) k (sym (ap (λ (x : StoreOf). x.names place) g.store) ∙ e)
-
--- ---- the pages of a process
-
-pub beside_by : (old new made : StoreOf) → new ≡ made → made ≡ beside old made → new ≡ beside old new
-beside_by old new made e same = e ∙ same ∙ ap (beside old) (sym e)
+gone_same : (b : Bool) (o : Option Page) → is_some (cond b None o) ≡ true → cond b None o ≡ o
+gone_same true o e = cc
+gone_same false o e = refl
 
 -- ---- the pages of an area
 
-pub record IsIndex (area : Area) (k : Key) : Type 0 where
-  pub index : ℕ
-  pub is : k ≡ shared_at area index
-
-pub index_in : (area : Area) (k : Key) → is_shared_in area.0 k ≡ true → IsIndex area k
-index_in area (key.Private p v) e = cc
-index_in area (key.Shared a i) e = let same = (unsigned_Decides a.0 area.0).0 e in record { index = i; is = λ n. key.Shared (record { 0 = same n }) i }
-
 inside : (xs : List (Option (Unit {0}))) (i : ℕ) → is_some (numbered xs i) ≡ true → i < length xs
-inside xs i e = by_option (numbered xs i) refl e
+inside xs i e = let x = some_found (numbered xs i) e in numbered_inside xs i x.0 x.1
+
+-- another key is not among them
+among_out : (area : Area) (owned : ℕ → Bool) (n : ℕ) (k : Key) → is_shared_in area.0 k ≡ false → among (shared_at area) owned n k ≡ false
+among_out area owned zero k out = refl
+among_out area owned (suc n) k out =
+    ap (λ b. (owned n && b) || among (shared_at area) owned n k) (by_kind k out) ∙ ap (λ b. b || among (shared_at area) owned n k) (and_false (owned n)) ∙ among_out area owned n k out
   where
-    by_option : (o : Option (Unit {0})) → numbered xs i ≡ o → is_some o ≡ true → i < length xs
-    by_option None at e = cc
-    by_option (Some x) at e = numbered_inside xs i x at
+    by_kind : (k : Key) → is_shared_in area.0 k ≡ false → same_key k (shared_at area n) ≡ false
+    by_kind (key.Private p v) out = refl
+    by_kind (key.Shared b i) out = ap (λ t. t && (i == n)) out
 
-pub shared_family : (area : Area) (a : AreaOf (Unit {0})) (c : Key → Option Page) (s : StoreOf) → CanEnd area a c s → Family (shared_at area) (is_committed_in a) (length a.pages) (is_shared_in area.0) c s
-shared_family area a c s can =
-    record {
-      up = λ i few. (unsigned_Decides area.0 area.0).1 refl;
-      dead = λ k h b.
-          let p = index_in area k h in
-          let none : is_committed_in a p.index ≡ false =
-          not_true (is_committed_in a p.index) (λ o. let bad : true ≡ false = sym (among_one (shared_at area) (is_committed_in a) (length a.pages) p.index k (inside a.pages p.index o) o p.is) ∙ b in cc) in
-          (ap (λ (k : Key). is_some (c k)) p.is ∙ can.live p.index ∙ none, ap s.paging p.is ∙ can.paging p.index ∙ none);
-    }
+-- of its keys, those that are removed are those that are committed
+shared_test : (area : Area) (a : AreaOf (Unit {0})) (f : Key → Bool) → ((i : ℕ) → f (shared_at area i) ≡ is_committed_in a i) → (k : Key) → cond (among (shared_at area) (is_committed_in a) (length a.pages) k) false (f k) ≡ cond (is_shared_in area.0 k) false (f k)
+shared_test area a f h (key.Private p v) = ap (λ t. cond t false (f (key.Private p v))) (among_out area (is_committed_in a) (length a.pages) (key.Private p v) refl)
+shared_test area a f h (key.Shared b i) = by_area (b.0 == area.0) refl
+  where
+    none : (b x : Bool) → x ≡ false → cond b false x ≡ false
+    none true x e = refl
+    none false x e = e
 
-pub shared_dead : (area : Area) (a : AreaOf (Unit {0})) (c d : Key → Option Page) (s z : StoreOf) → CanEnd area a c s → Gone (among (shared_at area) (is_committed_in a) (length a.pages)) (owned_among (is_committed_in a) (length a.pages)) c d s z → (index : ℕ) → d (key.Shared area index) ≡ None
-shared_dead area a c d s z can g index =
+    by_index : key.Shared b i ≡ shared_at area i → (o : Bool) → is_committed_in a i ≡ o → cond (among (shared_at area) (is_committed_in a) (length a.pages) (key.Shared b i)) false (f (key.Shared b i)) ≡ false
+    by_index is true o = ap (λ t. cond t false (f (key.Shared b i))) (among_one (shared_at area) (is_committed_in a) (length a.pages) i (key.Shared b i) (inside a.pages i o) o is)
+    by_index is false o = none (among (shared_at area) (is_committed_in a) (length a.pages) (key.Shared b i)) (f (key.Shared b i)) (ap f is ∙ h i ∙ o)
+
+    by_area : (t : Bool) → (b.0 == area.0) ≡ t → cond (among (shared_at area) (is_committed_in a) (length a.pages) (key.Shared b i)) false (f (key.Shared b i)) ≡ cond t false (f (key.Shared b i))
+    by_area true e = let same = (unsigned_Decides b.0 area.0).0 e in by_index (λ n. key.Shared (record { 0 = same n }) i) (is_committed_in a i) refl
+    by_area false e = ap (λ t. cond t false (f (key.Shared b i))) (among_out area (is_committed_in a) (length a.pages) (key.Shared b i) e)
+
+pub shared_dead : (area : Area) (a : AreaOf (Unit {0})) {c d : Key → Option Page} {s z : StoreOf} → CanEnd area a c s → Gone (among (shared_at area) (is_committed_in a) (length a.pages)) (owned_among (is_committed_in a) (length a.pages)) c d s z → (index : ℕ) → d (key.Shared area index) ≡ None
+shared_dead area a {c = c} {d = d} can g index =
     let k = key.Shared area index in
     none_of (d k) (
-    gone_live (shared_at area) (is_committed_in a) (length a.pages) (is_shared_in area.0) c d s z (shared_family area a c s can) g k
-    ∙ ap (λ b. cond b false (is_some (c k))) ((unsigned_Decides area.0 area.0).1 refl))
+    ap (λ (f : Key → Option Page). is_some (f k)) g.contents ∙ some_gone (among (shared_at area) (is_committed_in a) (length a.pages) k) (c k)
+    ∙ shared_test area a (λ k. is_some (c k)) can.live k ∙ ap (λ b. cond b false (is_some (c k))) ((unsigned_Decides area.0 area.0).1 refl))
 
 pub owned_front : (f : ℕ → Bool) (n : ℕ) → owned_among f (suc n) ≡ cond (f 0) 1 0 + owned_among (λ i. f (suc i)) n
 owned_front f zero = omega arith
@@ -226,41 +159,29 @@ pub owned_same : (f g : ℕ → Bool) (n : ℕ) → ((i : ℕ) → i < n → f i
 owned_same f g zero h = refl
 owned_same f g (suc n) h = omega (arith, owned_same f g n (λ i few. h i (omega (arith, few))), ap {B = ℕ} (λ b. cond b 1 0) (h n (omega arith)))
 
-pub owned_list : {A : Type 0} (test : A → Bool) (xs : List A) (f : ℕ → Bool) → ((i : ℕ) (x : A) → slice_get xs i ≡ Some x → f i ≡ test x) → owned_among f (length xs) ≡ count_by test xs
-owned_list test [] f h = refl
-owned_list test (x ∷ xs) f h =
-    omega (arith, owned_front f (length xs), sum_by-cons (λ x. cond (test x) 1 0) x xs, ap {B = ℕ} (λ b. cond b 1 0) (h 0 x refl), owned_list test xs (λ i. f (suc i)) (λ i y e. h (suc i) y e))
+committed_count : (xs : List (Option (Unit {0}))) → owned_among (λ i. is_some (numbered xs i)) (length xs) ≡ count_by is_some xs
+committed_count [] = refl
+committed_count (x ∷ xs) = omega (arith, owned_front (λ i. is_some (numbered (x ∷ xs) i)) (length xs), sum_by-cons (λ x. cond (is_some x) 1 0) x xs, committed_count xs)
 
-there : {A : Type 0} (xs : List (Option A)) (i : ℕ) (x : Option A) → slice_get xs i ≡ Some x → numbered xs i ≡ x
-there [] i x e = cc
-there (y ∷ ys) zero x e = cc
-there (y ∷ ys) (suc i) x e = there ys i x e
-
-pub committed_count : (a : AreaOf (Unit {0})) → owned_among (is_committed_in a) (length a.pages) ≡ count_by is_some a.pages
-committed_count a = owned_list is_some a.pages (is_committed_in a) (λ i x e. ap is_some (there a.pages i x e))
-
-pub emptied : (area : Area) (a : AreaOf (Unit {0})) (c d e : Key → Option Page) (s y z : StoreOf) → CanEnd area a c s → Gone (among (shared_at area) (is_committed_in a) (length a.pages)) (owned_among (is_committed_in a) (length a.pages)) c d s y → e ≡ d → z ≡ record y { areas = changed ◌==◌ y.areas area.0 None } → Emptied area a c e s z
-emptied area a c d e s y z can g same after =
-    let f = shared_family area a c s can in
-    let live = gone_live (shared_at area) (is_committed_in a) (length a.pages) (is_shared_in area.0) c d s y f g in
-    let paging = gone_paging (shared_at area) (is_committed_in a) (length a.pages) (is_shared_in area.0) c d s y f g in
-    record {
+pub emptied : (area : Area) (a : AreaOf (Unit {0})) {c d e : Key → Option Page} {s y z : StoreOf} → CanEnd area a c s → Gone (among (shared_at area) (is_committed_in a) (length a.pages)) (owned_among (is_committed_in a) (length a.pages)) c d s y → e ≡ d → z ≡ record y { areas = changed ◌==◌ y.areas area.0 None } → Emptied area a c e s z
+emptied area a {c = c} {s = s} {y = y} {z = z} can g same after =
+    let gone = among (shared_at area) (is_committed_in a) (length a.pages) in
+    let made : StoreOf = record s { names = without_names gone s.names; paging = without_paging gone s.paging; paging_keys = s.paging_keys - owned_among (is_committed_in a) (length a.pages); report = rearranged s.report y.report; areas = changed ◌==◌ s.areas area.0 None } in
+    let is : z ≡ made = after ∙ (λ i. record (g.store i) { areas = changed ◌==◌ (g.store i).areas area.0 None }) in
+    subst (λ (e : Key → Option Page). Emptied area a c e s z) (sym (same ∙ g.contents)) (subst (λ (z : StoreOf). Emptied area a c (without gone c) s z) (sym is) (record {
       lost = record {
-        live = λ k. ap (λ (x : Key → Option Page). is_some (x k)) same ∙ live k;
-        less = λ k some. ap (λ (x : Key → Option Page). x k) same ∙ gone_less _ _ c d s y g k (sym (ap (λ (x : Key → Option Page). is_some (x k)) same) ∙ some);
-        paging = λ k. ap (λ (x : StoreOf). x.paging k) after ∙ paging k;
-        bound = λ place. ap (λ (x : StoreOf). x.bound place) after ∙ ap (λ (x : StoreOf). x.bound place) g.store;
-        names = λ place k e. (gone_names _ _ c d s y g place k (sym (ap (λ (x : StoreOf). x.names place) after) ∙ e), refl);
-        count = ap (λ (x : StoreOf). x.paging_keys) after ∙ ap (λ (x : StoreOf). x.paging_keys) g.store ∙ ap (λ (n : ℕ). s.paging_keys - n) (committed_count a);
-        open_same = ap (λ (x : StoreOf). x.is_open) after ∙ ap (λ (x : StoreOf). x.is_open) g.store;
-        room = ap (λ (x : StoreOf). x.room) after ∙ ap (λ (x : StoreOf). x.room) g.store;
-        rest = beside_then s y z (beside_by s y _ g.store refl) (beside_by y z _ after refl);
+        live = λ k. some_gone (gone k) (c k) ∙ shared_test area a (λ k. is_some (c k)) can.live k;
+        less = λ k some. gone_same (gone k) (c k) some;
+        paging = shared_test area a s.paging can.paging;
+        bound = λ place. refl;
+        names = λ place k e. ((named_still (gone (own_key place)) (s.names place) k e).0, refl);
+        count = ap (λ (n : ℕ). s.paging_keys - n) (committed_count a.pages);
+        open_same = refl;
+        room = refl;
+        rest = refl;
       };
-      areas = ap (λ (x : StoreOf). x.areas) after ∙ ap (λ (x : StoreOf). changed ◌==◌ x.areas area.0 None) g.store;
-    }
-  where
-    beside_then : (a b c : StoreOf) → b ≡ beside a b → c ≡ beside b c → c ≡ beside a c
-    beside_then a b c e f = f ∙ ap (λ (x : StoreOf). beside x c) e
+      areas = refl;
+    }))
 
 -- ---- one page
 
@@ -273,7 +194,7 @@ at_place : (owned held : Bool) (o : Option Key) → cond held None (cond (owned 
 at_place owned true o = refl
 at_place owned false o = ap (λ b. cond b None o) (and_false owned)
 
-module _ (pid : Pid) (page : ℕ) (owned : Bool) (c : Key → Option Page) (s : StoreOf) (can : CanGiveUp pid page owned c s) where
+module _ {pid : Pid} {page : ℕ} {owned : Bool} {c : Key → Option Page} {s : StoreOf} (can : CanGiveUp pid page owned c s) where
   pub page_can_go : CanGo (own pid page) owned s
   page_can_go = record { paging = λ o. can.paging ∙ o; may = λ o. inl can.unbinding }
 
@@ -281,7 +202,7 @@ module _ (pid : Pid) (page : ℕ) (owned : Bool) (c : Key → Option Page) (s : 
   not_live e = none_of (c (own pid page)) (can.live ∙ e)
 
   -- its key has gone
-  module _ (n : ℕ) (d : Key → Option Page) (y : StoreOf) (g : Gone (λ k. owned && same_key k (own pid page)) n c d s y) where
+  module _ {n : ℕ} {d : Key → Option Page} {y : StoreOf} (g : Gone (λ k. owned && same_key k (own pid page)) n c d s y) where
     pub page_bound : AllBound y pid (only page) true
     page_bound v e = ap (λ (v : ℕ). y.bound (place_at pid v)) (only_is page v e) ∙ ap (λ (x : StoreOf). x.bound (place_at pid page)) g.store ∙ can.bound
 
@@ -290,14 +211,14 @@ module _ (pid : Pid) (page : ℕ) (owned : Bool) (c : Key → Option Page) (s : 
         let same : v ≡ page = omega (arith, low, high) in
         ap (λ (v : ℕ). d (own pid v)) same ∙ ap (λ (f : Key → Option Page). f (own pid page)) g.contents
         ∙ at_own owned pid page c None not_live (own pid page)
-        ∙ ap (λ b. cond b None (c (own pid page))) (key_in_only pid page (own pid page) ∙ key_same (own pid page))
+        ∙ ap (λ b. cond b None (c (own pid page))) (key_in_only pid page (own pid page) ∙ same_again (own pid page))
 
     pub page_unbinding : y.kind ≡ line_kind.Unbind pid
     page_unbinding = ap (λ (x : StoreOf). x.kind) g.store ∙ can.unbinding
 
     -- and its place
-    pub given_up : (e : Key → Option Page) (z : StoreOf) → e ≡ d → z ≡ record y { bound = changed_in pid (only page) y.bound false; names = changed_in pid (only page) y.names None; report = rearranged y.report z.report } → GivenUp pid (only page) n c e s z
-    given_up e z same after =
+    pub given_up : {e : Key → Option Page} {z : StoreOf} → e ≡ d → z ≡ record y { bound = changed_in pid (only page) y.bound false; names = changed_in pid (only page) y.names None; report = rearranged y.report z.report } → GivenUp pid (only page) n c e s z
+    given_up {z = z} same after =
         let names : changed_in pid (only page) (without_names (λ k. owned && same_key k (own pid page)) s.names) None ≡ changed_in pid (only page) s.names None =
         fun_ext (λ q. ap (λ b. cond b None (cond (owned && same_key (own_key q) (own pid page)) None (s.names q))) (place_in_only pid page q)
         ∙ at_place owned (same_key (own_key q) (own pid page)) (s.names q)
@@ -318,33 +239,34 @@ module _ (pid : Pid) (page : ℕ) (owned : Bool) (c : Key → Option Page) (s : 
 
 -- ---- one page more
 
-key_more : {V : Type 0} (pid : Pid) (range : Range) (n : ℕ) (x : V) (o : V) (k : Key) → cond (is_key_in pid (only (range.first + n)) k) x (cond (is_key_in pid (front range n) k) x o) ≡ cond (is_key_in pid (front range (suc n)) k) x o
-key_more pid range n x o k = cond_twice (is_key_in pid (only (range.first + n)) k) (is_key_in pid (front range n) k) x o ∙ ap (λ b. cond b x o) (sym (key_in_more pid range n k))
-
-place_more : {V : Type 0} (pid : Pid) (range : Range) (n : ℕ) (x : V) (o : V) (q : Place) → cond (is_place_in pid (only (range.first + n)) q) x (cond (is_place_in pid (front range n) q) x o) ≡ cond (is_place_in pid (front range (suc n)) q) x o
-place_more pid range n x o q = cond_twice (is_place_in pid (only (range.first + n)) q) (is_place_in pid (front range n) q) x o ∙ ap (λ b. cond b x o) (sym (place_in_more pid range n q))
-
-pub given_then : (pid : Pid) (range : Range) (n : ℕ) (f : ℕ → Bool) (c d e : Key → Option Page) (s z y : StoreOf) → GivenUp pid (front range n) (owned_among f n) c d s z → GivenUp pid (only (range.first + n)) (cond (f n) 1 0) d e z y → GivenUp pid (front range (n + 1)) (owned_among f (n + 1)) c e s y
-given_then pid range n f c d e s z y a b =
-    let page = only (range.first + n) in
-    let more : suc n ≡ n + 1 = omega arith in
-    let count : s.paging_keys - owned_among f n - cond (f n) 1 0 ≡ s.paging_keys - owned_among f (suc n) = omega arith in
-    subst (λ (n : ℕ). GivenUp pid (front range n) (owned_among f n) c e s y) more (record {
-      contents = b.contents ∙ ap (without (is_key_in pid page)) a.contents ∙ fun_ext (λ k. key_more pid range n None (c k) k);
+-- two parts, one behind the other
+pub given_two : {pid : Pid} {first second whole : Range} {n m k : ℕ} {c d e : Key → Option Page} {s z y : StoreOf} → ((j : Key) → is_key_in pid whole j ≡ (is_key_in pid second j || is_key_in pid first j)) → n + m ≡ k → GivenUp pid first n c d s z → GivenUp pid second m d e z y → GivenUp pid whole k c e s y
+given_two {pid = pid} {first = first} {second = second} {whole = whole} {n = n} {m = m} {k = k} {c = c} {s = s} {y = y} more sum a b =
+    let count : s.paging_keys - n - m ≡ s.paging_keys - k = omega (arith, sum) in
+    record {
+      contents = b.contents ∙ ap (without (is_key_in pid second)) a.contents ∙ fun_ext (λ j. both_in None (c j) j);
       store =
           b.store
-          ∙ ap (λ (x : StoreOf). let made : StoreOf = record x { bound = changed_in pid page x.bound false; names = changed_in pid page x.names None; paging = without_paging (is_key_in pid page) x.paging; paging_keys = x.paging_keys - cond (f n) 1 0; report = rearranged x.report y.report } in made) a.store
+          ∙ ap (λ (x : StoreOf). let made : StoreOf = record x { bound = changed_in pid second x.bound false; names = changed_in pid second x.names None; paging = without_paging (is_key_in pid second) x.paging; paging_keys = x.paging_keys - m; report = rearranged x.report y.report } in made) a.store
           ∙ (λ i. record s {
-            bound = fun_ext (λ q. place_more pid range n false (s.bound q) q) i;
-            names = fun_ext (λ q. place_more pid range n None (s.names q) q) i;
-            paging = fun_ext (λ k. key_more pid range n false (s.paging k) k) i;
+            bound = fun_ext (λ q. both_in false (s.bound q) (own_key q)) i;
+            names = fun_ext (λ q. both_in None (s.names q) (own_key q)) i;
+            paging = fun_ext (λ j. both_in false (s.paging j) j) i;
             paging_keys = count i;
             report = rearranged s.report y.report;
           });
-    })
+    }
+  where
+    both_in : {V : Type 0} (x o : V) (j : Key) → cond (is_key_in pid second j) x (cond (is_key_in pid first j) x o) ≡ cond (is_key_in pid whole j) x o
+    both_in x o j = cond_twice (is_key_in pid second j) (is_key_in pid first j) x o ∙ ap (λ b. cond b x o) (sym (more j))
 
-pub given_all : (pid : Pid) (range : Range) (n : ℕ) (f : ℕ → Bool) (c d : Key → Option Page) (s z : StoreOf) → n ≡ range.count → GivenUp pid (front range n) (owned_among f n) c d s z → GivenUp pid range (owned_among f range.count) c d s z
-given_all pid range n f c d s z all a = subst (λ (n : ℕ). GivenUp pid (front range n) (owned_among f n) c d s z) all a
+pub given_then : (pid : Pid) (range : Range) (n : ℕ) (f : ℕ → Bool) {c d e : Key → Option Page} {s z y : StoreOf} → GivenUp pid (front range n) (owned_among f n) c d s z → GivenUp pid (only (range.first + n)) (cond (f n) 1 0) d e z y → GivenUp pid (front range (n + 1)) (owned_among f (n + 1)) c e s y
+given_then pid range n f {c = c} {e = e} {s = s} {y = y} a b =
+    let more : suc n ≡ n + 1 = omega arith in
+    subst (λ (n : ℕ). GivenUp pid (front range n) (owned_among f n) c e s y) more (given_two (key_in_more pid range n) refl a b)
+
+pub given_all : (pid : Pid) (range : Range) (n : ℕ) (f : ℕ → Bool) {c d : Key → Option Page} {s z : StoreOf} → n ≡ range.count → GivenUp pid (front range n) (owned_among f n) c d s z → GivenUp pid range (owned_among f range.count) c d s z
+given_all pid range n f {c = c} {d = d} {s = s} {z = z} all a = subst (λ (n : ℕ). GivenUp pid (front range n) (owned_among f n) c d s z) all a
 
 pub given_none : (pid : Pid) (range : Range) (c : Key → Option Page) (s : StoreOf) → GivenUp pid (front range 0) 0 c c s s
 given_none pid range c s =
@@ -360,8 +282,8 @@ given_none pid range c s =
       };
     }
 
-pub next_can : (pid : Pid) (range : Range) (n k : ℕ) (rs : List (RegionOf (Unit {0}))) (c d : Key → Option Page) (s z : StoreOf) → CanRelease pid range rs c s → n < range.count → GivenUp pid (front range n) k c d s z → CanGiveUp pid (range.first + n) (is_owned_at rs range.first n) d z
-next_can pid range n k rs c d s z can few a =
+pub next_can : (pid : Pid) (range : Range) (n k : ℕ) (rs : List (RegionOf (Unit {0}))) {c d : Key → Option Page} {s z : StoreOf} → CanRelease pid range rs c s → n < range.count → GivenUp pid (front range n) k c d s z → CanGiveUp pid (range.first + n) (is_owned_at rs range.first n) d z
+next_can pid range n k rs {c = c} {s = s} can few a =
     let page = range.first + n in
     let key = outside pid range n in
     let place : is_place_in pid (front range n) (place_at pid page) ≡ false = ap (λ b. (pid.0 == pid.0) && b) (not_yet range n) ∙ and_false (pid.0 == pid.0) in
@@ -374,46 +296,33 @@ next_can pid range n k rs c d s z can few a =
 
 -- ---- the whole range
 
-here : (pid : Pid) (range : Range) (page : ℕ) → holds_page range page ≡ true → is_place_in pid range (place_at pid page) ≡ true
-here pid range page e = both (pid.0 == pid.0) (holds_page range page) ((unsigned_Decides pid.0 pid.0).1 refl) e
-
-gone_same : (b : Bool) (o : Option Page) → is_some (cond b None o) ≡ true → cond b None o ≡ o
-gone_same true o e = cc
-gone_same false o e = refl
-
-named_still : (b : Bool) (o : Option Key) (k : Key) → cond b None o ≡ Some k → (o ≡ Some k) × (b ≡ false)
-named_still true o k e = cc
-named_still false o k e = (e, refl)
-
 pub owned_passing : (test : ℕ → Bool) (first n : ℕ) → owned_among (λ i. test (first + i)) n ≡ passing test first n
 owned_passing test first zero = refl
 owned_passing test first (suc n) = ap (λ k. k + cond (test (first + n)) 1 0) (owned_passing test first n)
 
 -- as many keys go as there are
-pub as_many : (pid : Pid) (range : Range) (rs : List (RegionOf (Unit {0}))) (c d : Key → Option Page) (s z : StoreOf) → CanRelease pid range rs c s → GivenUp pid range (owned_among (is_owned_at rs range.first) range.count) c d s z → GivenUp pid range (passing (is_live pid c) range.first range.count) c d s z
-as_many pid range rs c d s z can a =
+pub as_many : (pid : Pid) (range : Range) (rs : List (RegionOf (Unit {0}))) {c d : Key → Option Page} {s z : StoreOf} → CanRelease pid range rs c s → GivenUp pid range (owned_among (is_owned_at rs range.first) range.count) c d s z → GivenUp pid range (passing (is_live pid c) range.first range.count) c d s z
+as_many pid range rs {c = c} {d = d} {s = s} {z = z} can a =
     subst (λ (n : ℕ). GivenUp pid range n c d s z)
     (owned_same (is_owned_at rs range.first) (λ i. is_live pid c (range.first + i)) range.count (λ i few. sym (can.live i few))
     ∙ owned_passing (is_live pid c) range.first range.count) a
 
-pub released : (pid : Pid) (range : Range) (rs : List (RegionOf (Unit {0}))) (c d : Key → Option Page) (s z : StoreOf) → GivenUp pid range (owned_among (is_owned_at rs range.first) range.count) c d s z → Released pid range rs c d s z
-released pid range rs c d s z a =
-    record {
+pub released : (pid : Pid) (range : Range) (rs : List (RegionOf (Unit {0}))) {c d : Key → Option Page} {s z : StoreOf} → GivenUp pid range (owned_among (is_owned_at rs range.first) range.count) c d s z → Released pid range rs c d s z
+released pid range rs {c = c} {s = s} {z = z} a =
+    subst (λ (d : Key → Option Page). Released pid range rs c d s z) (sym a.contents) (subst (λ (z : StoreOf). Released pid range rs c (without (is_key_in pid range) c) s z) (sym a.store) (record {
       lost = record {
-        live = λ k. ap (λ (f : Key → Option Page). is_some (f k)) a.contents ∙ some_gone (is_key_in pid range k) (c k);
-        less = λ k some.
-            ap (λ (f : Key → Option Page). f k) a.contents
-            ∙ gone_same (is_key_in pid range k) (c k) (sym (ap (λ (f : Key → Option Page). is_some (f k)) a.contents) ∙ some);
-        paging = λ k. ap (λ (x : StoreOf). x.paging k) a.store;
-        bound = λ place. ap (λ (x : StoreOf). x.bound place) a.store;
-        names = λ place k e. named_still (is_place_in pid range place) (s.names place) k (sym (ap (λ (x : StoreOf). x.names place) a.store) ∙ e);
-        count = ap (λ (x : StoreOf). x.paging_keys) a.store;
-        open_same = ap (λ (x : StoreOf). x.is_open) a.store;
-        room = ap (λ (x : StoreOf). x.room) a.store;
-        rest = beside_by s z _ a.store refl;
+        live = λ k. some_gone (is_key_in pid range k) (c k);
+        less = λ k some. gone_same (is_key_in pid range k) (c k) some;
+        paging = λ k. refl;
+        bound = λ place. refl;
+        names = λ place k e. named_still (is_place_in pid range place) (s.names place) k e;
+        count = refl;
+        open_same = refl;
+        room = refl;
+        rest = refl;
       };
-      areas = ap (λ (x : StoreOf). x.areas) a.store;
-    }
+      areas = refl;
+    }))
 
 -- ---- the same in the words of calls on private regions
 
@@ -428,12 +337,4 @@ can_release pid range rs c s can bound =
 
 pub stored : (pid : Pid) (range : Range) (n : ℕ) (c d : Key → Option Page) (s z : StoreOf) → GivenUp pid range n c d s z → Stored pid range Ends Ends true c d s z
 stored pid range n c d s z a =
-    record {
-      contents = a.contents;
-      paging = ap (λ (x : StoreOf). x.paging) a.store;
-      bound = ap (λ (x : StoreOf). x.bound) a.store;
-      names = ap (λ (x : StoreOf). x.names) a.store;
-      open_same = ap (λ (x : StoreOf). x.is_open) a.store;
-      areas_same = ap (λ (x : StoreOf). x.areas) a.store;
-      same = beside_by s z _ a.store refl;
-    }
+    subst (λ (z : StoreOf). Stored pid range Ends Ends true c d s z) (sym a.store) (record { contents = a.contents; paging = refl; bound = refl; names = refl; open_same = refl; areas_same = refl; same = refl })

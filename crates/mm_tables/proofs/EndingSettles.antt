@@ -1,13 +1,17 @@
 -- What is left of tables when a process loses references: at most one section and its area are other.
-use Rattle.std.proofs.Common.{◌≡◌, ◌≢◌, ◌⊎◌, inl, inr, ℕ, zero, suc, ◌+◌, ◌≤◌, ◌<◌, Bool, true, false, Option, Some, None, List, [], ◌∷◌, refl, sym, ◌∙◌, ap, subst, cond, arith, length, set, slice_get, is_some, ◌||◌, unwrap_or, count_by, is_none, ◌&&◌, nat_lt, sum_by, option_map}
+use Rattle.std.proofs.Common.{◌≡◌, ◌≢◌, inl, inr, ℕ, zero, suc, ◌+◌, ◌≤◌, ◌<◌, Bool, true, false, Option, Some, None, List, [], ◌∷◌, refl, sym, ◌∙◌, ap, subst, cond, arith, length, set, slice_get, is_some, ◌||◌, unwrap_or, count_by, is_none, ◌&&◌, nat_lt, sum_by, option_map}
 use Rattle.std.specs.Prelude.{◌==◌, remove}
 use Rattle.std.specs.List.{list_any}
 use Rattle.std.specs.Cmp.{unsigned_Decides}
-use Rattle.std.proofs.lemmas.List.{get_or-set_same, get_or-set_other}
+use Rattle.std.proofs.lemmas.List.{get_or-set_same, get_or-set_other, set-set}
+use Rattle.std.proofs.lemmas.List.Folds.{list_any_at}
+use Rattle.std.proofs.lemmas.Option.{get_or_from_slice_get}
+use Rattle.std.proofs.Math.Path.{fun_ext}
 use Rattle.std.proofs.lemmas.Bool.{le-leb}
-use Rattle.std.proofs.lemmas.List.Sums.{sum_by-cons}
-use Rattle.mm_types.proofs.Cells.{same_or_not}
-use Rattle.mm_types.proofs.Booleans.{not_true, or_left, or_right, either, and_true, and_false}
+use Rattle.std.proofs.lemmas.List.Sums.{sum_by-cons, sum_by-remove}
+use Rattle.mm_types.proofs.Cells.{get_within}
+use Rattle.mm_types.proofs.Options.{some_found, some_map}
+use Rattle.mm_types.proofs.Booleans.{not_true, or_left, or_right, or_both, either, and_true, and_false}
 use Rattle.mm_types.proofs.Lists.{some_get}
 use Rattle.mm_world.specs.World.{WorldOf, ProcessOf, SectionOf, AreaOf, FileOf, Numbered, numbered, RegionOf}
 use Rattle.mm_world.specs.Find.{section_of, area_at, no_area, set_process, process_of}
@@ -19,38 +23,18 @@ use Rattle.mm_world.proofs.Charges.{sum_by-put, count_by-never}
 use Rattle.mm_sections.specs.Pages.{number_of_block}
 use Rattle.mm_tables.specs.References.{IsTidy, KeepersLive, handles_in, views_in, handles_to, views_of}
 use Rattle.mm_tables.specs.Endings.{ended_area}
-use Rattle.mm_tables.proofs.Keeping.{any_count}
+use Rattle.mm_tables.proofs.Keeping.{any_count, any_set}
 use Rattle.mm_tables.proofs.Lists.{counted}
 
 -- ---- lists
 
-any_set : {A : Type 0} (test : A → Bool) (xs : List A) (i : ℕ) (y : A) → list_any test (set xs i y) ≡ true → (test y ≡ true) ⊎ (list_any test xs ≡ true)
-any_set test [] i y e = inr e
-any_set test (x ∷ xs) zero y e =
-    elim (either (test y) (list_any test xs) e) [
-      | inl h ↦ inl h
-      | inr h ↦ inr (or_right (test x) (list_any test xs) h)
-    ]
-any_set test (x ∷ xs) (suc i) y e =
-    elim (either (test x) (list_any test (set xs i y)) e) [
-      | inl h ↦ inr (or_left (test x) (list_any test xs) h)
-      | inr h ↦ elim (any_set test xs i y h) [ inl k ↦ inl k | inr k ↦ inr (or_right (test x) (list_any test xs) k) ]
-    ]
-
-any_set_same : {A : Type 0} (test : Option A → Bool) (xs : List (Option A)) (i : ℕ) (y : Option A) → test (numbered xs i) ≡ test y → list_any test (set xs i y) ≡ list_any test xs
-any_set_same test [] i y e = refl
-any_set_same test (x ∷ xs) zero y e = ap (λ b. b || list_any test xs) (sym e)
-any_set_same test (x ∷ xs) (suc i) y e = ap (λ b. test x || b) (any_set_same test xs i y e)
+any_less : {A : Type 0} (test : Option A → Bool) (xs : List (Option A)) (i : ℕ) → test None ≡ false → list_any test (set xs i None) ≡ true → list_any test xs ≡ true
+any_less test [] i none e = e
+any_less test (x ∷ xs) zero none e = or_right (test x) (list_any test xs) (ap (λ b. b || list_any test xs) (sym none) ∙ e)
+any_less test (x ∷ xs) (suc i) none e = or_both (test x) (list_any test (set xs i None)) (list_any test xs) (any_less test xs i none) e
 
 pub any_numbered : {A : Type 0} (test : Option A → Bool) (xs : Numbered A) (i : ℕ) (x : A) → numbered xs i ≡ Some x → test (Some x) ≡ true → list_any test xs ≡ true
-any_numbered test [] i x there passes = cc
-any_numbered test (y ∷ xs) zero x there passes = ap (λ b. b || list_any test xs) (ap test there ∙ passes)
-any_numbered test (y ∷ xs) (suc i) x there passes = or_right (test y) (list_any test xs) (any_numbered test xs i x there passes)
-
-set_set : {A : Type 0} (xs : List A) (i : ℕ) (x y : A) → set (set xs i x) i y ≡ set xs i y
-set_set [] i x y = refl
-set_set (z ∷ xs) zero x y = refl
-set_set (z ∷ xs) (suc i) x y = ap (λ ys. z ∷ ys) (set_set xs i x y)
+any_numbered test xs i x there passes = list_any_at test xs i None (numbered_inside xs i x there) (ap test there ∙ passes)
 
 -- which section uses an area
 pub record Uses (ss : Numbered SectionOf) (area : ℕ) : Type 0 where
@@ -70,17 +54,37 @@ used_by (Some s ∷ ss) area e =
 
 twice : (s : SectionOf) (h v g u : Bool) → (g ≡ true → h ≡ true) → (u ≡ true → v ≡ true) → (settle_by : Option SectionOf → Option SectionOf) → ((x : SectionOf) → settle_by (Some x) ≡ cond g (Some x) (cond u (Some (record x { name = None })) None)) → settle_by None ≡ None → settle_by (cond h (Some s) (cond v (Some (record s { name = None })) None)) ≡ cond g (Some s) (cond u (Some (record s { name = None })) None)
 twice s true v g u gh uv by at none = at s
-twice s false true true u gh uv by at none = absurd (let bad : false ≡ true = gh refl in cc)
 twice s false true false u gh uv by at none = at (record s { name = None })
-twice s false false true u gh uv by at none = absurd (let bad : false ≡ true = gh refl in cc)
+twice s false v true u gh uv by at none = absurd (let bad : false ≡ true = gh refl in cc)
 twice s false false false true gh uv by at none = absurd (let bad : false ≡ true = uv refl in cc)
 twice s false false false false gh uv by at none = none
 
-head_of : {A : Type 0} (x y : A) (xs ys : List A) → x ∷ xs ≡ y ∷ ys → x ≡ y
-head_of x y xs ys e = cc
+-- a list of which each element is changed by its place
+abbrev along : {A : Type 0} → (ℕ → A → A) → ℕ → List A → List A
+along f k [] = []
+along f k (x ∷ xs) = f k x ∷ along f (k + 1) xs
 
-tail_of : {A : Type 0} (x y : A) (xs ys : List A) → x ∷ xs ≡ y ∷ ys → xs ≡ ys
-tail_of x y xs ys e = cc
+along_same : {A : Type 0} (f g : ℕ → A → A) (k : ℕ) (xs : List A) → along f k xs ≡ xs → ((n : ℕ) (x : A) → k ≤ n → g n x ≡ f n x) → along g k xs ≡ xs
+along_same f g k [] e h = refl
+along_same f g k (x ∷ xs) e h =
+    let here : f k x ≡ x = cc in
+    let rest : along f (k + 1) xs ≡ xs = cc in
+    λ i. (h k x (omega arith) ∙ here) i ∷ along_same f g (k + 1) xs rest (λ n x more. h n x (omega (arith, more))) i
+
+-- all but one stay
+along_put : {A : Type 0} (f g : ℕ → A → A) (k m : ℕ) (xs : List A) (a : A) → along f k xs ≡ xs → ((n : ℕ) (x : A) → n ≢ k + m → g n x ≡ f n x) → slice_get xs m ≡ Some a → along g k xs ≡ set xs m (g (k + m) a)
+along_put f g k m [] a e h there = cc
+along_put f g k zero (x ∷ xs) a e h there =
+    let at : k ≡ k + 0 = omega arith in
+    let same : x ≡ a = cc in
+    let rest : along f (k + 1) xs ≡ xs = cc in
+    λ i. g (at i) (same i) ∷ along_same f g (k + 1) xs rest (λ n x more. h n x (λ same. absurd (omega (arith, more, same)))) i
+along_put f g k (suc m) (x ∷ xs) a e h there =
+    let at : k + 1 + m ≡ k + suc m = omega arith in
+    let here : f k x ≡ x = cc in
+    let rest : along f (k + 1) xs ≡ xs = cc in
+    let later = along_put f g (k + 1) m xs a rest (λ n x other. h n x (λ same. other (same ∙ sym at))) there ∙ ap (λ (n : ℕ). set xs m (g n a)) at in
+    λ i. (h k x (λ same. absurd (omega (arith, same))) ∙ here) i ∷ later i
 
 each_still : (P Q : FileOf → Type 0) (fs : List FileOf) → ((f : FileOf) → P f → Q f) → Each P fs → Each Q fs
 each_still P Q [] h k = tt
@@ -93,16 +97,6 @@ module _ {B : Type 0} where
   pub record Takes (ps qs : List (Option (ProcessOf B))) : Type 0 where
     pub held : (n : ℕ) → list_any (holds n) qs ≡ true → list_any (holds n) ps ≡ true
     pub seen : (n : ℕ) → list_any (views n) qs ≡ true → list_any (views n) ps ≡ true
-
-  pub takes_same : (ps : List (Option (ProcessOf B))) → Takes ps ps
-  takes_same ps = record { held = λ n e. e; seen = λ n e. e }
-
-  pub takes_none : (ps : List (Option (ProcessOf B))) (pid : ℕ) → Takes ps (set ps pid None)
-  takes_none ps pid =
-      record {
-        held = λ n e. elim (any_set (holds n) ps pid None e) [ inl h ↦ cc | inr h ↦ h ];
-        seen = λ n e. elim (any_set (views n) ps pid None e) [ inl h ↦ cc | inr h ↦ h ];
-      }
 
   section_twice : (ps qs : List (Option (ProcessOf B))) (n : ℕ) (s : Option SectionOf) → Takes ps qs → settled_section qs n (settled_section ps n s) ≡ settled_section qs n s
   section_twice ps qs n None t = refl
@@ -168,17 +162,12 @@ module _ {B : Type 0} where
       areas ∙ ap (λ (ss : Numbered SectionOf). settled_areas ss 0 w.areas) same in
       λ i. record w { processes = qs; sections = same i; areas = whole i }
 
-  pub settled_again : (w : WorldOf B) → settle (settle w) ≡ settle w
-  settled_again w = settle_twice w w.processes (takes_same w.processes)
-
   -- an end that follows a step comes to the same as the end alone
   pub ends_same : (u : WorldOf B) (pid : ℕ) (q : Option (ProcessOf B)) → settle (set_process (settle (set_process u pid q)) pid None) ≡ settle (set_process u pid None)
   ends_same u pid q =
-      settle_twice (set_process u pid q) (set (set u.processes pid q) pid None) (takes_none (set u.processes pid q) pid)
-      ∙ ap (λ (ps : List (Option (ProcessOf B))). settle (record u { processes = ps })) (set_set u.processes pid q None)
-
-  pub ends_after : (u : WorldOf B) (pid : ℕ) (q : Option (ProcessOf B)) → settle (set_process (set_process u pid q) pid None) ≡ settle (set_process u pid None)
-  ends_after u pid q = ap (λ (ps : List (Option (ProcessOf B))). settle (record u { processes = ps })) (set_set u.processes pid q None)
+      let ps = set u.processes pid q in
+      settle_twice (set_process u pid q) (set ps pid None) (record { held = λ n e. any_less (holds n) ps pid refl e; seen = λ n e. any_less (views n) ps pid refl e })
+      ∙ ap (λ (ps : List (Option (ProcessOf B))). settle (record u { processes = ps })) (set-set u.processes pid q None)
 
   -- ---- one section less
 
@@ -189,53 +178,38 @@ module _ {B : Type 0} where
   section_same ps qs n None h = refl
   section_same ps qs n (Some s) h = λ i. cond (h.0 i) (Some s) (cond (h.1 i) (Some (record s { name = None })) None)
 
-  sections_same : (ps qs : List (Option (ProcessOf B))) (k : ℕ) (ss : Numbered SectionOf) → settled_sections ps k ss ≡ ss → ((n : ℕ) → k ≤ n → SameBits n ps qs) → settled_sections qs k ss ≡ ss
-  sections_same ps qs k [] e h = refl
-  sections_same ps qs k (s ∷ ss) e h =
-      let first : settled_section qs k s ≡ s = section_same ps qs k s (h k (omega arith)) ∙ head_of (settled_section ps k s) s (settled_sections ps (k + 1) ss) ss e in
-      let rest : settled_sections qs (k + 1) ss ≡ ss = sections_same ps qs (k + 1) ss (tail_of (settled_section ps k s) s (settled_sections ps (k + 1) ss) ss e) (λ n more. h n (omega (arith, more))) in
-      λ i. first i ∷ rest i
-
-  sections_put : (ps qs : List (Option (ProcessOf B))) (k m : ℕ) (ss : Numbered SectionOf) (s : SectionOf) → settled_sections ps k ss ≡ ss → ((n : ℕ) → n ≢ k + m → SameBits n ps qs) → numbered ss m ≡ Some s → settled_sections qs k ss ≡ set ss m (settled_section qs (k + m) (Some s))
-  sections_put ps qs k m [] s e h there = cc
-  sections_put ps qs k zero (x ∷ ss) s e h there =
-      let at : k ≡ k + 0 = omega arith in
-      let first : settled_section qs k x ≡ settled_section qs (k + 0) (Some s) = λ i. settled_section qs (at i) (there i) in
-      let rest : settled_sections qs (k + 1) ss ≡ ss = sections_same ps qs (k + 1) ss (tail_of (settled_section ps k x) x (settled_sections ps (k + 1) ss) ss e) (λ n more. h n (λ same. absurd (omega (arith, more, same)))) in
-      λ i. first i ∷ rest i
-  sections_put ps qs k (suc m) (x ∷ ss) s e h there =
-      let at : k + 1 + m ≡ k + suc m = omega arith in
-      let first : settled_section qs k x ≡ x = section_same ps qs k x (h k (λ same. absurd (omega (arith, same)))) ∙ head_of (settled_section ps k x) x (settled_sections ps (k + 1) ss) ss e in
-      let rest : settled_sections qs (k + 1) ss ≡ set ss m (settled_section qs (k + suc m) (Some s)) =
-      sections_put ps qs (k + 1) m ss s (tail_of (settled_section ps k x) x (settled_sections ps (k + 1) ss) ss e) (λ n other. h n (λ same. other (same ∙ sym at))) there
-      ∙ ap (λ (n : ℕ). set ss m (settled_section qs n (Some s))) at in
-      λ i. first i ∷ rest i
-
   area_same : (ss us : Numbered SectionOf) (n : ℕ) (a : AreaOf B) → list_any (uses n) us ≡ list_any (uses n) ss → settled_area us n a ≡ settled_area ss n a
   area_same ss us n a h = λ i. cond (is_some a.file_block || h i) a no_area
 
-  areas_same : (ss us : Numbered SectionOf) (k : ℕ) (areas : List (AreaOf B)) → settled_areas ss k areas ≡ areas → ((n : ℕ) → k ≤ n → list_any (uses n) us ≡ list_any (uses n) ss) → settled_areas us k areas ≡ areas
-  areas_same ss us k [] e h = refl
-  areas_same ss us k (a ∷ rest) e h =
-      let first : settled_area us k a ≡ a = area_same ss us k a (h k (omega arith)) ∙ head_of (settled_area ss k a) a (settled_areas ss (k + 1) rest) rest e in
-      let later : settled_areas us (k + 1) rest ≡ rest = areas_same ss us (k + 1) rest (tail_of (settled_area ss k a) a (settled_areas ss (k + 1) rest) rest e) (λ n more. h n (omega (arith, more))) in
-      λ i. first i ∷ later i
+  sections_along : (ps : List (Option (ProcessOf B))) (k : ℕ) (ss : Numbered SectionOf) → settled_sections ps k ss ≡ along (settled_section ps) k ss
+  sections_along ps k [] = refl
+  sections_along ps k (s ∷ ss) = ap (λ xs. settled_section ps k s ∷ xs) (sections_along ps (k + 1) ss)
 
-  areas_put : (ss us : Numbered SectionOf) (k m : ℕ) (areas : List (AreaOf B)) (a : AreaOf B) → settled_areas ss k areas ≡ areas → ((n : ℕ) → n ≢ k + m → list_any (uses n) us ≡ list_any (uses n) ss) → slice_get areas m ≡ Some a → settled_areas us k areas ≡ set areas m (settled_area us (k + m) a)
-  areas_put ss us k m [] a e h there = cc
-  areas_put ss us k zero (x ∷ rest) a e h there =
-      let at : k ≡ k + 0 = omega arith in
-      let same : x ≡ a = cc in
-      let first : settled_area us k x ≡ settled_area us (k + 0) a = λ i. settled_area us (at i) (same i) in
-      let later : settled_areas us (k + 1) rest ≡ rest = areas_same ss us (k + 1) rest (tail_of (settled_area ss k x) x (settled_areas ss (k + 1) rest) rest e) (λ n more. h n (λ same. absurd (omega (arith, more, same)))) in
-      λ i. first i ∷ later i
-  areas_put ss us k (suc m) (x ∷ rest) a e h there =
-      let at : k + 1 + m ≡ k + suc m = omega arith in
-      let first : settled_area us k x ≡ x = area_same ss us k x (h k (λ same. absurd (omega (arith, same)))) ∙ head_of (settled_area ss k x) x (settled_areas ss (k + 1) rest) rest e in
-      let later : settled_areas us (k + 1) rest ≡ set rest m (settled_area us (k + suc m) a) =
-      areas_put ss us (k + 1) m rest a (tail_of (settled_area ss k x) x (settled_areas ss (k + 1) rest) rest e) (λ n other. h n (λ same. other (same ∙ sym at))) there
-      ∙ ap (λ (n : ℕ). set rest m (settled_area us n a)) at in
-      λ i. first i ∷ later i
+  areas_along : (ss : Numbered SectionOf) (k : ℕ) (areas : List (AreaOf B)) → settled_areas ss k areas ≡ along (settled_area ss) k areas
+  areas_along ss k [] = refl
+  areas_along ss k (a ∷ areas) = ap (λ xs. settled_area ss k a ∷ xs) (areas_along ss (k + 1) areas)
+
+  sections_same : (ps qs : List (Option (ProcessOf B))) (ss : Numbered SectionOf) → settled_sections ps 0 ss ≡ ss → ((n : ℕ) → SameBits n ps qs) → settled_sections qs 0 ss ≡ ss
+  sections_same ps qs ss e h =
+      sections_along qs 0 ss ∙ along_same (settled_section ps) (settled_section qs) 0 ss (sym (sections_along ps 0 ss) ∙ e) (λ n s low. section_same ps qs n s (h n))
+
+  sections_put : (ps qs : List (Option (ProcessOf B))) (m : ℕ) (ss : Numbered SectionOf) (s : SectionOf) → settled_sections ps 0 ss ≡ ss → ((n : ℕ) → n ≢ m → SameBits n ps qs) → numbered ss m ≡ Some s → settled_sections qs 0 ss ≡ set ss m (settled_section qs m (Some s))
+  sections_put ps qs m ss s e h there =
+      let at : 0 + m ≡ m = omega arith in
+      sections_along qs 0 ss
+      ∙ along_put (settled_section ps) (settled_section qs) 0 m ss (Some s) (sym (sections_along ps 0 ss) ∙ e) (λ n s other. section_same ps qs n s (h n (λ same. other (same ∙ sym at)))) (numbered_there ss m s there)
+      ∙ ap (λ (n : ℕ). set ss m (settled_section qs n (Some s))) at
+
+  areas_same : (ss us : Numbered SectionOf) (areas : List (AreaOf B)) → settled_areas ss 0 areas ≡ areas → ((n : ℕ) → list_any (uses n) us ≡ list_any (uses n) ss) → settled_areas us 0 areas ≡ areas
+  areas_same ss us areas e h =
+      areas_along us 0 areas ∙ along_same (settled_area ss) (settled_area us) 0 areas (sym (areas_along ss 0 areas) ∙ e) (λ n a low. area_same ss us n a (h n))
+
+  areas_put : (ss us : Numbered SectionOf) (m : ℕ) (areas : List (AreaOf B)) (a : AreaOf B) → settled_areas ss 0 areas ≡ areas → ((n : ℕ) → n ≢ m → list_any (uses n) us ≡ list_any (uses n) ss) → slice_get areas m ≡ Some a → settled_areas us 0 areas ≡ set areas m (settled_area us m a)
+  areas_put ss us m areas a e h there =
+      let at : 0 + m ≡ m = omega arith in
+      areas_along us 0 areas
+      ∙ along_put (settled_area ss) (settled_area us) 0 m areas a (sym (areas_along ss 0 areas) ∙ e) (λ n a other. area_same ss us n a (h n (λ same. other (same ∙ sym at)))) there
+      ∙ ap (λ (n : ℕ). set areas m (settled_area us n a)) at
 
   sections_of_tidy : (w : WorldOf B) → settle w ≡ w → settled_sections w.processes 0 w.sections ≡ w.sections
   sections_of_tidy w e = ap (λ (w : WorldOf B). w.sections) e
@@ -249,54 +223,31 @@ module _ {B : Type 0} where
     no_longer_used paging =
         not_true (list_any (uses s.area) (set t.sections m None)) (λ e.
         let u = used_by (set t.sections m None) s.area e in
-        let inside_sections = numbered_inside t.sections m s there in
-        let cases : (u.number ≡ m) ⊎ (u.number ≢ m) = same_or_not u.number m in
-        elim cases [
-          | inl same ↦
-              (let gone : numbered (set t.sections m None) m ≡ None = get_or-set_same t.sections m None None inside_sections in
-              let here : numbered (set t.sections m None) m ≡ Some u.section = ap (λ (n : ℕ). numbered (set t.sections m None) n) (sym same) ∙ u.there in
-              let bad : ◌≡◌ {A = Option SectionOf} None (Some u.section) = sym gone ∙ here in
-              absurd (cc))
-          | inr other ↦
-              (let was : section_of t u.number ≡ Some u.section = sym (get_or-set_other t.sections m u.number None None other) ∙ u.there in
-              absurd (other (tidy.own_area u.number m u.section s was there u.same_area (ap (λ (a : ℕ). (area_at t a).file_block) u.same_area ∙ paging))))
-        ])
+        let other : u.number ≢ m = λ same. (let bad : ◌≡◌ {A = Option SectionOf} None (Some u.section) = sym (get_or-set_same t.sections m None None (numbered_inside t.sections m s there)) ∙ ap (numbered (set t.sections m None)) (sym same) ∙ u.there in cc) in
+        let was : section_of t u.number ≡ Some u.section = sym (get_or-set_other t.sections m u.number None None other) ∙ u.there in
+        other (tidy.own_area u.number m u.section s was there u.same_area (ap (λ (a : ℕ). (area_at t a).file_block) u.same_area ∙ paging)))
 
     area_ends : settled_area (set t.sections m None) s.area (area_at t s.area) ≡ ended_area (area_at t s.area)
-    area_ends = by_file (area_at t s.area).file_block refl
+    area_ends = ap (λ b. cond b (area_at t s.area) no_area) (by_file (area_at t s.area).file_block refl)
       where
-        by_file : (f : Option ℕ) → (area_at t s.area).file_block ≡ f → settled_area (set t.sections m None) s.area (area_at t s.area) ≡ ended_area (area_at t s.area)
-        by_file None e =
-            ap (λ b. cond (is_some (area_at t s.area).file_block || b) (area_at t s.area) no_area) (no_longer_used e)
-            ∙ or_none (is_some (area_at t s.area).file_block)
-          where
-            or_none : (b : Bool) → cond (b || false) (area_at t s.area) no_area ≡ cond b (area_at t s.area) no_area
-            or_none true = refl
-            or_none false = refl
-        by_file (Some first) e =
-            ap (λ (f : Option ℕ). cond (is_some f || list_any (uses s.area) (set t.sections m None)) (area_at t s.area) no_area) e
-            ∙ sym (ap (λ (f : Option ℕ). cond (is_some f) (area_at t s.area) no_area) e)
+        by_file : (f : Option ℕ) → (area_at t s.area).file_block ≡ f → (is_some (area_at t s.area).file_block || list_any (uses s.area) (set t.sections m None)) ≡ is_some (area_at t s.area).file_block
+        by_file None e = ap (λ (f : Option ℕ). is_some f || list_any (uses s.area) (set t.sections m None)) e ∙ no_longer_used e ∙ sym (ap is_some e)
+        by_file (Some first) e = ap (λ (f : Option ℕ). is_some f || list_any (uses s.area) (set t.sections m None)) e ∙ sym (ap is_some e)
 
-    used_same : (n : ℕ) (o : Option SectionOf) → uses n (Some s) ≡ uses n o → list_any (uses n) (set t.sections m o) ≡ list_any (uses n) t.sections
-    used_same n o e = any_set_same (uses n) t.sections m o (ap (uses n) there ∙ e)
+    used_same : (n : ℕ) (o : Option SectionOf) → uses n o ≡ uses n (Some s) → list_any (uses n) (set t.sections m o) ≡ list_any (uses n) t.sections
+    used_same n o e = any_set (uses n) t.sections m s o there e
 
     areas_by : (o : Option SectionOf) → ((x : SectionOf) → o ≡ Some x → x.area ≡ s.area) → settled_areas (set t.sections m o) 0 t.areas ≡ cond (is_some o) t.areas (set t.areas s.area (ended_area (area_at t s.area)))
     areas_by None same =
-        let zero_more : 0 + s.area ≡ s.area = omega arith in
-        areas_put t.sections (set t.sections m None) 0 s.area t.areas (area_at t s.area) (areas_of_tidy t tidy.settled)
-        (λ n other. used_same n None (not_true (s.area == n) (λ e. other (sym ((unsigned_Decides s.area n).0 e) ∙ sym zero_more))))
-        (some_get t.areas s.area no_area inside)
-        ∙ ap (λ (n : ℕ). set t.areas s.area (settled_area (set t.sections m None) n (area_at t s.area))) zero_more
+        areas_put t.sections (set t.sections m None) s.area t.areas (area_at t s.area) (areas_of_tidy t tidy.settled)
+        (λ n other. used_same n None (sym (not_true (s.area == n) (λ e. other (sym ((unsigned_Decides s.area n).0 e)))))) (some_get t.areas s.area no_area inside)
         ∙ ap (λ (a : AreaOf B). set t.areas s.area a) area_ends
     areas_by (Some x) same =
-        areas_same t.sections (set t.sections m (Some x)) 0 t.areas (areas_of_tidy t tidy.settled) (λ n low. used_same n (Some x) (ap (λ (a : ℕ). a == n) (sym (same x refl))))
+        areas_same t.sections (set t.sections m (Some x)) t.areas (areas_of_tidy t tidy.settled) (λ n. used_same n (Some x) (ap (λ (a : ℕ). a == n) (same x refl)))
 
     pub settle_put : settle (record t { processes = qs }) ≡ record t { processes = qs; sections = set t.sections m (settled_section qs m (Some s)); areas = cond (is_some (settled_section qs m (Some s))) t.areas (set t.areas s.area (ended_area (area_at t s.area))) }
     settle_put =
-        let at : 0 + m ≡ m = omega arith in
-        let sections : settled_sections qs 0 t.sections ≡ set t.sections m (settled_section qs m (Some s)) =
-        sections_put t.processes qs 0 m t.sections s (sections_of_tidy t tidy.settled) (λ n other. others n (λ same. other (same ∙ sym at))) there
-        ∙ ap (λ (n : ℕ). set t.sections m (settled_section qs n (Some s))) at in
+        let sections = sections_put t.processes qs m t.sections s (sections_of_tidy t tidy.settled) others there in
         let areas : settled_areas (settled_sections qs 0 t.sections) 0 t.areas ≡ cond (is_some (settled_section qs m (Some s))) t.areas (set t.areas s.area (ended_area (area_at t s.area))) =
         ap (λ (ss : Numbered SectionOf). settled_areas ss 0 t.areas) sections
         ∙ areas_by (settled_section qs m (Some s)) (λ x e. let was = stayed qs m (Some s) x e in was.2 ∙ (let same : was.0 ≡ s = sym (let back : s ≡ was.0 = (let both : Some s ≡ Some was.0 = was.1 in cc) in back) in ap (λ (s : SectionOf). s.area) same)) in
@@ -305,22 +256,11 @@ module _ {B : Type 0} where
   -- no reference was lost
   pub settle_same : (t : WorldOf B) (qs : List (Option (ProcessOf B))) → settle t ≡ t → ((n : ℕ) → (list_any (holds n) qs ≡ list_any (holds n) t.processes) × (list_any (views n) qs ≡ list_any (views n) t.processes)) → settle (record t { processes = qs }) ≡ record t { processes = qs }
   settle_same t qs tidy same =
-      let sections : settled_sections qs 0 t.sections ≡ t.sections = sections_same t.processes qs 0 t.sections (sections_of_tidy t tidy) (λ n low. same n) in
+      let sections : settled_sections qs 0 t.sections ≡ t.sections = sections_same t.processes qs t.sections (sections_of_tidy t tidy) same in
       let areas : settled_areas (settled_sections qs 0 t.sections) 0 t.areas ≡ t.areas = ap (λ (ss : Numbered SectionOf). settled_areas ss 0 t.areas) sections ∙ areas_of_tidy t tidy in
       λ i. record t { processes = qs; sections = sections i; areas = areas i }
 
   -- ---- tidy tables stay tidy
-
-  used_area : (ss : Numbered SectionOf) (a : ℕ) (area : AreaOf B) → list_any (uses a) ss ≡ true → settled_area ss a area ≡ area
-  used_area ss a area e = by_test (is_some area.file_block) (list_any (uses a) ss) e
-    where
-      by_test : (b c : Bool) → c ≡ true → cond (b || c) area no_area ≡ area
-      by_test true c e = refl
-      by_test false true e = refl
-      by_test false false e = cc
-
-  file_area : (ss : Numbered SectionOf) (a : ℕ) (area : AreaOf B) → is_some area.file_block ≡ true → settled_area ss a area ≡ area
-  file_area ss a area e = ap (λ b. cond (b || list_any (uses a) ss) area no_area) e
 
   of_file : (ss : Numbered SectionOf) (a first : ℕ) (area : AreaOf B) → (settled_area ss a area).file_block ≡ Some first → settled_area ss a area ≡ area
   of_file ss a first area e = by_test (is_some area.file_block || list_any (uses a) ss) e
@@ -330,21 +270,18 @@ module _ {B : Type 0} where
       by_test false e = cc
 
   module _ (t : WorldOf B) (qs : List (Option (ProcessOf B))) (tidy : IsTidy t) where
-    new : WorldOf B
-    new = settle (record t { processes = qs })
-
     area_is : (a : ℕ) → area_at (settle (record t { processes = qs })) a ≡ settled_area (settled_sections qs 0 t.sections) a (area_at t a)
     area_is a = at_area (settled_sections qs 0 t.sections) 0 a t.areas ∙ ap (λ (n : ℕ). settled_area (settled_sections qs 0 t.sections) n (area_at t a)) (let same : 0 + a ≡ a = omega arith in same)
 
     -- the area of a section that stands is as it was
     area_of_section : (n : ℕ) (s : SectionOf) → section_of (settle (record t { processes = qs })) n ≡ Some s → area_at (settle (record t { processes = qs })) s.area ≡ area_at t s.area
     area_of_section n s e =
-        area_is s.area ∙ used_area (settled_sections qs 0 t.sections) s.area (area_at t s.area) (any_numbered (uses s.area) (settled_sections qs 0 t.sections) n s e ((unsigned_Decides s.area s.area).1 refl))
+        area_is s.area ∙ ap (λ b. cond b (area_at t s.area) no_area) (or_right (is_some (area_at t s.area).file_block) (list_any (uses s.area) (settled_sections qs 0 t.sections)) (any_numbered (uses s.area) (settled_sections qs 0 t.sections) n s e ((unsigned_Decides s.area s.area).1 refl)))
 
     pub tidy_settled : KeepersLive (record t { processes = qs }) → IsTidy (settle (record t { processes = qs }))
     tidy_settled keepers =
         record {
-          settled = settled_again (record t { processes = qs });
+          settled = settle_twice (record t { processes = qs }) qs (record { held = λ n e. e; seen = λ n e. e });
           own_area = λ n m s r e f same paging.
               let x = stood qs t.sections n s e in
               let y = stood qs t.sections m r f in
@@ -363,7 +300,7 @@ module _ {B : Type 0} where
                 committed = subst (λ (a : AreaOf B). count_by is_some a.pages ≡ length a.pages) (sym same) f.committed;
               };
           file_areas = each_still (λ f. is_some (area_at t f.area).file_block ≡ true) (λ f. is_some (area_at (settle (record t { processes = qs })) f.area).file_block ≡ true) t.files
-              (λ f k. ap (λ (a : AreaOf B). is_some a.file_block) (area_is f.area ∙ file_area (settled_sections qs 0 t.sections) f.area (area_at t f.area) k) ∙ k) tidy.file_areas;
+              (λ f k. ap (λ (a : AreaOf B). is_some a.file_block) (area_is f.area ∙ ap (λ b. cond b (area_at t f.area) no_area) (or_left (is_some (area_at t f.area).file_block) (list_any (uses f.area) (settled_sections qs 0 t.sections)) k)) ∙ k) tidy.file_areas;
           keepers = keepers;
         }
 
@@ -380,31 +317,19 @@ any_sum test f (x ∷ xs) same =
 
 -- ---- areas
 
-count-same : {A : Type 0} (f g : A → Bool) (xs : List A) → ((x : A) → f x ≡ g x) → count_by f xs ≡ count_by g xs
-count-same f g [] same = refl
-count-same f g (x ∷ xs) same =
-    sum_by-cons (counted f) x xs ∙ (λ i. cond (same x i) 1 0 + count-same f g xs same i) ∙ sym (sum_by-cons (counted g) x xs)
-
 pub closed_count : (hs : Numbered ℕ) (i n m : ℕ) → numbered hs i ≡ Some m → count_by (is_handle_to n) (set hs i None) + cond (m == n) 1 0 ≡ count_by (is_handle_to n) hs
 closed_count hs i n m there = omega (arith, sum_by-put (counted (is_handle_to n)) hs i (Some m) None (numbered_there hs i m there))
 
 module _ {B : Type 0} where
-  pub file_charge : (a : AreaOf B) → is_some a.file_block ≡ true → area_charge a ≡ 0
-  file_charge a e = count_by-never (λ page. is_some page && is_none a.file_block) a.pages (λ page. ap (λ b. is_some page && b) (not_none a.file_block e) ∙ and_false (is_some page))
-    where
-      not_none : (o : Option ℕ) → is_some o ≡ true → is_none o ≡ false
-      not_none None e = cc
-      not_none (Some x) e = refl
+  file_charge : (a : AreaOf B) → is_some a.file_block ≡ true → area_charge a ≡ 0
+  file_charge a e =
+      count_by-never (λ page. is_some page && is_none a.file_block) a.pages (λ page. ap (λ (o : Option ℕ). is_some page && is_none o) (some_found a.file_block e).1 ∙ and_false (is_some page))
 
   pub no_charge : (a : AreaOf B) → is_some (option_map number_of_block a.file_block) ≡ true → area_charge a ≡ 0
-  no_charge a e = file_charge a (by_file a.file_block e)
-    where
-      by_file : (o : Option ℕ) → is_some (option_map number_of_block o) ≡ true → is_some o ≡ true
-      by_file None e = cc
-      by_file (Some x) e = refl
+  no_charge a e = file_charge a (sym (some_map number_of_block a.file_block) ∙ e)
 
   pub paging_charge : (a : AreaOf B) → a.file_block ≡ None → area_charge a ≡ count_by is_some a.pages
-  paging_charge a e = count-same (λ page. is_some page && is_none a.file_block) is_some a.pages (λ page. ap (λ (o : Option ℕ). is_some page && is_none o) e ∙ and_true (is_some page))
+  paging_charge a e = ap (λ (test : Option B → Bool). count_by test a.pages) (fun_ext (λ page. ap (λ (o : Option ℕ). is_some page && is_none o) e ∙ and_true (is_some page)))
 
   pub ended_charge : (a : AreaOf B) → area_charge (ended_area a) ≡ 0
   ended_charge a = by_file (is_some a.file_block) refl
@@ -429,23 +354,16 @@ module _ {B : Type 0} where
       each None = refl
       each (Some p) = any_count (λ r. is_view_of n r.kind) p.regions
 
-  -- a sum over processes, of which one is another
-  sum_put : (f : Option (ProcessOf B) → ℕ) (w : WorldOf B) (pid : ℕ) (p : ProcessOf B) (q : Option (ProcessOf B)) → process_of w pid ≡ Some p → sum_by f (set w.processes pid q) + f (Some p) ≡ sum_by f w.processes + f q
-  sum_put f w pid p q lives = sum_by-put f w.processes pid (Some p) q (numbered_there w.processes pid p lives)
-
   pub handles_put : (w : WorldOf B) (pid n : ℕ) (p : ProcessOf B) (q : Option (ProcessOf B)) → process_of w pid ≡ Some p → handles_to (set_process w pid q) n + handles_in n (Some p) ≡ handles_to w n + handles_in n q
-  handles_put w pid n p q lives = sum_put (handles_in n) w pid p q lives
+  handles_put w pid n p q lives = sum_by-put (handles_in n) w.processes pid (Some p) q (numbered_there w.processes pid p lives)
 
   pub views_put : (w : WorldOf B) (pid n : ℕ) (p : ProcessOf B) (q : Option (ProcessOf B)) → process_of w pid ≡ Some p → views_of (set_process w pid q) n + views_in n (Some p) ≡ views_of w n + views_in n q
-  views_put w pid n p q lives = sum_put (views_in n) w pid p q lives
-
-  pub removed_sum : (f : RegionOf B → ℕ) (rs : List (RegionOf B)) (i : ℕ) (r : RegionOf B) → slice_get rs i ≡ Some r → sum_by f (remove rs i) + f r ≡ sum_by f rs
-  removed_sum f [] i r at = cc
-  removed_sum f (x ∷ rs) zero r at = omega (arith, sum_by-cons f x rs, ap f (let same : x ≡ r = cc in same))
-  removed_sum f (x ∷ rs) (suc i) r at = omega (arith, sum_by-cons f x (remove rs i), sum_by-cons f x rs, removed_sum f rs i r at)
+  views_put w pid n p q lives = sum_by-put (views_in n) w.processes pid (Some p) q (numbered_there w.processes pid p lives)
 
   pub removed_views : (rs : List (RegionOf B)) (i n : ℕ) (r : RegionOf B) → slice_get rs i ≡ Some r → count_by (λ (r : RegionOf B). is_view_of n r.kind) (remove rs i) + cond (is_view_of n r.kind) 1 0 ≡ count_by (λ (r : RegionOf B). is_view_of n r.kind) rs
-  removed_views rs i n r at = removed_sum (λ r. cond (is_view_of n r.kind) 1 0) rs i r at
+  removed_views rs i n r at =
+      let one : RegionOf B → ℕ = λ r. cond (is_view_of n r.kind) 1 0 in
+      omega (arith, sum_by-remove one rs i r (get_within rs i r at), ap one (get_or_from_slice_get rs i r r at))
 
   -- ---- one area is another
 

@@ -1,10 +1,11 @@
 -- A file is made: its keys page by page, what the store holds of it, what the device was asked, and what tables keep.
-use Rattle.std.proofs.Common.{◌≡◌, inl, inr, ℕ, ◌+◌, ◌≤◌, ◌<◌, Bool, true, false, Option, Some, None, refl, sym, ◌∙◌, ap, cond, arith, ◌&&◌, ◌||◌, nat_lt, zero, suc, ◌%◌, List, [], ◌∷◌, subst, length, is_some, replicate, not, ◌++◌, is_none, count_by, nat_le}
+use Rattle.std.proofs.Common.{◌≡◌, inl, inr, ℕ, ◌+◌, ◌≤◌, ◌<◌, Bool, true, false, Option, Some, None, refl, sym, ◌∙◌, ap, cond, arith, ◌&&◌, ◌||◌, nat_lt, zero, suc, ◌%◌, List, [], ◌∷◌, subst, length, is_some, replicate, ◌++◌, is_none, count_by, nat_le}
 use Rattle.std.specs.Prelude.{◌==◌}
 use Rattle.std.proofs.lemmas.Bool.{le-leb}
 use Rattle.std.proofs.Math.Path.{fun_ext}
 use Rattle.std.proofs.lemmas.List.{length-map, length-replicate}
 use Rattle.std.proofs.lemmas.List.Folds.{sum_by-replicate}
+use Rattle.std.proofs.lemmas.List.Sums.{sum_by_push}
 use Rattle.mm_types.specs.declared.numbers.Area.{Area}
 use Rattle.mm_types.specs.declared.numbers.Key.{Key}
 use Rattle.mm_types.specs.declared.numbers.Key.TheVariants as key
@@ -34,16 +35,17 @@ use Rattle.mm_world.proofs.Each.{each-append}
 use Rattle.mm_world.proofs.Keeps.{new_file_keeps}
 use Rattle.mm_pages.specs.Store.{StoreOf, changed, with_file, with_blocks}
 use Rattle.mm_pages.specs.Reports.{rearranged, wrote, Served}
-use Rattle.mm_commit.specs.Charge.{CommitOf}
 use Rattle.mm_sections.specs.Directories.{CountedSection}
 use Rattle.mm_tables.specs.SectionSteps.{is_page_of, CanFill, Fills}
 use Rattle.mm_tables.specs.Fits.{Fits}
 use Rattle.mm_tables.specs.References.{IsTidy}
 use Rattle.mm_tables.specs.Sound.{IsKept}
-use Rattle.mm_tables.proofs.Lists.{same_number, area_at_end}
-use Rattle.mm_tables.proofs.SectionFits.{IsOld, Grown, fits_area, fits_memory}
-use Rattle.mm_tables.proofs.SectionPaging.{replicated, key_free, free_key, Parts, tables, kept_as}
-use Rattle.mm_tables.proofs.SectionTidy.{settle_by, Rest, rest_of, tidy_by, same_files, MayAdd, with_blocks_used, area_rest, area_settles, with_area_charge}
+use Rattle.mm_tables.specs.Shown.{shown_processes}
+use Rattle.mm_tables.specs.declared.tables.Tables.TheInside.{Inside}
+use Rattle.mm_tables.proofs.Lists.{same_number, area_at_end, area_before}
+use Rattle.mm_tables.proofs.SectionFits.{now, as_kept, IsOld, with_area_of, with_open_of, no_page, Grown, fits_area, fits_processes}
+use Rattle.mm_tables.proofs.SectionPaging.{replicated, key_free, free_key, some_if, kept_as}
+use Rattle.mm_tables.proofs.SectionTidy.{settle_by, section_settled, Rest, rest_of, MayAdd, with_areas, area_rest, area_settles, with_area_charge}
 
 below_more : (i n : ℕ) → nat_lt i (n + 1) ≡ ((i == n) || nat_lt i n)
 below_more i n =
@@ -80,22 +82,20 @@ fills_then area n c d e s z y a contents store =
 
 -- ---- the next page can be added
 
-pub next_dead : (area : Area) (n m : ℕ) (c d : Key → Option Page) (s z : StoreOf) → CanFill area m c s → n < m → Fills area n c d s z → d (key.Shared area n) ≡ None
-next_dead area n m c d s z can few a =
-    ap (λ (d : Key → Option Page). d (key.Shared area n)) a.contents
-    ∙ ap (λ b. cond b (Some (filled 0)) (c (key.Shared area n))) (not_yet area n) ∙ can.dead n few
+module _ (area : Area) (n m : ℕ) (c d : Key → Option Page) (s z : StoreOf) (can : CanFill area m c s) (few : n < m) (a : Fills area n c d s z) where
+  pub next_dead : d (key.Shared area n) ≡ None
+  next_dead =
+      ap (λ (d : Key → Option Page). d (key.Shared area n)) a.contents
+      ∙ ap (λ b. cond b (Some (filled 0)) (c (key.Shared area n))) (not_yet area n) ∙ can.dead n few
 
-pub next_room : (area : Area) (n m : ℕ) (c d : Key → Option Page) (s z : StoreOf) → CanFill area m c s → n < m → Fills area n c d s z → z.paging_keys < z.room
-next_room area n m c d s z can few a =
-    let used : z.paging_keys ≡ s.paging_keys + n = ap (λ (x : StoreOf). x.paging_keys) a.store in
-    let room : z.room ≡ s.room = ap (λ (x : StoreOf). x.room) a.store in
-    omega (arith, can.room, few, used, room)
+  pub next_room : z.paging_keys < z.room
+  next_room = omega (arith, can.room, few, ap (λ (x : StoreOf). x.paging_keys) a.store, ap (λ (x : StoreOf). x.room) a.store)
 
-pub next_kind : (area : Area) (n m : ℕ) (c d : Key → Option Page) (s z : StoreOf) → CanFill area m c s → Fills area n c d s z → z.kind ≡ kind.Call
-next_kind area n m c d s z can a = ap (λ (x : StoreOf). x.kind) a.store ∙ can.called
+  pub next_kind : z.kind ≡ kind.Call
+  next_kind = ap (λ (x : StoreOf). x.kind) a.store ∙ can.called
 
-pub next_area : (area : Area) (n m : ℕ) (c d : Key → Option Page) (s z : StoreOf) (can : CanFill area m c s) → Fills area n c d s z → z.areas area.0 ≡ Some can.pages
-next_area area n m c d s z can a = ap (λ (x : StoreOf). x.areas area.0) a.store ∙ can.opened
+  pub next_area : z.areas area.0 ≡ Some can.pages
+  next_area = ap (λ (x : StoreOf). x.areas area.0) a.store ∙ can.opened
 
 -- ---- an area is opened and filled
 
@@ -154,23 +154,9 @@ nothing_served s =
 
 pub fits_wrote : (t : Tables) (c d : Key → Option Page) (s z : StoreOf) → Fits t c s → d ≡ c → z ≡ wrote s z → length z.file_blocks ≡ length s.file_blocks → Served s z → Fits t d z
 fits_wrote t c d s z f same e stored served =
-    subst (λ (d : Key → Option Page). Fits t d z) (sym same) (record {
-      machine = ap (λ (x : StoreOf). x.machine) e ∙ f.machine;
-      opened = λ q. ap (λ (x : StoreOf). x.is_open q) e ∙ f.opened q;
-      last_pid = omega (arith, f.last_pid, ap (λ (x : StoreOf). x.last_pid) e);
-      areas = λ q. ap (λ (x : StoreOf). x.areas q) e ∙ f.areas q;
-      bound = λ place. ap (λ (x : StoreOf). x.bound place) e ∙ f.bound place;
-      live = f.live;
-      paging = λ k. ap (λ (x : StoreOf). x.paging k) e ∙ f.paging k;
-      counted = ap (λ (x : StoreOf). x.paging_keys) e ∙ f.counted;
-      room = omega (arith, f.room, ap (λ (x : StoreOf). x.room) e);
-      named = λ place k n. f.named place k (sym (ap (λ (x : StoreOf). x.names place) e) ∙ n);
-      blocks = λ k. ap (λ (x : StoreOf). x.block_of k) e ∙ f.blocks k;
-      used = ap (λ (x : StoreOf). x.blocks_used) e ∙ f.used;
-      stored = stored ∙ f.stored;
-      named_paging = omega (arith, f.named_paging, ap (λ (x : StoreOf). length x.paging_device.named) e);
-      named_file = omega (arith, f.named_file, served_names served.file_calls s.file_device z.file_device served.files);
-    })
+    subst (λ (d : Key → Option Page). Fits t d z) (sym same)
+    (fits_processes t t.processes t.sections t.files (λ q. refl) c s z (e ∙ ap (with_open_of s) (sym e)) (λ q. ap (λ (x : StoreOf). x.is_open q) e ∙ f.opened q)
+    (ap (λ (x : StoreOf). x.last_pid + 1) e ∙ f.last_pid) stored (served_names served.file_calls s.file_device z.file_device served.files) refl refl f)
 
 -- ---- a file was made
 
@@ -183,63 +169,50 @@ filed_store area pages first s z =
     }
 
 module _ (t : Tables) (area pages byte first : ℕ) (c d : Key → Option Page) (s z : StoreOf) (at : area ≡ length t.areas) (f : Fits t c s) (contents : d ≡ with_file area pages byte c) (e : z ≡ filed_store area pages first s z) where
-  and_left : (a b : Bool) → a ≡ true → (a && b) ≡ b
-  and_left true b e = refl
-  and_left false b e = cc
-
-  here : (b : Area) (i : ℕ) → b.0 ≡ length t.areas → ((b.0 == area) && nat_lt i pages) ≡ is_some (numbered (replicate pages whole) i)
-  here b i new = and_left (b.0 == area) (nat_lt i pages) (same_number b.0 area (new ∙ sym at)) ∙ sym (replicated {A = Unit {0}} pages i tt)
-
-  live_is : (b : Bool) (x : Page) (y : Option Page) → y ≡ None → is_some (cond b (Some x) y) ≡ b
-  live_is true x y e = refl
-  live_is false x y e = ap is_some e
+  page_here : (b : Area) (i : ℕ) → b.0 ≡ length t.areas → ((b.0 == area) && nat_lt i pages) ≡ is_some (numbered (replicate pages whole) i)
+  page_here b i new = ap (λ x. x && nat_lt i pages) (same_number b.0 area (new ∙ sym at)) ∙ sym (replicated {A = Unit {0}} pages i tt)
 
   block_is : (b : Bool) (x : ℕ) (y : Option ℕ) → y ≡ None → cond b (Some x) y ≡ cond b (Some x) None
   block_is true x y e = refl
   block_is false x y e = e
 
-  and_never : (b : Bool) → false ≡ (b && not true)
-  and_never true = refl
-  and_never false = refl
-
-  live_old : (k : Key) → IsOld t k → is_some (with_file area pages byte c k) ≡ is_some (c k)
+  live_old : (k : Key) → IsOld (length t.areas) k → is_some (with_file area pages byte c k) ≡ is_some (c k)
   live_old (key.Private pid page) h = refl
   live_old (key.Shared b i) h = ap (λ x. is_some (cond (x && nat_lt i pages) (Some (filled ((byte + i) % 256))) (c (key.Shared b i)))) (differ b.0 area (λ e. h (e ∙ at)))
 
-  block_old : (k : Key) → IsOld t k → with_blocks area pages first s.block_of k ≡ s.block_of k
+  block_old : (k : Key) → IsOld (length t.areas) k → with_blocks area pages first s.block_of k ≡ s.block_of k
   block_old (key.Private pid page) h = refl
   block_old (key.Shared b i) h = ap (λ x. cond (x && nat_lt i pages) (Some (first + i)) (s.block_of (key.Shared b i))) (differ b.0 area (λ e. h (e ∙ at)))
 
-  pub file_grown : 1 ≤ pages → first ≡ t.blocks_used → length z.file_blocks ≡ length s.file_blocks → Served s z → Grown t (file_area first pages) (t.blocks_used + pages) c d s z
-  file_grown some next stored served =
+  file_grown : 1 ≤ pages → length z.file_blocks ≡ length s.file_blocks → Served s z → Grown t (t.areas ++ file_area first pages ∷ []) (length t.areas) (file_area first pages) (t.blocks_used + pages) c d s z
+  file_grown some stored served =
       let count : length (replicate pages whole) ≡ pages = length-replicate pages whole in
       record {
+        here = area_at_end t.areas (file_area first pages) (length t.areas) refl;
+        before = area_before t.areas (file_area first pages);
+        stays = λ i e. absurd (no_page t i e);
         some = omega (arith, count, some);
         live_new = λ b i new.
             ap (λ (d : Key → Option Page). is_some (d (key.Shared b i))) contents
-            ∙ live_is ((b.0 == area) && nat_lt i pages) (filled ((byte + i) % 256)) (c (key.Shared b i)) (key_free t c s b i f new) ∙ here b i new;
+            ∙ some_if ((b.0 == area) && nat_lt i pages) (filled ((byte + i) % 256)) (c (key.Shared b i)) (key_free t c s b i f new) ∙ page_here b i new;
         live_old = λ k h. ap (λ (d : Key → Option Page). is_some (d k)) contents ∙ live_old k h;
         paging_new = λ b i new.
-            ap (λ (x : StoreOf). x.paging (key.Shared b i)) e ∙ (free_key t c s b i f new).0 ∙ and_never (is_some (numbered (replicate pages whole) i));
+            ap (λ (x : StoreOf). x.paging (key.Shared b i)) e ∙ (free_key t c s b i f new).0 ∙ sym (and_false (is_some (numbered (replicate pages whole) i)));
         paging_old = λ k h. ap (λ (x : StoreOf). x.paging k) e;
         block_new = λ b i new.
             ap (λ (x : StoreOf). x.block_of (key.Shared b i)) e
             ∙ block_is ((b.0 == area) && nat_lt i pages) (first + i) (s.block_of (key.Shared b i)) (free_key t c s b i f new).1
-            ∙ ap (λ x. cond x (Some (first + i)) None) (here b i new);
+            ∙ ap (λ x. cond x (Some (first + i)) None) (page_here b i new);
         block_old = λ k h. ap (λ (x : StoreOf). x.block_of k) e ∙ block_old k h;
-        areas_new = λ q new.
-            ap (λ (x : StoreOf). x.areas q) e ∙ ap (λ b. cond b (Some pages) (s.areas q)) (same_number q area (new ∙ sym at)) ∙ ap (λ (k : ℕ). Some k) (sym count);
+        areas_new =
+            ap (λ (x : StoreOf). x.areas (length t.areas)) e
+            ∙ ap (λ b. cond b (Some pages) (s.areas (length t.areas))) (same_number (length t.areas) area (sym at)) ∙ ap (λ (k : ℕ). Some k) (sym count);
         areas_old = λ q h. ap (λ (x : StoreOf). x.areas q) e ∙ ap (λ b. cond b (Some pages) (s.areas q)) (differ q area (λ same. h (same ∙ at)));
-        counted = omega (arith, ap (λ (x : StoreOf). x.paging_keys) e, no_charge first pages);
-        room = omega (arith, f.room, ap (λ (x : StoreOf). x.room) e, no_charge first pages);
-        machine = ap (λ (x : StoreOf). x.machine) e;
-        is_open = ap (λ (x : StoreOf). x.is_open) e;
-        last_pid = ap (λ (x : StoreOf). x.last_pid) e;
-        bound = ap (λ (x : StoreOf). x.bound) e;
-        names = ap (λ (x : StoreOf). x.names) e;
+        counted = omega (arith, ap (λ (x : StoreOf). x.paging_keys) e, f.counted, no_charge first pages, sum_by_push area_charge t.areas (file_area first pages));
+        room = omega (arith, f.room, ap (λ (x : StoreOf). x.room) e, no_charge first pages, with_area_charge t (file_area first pages));
         blocks_used = omega (arith, ap (λ (x : StoreOf). x.blocks_used) e, f.used);
+        rest = e ∙ ap (with_area_of s) (sym e);
         stored = stored;
-        named_paging = ap (λ (x : StoreOf). length x.paging_device.named) e;
         named_file = served_names served.file_calls s.file_device z.file_device served.files;
       }
 
@@ -286,85 +259,61 @@ module _ (t : Tables) (name : Text) (pages : ℕ) (some : 1 ≤ pages) (well : W
         file = λ first e. let same : t.blocks_used ≡ first = cc in (omega (arith, same, count), omega (arith, some, count), all ∙ sym count);
       }
 
-  rest : Rest (with_blocks_used t (file_area t.blocks_used pages) (t.blocks_used + pages))
-  rest = area_rest t (file_area t.blocks_used pages) (t.blocks_used + pages) well.references may_add (rest_of t h)
-
-  new_at : area_at (with_new_file t name pages) (length t.areas) ≡ file_area t.blocks_used pages
-  new_at = area_at_end t.areas (file_area t.blocks_used pages) (length t.areas) refl
-
-  file_rest : Rest (with_new_file t name pages)
-  file_rest =
-      record {
-        own_area = rest.own_area;
-        some = rest.some;
-        files = same_files (with_blocks_used t (file_area t.blocks_used pages) (t.blocks_used + pages)) (with_new_file t name pages) refl refl rest.files;
-        file_areas = each-append (λ (f : FileOf). is_some (area_at (with_new_file t name pages) f.area).file_block ≡ true) t.files (record { name = name; area = length t.areas } ∷ []) rest.file_areas
-            (ap (λ (a : AreaOf (Unit {0})). is_some a.file_block) new_at, tt);
-        keepers = rest.keepers;
-      }
-
   area_kept : (m : ℕ) → settled_area t.sections m (area_at (with_new_file t name pages) m) ≡ area_at (with_new_file t name pages) m
   area_kept m =
       elim (same_or_not m (length t.areas)) [
         | inl same ↦
             let at : area_at (with_new_file t name pages) m ≡ file_area t.blocks_used pages = area_at_end t.areas (file_area t.blocks_used pages) m same in
             ap (settled_area t.sections m) at ∙ sym at
-        | inr other ↦ (area_settles t (file_area t.blocks_used pages) (t.blocks_used + pages) well.references h.settled).areas m other
+        | inr other ↦ (area_settles t (file_area t.blocks_used pages) (t.blocks_used + pages) h.settled).areas m other
       ]
 
-  pub file_tidy : IsTidy (with_new_file t name pages)
+  file_tidy : IsTidy (with_new_file t name pages)
   file_tidy =
-      tidy_by (with_new_file t name pages)
-      (settle_by (with_new_file t name pages) (area_settles t (file_area t.blocks_used pages) (t.blocks_used + pages) well.references h.settled).sections area_kept)
-      file_rest
+      let a = file_area t.blocks_used pages in
+      let rest : Rest (with_areas t (t.areas ++ a ∷ []) (t.blocks_used + pages)) = area_rest t a (t.blocks_used + pages) well.references may_add (rest_of t h) in
+      let new_at : area_at (with_new_file t name pages) (length t.areas) ≡ a = area_at_end t.areas a (length t.areas) refl in
+      record {
+        settled = settle_by (with_new_file t name pages) (section_settled t h.settled) area_kept;
+        own_area = rest.own_area;
+        some = rest.some;
+        files = λ area first e. let k = rest.files area first e in record { blocks = k.blocks; some = k.some; committed = k.committed };
+        file_areas = each-append (λ (f : FileOf). is_some (area_at (with_new_file t name pages) f.area).file_block ≡ true) t.files (record { name = name; area = length t.areas } ∷ []) rest.file_areas
+            (ap (λ (a : AreaOf (Unit {0})). is_some a.file_block) new_at, tt);
+        keepers = rest.keepers;
+      }
 
 -- ---- kept
 
--- what becomes of the tables
-pub record MakesFile (x y : Parts) (name : Text) (pages : ℕ) : Type 0 where
-  pub machine : y.machine ≡ x.machine
-  pub processes : y.processes ≡ x.processes
-  pub entries : y.entries ≡ x.entries
-  pub areas : y.areas ≡ x.areas ++ file_area x.used pages ∷ []
-  pub files : y.files ≡ x.files ++ record { name = name; area = length x.areas } ∷ []
-  pub used : y.used ≡ x.used + pages
-  pub fails : y.fails ≡ x.fails
-  pub kept : y.kept ≡ x.kept
+-- the area and the file are listed
+module _ (i : Inside) {t : Tables} (name : Text) (pages byte : ℕ) {es : Numbered CountedSection} {areas : List (AreaOf (Unit {0}))} {files : List FileOf} (view : as_kept i ≡ t) (entries : es ≡ i.directory.entries) (areas_are : areas ≡ i.areas.items ++ file_area i.blocks_used pages ∷ []) (files_are : files ≡ i.directory.files ++ record { name = name; area = length i.areas.items } ∷ []) (some : 1 ≤ pages) (unnamed : file_named t name ≡ None) (room : t.blocks_used + pages ≤ t.machine.blocks) where
+  made_is : now i (shown_processes i.processes.items) es areas files (i.blocks_used + pages) ≡ with_new_file (as_kept i) name pages
+  made_is = λ j. now i (shown_processes i.processes.items) (entries j) (areas_are j) (files_are j) (i.blocks_used + pages)
 
-module _ (x y : Parts) (name : Text) (pages byte : ℕ) (some : 1 ≤ pages) (h : MakesFile x y name pages) where
-  made_is : tables y ≡ with_new_file (tables x) name pages
-  made_is = λ i. tables (record { machine = h.machine i; processes = h.processes i; entries = h.entries i; areas = h.areas i; files = h.files i; used = h.used i; fails = h.fails i; kept = h.kept i })
-
-  pub file_kept : (t : Tables) (commit : CommitOf) → tables x ≡ t → file_named t name ≡ None → t.blocks_used + pages ≤ t.machine.blocks → IsKept (tables x) x.entries commit → IsKept (tables y) y.entries commit
-  file_kept t commit view unnamed room k =
+  pub file_kept : IsKept (as_kept i) i.directory.entries i.commit → IsKept (now i (shown_processes i.processes.items) es areas files (i.blocks_used + pages)) es i.commit
+  file_kept k =
+      let x = as_kept i in
       let free = ap (λ (t : Tables). file_named t name) view ∙ unnamed in
-      let within : x.used + pages ≤ x.machine.blocks = omega (arith, room, ap (λ (t : Tables). t.blocks_used) view, ap (λ (t : Tables). t.machine.blocks) view) in
-      subst (λ (es : Numbered CountedSection). IsKept (tables y) es commit) (sym h.entries)
-      (kept_as (with_new_file (tables x) name pages) (tables y) x.entries commit made_is (record {
-        sound = subst (λ (t : Tables). WellFormed t) (file_is (tables x) name pages byte free within) (new_file_keeps blank (tables x) name pages byte k.sound);
-        tidy = file_tidy (tables x) name pages some k.sound k.tidy;
+      let within : i.blocks_used + pages ≤ i.machine.blocks = omega (arith, room, ap (λ (t : Tables). t.blocks_used) view, ap (λ (t : Tables). t.machine.blocks) view) in
+      subst (λ (es : Numbered CountedSection). IsKept (now i (shown_processes i.processes.items) es areas files (i.blocks_used + pages)) es i.commit) (sym entries)
+      (kept_as (with_new_file x name pages) (now i (shown_processes i.processes.items) i.directory.entries areas files (i.blocks_used + pages)) i.directory.entries i.commit
+      (λ j. now i (shown_processes i.processes.items) i.directory.entries (areas_are j) (files_are j) (i.blocks_used + pages)) (record {
+        sound = subst (λ (t : Tables). WellFormed t) (file_is x name pages byte free within) (new_file_keeps blank x name pages byte k.sound);
+        tidy = file_tidy x name pages some k.sound k.tidy;
         counted = λ n c there. let old = k.counted n c there in record { handles = old.handles; views = old.views };
-        charged = omega (arith, k.charged, with_area_charge (tables x) (file_area x.used pages), no_charge x.used pages);
+        charged = omega (arith, k.charged, with_area_charge x (file_area i.blocks_used pages), no_charge i.blocks_used pages);
         limited = k.limited;
       }))
 
-  pub file_now : (t : Tables) → tables x ≡ t → file_named t name ≡ None → t.blocks_used + pages ≤ t.machine.blocks → tables y ≡ (new_file blank t name pages byte).world
-  file_now t view unnamed room = made_is ∙ ap (λ (t : Tables). with_new_file t name pages) view ∙ sym (file_is t name pages byte unnamed room)
+  pub file_now : now i (shown_processes i.processes.items) es areas files (i.blocks_used + pages) ≡ (new_file blank t name pages byte).world
+  file_now = made_is ∙ ap (λ (t : Tables). with_new_file t name pages) view ∙ sym (file_is t name pages byte unnamed room)
 
-  pub file_fits : (t : Tables) (area first : ℕ) (c d : Key → Option Page) (s z : StoreOf) → tables x ≡ t → Fits t c s → area ≡ length x.areas → first ≡ x.used → d ≡ with_file area pages byte c → z ≡ filed_store area pages first s z → length z.file_blocks ≡ length s.file_blocks → Served s z → Fits (tables y) d z
-  file_fits t area first c d s z view fits at next contents e stored served =
+  pub file_fits : (area : ℕ) (c d : Key → Option Page) (s z : StoreOf) → Fits t c s → area ≡ length i.areas.items → d ≡ with_file area pages byte c → z ≡ filed_store area pages i.blocks_used s z → length z.file_blocks ≡ length s.file_blocks → Served s z → Fits (now i (shown_processes i.processes.items) es areas files (i.blocks_used + pages)) d z
+  file_fits area c d s z fits at contents e stored served =
+      let x = as_kept i in
+      let a = file_area i.blocks_used pages in
       let f = subst (λ (t : Tables). Fits t c s) (sym view) fits in
-      let g = file_grown (tables x) area pages byte first c d s z at f contents e some next stored served in
-      let made = fits_area (tables x) (file_area first pages) (x.used + pages) c d s z g f in
-      let whole : Fits (with_blocks_used (tables x) (file_area x.used pages) (x.used + pages)) d z = subst (λ (n : ℕ). Fits (with_blocks_used (tables x) (file_area n pages) (x.used + pages)) d z) next made in
+      let grown = fits_area x (i.areas.items ++ a ∷ []) (length i.areas.items) a (i.blocks_used + pages) c d s z (file_grown x area pages byte i.blocks_used c d s z at f contents e some stored served) f in
+      let w = with_areas x (i.areas.items ++ a ∷ []) (i.blocks_used + pages) in
       subst (λ (t : Tables). Fits t d z) (sym made_is)
-      (fits_memory (with_blocks_used (tables x) (file_area x.used pages) (x.used + pages)) (with_new_file (tables x) name pages) (record {
-        spaces = record { all = λ q. refl };
-        machine = refl;
-        count = refl;
-        areas = refl;
-        used = refl;
-        fails = refl;
-        counted = refl;
-        charged = refl;
-      }) d z whole)
+      (fits_processes w w.processes w.sections (i.directory.files ++ record { name = name; area = length i.areas.items } ∷ []) (λ q. refl) d z z refl grown.opened grown.last_pid refl refl refl refl grown)

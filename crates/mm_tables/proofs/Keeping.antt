@@ -1,9 +1,10 @@
 -- Who keeps an access: what stays so where processes come, change and go.
-use Rattle.std.proofs.Common.{◌≡◌, ◌≢◌, ◌⊎◌, inl, inr, ℕ, zero, suc, Bool, true, false, Option, Some, None, [], ◌∷◌, ◌++◌, refl, sym, ◌∙◌, ap, cond, map, is_some, set, ◌+◌, ◌≤◌, ◌<◌, List, subst, arith, length, get_or, slice_get, nat_lt, ◌||◌, count_by, length-set}
+use Rattle.std.proofs.Common.{◌≡◌, ◌≢◌, ◌⊎◌, inl, inr, ℕ, zero, suc, Bool, true, false, Option, Some, None, [], ◌∷◌, ◌++◌, refl, sym, ◌∙◌, ap, cond, map, is_some, set, ◌+◌, ◌≤◌, List, subst, arith, get_or, slice_get, nat_lt, ◌||◌, count_by, length-set}
 use Rattle.std.specs.Prelude.{◌==◌}
 use Rattle.std.specs.Cmp.{unsigned_Decides}
 use Rattle.std.specs.List.{list_any}
 use Rattle.std.proofs.lemmas.Bool.{le-leb}
+use Rattle.std.proofs.lemmas.List.{get_or-set_other}
 use Rattle.std.proofs.lemmas.List.Sums.{sum_by-cons, sum_by-set}
 use Rattle.mm_types.specs.declared.answers.Answer.TheVariants as answer
 use Rattle.mm_types.proofs.Booleans.{not_true, same_tests}
@@ -20,7 +21,7 @@ use Rattle.mm_world.proofs.LaidOut.{less}
 use Rattle.mm_world.proofs.Spaces.{by_regions}
 use Rattle.mm_commit.specs.Charge.{CommitOf}
 use Rattle.mm_sections.specs.Directories.{CountedSection}
-use Rattle.mm_tables.specs.References.{KeepersLive, NobodyKeeps, IsTidy, handles_in, views_in, handles_to, views_of}
+use Rattle.mm_tables.specs.References.{KeepersLive, NobodyKeeps, IsTidy, handles_in, views_in}
 use Rattle.mm_tables.specs.Sound.{IsKept}
 use Rattle.mm_tables.proofs.OneProcess.{process_cases}
 use Rattle.mm_tables.proofs.Lists.{one_if}
@@ -40,16 +41,8 @@ module _ {B : Type 0} where
   lives_push (x ∷ ps) q zero e = e
   lives_push (x ∷ ps) q (suc n) e = lives_push ps q n e
 
-  -- and where another one ends
-  lives_less : (ps : Numbered (ProcessOf B)) (pid n : ℕ) → n ≢ pid → is_some (numbered ps n) ≡ true → is_some (numbered (set ps pid None) n) ≡ true
-  lives_less [] pid n other e = e
-  lives_less (x ∷ ps) zero zero other e = absurd (other refl)
-  lives_less (x ∷ ps) zero (suc n) other e = e
-  lives_less (x ∷ ps) (suc pid) zero other e = e
-  lives_less (x ∷ ps) (suc pid) (suc n) other e = lives_less ps pid n (λ same. other (ap suc same)) e
-
   pub keepers_less : (t : WorldOf B) (pid : ℕ) → NobodyKeeps pid t → KeepersLive t → KeepersLive (record t { processes = set t.processes pid None })
-  keepers_less t pid nobody keepers tid k e = lives_less t.processes pid k.pid (nobody tid k e) (keepers tid k e)
+  keepers_less t pid nobody keepers tid k e = ap is_some (get_or-set_other t.processes pid k.pid None None (nobody tid k e)) ∙ keepers tid k e
 
 -- ---- one thread keeps another access, or none
 
@@ -67,18 +60,11 @@ keepers_put t tid o lives keepers n k e = elim (was_or_is t.kept tid n o k e) [ 
 
 of_other : (pid : ℕ) (o : Option KeptOf) (k : KeptOf) → kept_of_others pid o ≡ Some k → (o ≡ Some k) × (k.pid ≢ pid)
 of_other pid None k e = cc
-of_other pid (Some x) k e = by_test (x.pid == pid) refl e
+of_other pid (Some x) k e = by_test (x.pid == pid) (unsigned_Decides x.pid pid).1 e
   where
-    by_test : (b : Bool) → (x.pid == pid) ≡ b → cond b None (Some x) ≡ Some k → (Some x ≡ Some k) × (k.pid ≢ pid)
-    by_test true t e = cc
-    by_test false t e = (
-      e,
-      λ same.
-          let is : x ≡ k = cc in
-          let here : (x.pid == pid) ≡ true = (unsigned_Decides x.pid pid).1 (ap (λ (k : KeptOf). k.pid) is ∙ same) in
-          let bad : true ≡ false = sym here ∙ t in
-          cc,
-    )
+    by_test : (b : Bool) → (x.pid ≡ pid → b ≡ true) → cond b None (Some x) ≡ Some k → (Some x ≡ Some k) × (k.pid ≢ pid)
+    by_test true here e = cc
+    by_test false here e = (e, λ same. let is : x ≡ k = cc in let bad : false ≡ true = here (ap (λ (k : KeptOf). k.pid) is ∙ same) in cc)
 
 -- what is kept then was kept, of another process
 pub of_others : (pid : ℕ) (ks : Numbered KeptOf) (tid : ℕ) (k : KeptOf) → numbered (map (kept_of_others pid) ks) tid ≡ Some k → (numbered ks tid ≡ Some k) × (k.pid ≢ pid)
@@ -107,9 +93,6 @@ any_count test (x ∷ xs) =
     by_test true n = sym (le-leb _ _ (omega arith))
     by_test false n = same_tests _ _ (λ e. le-leb _ _ (omega (arith, less _ _ e))) (λ e. le-leb _ _ (omega (arith, less _ _ e)))
 
-pub any_as : {A C : Type 0} (test : A → Bool) (other : C → Bool) (xs : List A) (ys : List C) → count_by test xs ≡ count_by other ys → list_any test xs ≡ list_any other ys
-any_as test other xs ys e = any_count test xs ∙ ap (λ (n : ℕ). nat_lt 0 n) e ∙ sym (any_count other ys)
-
 pub any_set : {A : Type 0} (test : Option A → Bool) (xs : List (Option A)) (i : ℕ) (x : A) (y : Option A) → get_or xs i None ≡ Some x → test y ≡ test (Some x) → list_any test (set xs i y) ≡ list_any test xs
 any_set test [] i x y there same = cc
 any_set test (z ∷ xs) zero x y there same = ap (λ b. b || list_any test xs) (same ∙ ap test (sym there))
@@ -131,10 +114,7 @@ pub record StandIn (t : Tables) (rs ss : List (RegionOf (Unit {0}))) : Type 0 wh
   pub views : (n : ℕ) → count_by (λ r. is_view_of n r.kind) ss ≡ count_by (λ r. is_view_of n r.kind) rs
 
 not_first : (ps : List (Option (ProcessOf (Unit {0})))) (pid : ℕ) (p : ProcessOf (Unit {0})) → slice_get ps 0 ≡ Some None → get_or ps pid None ≡ Some p → pid ≢ 0
-not_first ps pid p none lives e =
-    let there : slice_get ps 0 ≡ Some (Some p) = ap (slice_get ps) (sym e) ∙ numbered_there ps pid p lives in
-    let bad : Some None ≡ Some (Some p) = sym none ∙ there in
-    cc
+not_first ps pid p none lives e = let there : slice_get ps pid ≡ Some (Some p) = numbered_there ps pid p lives in cc
 
 module _ (t : Tables) (pid : ℕ) (p : ProcessOf (Unit {0})) (ss : List (RegionOf (Unit {0}))) (lives : process_of t pid ≡ Some p) (h : StandIn t p.regions ss) where
   refers_too : (rs : List (RegionOf (Unit {0}))) → Each (RegionRefers t) rs → Each (RegionRefers (set_regions t pid p ss)) rs
@@ -147,10 +127,7 @@ module _ (t : Tables) (pid : ℕ) (p : ProcessOf (Unit {0})) (ss : List (RegionO
       elim (process_cases t pid q p x ss lives e) [
         | inl is ↦
             let old = sound.references.processes pid p lives in
-            record {
-              views = subst (λ (x : ProcessOf (Unit {0})). Each (RegionRefers (set_regions t pid p ss)) x.regions) (sym is.1) (refers_too ss (h.refers old.views));
-              handles = λ place number at. old.handles place number (ap (λ (x : ProcessOf (Unit {0})). numbered x.handles place) (sym is.1) ∙ at);
-            }
+            subst (λ (x : ProcessOf (Unit {0})). ProcessRefers (set_regions t pid p ss) x) (sym is.1) (record { views = refers_too ss (h.refers old.views); handles = old.handles })
         | inr is ↦
             let old = sound.references.processes q x is.1 in
             record { views = refers_too x.regions old.views; handles = old.handles }
@@ -170,19 +147,18 @@ module _ (t : Tables) (pid : ℕ) (p : ProcessOf (Unit {0})) (ss : List (RegionO
           slots = n.slots;
         };
         spaces = (by_regions t pid p ss answer.Ok lives h.space).it.kept sound.spaces;
-        references = record {
-          processes = process_refers sound;
-          sections = sound.references.sections;
-          files = sound.references.files;
-        };
+        references = record { processes = process_refers sound; sections = sound.references.sections; files = sound.references.files };
         charged = within;
       }
+
+  views_as : (n : ℕ) → list_any (λ (r : RegionOf (Unit {0})). is_view_of n r.kind) ss ≡ list_any (λ (r : RegionOf (Unit {0})). is_view_of n r.kind) p.regions
+  views_as n = any_count (λ r. is_view_of n r.kind) ss ∙ ap (λ (n : ℕ). nat_lt 0 n) (h.views n) ∙ sym (any_count (λ r. is_view_of n r.kind) p.regions)
 
   sections_same : settled_sections (set_regions t pid p ss).processes 0 t.sections ≡ settled_sections t.processes 0 t.sections
   sections_same =
       settled_same (set_regions t pid p ss).processes t.processes
       (λ n. any_set (holds n) t.processes pid p (Some (record p { regions = ss })) lives refl)
-      (λ n. any_set (views n) t.processes pid p (Some (record p { regions = ss })) lives (any_as (λ r. is_view_of n r.kind) (λ r. is_view_of n r.kind) ss p.regions (h.views n)))
+      (λ n. any_set (views n) t.processes pid p (Some (record p { regions = ss })) lives (views_as n))
       0 t.sections
 
   pub tidy_after : IsTidy t → IsTidy (set_regions t pid p ss)
@@ -199,16 +175,6 @@ module _ (t : Tables) (pid : ℕ) (p : ProcessOf (Unit {0})) (ss : List (RegionO
         keepers = λ tid k e. lives_put t.processes pid k.pid (record p { regions = ss }) (tidy.keepers tid k e);
       }
 
-  handles_same : (n : ℕ) → handles_to (set_regions t pid p ss) n ≡ handles_to t n
-  handles_same n =
-      let inside : pid < length t.processes = numbered_inside t.processes pid p lives in
-      omega (arith, sum_by-set (handles_in n) t.processes pid (Some (record p { regions = ss })) None inside, ap (handles_in n) lives)
-
-  views_same : (n : ℕ) → views_of (set_regions t pid p ss) n ≡ views_of t n
-  views_same n =
-      let inside : pid < length t.processes = numbered_inside t.processes pid p lives in
-      omega (arith, sum_by-set (views_in n) t.processes pid (Some (record p { regions = ss })) None inside, ap (views_in n) lives, h.views n)
-
   pub kept_after : (entries : Numbered CountedSection) (old new : CommitOf) → IsKept t entries old → new.charge ≡ charge (set_regions t pid p ss) → new.limit ≡ limit t → charge (set_regions t pid p ss) ≤ limit t → IsKept (set_regions t pid p ss) entries new
   kept_after entries old new kept charged limited within =
       record {
@@ -216,7 +182,12 @@ module _ (t : Tables) (pid : ℕ) (p : ProcessOf (Unit {0})) (ss : List (RegionO
         tidy = tidy_after kept.tidy;
         counted = λ n c e.
             let k = kept.counted n c e in
-            record { handles = k.handles ∙ sym (handles_same n); views = k.views ∙ sym (views_same n) };
+            let x : Option (ProcessOf (Unit {0})) = Some (record p { regions = ss }) in
+            let inside = numbered_inside t.processes pid p lives in
+            record {
+              handles = omega (arith, k.handles, sum_by-set (handles_in n) t.processes pid x None inside, ap (handles_in n) lives);
+              views = omega (arith, k.views, sum_by-set (views_in n) t.processes pid x None inside, ap (views_in n) lives, h.views n);
+            };
         charged = charged;
         limited = limited;
       }

@@ -1,14 +1,14 @@
 -- Tables whose threads keep other accesses.
-use Rattle.std.proofs.Common.{◌≡◌, ◌≤◌, ℕ, zero, suc, Bool, false, cond, arith, replicate, take, drop, ◌++◌, Option, Some, None, List, [], ◌∷◌, refl, ◌∙◌, ap, length, map, option_map, length-set, set, is_some, true}
+use Rattle.std.proofs.Common.{◌≡◌, ◌≤◌, ℕ, zero, suc, Bool, false, cond, arith, replicate, take, drop, ◌++◌, Option, Some, None, List, [], ◌∷◌, refl, ◌∙◌, length, map, option_map, length-set, set, is_some, true, subst, sym, ap}
 use Rattle.std.specs.Prelude.{◌==◌}
-use Rattle.std.proofs.lemmas.List.{map-set, length-map}
+use Rattle.std.proofs.lemmas.List.{map-set, length-map, take_all, drop_all, append-nil}
 use Rattle.mm_types.specs.Machine.{MachineOf, limit_of}
 use Rattle.mm_commit.specs.Charge.{CommitOf}
 use Rattle.mm_world.specs.World.{RegionOf, ProcessOf, Numbered, numbered, KeptOf}
 use Rattle.mm_world.specs.Find.{process_of}
 use Rattle.mm_world.specs.Processes.{kept_of_others, most_slots}
-use Rattle.mm_world.specs.Step.{threads, first_world}
-use Rattle.mm_world.specs.WellFormed.{WellFormed, Each, RegionRefers, ProcessRefers, IsSpace}
+use Rattle.mm_world.specs.Step.{threads, first_world, keep}
+use Rattle.mm_world.specs.WellFormed.{WellFormed, Each, RegionRefers}
 use Rattle.mm_world.specs.Contents.{Tables}
 use Rattle.mm_sections.specs.Directories.{CountedSection}
 use Rattle.mm_tables.specs.declared.waiting.Kept.{Kept}
@@ -16,6 +16,8 @@ use Rattle.mm_tables.specs.References.{IsTidy, KeepersLive}
 use Rattle.mm_tables.specs.Shown.{kept_of, shown_accesses, unless_of}
 use Rattle.mm_tables.specs.Sound.{IsKept}
 use Rattle.mm_tables.proofs.Keeping.{keepers_put, of_others}
+use Rattle.mm_tables.proofs.Standing.{shown_with}
+use Rattle.mm_tables.specs.declared.tables.Tables.TheInside.{Inside}
 
 module _ (t : Tables) (ks : Numbered KeptOf) where
   refers_too : (rs : List (RegionOf (Unit {0}))) → Each (RegionRefers t) rs → Each (RegionRefers (record t { kept = ks })) rs
@@ -57,17 +59,18 @@ module _ (t : Tables) (ks : Numbered KeptOf) where
         charged = kept.charged;
         limited = kept.limited;
       }
-  -- a store does not see them
 
 -- ---- one thread keeps another access, or none
 
-pub shown_put : (ks : List (Option Kept)) (tid : ℕ) (o : Option Kept) → shown_accesses (set ks tid o) ≡ set (shown_accesses ks) tid (option_map kept_of o)
-shown_put ks tid o = map-set (option_map kept_of) ks tid o
+module _ (i : Inside) (tid : ℕ) (o : Option Kept) where
+  pub put_kept : ((k : KeptOf) → option_map kept_of o ≡ Some k → is_some (process_of (shown_with i i.processes.items) k.pid) ≡ true) → IsKept (shown_with i i.processes.items) i.directory.entries i.commit → IsKept (record (shown_with i i.processes.items) { kept = shown_accesses (set i.kept tid o) }) i.directory.entries i.commit
+  put_kept lives kept =
+      let t = shown_with i i.processes.items in
+      subst (λ (ks : Numbered KeptOf). IsKept (record t { kept = ks }) i.directory.entries i.commit) (sym (map-set (option_map kept_of) i.kept tid o))
+      (kept_with t (set t.kept tid (option_map kept_of o)) i.directory.entries i.commit kept (length-set t.kept tid (option_map kept_of o) ∙ kept.sound.numbers.kept) (keepers_put t tid (option_map kept_of o) lives kept.tidy.keepers))
 
-module _ (t : Tables) (tid : ℕ) (o : Option KeptOf) where
-  pub kept_put : (entries : Numbered CountedSection) (commit : CommitOf) → ((k : KeptOf) → o ≡ Some k → is_some (process_of t k.pid) ≡ true) → IsKept t entries commit → IsKept (record t { kept = set t.kept tid o }) entries commit
-  kept_put entries commit lives kept =
-      kept_with t (set t.kept tid o) entries commit kept (length-set t.kept tid o ∙ kept.sound.numbers.kept) (keepers_put t tid o lives kept.tidy.keepers)
+  pub put_is : (t : Tables) → shown_with i i.processes.items ≡ t → record (shown_with i i.processes.items) { kept = shown_accesses (set i.kept tid o) } ≡ keep t tid (option_map kept_of o)
+  put_is t view = (λ j. record (shown_with i i.processes.items) { kept = map-set (option_map kept_of) i.kept tid o j }) ∙ ap (λ (t : Tables). keep t tid (option_map kept_of o)) view
 
 -- ---- no thread keeps one
 
@@ -81,8 +84,8 @@ first_kept m commit few charged limited =
     record {
       sound = record {
         numbers = record { processes = omega arith; no_process = refl; kept = refl; fails = omega arith; blocks = omega arith; slots = few };
-        spaces = no_spaces;
-        references = record { processes = no_processes; sections = λ n s e. cc; files = tt };
+        spaces = λ pid p e. absurd (nobody pid p e);
+        references = record { processes = λ pid p e. absurd (nobody pid p e); sections = λ n s e. cc; files = tt };
         charged = omega arith;
       };
       tidy = record {
@@ -98,21 +101,14 @@ first_kept m commit few charged limited =
       limited = limited;
     }
   where
-    no_spaces : (pid : ℕ) (p : ProcessOf (Unit {0})) → process_of (first_world m) pid ≡ Some p → IsSpace p.regions
-    no_spaces zero p e = cc
-    no_spaces (suc pid) p e = cc
-
-    no_processes : (pid : ℕ) (p : ProcessOf (Unit {0})) → process_of (first_world m) pid ≡ Some p → ProcessRefers (first_world m) p
-    no_processes zero p e = cc
-    no_processes (suc pid) p e = cc
+    nobody : (pid : ℕ) (p : ProcessOf (Unit {0})) → process_of (first_world m) pid ≡ Some p → ⊥
+    nobody zero p e = cc
+    nobody (suc pid) p e = cc
 
 -- ---- accesses of one process are dropped
 
 pub all_changed : {X : Type 0} (f : X → X) (xs : List X) (n : ℕ) → length xs ≤ n → map f (take n xs) ++ drop n xs ≡ map f xs
-all_changed f [] zero few = refl
-all_changed f [] (suc n) few = refl
-all_changed f (x ∷ xs) zero few = absurd (omega arith)
-all_changed f (x ∷ xs) (suc n) few = ap (λ ys. f x ∷ ys) (all_changed f xs n (omega (arith, few)))
+all_changed f xs n few = (λ i. map f (take_all n xs few i) ++ drop_all n xs few i) ∙ append-nil (map f xs)
 
 pub shown_unless : (pid : ℕ) (ks : List (Option Kept)) → shown_accesses (map (unless_of pid) ks) ≡ map (kept_of_others pid) (shown_accesses ks)
 shown_unless pid [] = refl

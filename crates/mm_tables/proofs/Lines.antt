@@ -1,27 +1,25 @@
 -- One process more, more slots, and one more `fail` line.
-use Rattle.std.proofs.Common.{◌≡◌, inl, inr, ◌≤◌, ◌<◌, ◌+◌, ℕ, zero, suc, Bool, true, false, Option, Some, None, List, [], ◌∷◌, ◌++◌, refl, sym, ◌∙◌, ap, subst, cond, arith, length, is_some, ◌&&◌, ◌||◌, option_map, unwrap_or}
+use Rattle.std.proofs.Common.{◌≡◌, inl, inr, ◌≤◌, ◌<◌, ◌+◌, ℕ, zero, suc, Bool, true, false, Option, Some, None, List, [], ◌∷◌, ◌++◌, refl, sym, ◌∙◌, ap, subst, cond, arith, length, is_some, ◌&&◌, option_map, unwrap_or}
 use Rattle.std.specs.Prelude.{◌==◌}
 use Rattle.std.specs.Cmp.{unsigned_Decides}
-use Rattle.std.specs.List.{list_any}
 use Rattle.std.proofs.lemmas.Bool.{le-leb}
 use Rattle.std.proofs.lemmas.List.{length-append}
 use Rattle.std.proofs.lemmas.List.Sums.{sum_by_push}
 use Rattle.mm_types.specs.declared.answers.Answer.TheVariants as answer
 use Rattle.mm_types.specs.declared.numbers.Key.{Key}
 use Rattle.mm_types.specs.declared.numbers.Key.TheVariants as key
-use Rattle.mm_types.specs.declared.numbers.Place.{Place}
 use Rattle.mm_types.specs.Machine.{MachineOf, limit_of}
 use Rattle.mm_types.proofs.Cells.{same_or_not}
 use Rattle.mm_types.proofs.Lists.{push_other, push_at, none_at_end}
 use Rattle.mm_types.proofs.Tables.{differ}
 use Rattle.mm_blocks.specs.declared.device_calls.NamedCalls.{NamedCalls}
 use Rattle.mm_world.specs.World.{Page, ProcessOf, Numbered}
-use Rattle.mm_world.specs.Find.{process_of, region_with}
+use Rattle.mm_world.specs.Find.{process_of, section_of, region_with}
 use Rattle.mm_world.specs.Charge.{charge, process_charge}
 use Rattle.mm_world.specs.Contents.{Tables}
 use Rattle.mm_world.specs.Outcome.{OutcomeOf, done}
 use Rattle.mm_world.specs.Keys.{own_page, content_of}
-use Rattle.mm_world.specs.Sections.{holds, views, settled_sections, settled_areas}
+use Rattle.mm_world.specs.Sections.{holds, views}
 use Rattle.mm_world.specs.Processes.{new_process, grow, take_fail, no_regions, with_slots, most_processes, most_slots, most_fails}
 use Rattle.mm_world.specs.WellFormed.{WellFormed}
 use Rattle.mm_world.specs.Step.{first_world}
@@ -30,21 +28,25 @@ use Rattle.mm_pages.specs.Store.{StoreOf, changed}
 use Rattle.mm_pages.specs.Conditions.{IsNew}
 use Rattle.mm_commit.specs.Charge.{CommitOf}
 use Rattle.mm_sections.specs.Directories.{CountedSection}
-use Rattle.mm_tables.specs.Fits.{Fits, before_process, is_paging, key_at, block_in, paging_count, owned_by}
+use Rattle.mm_tables.specs.Fits.{Fits, before_process, is_paging, block_in, paging_count, owned_by}
 use Rattle.mm_tables.specs.References.{IsTidy, handles_in, views_in}
+use Rattle.mm_tables.specs.Shown.{tables_with, shown_accesses}
 use Rattle.mm_tables.specs.Sound.{IsKept}
-use Rattle.mm_tables.specs.Effects.{key_in}
-use Rattle.mm_tables.proofs.Keeping.{settled_same, lives_push}
-use Rattle.mm_tables.proofs.OneProcess.{regions_in, reserved_is, content_is, key_in_same, key_at_is}
+use Rattle.mm_tables.specs.declared.tables.Tables.TheInside.{Inside}
+use Rattle.mm_tables.proofs.Keeping.{lives_push}
+use Rattle.mm_tables.proofs.Lists.{any_more}
+use Rattle.mm_tables.proofs.SectionFits.{read_push, with_open_of, fits_processes}
+use Rattle.mm_tables.proofs.SectionTidy.{section_more, section_settled, area_settled, settle_by, tidy_by}
+use Rattle.mm_tables.proofs.OneProcess.{regions_in, reserved_is, content_is}
 
 -- ---- one process more
 
 pub none_next : (t : Tables) (pid : ℕ) → pid ≡ length t.processes → process_of t pid ≡ None
 none_next t pid e = none_at_end t.processes pid e
 
-any_push : {A : Type 0} (test : A → Bool) (xs : List A) (x : A) → test x ≡ false → list_any test (xs ++ x ∷ []) ≡ list_any test xs
-any_push test [] x e = ap (λ b. b || false) e
-any_push test (y ∷ ys) x e = ap (λ b. test y || b) (any_push test ys x e)
+-- the tables as they are kept, with these processes
+abbrev pub shown_as : Inside → List (Option (ProcessOf (Unit {0}))) → Tables
+shown_as i ps = tables_with i.machine ps i.directory.entries i.areas.items i.directory.files i.blocks_used i.fails_taken (shown_accesses i.kept)
 
 abbrev pub more : Tables → Tables
 more t = record t { processes = t.processes ++ Some no_regions ∷ [] }
@@ -60,23 +62,18 @@ module _ (t : Tables) where
   more_paging : paging_count (more t) ≡ paging_count t
   more_paging = omega (arith, sum_by_push owned_by t.processes (Some no_regions))
 
-  more_sections : settled_sections (more t).processes 0 t.sections ≡ settled_sections t.processes 0 t.sections
-  more_sections =
-      settled_same (more t).processes t.processes (λ n. any_push (holds n) t.processes (Some no_regions) refl) (λ n. any_push (views n) t.processes (Some no_regions) refl) 0 t.sections
-
   more_tidy : IsTidy t → IsTidy (more t)
   more_tidy tidy =
-      let sections : settled_sections (more t).processes 0 t.sections ≡ t.sections = more_sections ∙ ap (λ (w : Tables). w.sections) tidy.settled in
-      let areas : settled_areas (settled_sections (more t).processes 0 t.sections) 0 t.areas ≡ t.areas =
-      ap (λ s. settled_areas s 0 t.areas) more_sections ∙ ap (λ (w : Tables). w.areas) tidy.settled in
-      record {
-        settled = λ i. record (more t) { sections = sections i; areas = areas i };
+      tidy_by (more t)
+      (settle_by (more t)
+      (λ n. section_more t.processes (more t).processes n (section_of t n) (any_more (holds n) t.processes (Some no_regions)) (any_more (views n) t.processes (Some no_regions)) (section_settled t tidy.settled n))
+      (area_settled t tidy.settled)) (record {
         own_area = tidy.own_area;
         some = tidy.some;
         files = λ area first e. let k = tidy.files area first e in record { blocks = k.blocks; some = k.some; committed = k.committed };
         file_areas = tidy.file_areas;
         keepers = λ tid k e. lives_push t.processes no_regions k.pid (tidy.keepers tid k e);
-      }
+      })
 
   pub more_kept : (entries : Numbered CountedSection) (commit : CommitOf) → IsKept t entries commit → length t.processes ≤ most_processes → IsKept (more t) entries commit
   more_kept entries commit kept few =
@@ -95,12 +92,7 @@ module _ (t : Tables) where
 
   same_regions : (q : ℕ) → regions_in (more t) q ≡ regions_in t q
   same_regions q =
-      elim (same_or_not q (length t.processes)) [
-        | inl same ↦
-            ap (λ (o : Option (ProcessOf (Unit {0}))). unwrap_or (option_map (λ (p : ProcessOf (Unit {0})). p.regions) o) []) (push_at t.processes (Some no_regions) q same)
-            ∙ sym (ap (λ (o : Option (ProcessOf (Unit {0}))). unwrap_or (option_map (λ (p : ProcessOf (Unit {0})). p.regions) o) []) (none_at_end t.processes q same))
-        | inr other ↦ ap (λ (o : Option (ProcessOf (Unit {0}))). unwrap_or (option_map (λ (p : ProcessOf (Unit {0})). p.regions) o) []) (push_other t.processes (Some no_regions) q other)
-      ]
+      read_push (λ (o : Option (ProcessOf (Unit {0}))). unwrap_or (option_map (λ (p : ProcessOf (Unit {0})). p.regions) o) []) t.processes (Some no_regions) q refl
 
   opened_more : (pid : ℕ) (is_open : ℕ → Bool) → pid ≡ length t.processes → ((q : ℕ) → is_open q ≡ is_some (process_of t q)) → (q : ℕ) → changed ◌==◌ is_open pid true q ≡ is_some (process_of (more t) q)
   opened_more pid is_open at opened q =
@@ -111,61 +103,18 @@ module _ (t : Tables) where
             ∙ sym (ap is_some (push_other t.processes (Some no_regions) q (λ e. other (e ∙ sym at))))
       ]
 
-  more_content : (k : Key) → is_some (content_of (more t) k) ≡ is_some (content_of t k)
-  more_content (key.Private q v) =
-      ap is_some (content_is (more t) q.0 v.0) ∙ ap (λ rs. is_some (own_page rs v.0)) (same_regions q.0) ∙ sym (ap is_some (content_is t q.0 v.0))
-  more_content (key.Shared area index) = refl
-
-  more_is_paging : (k : Key) → is_paging (more t) k ≡ is_paging t k
-  more_is_paging (key.Private q v) = ap (λ b. b && true) (more_content (key.Private q v))
-  more_is_paging (key.Shared area index) = refl
-
-  more_block : (k : Key) → block_in (more t) k ≡ block_in t k
-  more_block (key.Private q v) = refl
-  more_block (key.Shared area index) = refl
-
-  more_key : (place : Place) → key_at (more t) place ≡ key_at t place
-  more_key place =
-      key_at_is (more t) place ∙ ap (λ rs. key_in (more t) place.pid.0 rs place.vpn.0) (same_regions place.pid.0)
-      ∙ key_in_same (more t) t place.pid.0 (regions_in t place.pid.0) place.vpn.0 refl ∙ sym (key_at_is t place)
-
   pub more_fits : (c d : Key → Option Page) (s z : StoreOf) (pid : ℕ) → pid ≡ length t.processes → Fits t c (before_process t s) → z ≡ record s { is_open = changed ◌==◌ s.is_open pid true } → s.last_pid ≡ pid → d ≡ c → Fits (more t) d z
   more_fits c d s z pid at f e last contents =
-      subst (λ (z : StoreOf). Fits (more t) d z) (sym e) (subst (λ (d : Key → Option Page). Fits (more t) d (record s { is_open = changed ◌==◌ s.is_open pid true })) (sym contents) (record {
-        machine = f.machine;
-        opened = opened_more pid s.is_open at f.opened;
-        last_pid = omega (arith, last, at, length-append t.processes (Some no_regions ∷ []));
-        areas = f.areas;
-        bound = λ place. f.bound place ∙ reserved_is t place ∙ ap (λ rs. is_some (region_with rs place.vpn.0)) (sym (same_regions place.pid.0)) ∙ sym (reserved_is (more t) place);
-        live = λ k. f.live k ∙ sym (more_content k);
-        paging = λ k. f.paging k ∙ sym (more_is_paging k);
-        counted = f.counted ∙ sym more_paging;
-        room = omega (arith, f.room, more_charge);
-        named = λ place k n. more_key place ∙ f.named place k n;
-        blocks = λ k. f.blocks k ∙ sym (more_block k);
-        used = f.used;
-        stored = f.stored;
-        named_paging = f.named_paging;
-        named_file = f.named_file;
-      }))
+      subst (λ (d : Key → Option Page). Fits (more t) d z) (sym contents)
+      (fits_processes t (more t).processes t.sections t.files same_regions c (before_process t s) z (e ∙ ap (with_open_of (before_process t s)) (sym e))
+      (λ q. ap (λ (x : StoreOf). x.is_open q) e ∙ opened_more pid s.is_open at f.opened q)
+      (omega (arith, ap (λ (x : StoreOf). x.last_pid) e, last, at, length-append t.processes (Some no_regions ∷ []))) (ap (λ (x : StoreOf). length x.file_blocks) e)
+      (ap (λ (x : StoreOf). length x.file_device.named) e) more_paging more_charge f)
 
 -- ---- neither processes nor areas change
 
 abbrev pub other : Tables → MachineOf → ℕ → Tables
 other t m n = record t { machine = m; fails_taken = n }
-
--- of the store what speaks of processes, areas and keys is as before
-pub record KeepsKeys (s z : StoreOf) : Type 0 where
-  pub is_open : z.is_open ≡ s.is_open
-  pub last_pid : z.last_pid ≡ s.last_pid
-  pub areas : z.areas ≡ s.areas
-  pub bound : z.bound ≡ s.bound
-  pub names : z.names ≡ s.names
-  pub paging : z.paging ≡ s.paging
-  pub paging_keys : z.paging_keys ≡ s.paging_keys
-  pub block_of : z.block_of ≡ s.block_of
-  pub blocks_used : z.blocks_used ≡ s.blocks_used
-  pub file_blocks : z.file_blocks ≡ s.file_blocks
 
 module _ (t : Tables) (m : MachineOf) (n : ℕ) where
   pub other_kept : (entries : Numbered CountedSection) (old new : CommitOf) → IsKept t entries old → WellFormed (other t m n) → new.charge ≡ old.charge → new.limit ≡ limit_of m → IsKept (other t m n) entries new
@@ -247,7 +196,3 @@ new_fits m c s h =
       named_paging = omega (arith, ap (λ (n : List NamedCalls). length n) h.none_named_paging);
       named_file = omega (arith, ap (λ (n : List NamedCalls). length n) h.none_named_file);
     }
-
--- ---- a line
-
--- a line that is to make a process leaves the store as before, but for the pid

@@ -1,19 +1,18 @@
 -- What is found in a list with one more, one less, or one changed; and ranges of a list that are changed.
-use Rattle.std.proofs.Common.{◌≡◌, ℕ, zero, suc, ◌+◌, ◌≤◌, ◌<◌, Bool, true, false, Some, List, [], ◌∷◌, ◌++◌, refl, sym, ◌∙◌, ap, cond, arith, length, set, slice_get, map, take, drop, is_some, ◌&&◌, ◌||◌, nat_le, nat_lt, count_by, option_map, replicate, Option, None, ◌≢◌, get_or, ◌-◌, unwrap_or}
-use Rattle.std.specs.Prelude.{insert, ◌==◌}
+use Rattle.std.proofs.Common.{◌≡◌, ℕ, zero, suc, ◌+◌, ◌*◌, ◌≤◌, ◌<◌, Bool, true, false, Some, List, [], ◌∷◌, ◌++◌, refl, sym, ◌∙◌, ap, cond, arith, length, set, slice_get, map, take, drop, is_some, ◌&&◌, ◌||◌, nat_le, nat_lt, count_by, option_map, replicate, Option, None, ◌≢◌, get_or, unwrap_or}
+use Rattle.std.specs.Prelude.{insert, ◌==◌, IfSome}
 use Rattle.std.specs.List.{list_any}
 use Rattle.std.proofs.lemmas.Bool.{leb-true, le-leb}
 use Rattle.std.proofs.lemmas.List.{length-take, length-drop}
+use Rattle.std.proofs.lemmas.List.Folds.{list_any-append, sum_by-replicate}
 use Rattle.std.proofs.lemmas.List.Sums.{sum_by-cons, sum_by-append}
 use Rattle.std.specs.Cmp.{unsigned_Decides}
-use Rattle.mm_types.proofs.Booleans.{both, or_right, or_both}
+use Rattle.mm_types.proofs.Booleans.{both, or_left, or_right, or_both, by_either}
 use Rattle.mm_world.specs.Find.{first_where, one_later, change_range, no_area}
-use Rattle.mm_world.specs.World.{ProcessOf, AreaOf, numbered}
+use Rattle.mm_world.specs.World.{AreaOf}
 use Rattle.mm_world.proofs.Natural.{some-map}
 use Rattle.mm_world.proofs.LaidOut.{and-true, less}
 use Rattle.mm_world.proofs.Charges.{sum_by-split}
-use Rattle.mm_tables.specs.declared.tables.Process.{Process}
-use Rattle.mm_tables.specs.Shown.{shown_process, shown_processes}
 
 -- ---- tests
 
@@ -116,16 +115,11 @@ count-same test change (x ∷ xs) same =
     omega (arith, sum_by-cons (counted test) (change x) (map change xs), sum_by-cons (counted test) x xs, ap one_if (same x), count-same test change xs same)
 
 pub count-replicate : {A : Type 0} (test : A → Bool) (n : ℕ) (x : A) → count_by test (replicate n x) ≡ cond (test x) n 0
-count-replicate test zero x = by_test (test x)
+count-replicate test n x = sum_by-replicate (counted test) n x ∙ by_test (test x)
   where
-    by_test : (b : Bool) → ◌≡◌ {A = ℕ} 0 (cond b 0 0)
-    by_test true = refl
-    by_test false = refl
-count-replicate test (suc n) x = omega (arith, sum_by-cons (counted test) x (replicate n x), count-replicate test n x, by_test (test x))
-  where
-    by_test : (b : Bool) → one_if b + cond b n 0 ≡ cond b (suc n) 0
+    by_test : (b : Bool) → n * one_if b ≡ cond b n 0
     by_test true = omega arith
-    by_test false = refl
+    by_test false = omega arith
 
 pub get-drop : {A : Type 0} (n : ℕ) (xs : List A) (k : ℕ) → slice_get (drop n xs) k ≡ slice_get xs (n + k)
 get-drop zero xs k = ap (slice_get xs) (let same : k ≡ 0 + k = omega arith in same)
@@ -147,35 +141,11 @@ count-next test xs first n x at = count-more test (drop first xs) n x (get-drop 
 pub length-range : {A : Type 0} (xs : List A) (first n : ℕ) → first + n ≤ length xs → length (take n (drop first xs)) ≡ n
 length-range xs first n inside = omega (arith, length-take n (drop first xs), length-drop first xs)
 
--- what holds of all holds of one
-
--- ---- tests
-
--- ---- changed ranges
-
--- ---- counts
-
--- how many pass the test in the range before and after
-
--- one more element of a range
-
 -- ---- things by number
 
 abbrev pub by_cell : {A : Type 0} → Option (Option A) → Option A
 by_cell None = None
 by_cell (Some o) = o
-
-pub numbered_same : {A : Type 0} (xs : List (Option A)) (i : ℕ) (x : Option A) → i < length xs → get_or (set xs i x) i None ≡ x
-numbered_same [] i x h = absurd (omega arith)
-numbered_same (y ∷ ys) zero x h = refl
-numbered_same (y ∷ ys) (suc i) x h = numbered_same ys i x (omega arith)
-
-pub numbered_other : {A : Type 0} (xs : List (Option A)) (i j : ℕ) (x : Option A) → j ≢ i → get_or (set xs i x) j None ≡ get_or xs j None
-numbered_other [] i j x n = refl
-numbered_other (y ∷ ys) zero zero x n = absurd (n refl)
-numbered_other (y ∷ ys) zero (suc j) x n = refl
-numbered_other (y ∷ ys) (suc i) zero x n = refl
-numbered_other (y ∷ ys) (suc i) (suc j) x n = numbered_other ys i j x (λ e. n (ap suc e))
 
 pub numbered_got : {A : Type 0} (xs : List (Option A)) (i : ℕ) → get_or xs i None ≡ by_cell (slice_get xs i)
 numbered_got [] i = refl
@@ -189,6 +159,10 @@ same_number n m e = (unsigned_Decides n m).1 e
 
 pub same_some : {A : Type 0} (x y : A) → Some x ≡ Some y → x ≡ y
 same_some x y e = cc
+
+pub if_some : {A : Type 0} (o : Option A) (P : A → Type 0) → ((x : A) → o ≡ Some x → P x) → IfSome o P
+if_some None P h = tt
+if_some (Some x) P h = h x refl
 
 -- ---- one more
 
@@ -222,88 +196,20 @@ module _ {B : Type 0} where
 
 module _ {A : Type 0} (test : A → Bool) where
   pub any_more : (xs : List A) (x : A) → list_any test xs ≡ true → list_any test (xs ++ x ∷ []) ≡ true
-  any_more [] x e = cc
-  any_more (y ∷ xs) x e = or_both (test y) (list_any test xs) (list_any test (xs ++ x ∷ [])) (any_more xs x) e
+  any_more xs x e = list_any-append test xs (x ∷ []) ∙ or_left (list_any test xs) (list_any test (x ∷ [])) e
 
   pub any_last : (xs : List A) (x : A) → test x ≡ true → list_any test (xs ++ x ∷ []) ≡ true
-  any_last [] x e = ap (λ b. b || false) e
-  any_last (y ∷ xs) x e = or_right (test y) (list_any test (xs ++ x ∷ [])) (any_last xs x e)
+  any_last xs x e = list_any-append test xs (x ∷ []) ∙ or_right (list_any test xs) (list_any test (x ∷ [])) (or_left (test x) false e)
+
+  pub any_insert : (xs : List A) (i : ℕ) (x : A) → list_any test xs ≡ true → list_any test (insert xs i x) ≡ true
+  any_insert xs zero x e = or_right (test x) (list_any test xs) e
+  any_insert [] (suc i) x e = cc
+  any_insert (y ∷ xs) (suc i) x e = or_both (test y) (list_any test xs) (list_any test (insert xs i x)) (any_insert xs i x) e
 
   pub any_set : (xs : List A) (i : ℕ) (x y : A) → slice_get xs i ≡ Some x → (test x ≡ true → test y ≡ true) → list_any test xs ≡ true → list_any test (set xs i y) ≡ true
   any_set [] i x y at f e = cc
   any_set (z ∷ xs) zero x y at f e =
       let same : z ≡ x = cc in
-      by_first (test z) (test y) (λ h. f (ap test (sym same) ∙ h)) e
-    where
-      by_first : (b c : Bool) → (b ≡ true → c ≡ true) → (b || list_any test xs) ≡ true → (c || list_any test xs) ≡ true
-      by_first true c f e = ap (λ c. c || list_any test xs) (f refl)
-      by_first false c f e = or_right c (list_any test xs) e
+      by_either (test z) (list_any test xs) e ((test y || list_any test xs) ≡ true)
+      (λ h. or_left (test y) (list_any test xs) (f (ap test (sym same) ∙ h))) (or_right (test y) (list_any test xs))
   any_set (z ∷ xs) (suc i) x y at f e = or_both (test z) (list_any test xs) (list_any test (set xs i y)) (any_set xs i x y at f) e
-
-  pub any_set_same : (xs : List A) (i : ℕ) (x y : A) → slice_get xs i ≡ Some x → test y ≡ test x → list_any test (set xs i y) ≡ list_any test xs
-  any_set_same [] i x y at f = cc
-  any_set_same (z ∷ xs) zero x y at f = let same : z ≡ x = cc in ap (λ b. b || list_any test xs) (f ∙ ap test (sym same))
-  any_set_same (z ∷ xs) (suc i) x y at f = ap (λ b. test z || b) (any_set_same xs i x y at f)
-
-  -- a set list has what was put there
-  pub any_put : (xs : List A) (i : ℕ) (x y : A) → slice_get xs i ≡ Some x → test y ≡ true → list_any test (set xs i y) ≡ true
-  any_put [] i x y at e = cc
-  any_put (z ∷ xs) zero x y at e = ap (λ b. b || list_any test xs) e
-  any_put (z ∷ xs) (suc i) x y at e = or_right (test z) (list_any test (set xs i y)) (any_put xs i x y at e)
-
--- ---- processes
-
-abbrev pub shown : Option Process → Option (ProcessOf (Unit {0}))
-shown o = option_map shown_process o
-
-get_shown : (ps : List (Option Process)) (i : ℕ) (x : Option Process) → i < length ps → x ≡ get_or ps i x → get_or (map shown ps) i None ≡ shown x
-get_shown [] i x h e = absurd (omega arith)
-get_shown (y ∷ ys) zero x h e = ap shown (sym e)
-get_shown (y ∷ ys) (suc i) x h e = get_shown ys i x (omega arith) e
-
-shown_past : (ps : List (Option Process)) (i : ℕ) → is_some (get_or (map shown ps) i None) ≡ true → i < length ps
-shown_past [] i e = cc
-shown_past (y ∷ ys) zero e = omega arith
-shown_past (y ∷ ys) (suc i) e = omega (arith, shown_past ys i e)
-
-set_shown : (ps : List (Option Process)) (i : ℕ) (y : Option Process) → map shown (set ps i y) ≡ set (map shown ps) i (shown y)
-set_shown [] i y = refl
-set_shown (x ∷ xs) zero y = refl
-set_shown (x ∷ xs) (suc i) y = ap (λ ps. shown x ∷ ps) (set_shown xs i y)
-
--- a living process's place
-pub record IsPid (ps : List (Option Process)) (pid : ℕ) : Type 0 where
-  pub some : 1 ≤ pid
-  pub few : pid ≤ length ps
-
-pub pid_is : (ps : List (Option Process)) (pid : ℕ) → is_some (numbered (shown_processes ps) pid) ≡ true → IsPid ps pid
-pid_is ps zero e = cc
-pid_is ps (suc i) e = record { some = omega arith; few = omega (arith, shown_past ps i e) }
-
-pub shown_at : (ps : List (Option Process)) (pid : ℕ) (x : Option Process) → is_some (numbered (shown_processes ps) pid) ≡ true → x ≡ get_or ps (pid - 1) x → numbered (shown_processes ps) pid ≡ shown x
-shown_at ps zero x alive e = cc
-shown_at ps (suc i) x alive e =
-    let same : suc i - 1 ≡ i = omega arith in
-    get_shown ps i x (shown_past ps i alive) (e ∙ ap (λ (k : ℕ). get_or ps k x) same)
-
-pub shown_set : (ps : List (Option Process)) (pid : ℕ) (y : Option Process) → 1 ≤ pid → shown_processes (set ps (pid - 1) y) ≡ set (shown_processes ps) pid (shown y)
-shown_set ps zero y some = absurd (omega arith)
-shown_set ps (suc i) y some =
-    let same : suc i - 1 ≡ i = omega arith in
-    ap (λ (k : ℕ). shown_processes (set ps k y)) same ∙ ap (λ qs. None ∷ qs) (set_shown ps i y)
-
-set_same : {A : Type 0} (xs : List (Option A)) (i : ℕ) (x : Option A) → get_or xs i None ≡ x → i < length xs → set xs i x ≡ xs
-set_same [] i x at h = refl
-set_same (y ∷ xs) zero x at h = ap (λ y. y ∷ xs) (sym at)
-set_same (y ∷ xs) (suc i) x at h = ap (λ ys. y ∷ ys) (set_same xs i x at (omega arith))
-
-length_shown : (ps : List (Option Process)) → length (map shown ps) ≡ length ps
-length_shown [] = refl
-length_shown (p ∷ ps) = ap suc (length_shown ps)
-
--- only room was had
-pub shown_kept : (ps : List (Option Process)) (pid : ℕ) (x y : Option Process) → is_some (numbered (shown_processes ps) pid) ≡ true → x ≡ get_or ps (pid - 1) x → shown y ≡ shown x → shown_processes (set ps (pid - 1) y) ≡ shown_processes ps
-shown_kept ps pid x y alive e same =
-    let h = pid_is ps pid alive in
-    let at = shown_at ps pid x alive e in
-    shown_set ps pid y h.some ∙ set_same (shown_processes ps) pid (shown y) (at ∙ sym same) (omega (arith, h.few, length_shown ps))

@@ -1,5 +1,5 @@
 -- One process has other regions: the regions of each, and how many page-file keys live.
-use Rattle.std.proofs.Common.{◌≡◌, ℕ, ◌+◌, ◌<◌, Option, Some, None, List, ap, arith, length, set, slice_get, is_some, sum_by, count_by, ◌≢◌, ◌⊎◌, inl, inr, false, [], refl, sym, ◌∙◌, option_map, unwrap_or, ◌-◌, true}
+use Rattle.std.proofs.Common.{◌≡◌, ℕ, ◌+◌, Option, Some, None, List, ap, arith, set, slice_get, is_some, count_by, ◌≢◌, ◌⊎◌, inl, inr, false, [], refl, sym, ◌∙◌, subst, option_map, unwrap_or, ◌-◌, true}
 use Rattle.std.specs.Prelude.{remove, insert, option_and_then}
 use Rattle.std.proofs.lemmas.List.Sums.{sum_by-set, sum_by-remove, sum_by-insert}
 use Rattle.std.proofs.lemmas.Option.{get_or_from_slice_get, slice_get_within}
@@ -9,9 +9,10 @@ use Rattle.mm_types.specs.declared.numbers.Key.{Key}
 use Rattle.mm_types.specs.declared.views.Kind.{Kind}
 use Rattle.mm_types.specs.declared.views.Kind.TheVariants as kind
 use Rattle.mm_types.proofs.Cells.{same_or_not}
+use Rattle.mm_types.proofs.Options.{same_found}
 use Rattle.mm_world.specs.World.{WorldOf, ProcessOf, RegionOf, numbered, RowOf, AreaOf}
 use Rattle.mm_world.specs.Find.{process_of, set_process, set_regions, set_region, region_with, Found, no_area, is_private}
-use Rattle.mm_world.specs.Keys.{content_of, private_key, own_page, Home, InSection, Committed, committed_at, committed_in, home_in, key_of}
+use Rattle.mm_world.specs.Keys.{content_of, private_key, own_page, Home, InSection, Committed, committed_in, home_in, key_of}
 use Rattle.mm_world.specs.Rows.{row_at}
 use Rattle.mm_world.specs.Contents.{Tables}
 use Rattle.mm_world.proofs.Charges.{sum_by-put}
@@ -26,52 +27,43 @@ module _ {B : Type 0} where
   own_rows r = count_by (λ row. is_some row.own) r.rows
 
   pub paging-set_process : (w : WorldOf B) (pid : ℕ) (p : ProcessOf B) (q : Option (ProcessOf B)) → process_of w pid ≡ Some p → paging_count (set_process w pid q) + owned_by (Some p) ≡ paging_count w + owned_by q
-  paging-set_process w pid p q lives =
-      let inside : pid < length w.processes = numbered_inside w.processes pid p lives in
-      let e = sum_by-set owned_by w.processes pid q None inside in
-      let old = ap owned_by lives in
-      omega (arith, e, old)
-
-  pub paging-set_regions : (w : WorldOf B) (pid : ℕ) (p : ProcessOf B) (rs : List (RegionOf B)) → process_of w pid ≡ Some p → paging_count (set_regions w pid p rs) + sum_by own_rows p.regions ≡ paging_count w + sum_by own_rows rs
-  paging-set_regions w pid p rs lives = paging-set_process w pid p (Some (record p { regions = rs })) lives
+  paging-set_process w pid p q lives = omega (arith, sum_by-set owned_by w.processes pid q None (numbered_inside w.processes pid p lives), ap owned_by lives)
 
   pub paging-set_region : (w : WorldOf B) (pid : ℕ) (p : ProcessOf B) (place : ℕ) (r new : RegionOf B) → process_of w pid ≡ Some p → slice_get p.regions place ≡ Some r → paging_count (set_region w pid p place new) + own_rows r ≡ paging_count w + own_rows new
   paging-set_region w pid p place r new lives there =
-      omega (arith, paging-set_regions w pid p (set p.regions place new) lives, sum_by-put own_rows p.regions place r new there)
+      omega (arith, paging-set_process w pid p (Some (record p { regions = set p.regions place new })) lives, sum_by-put own_rows p.regions place r new there)
 
   pub paging-remove_region : (w : WorldOf B) (pid : ℕ) (p : ProcessOf B) (place : ℕ) (r : RegionOf B) → process_of w pid ≡ Some p → slice_get p.regions place ≡ Some r → paging_count (set_regions w pid p (remove p.regions place)) + own_rows r ≡ paging_count w
   paging-remove_region w pid p place r lives there =
-      let inside : place < length p.regions = slice_get_within p.regions place r there in
       let old = ap own_rows (get_or_from_slice_get p.regions place r r there) in
-      omega (arith, paging-set_regions w pid p (remove p.regions place) lives, sum_by-remove own_rows p.regions place r inside, old)
+      omega (arith, paging-set_process w pid p (Some (record p { regions = remove p.regions place })) lives, sum_by-remove own_rows p.regions place r (slice_get_within p.regions place r there), old)
 
   pub paging-add_region : (w : WorldOf B) (pid : ℕ) (p : ProcessOf B) (place : ℕ) (new : RegionOf B) → process_of w pid ≡ Some p → paging_count (set_regions w pid p (insert p.regions place new)) ≡ paging_count w + own_rows new
   paging-add_region w pid p place new lives =
-      omega (arith, paging-set_regions w pid p (insert p.regions place new) lives, sum_by-insert own_rows p.regions place new)
+      omega (arith, paging-set_process w pid p (Some (record p { regions = insert p.regions place new })) lives, sum_by-insert own_rows p.regions place new)
 
 -- ---- The regions of each process, when those of one are others
 
 module _ {B : Type 0} where
+  abbrev regions_at : Option (ProcessOf B) → List (RegionOf B)
+  regions_at o = unwrap_or (option_map (λ p. p.regions) o) []
+
   -- no region where the process is not
   abbrev pub regions_in : WorldOf B → ℕ → List (RegionOf B)
-  regions_in w pid = unwrap_or (option_map (λ (p : ProcessOf B). p.regions) (process_of w pid)) []
+  regions_in w pid = regions_at (process_of w pid)
 
   pub reserved_is : (w : WorldOf B) (place : Place) → is_reserved w place ≡ is_some (region_with (regions_in w place.pid.0) place.vpn.0)
-  reserved_is w place = by_process (process_of w place.pid.0)
-    where
-      by_process : (o : Option (ProcessOf B)) → unwrap_or (option_map (λ (p : ProcessOf B). is_some (region_with p.regions place.vpn.0)) o) false ≡ is_some (region_with (unwrap_or (option_map (λ (p : ProcessOf B). p.regions) o) []) place.vpn.0)
-      by_process None = refl
-      by_process (Some p) = refl
+  reserved_is w place =
+      elim (process_of w place.pid.0) as (λ o. unwrap_or (option_map (λ (p : ProcessOf B). is_some (region_with p.regions place.vpn.0)) o) false ≡ is_some (region_with (regions_at o) place.vpn.0))
+      [ None ↦ refl | Some p ↦ refl ]
 
   pub content_is : (w : WorldOf B) (pid page : ℕ) → content_of w (private_key pid page) ≡ own_page (regions_in w pid) page
-  content_is w pid page = by_process (process_of w pid)
-    where
-      by_process : (o : Option (ProcessOf B)) → option_and_then (λ (p : ProcessOf B). own_page p.regions page) o ≡ own_page (unwrap_or (option_map (λ (p : ProcessOf B). p.regions) o) []) page
-      by_process None = refl
-      by_process (Some p) = refl
+  content_is w pid page =
+      elim (process_of w pid) as (λ o. option_and_then (λ (p : ProcessOf B). own_page p.regions page) o ≡ own_page (regions_at o) page)
+      [ None ↦ refl | Some p ↦ refl ]
 
   pub regions_of_process : (w : WorldOf B) (pid : ℕ) (p : ProcessOf B) → process_of w pid ≡ Some p → regions_in w pid ≡ p.regions
-  regions_of_process w pid p e = ap (λ (o : Option (ProcessOf B)). unwrap_or (option_map (λ (p : ProcessOf B). p.regions) o) []) e
+  regions_of_process w pid p e = ap regions_at e
 
   pub process_set_same : (w : WorldOf B) (pid : ℕ) (p : ProcessOf B) (rs : List (RegionOf B)) → process_of w pid ≡ Some p → process_of (set_regions w pid p rs) pid ≡ Some (record p { regions = rs })
   process_set_same w pid p rs e = get_or-set_same w.processes pid (Some (record p { regions = rs })) None (numbered_inside w.processes pid p e)
@@ -84,15 +76,14 @@ module _ {B : Type 0} where
       regions_of_process (set_regions w pid p rs) pid (record p { regions = rs }) (process_set_same w pid p rs e)
 
   pub regions_set_other : (w : WorldOf B) (pid q : ℕ) (p : ProcessOf B) (rs : List (RegionOf B)) → q ≢ pid → regions_in (set_regions w pid p rs) q ≡ regions_in w q
-  regions_set_other w pid q p rs n = ap (λ (o : Option (ProcessOf B)). unwrap_or (option_map (λ (p : ProcessOf B). p.regions) o) []) (process_set_other w pid q p rs n)
+  regions_set_other w pid q p rs n = ap regions_at (process_set_other w pid q p rs n)
 
   pub lives_set : (w : WorldOf B) (pid q : ℕ) (p : ProcessOf B) (rs : List (RegionOf B)) → process_of w pid ≡ Some p → is_some (process_of (set_regions w pid p rs) q) ≡ is_some (process_of w q)
   lives_set w pid q p rs e =
       elim (same_or_not q pid) [
         | inl same ↦
-            ap (λ (k : ℕ). is_some (process_of (set_regions w pid p rs) k)) same
-            ∙ ap is_some (process_set_same w pid p rs e)
-            ∙ sym (ap is_some e) ∙ ap (λ (k : ℕ). is_some (process_of w k)) (sym same)
+            subst (λ (k : ℕ). is_some (process_of (set_regions w pid p rs) k) ≡ is_some (process_of w k)) (sym same)
+            (ap is_some (process_set_same w pid p rs e) ∙ sym (ap is_some e))
         | inr other ↦ ap is_some (process_set_other w pid q p rs other)
       ]
 
@@ -101,14 +92,12 @@ module _ {B : Type 0} where
   process_cases w pid q p x rs lives e =
       elim (same_or_not q pid) [
         | inl same ↦
-            let new : ProcessOf B = record p { regions = rs } in
-            let both : Some x ≡ Some new = sym e ∙ ap (λ (k : ℕ). process_of (set_regions w pid p rs) k) same ∙ process_set_same w pid p rs lives in
-            inl (same, (let is : x ≡ new = cc in is))
+            inl (same, same_found (process_of (set_regions w pid p rs) pid) x (record p { regions = rs }) (ap (λ (k : ℕ). process_of (set_regions w pid p rs) k) (sym same) ∙ e) (process_set_same w pid p rs lives))
         | inr other ↦ inr (other, sym (process_set_other w pid q p rs other) ∙ e)
       ]
 
   pub process_is : (w : WorldOf B) (pid : ℕ) (p q : ProcessOf B) → process_of w pid ≡ Some p → process_of w pid ≡ Some q → p ≡ q
-  process_is w pid p q a b = let both : Some p ≡ Some q = sym a ∙ b in let same : p ≡ q = cc in same
+  process_is w pid p q a b = same_found (process_of w pid) p q a b
 
 -- ---- The keys of committed rows, region by region
 
@@ -126,12 +115,8 @@ home_same t u pid page i kind.Private None e = refl
 home_same t u pid page i (kind.View v) None e =
     ap (λ (areas : List (AreaOf (Unit {0}))). option_map (λ (home : Home (Unit {0})). key_of pid page home) (option_map (λ (x : Unit {0}). InSection v.area.0 (v.first + i)) (numbered (unwrap_or (slice_get areas v.area.0) no_area).pages (v.first + i)))) e
 
-pub region_key_same : (t u : Tables) (pid page : ℕ) (r : RegionOf (Unit {0})) → t.areas ≡ u.areas → region_key t pid page r ≡ region_key u pid page r
-region_key_same t u pid page r e = by_row (row_at r page)
-  where
-    by_row : (o : Option (RowOf (Unit {0}))) → option_and_then (λ row. home_key t pid page (page - r.base) r.kind row.own) o ≡ option_and_then (λ row. home_key u pid page (page - r.base) r.kind row.own) o
-    by_row None = refl
-    by_row (Some row) = home_same t u pid page (page - r.base) r.kind row.own e
+region_key_same : (t u : Tables) (pid page : ℕ) (r : RegionOf (Unit {0})) → t.areas ≡ u.areas → region_key t pid page r ≡ region_key u pid page r
+region_key_same t u pid page r e = λ i. option_and_then (λ (row : RowOf (Unit {0})). home_same t u pid page (page - r.base) r.kind row.own e i) (row_at r page)
 
 pub key_in_has : (t : Tables) (pid : ℕ) (rs : List (RegionOf (Unit {0}))) (page : ℕ) → key_in t pid rs page ≡ has (region_key t pid page) rs page
 key_in_has t pid rs page = by_region (region_with rs page)
@@ -149,23 +134,17 @@ key_in_has t pid rs page = by_region (region_with rs page)
     by_region (Some r) = by_row r (row_at r.thing page)
 
 pub key_in_same : (t u : Tables) (pid : ℕ) (rs : List (RegionOf (Unit {0}))) (page : ℕ) → t.areas ≡ u.areas → key_in t pid rs page ≡ key_in u pid rs page
-key_in_same t u pid rs page e = key_in_has t pid rs page ∙ by_region (region_with rs page) ∙ sym (key_in_has u pid rs page)
-  where
-    by_region : (o : Option (Found (RegionOf (Unit {0})))) → option_and_then (λ (r : Found (RegionOf (Unit {0}))). region_key t pid page r.thing) o ≡ option_and_then (λ (r : Found (RegionOf (Unit {0}))). region_key u pid page r.thing) o
-    by_region None = refl
-    by_region (Some r) = region_key_same t u pid page r.thing e
+key_in_same t u pid rs page e =
+    let same : has (region_key t pid page) rs page ≡ has (region_key u pid page) rs page = λ i. has (λ (r : RegionOf (Unit {0})). region_key_same t u pid page r e i) rs page in
+    key_in_has t pid rs page ∙ same ∙ sym (key_in_has u pid rs page)
 
 pub key_at_is : (t : Tables) (place : Place) → key_at t place ≡ key_in t place.pid.0 (regions_in t place.pid.0) place.vpn.0
-key_at_is t place = by_process (process_of t place.pid.0)
-  where
-    by_process : (o : Option (ProcessOf (Unit {0}))) → option_and_then (λ (p : ProcessOf (Unit {0})). option_map (λ (c : Committed (Unit {0})). key_of place.pid.0 place.vpn.0 c.home) (committed_at t p.regions place.vpn.0)) o ≡ key_in t place.pid.0 (unwrap_or (option_map (λ (p : ProcessOf (Unit {0})). p.regions) o) []) place.vpn.0
-    by_process None = refl
-    by_process (Some p) = refl
+key_at_is t place =
+    elim (process_of t place.pid.0) as (λ o. option_and_then (λ (p : ProcessOf (Unit {0})). key_in t place.pid.0 p.regions place.vpn.0) o ≡ key_in t place.pid.0 (regions_at o) place.vpn.0)
+    [ None ↦ refl | Some p ↦ refl ]
 
 -- a private row has a key where it has bytes
 pub private_home : (t : Tables) (pid page i : ℕ) (k : Kind) (own : Option (Unit {0})) → is_private k ≡ true → home_key t pid page i k own ≡ option_map (λ x. private_key pid page) own
 private_home t pid page i kind.Private None e = refl
 private_home t pid page i kind.Private (Some own) e = refl
 private_home t pid page i (kind.View v) own e = cc
-
--- a row with bytes of its own has its own key

@@ -1,8 +1,8 @@
 -- One committed row of a process is another.
-use Rattle.std.proofs.Common.{◌≡◌, ◌≢◌, inl, inr, ℕ, ◌+◌, ◌-◌, Bool, true, false, Option, Some, None, refl, sym, ◌∙◌, ap, subst, cond, arith, set, slice_get, is_some, unwrap_or, ◌<◌, zero, suc, List, [], ◌∷◌, length, option_map}
-use Rattle.std.specs.Prelude.{option_and_then, ◌==◌, IsSomeAnd}
-use Rattle.std.specs.Cmp.{unsigned_Decides}
+use Rattle.std.proofs.Common.{◌≡◌, ℕ, ◌+◌, ◌-◌, Bool, true, false, Option, Some, None, refl, sym, ◌∙◌, ap, subst, cond, arith, set, slice_get, is_some, unwrap_or, ◌<◌, zero, suc, List, [], ◌∷◌, length, option_map}
+use Rattle.std.specs.Prelude.{option_and_then, IsSomeAnd}
 use Rattle.std.proofs.lemmas.List.{length-set}
+use Rattle.std.proofs.lemmas.Option.{option_and_then_some}
 use Rattle.mm_types.specs.declared.numbers.Key.{Key}
 use Rattle.mm_types.specs.declared.numbers.Pid.{Pid}
 use Rattle.mm_types.specs.declared.numbers.Place.{Place}
@@ -10,51 +10,52 @@ use Rattle.mm_types.specs.declared.views.Kind.{Kind}
 use Rattle.mm_types.specs.declared.views.Kind.TheVariants as kind
 use Rattle.mm_types.specs.declared.views.View.{View}
 use Rattle.mm_types.specs.Address.{holds_page, first_user_page}
-use Rattle.mm_types.proofs.Cells.{same_or_not, get_set_same, get_set_other, get_within}
-use Rattle.mm_types.proofs.Booleans.{not_true}
-use Rattle.mm_world.specs.World.{Page, ProcessOf, RegionOf, RowOf, pages_of, filled, AreaOf}
-use Rattle.mm_world.specs.Find.{Found, process_of, region_with, is_private, area_at, no_area}
+use Rattle.mm_types.proofs.Cells.{get_set_same, get_within}
+use Rattle.mm_types.proofs.Options.{same_found}
+use Rattle.mm_world.specs.World.{Page, ProcessOf, RegionOf, RowOf, pages_of, filled}
+use Rattle.mm_world.specs.Find.{change_range, Found, process_of, region_with, is_private, area_at}
 use Rattle.mm_world.specs.Charge.{charge, is_charged}
 use Rattle.mm_world.specs.Failure.{same_key}
-use Rattle.mm_world.specs.Keys.{Committed, committed_at, own_page, set_row, guard_off, private_key}
+use Rattle.mm_world.specs.Keys.{Committed, Home, home_in, committed_at, set_row, guard_off, private_key}
 use Rattle.mm_world.specs.Rows.{row_at, is_one_of}
 use Rattle.mm_world.specs.Contents.{Tables}
-use Rattle.mm_world.specs.WellFormed.{RowsFit, RowFits, WellFormed, IsSpace, held_protections, RegionRefers}
+use Rattle.mm_world.specs.WellFormed.{RowsFit, RowFits, WellFormed, held_protections, RegionRefers}
 use Rattle.mm_world.proofs.AccessCharge.{charge-set_row, charge-guard_off}
 use Rattle.mm_world.proofs.Charges.{sum_by-put}
 use Rattle.mm_world.proofs.Each.{each-at, each-set}
-use Rattle.mm_world.proofs.Finding.{found_stands, committed_is, IsCommitted, HomeCases, IsOwn, IsShared, home_cases}
-use Rattle.mm_world.proofs.KeptPages.{own_in}
+use Rattle.mm_world.proofs.Finding.{Stands, found_stands, committed_is, IsCommitted}
+use Rattle.mm_world.proofs.Ranges.{Inside as Within}
 use Rattle.mm_pages.specs.Store.{StoreOf, changed, changed_in, same_place, own_key}
 use Rattle.mm_pages.specs.Conditions.{place_at}
 use Rattle.mm_spaces.specs.declared.spaces.PageRow.{PageRow}
 use Rattle.mm_spaces.specs.Tables.{page_row, told_row}
 use Rattle.mm_tables.specs.Fits.{Fits, CanCopy, copied, key_at, paging_count}
-use Rattle.mm_tables.specs.Effects.{Makes, Leaves, Moves, key_in}
-use Rattle.mm_tables.specs.Ranges.{only, added, set_in}
+use Rattle.mm_tables.specs.Effects.{Effect, Makes, Leaves, Moves, after, key_in}
+use Rattle.mm_tables.specs.Ranges.{only, added, set_in, is_key_in}
+use Rattle.mm_tables.specs.declared.tables.Process.{Process}
+use Rattle.mm_tables.specs.declared.tables.Tables.TheInside.{Inside}
+use Rattle.mm_tables.specs.Sound.{IsKept}
+use Rattle.mm_tables.specs.Spaces.{regions_of, Became}
 use Rattle.mm_tables.proofs.Keeping.{StandIn}
+use Rattle.mm_tables.proofs.Standing.{Held, regions_by, still_kept, shown_with}
 use Rattle.mm_tables.proofs.Carried.{moved}
-use Rattle.mm_tables.proofs.PageByPage.{holds_only, set_only, own, key_in_only, place_in_only, same_place_is}
+use Rattle.mm_tables.proofs.PageByPage.{set_only, own, key_in_only, place_in_only, same_place_is}
 use Rattle.mm_tables.proofs.OneProcess.{paging-set_region, regions_set_same, home_key, region_key, key_in_has, key_at_is}
-use Rattle.mm_tables.proofs.Regional.{set_stands, set_named}
-use Rattle.mm_tables.proofs.Regions.{has, within, SamePages, has_set, has_at, reserved_set}
+use Rattle.mm_tables.proofs.Regional.{set_stands, KeepsKey, change_moves}
+use Rattle.mm_tables.proofs.Regions.{has, within, some_cond, SamePages, has_set}
 use Rattle.mm_tables.proofs.Rows.{has_own}
 use Rattle.mm_tables.proofs.Lists.{one_if}
 
 -- ---- rows that fit
 
-private_own : (t : Tables) (i : ℕ) (row : RowOf (Unit {0})) (home : _) → HomeCases t i kind.Private row.own home → is_some row.own ≡ true
-private_own t i row home (IsOwn bytes own at_home) = ap is_some own
-private_own t i row home (IsShared v page is none there at_home) = cc
-
-guard_fits : (t : Tables) (i : ℕ) (k : Kind) (row : RowOf (Unit {0})) (home : _) → HomeCases t i k row.own home → RowFits k row → RowFits k (record row { guard = false })
-guard_fits t i kind.Private row home cases h =
+guard_fits : (t : Tables) (i : ℕ) (k : Kind) (row : RowOf (Unit {0})) (home : Home (Unit {0})) → home_in t i k row.own ≡ Some home → RowFits k row → RowFits k (record row { guard = false })
+guard_fits t i kind.Private row home there h =
     record {
       unmarked = h.unmarked;
-      reserved = λ n. let bad : true ≡ false = sym (private_own t i row home cases) ∙ ap is_some n in cc;
+      reserved = λ n. let bad : None ≡ Some home = sym (ap (home_in t i kind.Private) n) ∙ there in cc;
       committed = h.committed;
     }
-guard_fits t i (kind.View v) row home cases h = record { copied = h.copied; copy_view = h.copy_view; held = h.held }
+guard_fits t i (kind.View v) row home there h = record { copied = h.copied; copy_view = h.copy_view; held = h.held }
 
 copy_fits : (k : Kind) (row : RowOf (Unit {0})) → row.marked ≡ true → RowFits k row → RowFits k (record row { own = Some tt; prot = 0x04 })
 copy_fits kind.Private row marked h = let bad : true ≡ false = sym marked ∙ h.unmarked in cc
@@ -70,191 +71,120 @@ not_private : (k : Kind) (row : RowOf (Unit {0})) → row.marked ≡ true → Ro
 not_private kind.Private row marked h = let bad : true ≡ false = sym marked ∙ h.unmarked in absurd (let no : ⊥ = cc in no)
 not_private (kind.View v) row marked h = (v, refl)
 
+-- a range of one
+one_changed : {A : Type 0} (change : A → A) (xs : List A) (i : ℕ) (x : A) → slice_get xs i ≡ Some x → change_range change i 1 xs ≡ set xs i (change x)
+one_changed change [] i x at = cc
+one_changed change (y ∷ xs) zero x at = ap (λ y. change y ∷ xs) (let same : y ≡ x = cc in same)
+one_changed change (y ∷ xs) (suc i) x at = ap (λ ys. y ∷ ys) (one_changed change xs i x at)
+
 module _ (t : Tables) (q : Pid) (p : ProcessOf (Unit {0})) (page : ℕ) (c : Committed (Unit {0})) (lives : process_of t q.0 ≡ Some p) (there : committed_at t p.regions page ≡ Some c) (h : WellFormed t) where
+  abbrev r : RegionOf (Unit {0})
+  r = c.region.thing
+
+  abbrev i : ℕ
+  i = page - c.region.thing.base
+
+  -- the region, and the regions, with another row of this page
+  abbrev with_row : RowOf (Unit {0}) → RegionOf (Unit {0})
+  with_row row = record c.region.thing { rows = set c.region.thing.rows (page - c.region.thing.base) row }
+
+  abbrev regions_with : RowOf (Unit {0}) → List (RegionOf (Unit {0}))
+  regions_with row = set p.regions c.region.place (with_row row)
+
   is : IsCommitted t p.regions page c
   is = committed_is t p.regions page c there
 
-  r : RegionOf (Unit {0})
-  r = c.region.thing
+  stands : Stands (λ (r : RegionOf (Unit {0})). holds_page (pages_of r) page) p.regions c.region
+  stands = found_stands (λ (r : RegionOf (Unit {0})). holds_page (pages_of r) page) p.regions c.region is.region
 
-  at : slice_get p.regions c.region.place ≡ Some c.region.thing
-  at = (found_stands (λ (r : RegionOf (Unit {0})). holds_page (pages_of r) page) p.regions c.region is.region).there
+  inner : Within (only page) (pages_of r)
+  inner = let w = within (pages_of r) page stands.passes in record { low = w.low; high = omega (arith, w.high) }
 
-  held : holds_page (pages_of c.region.thing) page ≡ true
-  held = (found_stands (λ (r : RegionOf (Unit {0})). holds_page (pages_of r) page) p.regions c.region is.region).passes
+  fits : RowFits r.kind c.row
+  fits = each-at (RowFits r.kind) r.rows i c.row (each-at RowsFit p.regions c.region.place r (h.spaces q.0 p lives).rows stands.there) is.row_there
 
-  space : IsSpace p.regions
-  space = h.spaces q.0 p lives
+  pages : (row : RowOf (Unit {0})) → SamePages r (with_row row)
+  pages row = record { base = refl; rows = length-set r.rows i row }
 
-  fits : RowFits c.region.thing.kind c.row
-  fits = each-at (RowFits c.region.thing.kind) c.region.thing.rows (page - c.region.thing.base) c.row (each-at RowsFit p.regions c.region.place c.region.thing space.rows at) is.row_there
+  row_stands : (row : RowOf (Unit {0})) → RowFits r.kind row → StandIn t p.regions (regions_with row)
+  row_stands row fit = set_stands t p c.region.place r (with_row row) stands.there (pages row) refl (λ rows. each-set (RowFits r.kind) r.rows i row rows fit)
 
-  abbrev new : RowOf (Unit {0}) → RegionOf (Unit {0})
-  new row = record c.region.thing { rows = set c.region.thing.rows (page - c.region.thing.base) row }
+  -- a row that is changed is the range of one page changed
+  row_moves : (change : RowOf (Unit {0}) → RowOf (Unit {0})) (keys : Effect) (clears : Bool) → ((row : RowOf (Unit {0})) → is_some (change row).own ≡ after keys true (is_some row.own)) → ((v : ℕ) (k : Key) → (clears ≡ true → holds_page (only page) v ≡ false) → holds_page (only page) v ≡ true → KeepsKey t q.0 p c.region.place r (only page) lives h stands.there inner change q.0 v k) → Moves t q (only page) keys Leaves clears p.regions (regions_with (change c.row))
+  row_moves change keys clears makes keeps =
+      subst (λ rows. Moves t q (only page) keys Leaves clears p.regions (set p.regions c.region.place (record c.region.thing { rows = rows }))) (one_changed change r.rows i c.row is.row_there)
+      (change_moves t q.0 p c.region.place r (only page) lives h stands.there inner change keys clears q makes keeps)
 
-  pages : (row : RowOf (Unit {0})) → SamePages c.region.thing (record c.region.thing { rows = set c.region.thing.rows (page - c.region.thing.base) row })
-  pages row = record { base = refl; rows = length-set c.region.thing.rows (page - c.region.thing.base) row }
-
-  row_stands : (row : RowOf (Unit {0})) → RowFits c.region.thing.kind row → StandIn t p.regions (set p.regions c.region.place (record c.region.thing { rows = set c.region.thing.rows (page - c.region.thing.base) row }))
-  row_stands row fit =
-      set_stands t p c.region.place c.region.thing (record c.region.thing { rows = set c.region.thing.rows (page - c.region.thing.base) row }) at (pages row) refl
-      (λ rows. each-set (RowFits c.region.thing.kind) c.region.thing.rows (page - c.region.thing.base) row rows fit)
-
-  -- of the pages of the region the row of this page alone is another
-  at_row : (row : RowOf (Unit {0})) (v : ℕ) → holds_page (pages_of c.region.thing) v ≡ true → (v ≡ page → row_at (record c.region.thing { rows = set c.region.thing.rows (page - c.region.thing.base) row }) v ≡ Some row) × (v ≢ page → row_at (record c.region.thing { rows = set c.region.thing.rows (page - c.region.thing.base) row }) v ≡ row_at c.region.thing v)
-  at_row row v in_r =
-      let rows = c.region.thing.rows in
-      let i = page - c.region.thing.base in
-      let w = within (pages_of c.region.thing) v in_r in
-      let x = within (pages_of c.region.thing) page held in (
-        (λ same. ap (λ (k : ℕ). slice_get (set rows i row) (k - c.region.thing.base)) same ∙ get_set_same rows i row (get_within rows i c.row is.row_there)),
-        (λ other. get_set_other rows i (v - c.region.thing.base) row (λ e. other (omega (arith, e, w.low, x.low)))),
+  row_paging : (row : RowOf (Unit {0})) → paging_count (set_row t q.0 p c.region page row) + one_if (has_own c.row) ≡ paging_count t + one_if (has_own row)
+  row_paging row =
+      omega (
+        arith,
+        paging-set_region t q.0 p c.region.place r (with_row row) lives stands.there,
+        sum_by-put (λ (row : RowOf (Unit {0})). one_if (has_own row)) r.rows i c.row row is.row_there,
       )
-
-  -- a key stays where the row keeps its own
-  row_named : (row : RowOf (Unit {0})) (v : ℕ) (k : Key) → (v ≡ page → home_key t q.0 page (page - c.region.thing.base) c.region.thing.kind c.row.own ≡ Some k → home_key t q.0 page (page - c.region.thing.base) c.region.thing.kind row.own ≡ Some k) → key_in t q.0 p.regions v ≡ Some k → key_in t q.0 (set p.regions c.region.place (record c.region.thing { rows = set c.region.thing.rows (page - c.region.thing.base) row })) v ≡ Some k
-  row_named row v k keeps =
-      set_named t p c.region.place c.region.thing (record c.region.thing { rows = set c.region.thing.rows (page - c.region.thing.base) row }) at (pages row) refl q.0 v k space.laid_out (λ in_r was.
-      elim (same_or_not v page) [
-        | inl same ↦
-            ap (λ o. option_and_then (λ (row : RowOf (Unit {0})). home_key t q.0 v (v - c.region.thing.base) c.region.thing.kind row.own) o) ((at_row row v in_r).0 same)
-            ∙ ap (λ (v : ℕ). home_key t q.0 v (v - c.region.thing.base) c.region.thing.kind row.own) same
-            ∙ keeps same (
-            sym (ap (λ o. option_and_then (λ (row : RowOf (Unit {0})). home_key t q.0 page (page - c.region.thing.base) c.region.thing.kind row.own) o) is.row_there)
-            ∙ ap (λ (v : ℕ). region_key t q.0 v c.region.thing) (sym same) ∙ was)
-        | inr other ↦
-            ap (λ o. option_and_then (λ (row : RowOf (Unit {0})). home_key t q.0 v (v - c.region.thing.base) c.region.thing.kind row.own) o) ((at_row row v in_r).1 other) ∙ was
-      ])
-
-  -- what the pages have of their own
-  row_owned : (row : RowOf (Unit {0})) (v : ℕ) → own_page (set p.regions c.region.place (record c.region.thing { rows = set c.region.thing.rows (page - c.region.thing.base) row })) v ≡ cond (v == page) row.own (own_page p.regions v)
-  row_owned row v =
-      has_set (λ (r : RegionOf (Unit {0})). own_in r v) first_user_page c.region.place v p.regions c.region.thing (record c.region.thing { rows = set c.region.thing.rows (page - c.region.thing.base) row }) space.laid_out at (pages row)
-      ∙ by_test (holds_page (pages_of c.region.thing) v) refl
-    where
-      by_test : (b : Bool) → holds_page (pages_of c.region.thing) v ≡ b → cond b (own_in (record c.region.thing { rows = set c.region.thing.rows (page - c.region.thing.base) row }) v) (own_page p.regions v) ≡ cond (v == page) row.own (own_page p.regions v)
-      by_test true e =
-          elim (same_or_not v page) [
-            | inl same ↦
-                ap (λ o. option_and_then (λ (row : RowOf (Unit {0})). row.own) o) ((at_row row v e).0 same) ∙ sym (ap (λ b. cond b row.own (own_page p.regions v)) ((unsigned_Decides v page).1 same))
-            | inr other ↦
-                ap (λ o. option_and_then (λ (row : RowOf (Unit {0})). row.own) o) ((at_row row v e).1 other)
-                ∙ sym (has_at (λ (r : RegionOf (Unit {0})). own_in r v) first_user_page c.region.place v p.regions c.region.thing space.laid_out at e)
-                ∙ sym (ap (λ b. cond b row.own (own_page p.regions v)) (not_true (v == page) (λ e. other ((unsigned_Decides v page).0 e))))
-          ]
-      by_test false e =
-          sym (ap (λ b. cond b row.own (own_page p.regions v)) (not_true (v == page) (λ same.
-          let bad : true ≡ false = sym held ∙ ap (λ (v : ℕ). holds_page (pages_of c.region.thing) v) (sym ((unsigned_Decides v page).0 same)) ∙ e in cc)))
-
-  own_here : own_page p.regions page ≡ c.row.own
-  own_here =
-      has_at (λ (r : RegionOf (Unit {0})). own_in r page) first_user_page c.region.place page p.regions c.region.thing space.laid_out at held
-      ∙ ap (λ o. option_and_then (λ (row : RowOf (Unit {0})). row.own) o) is.row_there
 
   -- ---- the guard is off
 
-  pub guard_stands : StandIn t p.regions (set p.regions c.region.place (record c.region.thing { rows = set c.region.thing.rows (page - c.region.thing.base) (record c.row { guard = false }) }))
-  guard_stands =
-      row_stands (record c.row { guard = false })
-      (guard_fits t (page - c.region.thing.base) c.region.thing.kind c.row c.home (home_cases t (page - c.region.thing.base) c.region.thing.kind c.row.own c.home is.home_there) fits)
+  abbrev off : RowOf (Unit {0})
+  off = record c.row { guard = false }
 
-  guard_moves : Moves t q (only page) Leaves Leaves false p.regions (set p.regions c.region.place (record c.region.thing { rows = set c.region.thing.rows (page - c.region.thing.base) (record c.row { guard = false }) }))
-  guard_moves =
-      record {
-        owned = λ v. ap is_some (row_owned (record c.row { guard = false }) v ∙ by_page v (v == page) refl);
-        reserved = λ v. reserved_set p.regions c.region.place v c.region.thing (record c.region.thing { rows = set c.region.thing.rows (page - c.region.thing.base) (record c.row { guard = false }) }) at (pages (record c.row { guard = false }));
-        named = λ v k clears. row_named (record c.row { guard = false }) v k (λ same e. e);
-      }
-    where
-      by_page : (v : ℕ) (b : Bool) → (v == page) ≡ b → cond b c.row.own (own_page p.regions v) ≡ own_page p.regions v
-      by_page v true e = sym own_here ∙ ap (λ (v : ℕ). own_page p.regions v) (sym ((unsigned_Decides v page).0 e))
-      by_page v false e = refl
-
-  guard_paging : paging_count (guard_off t q.0 p c page) ≡ paging_count t
-  guard_paging =
-      omega (
-        arith,
-        paging-set_region t q.0 p c.region.place c.region.thing (record c.region.thing { rows = set c.region.thing.rows (page - c.region.thing.base) (record c.row { guard = false }) }) lives at,
-        sum_by-put (λ (row : RowOf (Unit {0})). one_if (has_own row)) c.region.thing.rows (page - c.region.thing.base) c.row (record c.row { guard = false }) is.row_there,
-      )
+  pub guard_stands : StandIn t p.regions (regions_with off)
+  guard_stands = row_stands off (guard_fits t i r.kind c.row c.home is.home_there fits)
 
   pub guard_charge : charge (guard_off t q.0 p c page) ≡ charge t
   guard_charge = charge-guard_off t q.0 p c page lives there
 
   pub guard_moved : (contents : Key → Option Page) (s : StoreOf) → Fits t contents s → Fits (guard_off t q.0 p c page) contents s
   guard_moved contents s f =
-      moved t q p (only page) Leaves Leaves false (set p.regions c.region.place (record c.region.thing { rows = set c.region.thing.rows (page - c.region.thing.base) (record c.row { guard = false }) })) contents contents s s lives f
+      moved t q p (only page) Leaves Leaves false (regions_with off) contents contents s s lives f
       (record { contents = refl; paging = refl; bound = refl; names = refl; open_same = refl; areas_same = refl; same = refl })
-      guard_moves (f.counted ∙ sym guard_paging) (omega (arith, f.room, guard_charge))
+      (row_moves (λ row. record row { guard = false }) Leaves false (λ row. refl) (λ v k clear held row e. e)) (omega (arith, f.counted, row_paging off)) (omega (arith, f.room, guard_charge))
 
   -- ---- the page has bytes of its own
 
   module _ (can : CanCopy c) where
-    pub copy_stands : StandIn t p.regions (set p.regions c.region.place (record c.region.thing { rows = set c.region.thing.rows (page - c.region.thing.base) (record c.row { own = Some tt; prot = 0x04 }) }))
-    copy_stands = row_stands (record c.row { own = Some tt; prot = 0x04 }) (copy_fits c.region.thing.kind c.row can.marked fits)
+    abbrev copy : RowOf (Unit {0})
+    copy = record c.row { own = Some tt; prot = 0x04 }
 
-    pub copy_view : (v : View) × (c.region.thing.kind ≡ kind.View v)
-    copy_view = not_private c.region.thing.kind c.row can.marked fits
+    abbrev u : Tables
+    u = set_row t q.0 p c.region page copy
 
-    view_charged : (k : Kind) → (v : View) × (k ≡ kind.View v) → is_charged k (record c.row { own = Some tt; prot = 0x04 }) ≡ is_charged k c.row
-    view_charged k w = subst (λ k. is_charged k (record c.row { own = Some tt; prot = 0x04 }) ≡ is_charged k c.row) (sym w.1) refl
+    pub copy_stands : StandIn t p.regions (regions_with copy)
+    copy_stands = row_stands copy (copy_fits r.kind c.row can.marked fits)
 
-    pub copy_charge : charge (set_row t q.0 p c.region page (record c.row { own = Some tt; prot = 0x04 })) ≡ charge t
-    copy_charge = charge-set_row t q.0 p c page (record c.row { own = Some tt; prot = 0x04 }) lives is (view_charged c.region.thing.kind copy_view)
+    copy_view : (v : View) × (r.kind ≡ kind.View v)
+    copy_view = not_private r.kind c.row can.marked fits
 
-    copy_paging : paging_count (set_row t q.0 p c.region page (record c.row { own = Some tt; prot = 0x04 })) ≡ paging_count t + 1
-    copy_paging =
-        omega (
-          arith,
-          paging-set_region t q.0 p c.region.place c.region.thing (record c.region.thing { rows = set c.region.thing.rows (page - c.region.thing.base) (record c.row { own = Some tt; prot = 0x04 }) }) lives at,
-          sum_by-put (λ (row : RowOf (Unit {0})). one_if (has_own row)) c.region.thing.rows (page - c.region.thing.base) c.row (record c.row { own = Some tt; prot = 0x04 }) is.row_there,
-          ap (λ (o : Option (Unit {0})). one_if (is_some o)) can.shared,
-        )
+    pub copy_charge : charge u ≡ charge t
+    copy_charge = charge-set_row t q.0 p c page copy lives is (subst (λ k. is_charged k copy ≡ is_charged k c.row) (sym copy_view.1) refl)
 
-    copy_moves : Moves t q (only page) Makes Leaves true p.regions (set p.regions c.region.place (record c.region.thing { rows = set c.region.thing.rows (page - c.region.thing.base) (record c.row { own = Some tt; prot = 0x04 }) }))
-    copy_moves =
-        record {
-          owned = λ v. ap is_some (row_owned (record c.row { own = Some tt; prot = 0x04 }) v) ∙ by_page (v == page) (own_page p.regions v) ∙ ap (λ b. cond b true (is_some (own_page p.regions v))) (sym (holds_only page v));
-          reserved = λ v. reserved_set p.regions c.region.place v c.region.thing (record c.region.thing { rows = set c.region.thing.rows (page - c.region.thing.base) (record c.row { own = Some tt; prot = 0x04 }) }) at (pages (record c.row { own = Some tt; prot = 0x04 }));
-          named = λ v k clears.
-              row_named (record c.row { own = Some tt; prot = 0x04 }) v k (λ same e.
-              let bad : true ≡ false = sym ((unsigned_Decides v page).1 same) ∙ sym (holds_only page v) ∙ clears refl in
-              cc);
-        }
-      where
-        by_page : (b : Bool) (o : Option (Unit {0})) → is_some (cond b (Some tt) o) ≡ cond b true (is_some o)
-        by_page true o = refl
-        by_page false o = refl
+    copy_moves : Moves t q (only page) Makes Leaves true p.regions (regions_with copy)
+    copy_moves = row_moves (λ row. record row { own = Some tt; prot = 0x04 }) Makes true (λ row. refl) (λ v k clear held. let bad : true ≡ false = sym held ∙ clear refl in cc)
 
-    copy_key : key_at (set_row t q.0 p c.region page (record c.row { own = Some tt; prot = 0x04 })) (place_at q page) ≡ Some (own_key (place_at q page))
+    copy_key : key_at u (place_at q page) ≡ Some (own_key (place_at q page))
     copy_key =
-        let row : RowOf (Unit {0}) = record c.row { own = Some tt; prot = 0x04 } in
-        let made : RegionOf (Unit {0}) = record c.region.thing { rows = set c.region.thing.rows (page - c.region.thing.base) row } in
-        let after = set_row t q.0 p c.region page row in
-        key_at_is after (place_at q page) ∙ ap (λ rs. key_in after q.0 rs page) (regions_set_same t q.0 p (set p.regions c.region.place made) lives)
-        ∙ key_in_has after q.0 (set p.regions c.region.place made) page
-        ∙ has_set (region_key after q.0 page) first_user_page c.region.place page p.regions c.region.thing made space.laid_out at (pages row)
-        ∙ ap (λ b. cond b (region_key after q.0 page made) (has (region_key after q.0 page) p.regions page)) held
-        ∙ ap (λ o. option_and_then (λ (row : RowOf (Unit {0})). home_key after q.0 page (page - c.region.thing.base) c.region.thing.kind row.own) o) ((at_row row page held).0 refl)
+        key_at_is u (place_at q page) ∙ ap (λ rs. key_in u q.0 rs page) (regions_set_same t q.0 p (regions_with copy) lives)
+        ∙ key_in_has u q.0 (regions_with copy) page
+        ∙ has_set (region_key u q.0 page) first_user_page c.region.place page p.regions r (with_row copy) (h.spaces q.0 p lives).laid_out stands.there (pages copy)
+        ∙ ap (λ b. cond b (region_key u q.0 page (with_row copy)) (has (region_key u q.0 page) p.regions page)) stands.passes
+        ∙ ap (λ o. option_and_then (λ (row : RowOf (Unit {0})). home_key u q.0 page i r.kind row.own) o) (get_set_same r.rows i copy (get_within r.rows i c.row is.row_there))
 
     -- before the place names the new key
     abbrev unnamed : StoreOf → StoreOf
     unnamed s = record s { names = changed_in q (only page) s.names None; paging = set_in q (only page) s.paging true; paging_keys = s.paging_keys + 1 }
 
-    copied_first : (contents : Key → Option Page) (s : StoreOf) → Fits t contents s → Fits (set_row t q.0 p c.region page (record c.row { own = Some tt; prot = 0x04 })) (added q (only page) contents) (unnamed s)
+    copied_first : (contents : Key → Option Page) (s : StoreOf) → Fits t contents s → Fits u (added q (only page) contents) (unnamed s)
     copied_first contents s f =
-        moved t q p (only page) Makes Leaves true (set p.regions c.region.place (record c.region.thing { rows = set c.region.thing.rows (page - c.region.thing.base) (record c.row { own = Some tt; prot = 0x04 }) })) contents (added q (only page) contents) s (unnamed s) lives f
+        moved t q p (only page) Makes Leaves true (regions_with copy) contents (added q (only page) contents) s (unnamed s) lives f
         (record { contents = refl; paging = refl; bound = refl; names = refl; open_same = refl; areas_same = refl; same = refl })
-        copy_moves (omega (arith, f.counted, copy_paging)) (omega (arith, f.room, copy_charge))
+        copy_moves (omega (arith, f.counted, row_paging copy, ap (λ (o : Option (Unit {0})). one_if (is_some o)) can.shared)) (omega (arith, f.room, copy_charge))
 
     live_too : (contents : Key → Option Page) (bytes : Page) (k : Key) → is_some (changed same_key contents (own q page) (Some bytes) k) ≡ is_some (added q (only page) contents k)
-    live_too contents bytes k = by_key (same_key k (own q page)) (contents k) ∙ ap (λ b. is_some (cond b (Some (unwrap_or (contents k) (filled 0))) (contents k))) (sym (key_in_only q page k))
-      where
-        by_key : (b : Bool) (o : Option Page) → is_some (cond b (Some bytes) o) ≡ is_some (cond b (Some (unwrap_or o (filled 0))) o)
-        by_key true o = refl
-        by_key false o = refl
+    live_too contents bytes k =
+        some_cond (same_key k (own q page)) (Some bytes) (contents k) ∙ ap (λ b. cond b true (is_some (contents k))) (sym (key_in_only q page k))
+        ∙ sym (some_cond (is_key_in q (only page) k) (Some (unwrap_or (contents k) (filled 0))) (contents k))
 
-    pub copy_moved : (contents : Key → Option Page) (s : StoreOf) (bytes : Page) → Fits t contents s → Fits (set_row t q.0 p c.region page (record c.row { own = Some tt; prot = 0x04 })) (changed same_key contents (private_key q.0 page) (Some bytes)) (copied (place_at q page) s)
+    pub copy_moved : (contents : Key → Option Page) (s : StoreOf) (bytes : Page) → Fits t contents s → Fits u (changed same_key contents (private_key q.0 page) (Some bytes)) (copied (place_at q page) s)
     copy_moved contents s bytes f =
         let g = copied_first contents s f in
         record {
@@ -267,7 +197,7 @@ module _ (t : Tables) (q : Pid) (p : ProcessOf (Unit {0})) (page : ℕ) (c : Com
           paging = λ k. ap (λ (h : Key → Bool). h k) (sym (set_only q page s.paging true)) ∙ g.paging k;
           counted = g.counted;
           room = g.room;
-          named = named g;
+          named = λ place k. named g place k (same_place place (place_at q page)) refl;
           blocks = g.blocks;
           used = g.used;
           stored = g.stored;
@@ -275,22 +205,18 @@ module _ (t : Tables) (q : Pid) (p : ProcessOf (Unit {0})) (page : ℕ) (c : Com
           named_file = g.named_file;
         }
       where
-        named : Fits (set_row t q.0 p c.region page (record c.row { own = Some tt; prot = 0x04 })) (added q (only page) contents) (unnamed s) → (place : Place) (k : Key) → changed same_place s.names (place_at q page) (Some (own_key (place_at q page))) place ≡ Some k → key_at (set_row t q.0 p c.region page (record c.row { own = Some tt; prot = 0x04 })) place ≡ Some k
-        named g place k e = by_test (same_place place (place_at q page)) refl e
-          where
-            by_test : (b : Bool) → same_place place (place_at q page) ≡ b → cond b (Some (own_key (place_at q page))) (s.names place) ≡ Some k → key_at (set_row t q.0 p c.region page (record c.row { own = Some tt; prot = 0x04 })) place ≡ Some k
-            by_test true same e = ap (λ (place : Place). key_at (set_row t q.0 p c.region page (record c.row { own = Some tt; prot = 0x04 })) place) (same_place_is q page place same) ∙ copy_key ∙ e
-            by_test false other e = g.named place k (ap (λ b. cond b None (s.names place)) (place_in_only q page place ∙ other) ∙ e)
+        named : Fits u (added q (only page) contents) (unnamed s) → (place : Place) (k : Key) (b : Bool) → same_place place (place_at q page) ≡ b → cond b (Some (own_key (place_at q page))) (s.names place) ≡ Some k → key_at u place ≡ Some k
+        named g place k true same e = ap (λ (place : Place). key_at u place) (same_place_is q page place same) ∙ copy_key ∙ e
+        named g place k false other e = g.named place k (ap (λ b. cond b None (s.names place)) (place_in_only q page place ∙ other) ∙ e)
 
     -- the row that a look-up finds is this one
-    pub copy_marked : (r : Found (RegionOf (Unit {0}))) (row : RowOf (Unit {0})) → region_with p.regions page ≡ Some r → row_at r.thing page ≡ Some row → (is_private r.thing.kind ≡ false) × (row.marked ≡ true)
-    copy_marked r row found at_page =
-        let regions : Some c.region ≡ Some r = sym is.region ∙ found in
-        let region : c.region ≡ r = cc in
-        let rows : Some c.row ≡ Some row = sym is.row_there ∙ ap (λ (r : Found (RegionOf (Unit {0}))). row_at r.thing page) region ∙ at_page in
-        let same : c.row ≡ row = cc in (
-          ap (λ (r : Found (RegionOf (Unit {0}))). is_private r.thing.kind) (sym region) ∙ ap is_private copy_view.1,
-          ap (λ (row : RowOf (Unit {0})). row.marked) (sym same) ∙ can.marked,
+    pub copy_marked : (found : Found (RegionOf (Unit {0}))) (row : RowOf (Unit {0})) → region_with p.regions page ≡ Some found → row_at found.thing page ≡ Some row → (is_private found.thing.kind ≡ false) × (row.marked ≡ true)
+    copy_marked found row region at_page =
+        let same : c.region ≡ found = same_found (region_with p.regions page) c.region found is.region region in
+        let rows : c.row ≡ row =
+        same_found (row_at found.thing page) c.row row (ap (λ (r : Found (RegionOf (Unit {0}))). row_at r.thing page) (sym same) ∙ is.row_there) at_page in (
+          ap (λ (r : Found (RegionOf (Unit {0}))). is_private r.thing.kind) (sym same) ∙ ap is_private copy_view.1,
+          ap (λ (row : RowOf (Unit {0})). row.marked) (sym rows) ∙ can.marked,
         )
 
 -- ---- What look-ups find
@@ -299,39 +225,37 @@ pub some_with : {A : Type 0} (o : Option A) (P : A → Type 0) → IsSomeAnd o P
 some_with None P h = absurd h
 some_with (Some a) P h = (a, (refl, h))
 
--- a page's region
-pub record Told (rs : List (RegionOf (Unit {0}))) (page : ℕ) (row : PageRow) : Type 0 where
-  pub region : Found (RegionOf (Unit {0}))
-  pub there : region_with rs page ≡ Some region
-  pub kind : row.kind ≡ region.thing.kind
-  pub index : row.index ≡ page - region.thing.base
-
-by_row : (rs : List (RegionOf (Unit {0}))) (page : ℕ) (row : PageRow) (r : Found (RegionOf (Unit {0}))) (o : Option (RowOf (Unit {0}))) → region_with rs page ≡ Some r → option_map (told_row r.thing page) o ≡ Some row → Told rs page row
-by_row rs page row r None there e = cc
-by_row rs page row r (Some x) there e =
-    let same : told_row r.thing page x ≡ row = cc in
-    record { region = r; there = there; kind = ap (λ (w : PageRow). w.kind) (sym same); index = ap (λ (w : PageRow). w.index) (sym same) }
-
-pub told : (rs : List (RegionOf (Unit {0}))) (page : ℕ) (row : PageRow) → page_row rs page ≡ Some row → Told rs page row
-told rs page row e = by_region (region_with rs page) refl e
-  where
-    by_region : (o : Option (Found (RegionOf (Unit {0})))) → region_with rs page ≡ o → option_and_then (λ (r : Found (RegionOf (Unit {0}))). option_map (told_row r.thing page) (row_at r.thing page)) o ≡ Some row → Told rs page row
-    by_region None there e = cc
-    by_region (Some r) there e = by_row rs page row r (row_at r.thing page) there e
-
 -- a page of a view lies within its area
-pub in_area : (t : Tables) (pid page : ℕ) (p : ProcessOf (Unit {0})) (row : PageRow) → WellFormed t → process_of t pid ≡ Some p → Told p.regions page row → (v : View) → row.kind ≡ kind.View v → v.first + row.index < length (area_at t v.area.0).pages
-in_area t pid page p row h lives k v is =
-    let stands = found_stands (λ (r : RegionOf (Unit {0})). holds_page (pages_of r) page) p.regions k.region k.there in
-    let fits = each-at (RegionRefers t) p.regions k.region.place k.region.thing (h.references.processes pid p lives).views stands.there v (sym k.kind ∙ is) in
-    let w = within (pages_of k.region.thing) page stands.passes in
-    omega (arith, fits.within, k.index, w.low, w.high)
-
--- an area with a page was made
-pub made : (t : Tables) (area i : ℕ) → i < length (area_at t area).pages → area < length t.areas
-made t area i inside = by_list t.areas area inside
+pub in_area : (t : Tables) (pid page : ℕ) (p : ProcessOf (Unit {0})) (row : PageRow) → WellFormed t → process_of t pid ≡ Some p → page_row p.regions page ≡ Some row → (v : View) → row.kind ≡ kind.View v → v.first + row.index < length (area_at t v.area.0).pages
+in_area t pid page p row h lives found v is =
+    option_and_then_some (λ (r : Found (RegionOf (Unit {0}))). option_map (told_row r.thing page) (row_at r.thing page)) (region_with p.regions page) row found (λ r there told.
+    by_row r there (row_at r.thing page) told)
   where
-    by_list : (areas : List (AreaOf (Unit {0}))) (area : ℕ) → i < length (unwrap_or (slice_get areas area) no_area).pages → area < length areas
-    by_list [] area h = absurd (omega (arith, h))
-    by_list (a ∷ rest) zero h = omega arith
-    by_list (a ∷ rest) (suc area) h = omega (arith, by_list rest area h)
+    by_row : (r : Found (RegionOf (Unit {0}))) → region_with p.regions page ≡ Some r → (o : Option (RowOf (Unit {0}))) → option_map (told_row r.thing page) o ≡ Some row → v.first + row.index < length (area_at t v.area.0).pages
+    by_row r there None told = cc
+    by_row r there (Some x) told =
+        let same : told_row r.thing page x ≡ row = cc in
+        let stands = found_stands (λ (r : RegionOf (Unit {0})). holds_page (pages_of r) page) p.regions r there in
+        let fits = each-at (RegionRefers t) p.regions r.place r.thing (h.references.processes pid p lives).views stands.there v (ap (λ (w : PageRow). w.kind) same ∙ is) in
+        let w = within (pages_of r.thing) page stands.passes in
+        omega (arith, fits.within, ap (λ (w : PageRow). w.index) same, w.low, w.high)
+
+-- ---- the tables as they are kept, after a step on one committed row
+
+module _ {i : Inside} {t : Tables} {pid : ℕ} {o : Option Process} (h : Held i t pid o) (new : Option Process) (page : ℕ) (change : RowOf (Unit {0}) → RowOf (Unit {0})) (changed : (r : Found (RegionOf (Unit {0}))) (row : RowOf (Unit {0})) → region_with (regions_of o) page ≡ Some r → row_at r.thing page ≡ Some row → Became o new (set (regions_of o) r.place (record r.thing { rows = set r.thing.rows (page - r.thing.base) (change row) }))) where
+  abbrev with_change : List (RegionOf (Unit {0})) → Committed (Unit {0}) → List (RegionOf (Unit {0}))
+  with_change rs k = set rs k.region.place (record k.region.thing { rows = set k.region.thing.rows (page - k.region.thing.base) (change k.row) })
+
+  row_became : (p : ProcessOf (Unit {0})) (k : Committed (Unit {0})) → process_of t pid ≡ Some p → committed_at t p.regions page ≡ Some k → Became o new (with_change p.regions k)
+  row_became p k lives there =
+      let same = regions_by h p lives in
+      let is = committed_is t p.regions page k there in
+      subst (λ rs. Became o new (with_change rs k)) same (changed k.region k.row (ap (λ rs. region_with rs page) same ∙ is.region) is.row_there)
+
+  pub row_changed : (p : ProcessOf (Unit {0})) (k : Committed (Unit {0})) → process_of t pid ≡ Some p → committed_at t p.regions page ≡ Some k → shown_with i (set i.processes.items (pid - 1) new) ≡ set_row t pid p k.region page (change k.row)
+  row_changed p k lives there = h.changed new p (with_change p.regions k) (row_became p k lives there) lives
+
+  pub row_kept : (k : Committed (Unit {0})) → committed_at t h.process.regions page ≡ Some k → StandIn t h.process.regions (with_change h.process.regions k) → charge (set_row t pid h.process k.region page (change k.row)) ≡ charge t → IsKept (shown_with i (set i.processes.items (pid - 1) new)) i.directory.entries i.commit
+  row_kept k there stands same =
+      still_kept h new (with_change h.process.regions k) i.commit i.commit.charge (row_became h.process k h.lives there) stands (same ∙ sym h.kept.charged)
+      (omega (arith, h.kept.charged, h.kept.sound.charged)) refl refl

@@ -1,5 +1,5 @@
 -- Keys of a range, page by page.
-use Rattle.std.proofs.Common.{◌≡◌, ℕ, ◌+◌, ◌-◌, Bool, true, false, Option, Some, None, refl, sym, ◌∙◌, ap, cond, arith, is_some, not, ◌&&◌, unwrap_or, ◌≢◌, zero, suc, ◌≤◌, ◌<◌, List, subst, ◌||◌}
+use Rattle.std.proofs.Common.{◌≡◌, ℕ, ◌+◌, ◌-◌, Bool, true, false, Option, Some, None, refl, sym, ◌∙◌, ap, cond, arith, is_some, not, ◌&&◌, unwrap_or, zero, suc, ◌≤◌, ◌<◌, List, subst, ◌||◌, inl, inr}
 use Rattle.std.specs.Prelude.{◌==◌}
 use Rattle.std.specs.Cmp.{unsigned_Decides}
 use Rattle.std.proofs.Math.Path.{fun_ext}
@@ -8,6 +8,7 @@ use Rattle.mm_types.specs.declared.numbers.Key.TheVariants as key
 use Rattle.mm_types.specs.declared.numbers.Pid.{Pid}
 use Rattle.mm_types.specs.declared.numbers.Place.{Place}
 use Rattle.mm_types.specs.Address.{holds_page, Range}
+use Rattle.mm_types.proofs.Cells.{same_or_not}
 use Rattle.mm_types.proofs.Booleans.{same_tests, and_false, spread, or_left, or_right, by_either, cond_twice}
 use Rattle.mm_world.specs.World.{Page, filled, RegionOf}
 use Rattle.mm_world.specs.Failure.{same_key}
@@ -17,7 +18,7 @@ use Rattle.mm_pages.specs.Store.{StoreOf, changed, changed_in, same_place, is_pl
 use Rattle.mm_pages.specs.Reports.{rearranged}
 use Rattle.mm_pages.specs.Conditions.{place_at}
 use Rattle.mm_tables.specs.Ranges.{is_key_in, added, removed, set_in, passing, is_live, is_dead, only, Adds, Removes, with_keys, without_keys, CanAdd, CanRemove, front}
-use Rattle.mm_tables.proofs.Regions.{within, holds, Within, holds_not}
+use Rattle.mm_tables.proofs.Regions.{within, holds, holds_not}
 
 abbrev pub own : Pid → ℕ → Key
 own pid page = key.Private pid (record { 0 = page })
@@ -53,9 +54,13 @@ same_place_is pid page q e =
     λ i. record { pid = record { 0 = a i }; vpn = record { 0 = b i } }
 
 -- a function of keys, where it is changed at one key
-by_key : {V : Type 0} (pid : Pid) (page : ℕ) (f : Key → V) (x : Key → V) (y : V) → x (own pid page) ≡ y → (k : Key) (b : Bool) → same_key k (own pid page) ≡ b → cond b (x k) (f k) ≡ cond b y (f k)
-by_key pid page f x y e k true same = ap x (same_is pid page k same) ∙ e
-by_key pid page f x y e k false same = refl
+pub cond_at : {V : Type 0} (b : Bool) (x y z : V) → (b ≡ true → x ≡ y) → cond b x z ≡ cond b y z
+cond_at true x y z e = e refl
+cond_at false x y z e = refl
+
+pub cond_same : {V : Type 0} (b : Bool) (x z : V) → (b ≡ true → x ≡ z) → cond b x z ≡ z
+cond_same true x z e = e refl
+cond_same false x z e = refl
 
 pub by_same : {V : Type 0} (pid : Pid) (page : ℕ) (f x : Key → V) → x (own pid page) ≡ f (own pid page) → (k : Key) (b : Bool) → same_key k (own pid page) ≡ b → cond b (x k) (f k) ≡ f k
 by_same pid page f x e k true same = ap x (same_is pid page k same) ∙ e ∙ sym (ap f (same_is pid page k same))
@@ -75,28 +80,19 @@ set_only pid page f x = fun_ext (λ k. ap (λ b. cond b x (f k)) (key_in_only pi
 pub once : (test : ℕ → Bool) (page : ℕ) → passing test page 1 ≡ cond (test page) 1 0
 once test page = ap (λ (k : ℕ). 0 + cond (test k) 1 0) (let same : page + 0 ≡ page = omega arith in same) ∙ (let same : 0 + cond (test page) 1 0 ≡ cond (test page) 1 0 = omega arith in same)
 
--- ---- adding at one page
-
--- ---- removing at one page
-
 -- ---- ranges
 
-holds_more : (range : Range) (n v : ℕ) → holds_page (front range (suc n)) v ≡ (holds_page (only (range.first + n)) v || holds_page (front range n) v)
+pub holds_more : (range : Range) (n v : ℕ) → holds_page (front range (suc n)) v ≡ (holds_page (only (range.first + n)) v || holds_page (front range n) v)
 holds_more range n v =
     same_tests _ _
     (λ e. let w = within (front range (suc n)) v e in
-    by_last w (v == range.first + n) refl)
+    elim (same_or_not v (range.first + n)) [
+      | inl same ↦ or_left (holds_page (only (range.first + n)) v) (holds_page (front range n) v) (holds (only (range.first + n)) v (omega (arith, same)) (omega (arith, same)))
+      | inr other ↦ or_right (holds_page (only (range.first + n)) v) (holds_page (front range n) v) (holds (front range n) v w.low (omega (arith, w.high, other)))
+    ])
     (λ e. by_either (holds_page (only (range.first + n)) v) (holds_page (front range n) v) e (holds_page (front range (suc n)) v ≡ true)
     (λ h. let w = within (only (range.first + n)) v h in holds (front range (suc n)) v (omega (arith, w.low)) (omega (arith, w.low, w.high)))
     (λ h. let w = within (front range n) v h in holds (front range (suc n)) v (omega (arith, w.low)) (omega (arith, w.low, w.high))))
-  where
-    by_last : Within (front range (suc n)) v → (b : Bool) → (v == range.first + n) ≡ b → (holds_page (only (range.first + n)) v || holds_page (front range n) v) ≡ true
-    by_last w true e =
-        let same : v ≡ range.first + n = (unsigned_Decides v (range.first + n)).0 e in
-        or_left (holds_page (only (range.first + n)) v) (holds_page (front range n) v) (holds (only (range.first + n)) v (omega (arith, same)) (omega (arith, same)))
-    by_last w false e =
-        let other : v ≢ range.first + n = λ same. (let bad : true ≡ false = sym ((unsigned_Decides v (range.first + n)).1 same) ∙ e in cc) in
-        or_right (holds_page (only (range.first + n)) v) (holds_page (front range n) v) (holds (front range n) v w.low (omega (arith, w.low, w.high, other)))
 
 pub key_in_more : (pid : Pid) (range : Range) (n : ℕ) (k : Key) → is_key_in pid (front range (suc n)) k ≡ (is_key_in pid (only (range.first + n)) k || is_key_in pid (front range n) k)
 key_in_more pid range n (key.Private p v) = ap (λ b. (p.0 == pid.0) && b) (holds_more range n v.0) ∙ spread (p.0 == pid.0) (holds_page (only (range.first + n)) v.0) (holds_page (front range n) v.0)
@@ -118,14 +114,8 @@ added_more pid range n c =
     added_twice (is_key_in pid (only (range.first + n)) k) (is_key_in pid (front range n) k) (c k)
     ∙ ap (λ b. cond b (Some (unwrap_or (c k) (filled 0))) (c k)) (sym (key_in_more pid range n k)))
 
-removed_more : (pid : Pid) (range : Range) (n : ℕ) (c : Key → Option Page) → removed pid (only (range.first + n)) (removed pid (front range n) c) ≡ removed pid (front range (suc n)) c
-removed_more pid range n c =
-    fun_ext (λ k.
-    cond_twice (is_key_in pid (only (range.first + n)) k) (is_key_in pid (front range n) k) None (c k)
-    ∙ ap (λ b. cond b None (c k)) (sym (key_in_more pid range n k)))
-
-set_more : (pid : Pid) (range : Range) (n : ℕ) (f : Key → Bool) (x : Bool) → set_in pid (only (range.first + n)) (set_in pid (front range n) f x) x ≡ set_in pid (front range (suc n)) f x
-set_more pid range n f x =
+keys_more : {V : Type 0} (pid : Pid) (range : Range) (n : ℕ) (x : V) (f : Key → V) → ◌≡◌ {A = Key → V} (λ k. cond (is_key_in pid (only (range.first + n)) k) x (cond (is_key_in pid (front range n) k) x (f k))) (λ k. cond (is_key_in pid (front range (suc n)) k) x (f k))
+keys_more pid range n x f =
     fun_ext (λ k.
     cond_twice (is_key_in pid (only (range.first + n)) k) (is_key_in pid (front range n) k) x (f k)
     ∙ ap (λ b. cond b x (f k)) (sym (key_in_more pid range n k)))
@@ -160,16 +150,17 @@ live_still pid range n c d e =
 pub only_is : (page v : ℕ) → holds_page (only page) v ≡ true → v ≡ page
 only_is page v e = (unsigned_Decides v page).0 (sym (holds_only page v) ∙ e)
 
-passing_grows : (test : ℕ → Bool) (first n m : ℕ) → passing test first n ≤ passing test first (n + m)
-passing_grows test first n zero = let same : n + 0 ≡ n = omega arith in subst (λ (k : ℕ). passing test first n ≤ passing test first k) (sym same) (omega arith)
-passing_grows test first n (suc m) =
-    let same : n + suc m ≡ suc (n + m) = omega arith in
-    subst (λ (k : ℕ). passing test first n ≤ passing test first k) (sym same) (omega (arith, passing_grows test first n m))
+-- a number that does not fall from one to the next
+pub rises : (f : ℕ → ℕ) (n m : ℕ) → n ≤ m → ((k : ℕ) → k < m → f k ≤ f (suc k)) → f n ≤ f m
+rises f n zero h up = let same : n ≡ 0 = omega (arith, h) in subst (λ (k : ℕ). f k ≤ f 0) (sym same) (omega arith)
+rises f n (suc m) h up =
+    elim (same_or_not n (suc m)) [
+      | inl same ↦ subst (λ (k : ℕ). f k ≤ f (suc m)) (sym same) (omega arith)
+      | inr other ↦ omega (arith, rises f n m (omega (arith, h, other)) (λ k low. up k (omega (arith, low))), up m (omega arith))
+    ]
 
 pub passing_most : (test : ℕ → Bool) (first n m : ℕ) → n ≤ m → passing test first n ≤ passing test first m
-passing_most test first n m h =
-    let same : n + (m - n) ≡ m = omega (arith, h) in
-    subst (λ (k : ℕ). passing test first n ≤ passing test first k) same (passing_grows test first n (m - n))
+passing_most test first n m h = rises (passing test first) n m h (λ k low. omega arith)
 
 pub passing_few : (test : ℕ → Bool) (first n : ℕ) → passing test first n ≤ n
 passing_few test first zero = omega arith
@@ -201,15 +192,13 @@ can_add_next pid range n rs c d s z can few a =
     let one : passing (is_dead pid d) page 1 ≡ cond (is_dead pid c page) 1 0 = once (is_dead pid d) page ∙ ap (λ b. cond b 1 0) dead in
     let most : passing (is_dead pid c) range.first (suc n) ≤ passing (is_dead pid c) range.first range.count = passing_most (is_dead pid c) range.first (suc n) range.count (omega (arith, few)) in
     record {
-      live = λ v e. ap (λ (v : ℕ). is_live pid d v) (only_is page v e) ∙ yet ∙ can.live page held ∙ ap (λ (v : ℕ). is_some (own_page rs v)) (sym (only_is page v e));
-      bound = λ v e. ap (λ (x : StoreOf). x.bound (place_at pid v)) a.store ∙ ap (λ (v : ℕ). s.bound (place_at pid v)) (only_is page v e) ∙ can.bound page held;
-      named = λ v e free.
-          ap (λ (x : StoreOf). x.names (place_at pid v)) a.store ∙ ap (λ (v : ℕ). s.names (place_at pid v)) (only_is page v e)
-          ∙ can.named page held (sym yet ∙ ap (λ (v : ℕ). is_live pid d v) (sym (only_is page v e)) ∙ free);
-      paging = λ v e.
-          ap (λ (v : ℕ). z.paging (own pid v)) (only_is page v e)
-          ∙ ap (λ (x : StoreOf). x.paging (own pid page)) a.store ∙ ap (λ b. cond b true (s.paging (own pid page))) (outside pid range n)
-          ∙ can.paging page held ∙ sym yet ∙ ap (λ (v : ℕ). is_live pid d v) (sym (only_is page v e));
+      live = λ v e. subst (λ (v : ℕ). is_live pid d v ≡ is_some (own_page rs v)) (sym (only_is page v e)) (yet ∙ can.live page held);
+      bound = λ v e. subst (λ (v : ℕ). z.bound (place_at pid v) ≡ true) (sym (only_is page v e)) (ap (λ (x : StoreOf). x.bound (place_at pid page)) a.store ∙ can.bound page held);
+      named = λ v e. subst (λ (v : ℕ). is_live pid d v ≡ false → z.names (place_at pid v) ≡ None) (sym (only_is page v e)) (λ free.
+          ap (λ (x : StoreOf). x.names (place_at pid page)) a.store ∙ can.named page held (sym yet ∙ free));
+      paging = λ v e. subst (λ (v : ℕ). z.paging (own pid v) ≡ is_live pid d v) (sym (only_is page v e)) (
+          ap (λ (x : StoreOf). x.paging (own pid page)) a.store ∙ ap (λ b. cond b true (s.paging (own pid page))) (outside pid range n) ∙ can.paging page held ∙ sym yet
+          );
       room = omega (arith, can.room, used, room, one, most);
       called = ap (λ (x : StoreOf). x.kind) a.store ∙ can.called;
     }
@@ -225,7 +214,7 @@ adds_then pid range n c d e s z y a b =
       contents = b.contents ∙ ap (added pid (only page)) a.contents ∙ added_more pid range n c;
       store =
           b.store ∙ ap (λ (x : StoreOf). with_keys pid (only page) (passing (is_dead pid d) page 1) x y) a.store
-          ∙ (λ i. record s { paging = set_more pid range n s.paging true i; paging_keys = count i; report = rearranged s.report y.report });
+          ∙ (λ i. record s { paging = keys_more pid range n true s.paging i; paging_keys = count i; report = rearranged s.report y.report });
     })
 
 -- ---- the loop that removes
@@ -244,15 +233,12 @@ can_remove_next pid range n rs c d s z can few a =
     let still = live_still pid range n c d a.contents in
     let place : is_place_in pid (front range n) (place_at pid page) ≡ false = ap (λ b. (pid.0 == pid.0) && b) (not_yet range n) ∙ and_false (pid.0 == pid.0) in
     record {
-      live = λ v e. ap (λ (v : ℕ). is_live pid d v) (only_is page v e) ∙ still ∙ can.live page held ∙ ap (λ (v : ℕ). is_some (own_page rs v)) (sym (only_is page v e));
-      named = λ v e free.
-          ap (λ (v : ℕ). z.names (place_at pid v)) (only_is page v e)
-          ∙ ap (λ (x : StoreOf). x.names (place_at pid page)) a.store ∙ ap (λ b. cond b None (s.names (place_at pid page))) place
-          ∙ can.named page held (sym still ∙ ap (λ (v : ℕ). is_live pid d v) (sym (only_is page v e)) ∙ free);
-      paging = λ v e.
-          ap (λ (v : ℕ). z.paging (own pid v)) (only_is page v e)
-          ∙ ap (λ (x : StoreOf). x.paging (own pid page)) a.store ∙ ap (λ b. cond b false (s.paging (own pid page))) (outside pid range n)
-          ∙ can.paging page held ∙ sym still ∙ ap (λ (v : ℕ). is_live pid d v) (sym (only_is page v e));
+      live = λ v e. subst (λ (v : ℕ). is_live pid d v ≡ is_some (own_page rs v)) (sym (only_is page v e)) (still ∙ can.live page held);
+      named = λ v e. subst (λ (v : ℕ). is_live pid d v ≡ false → z.names (place_at pid v) ≡ None) (sym (only_is page v e)) (λ free.
+          ap (λ (x : StoreOf). x.names (place_at pid page)) a.store ∙ ap (λ b. cond b None (s.names (place_at pid page))) place ∙ can.named page held (sym still ∙ free));
+      paging = λ v e. subst (λ (v : ℕ). z.paging (own pid v) ≡ is_live pid d v) (sym (only_is page v e)) (
+          ap (λ (x : StoreOf). x.paging (own pid page)) a.store ∙ ap (λ b. cond b false (s.paging (own pid page))) (outside pid range n) ∙ can.paging page held ∙ sym still
+          );
       unbinding = ap (λ (x : StoreOf). x.kind) a.store ∙ can.unbinding;
     }
 
@@ -264,8 +250,8 @@ removes_then pid range n c d e s z y a b =
     let one : passing (is_live pid d) page 1 ≡ cond (is_live pid c page) 1 0 = once (is_live pid d) page ∙ ap (λ b. cond b 1 0) live in
     let count : s.paging_keys - passing (is_live pid c) range.first n - passing (is_live pid d) page 1 ≡ s.paging_keys - passing (is_live pid c) range.first (suc n) = omega (arith, one) in
     subst (λ (k : ℕ). Removes pid (front range k) c e s y) more (record {
-      contents = b.contents ∙ ap (removed pid (only page)) a.contents ∙ removed_more pid range n c;
+      contents = b.contents ∙ ap (removed pid (only page)) a.contents ∙ keys_more pid range n None c;
       store =
           b.store ∙ ap (λ (x : StoreOf). without_keys pid (only page) (passing (is_live pid d) page 1) x y) a.store
-          ∙ (λ i. record s { names = names_more pid range n s.names i; paging = set_more pid range n s.paging false i; paging_keys = count i; report = rearranged s.report y.report });
+          ∙ (λ i. record s { names = names_more pid range n s.names i; paging = keys_more pid range n false s.paging i; paging_keys = count i; report = rearranged s.report y.report });
     })

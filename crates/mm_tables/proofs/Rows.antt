@@ -1,10 +1,8 @@
 -- Which pages have bytes of their own, and how many are charged, after rows of a range were changed.
-use Rattle.std.proofs.Common.{◌≡◌, ℕ, zero, suc, ◌+◌, ◌-◌, ◌≤◌, Bool, true, false, Option, Some, None, List, refl, sym, ◌∙◌, ap, cond, arith, length, set, slice_get, is_some, nat_le, nat_lt, option_map, take, drop, count_by}
+use Rattle.std.proofs.Common.{◌≡◌, ℕ, zero, suc, ◌+◌, ◌-◌, ◌≤◌, Bool, true, false, Option, Some, None, List, refl, sym, ◌∙◌, ap, cond, arith, set, slice_get, is_some, nat_le, nat_lt, option_map, take, drop, count_by}
 use Rattle.std.specs.Prelude.{option_and_then}
-use Rattle.std.proofs.lemmas.Bool.{leb-true, le-leb}
-use Rattle.mm_types.specs.declared.views.Kind.{Kind}
-use Rattle.mm_types.specs.declared.views.Kind.TheVariants as kind
-use Rattle.mm_types.specs.Address.{Range, end_of, holds_page, lies_within}
+use Rattle.std.proofs.lemmas.Bool.{leb-true, le-leb, cond_both}
+use Rattle.mm_types.specs.Address.{Range, holds_page}
 use Rattle.mm_world.specs.World.{RegionOf, RowOf, pages_of}
 use Rattle.mm_world.specs.Find.{is_private}
 use Rattle.mm_world.specs.Charge.{is_charged, region_charge}
@@ -13,26 +11,17 @@ use Rattle.mm_world.specs.Rows.{change_rows}
 use Rattle.mm_world.specs.WellFormed.{LaidOut}
 use Rattle.mm_world.proofs.LaidOut.{and-true, less}
 use Rattle.mm_world.proofs.KeptPages.{own_in}
+use Rattle.mm_world.proofs.KindsAndKeys.{private_kind}
+pub use Rattle.mm_world.proofs.Ranges.{Inside, inside, holds_too}
 use Rattle.mm_world.proofs.RowsFit.{length-change_range}
-use Rattle.mm_world.proofs.Charges.{count_by-none}
+use Rattle.mm_tables.specs.Effects.{Effect, after}
 use Rattle.mm_tables.specs.Ranges.{passing}
-use Rattle.mm_tables.proofs.Lists.{is_between, get-change_range, count-change_range, count-all, count-next, length-range}
+use Rattle.mm_tables.proofs.Carried.{outside}
+use Rattle.mm_tables.proofs.Lists.{is_between, get-change_range, count-change_range, count-all, count-next, length-range, one_if}
 use Rattle.mm_tables.proofs.Regions.{within, holds, SamePages, has_set, has_at}
 use Rattle.mm_types.proofs.Booleans.{not_true, same_tests, both}
 use Rattle.mm_types.proofs.Lists.{is_there}
-
--- a range within a region's pages
-pub record Inside (range pages : Range) : Type 0 where
-  pub low : pages.first ≤ range.first
-  pub high : end_of range ≤ end_of pages
-
-pub inside : (range pages : Range) → lies_within range pages ≡ true → Inside range pages
-inside range pages e =
-    let h = and-true (nat_le pages.first range.first) (nat_le (end_of range) (end_of pages)) e in
-    record { low = leb-true _ _ h.0; high = leb-true _ _ h.1 }
-
-pub holds_too : (range pages : Range) (page : ℕ) → Inside range pages → holds_page range page ≡ true → holds_page pages page ≡ true
-holds_too range pages page h e = let w = within range page e in holds pages page (omega (arith, w.low, h.low)) (omega (arith, w.high, h.high))
+use Rattle.mm_types.proofs.Options.{some_found}
 
 pub same_place : (range : Range) (base page : ℕ) → base ≤ range.first → base ≤ page → is_between (range.first - base) range.count (page - base) ≡ holds_page range page
 same_place range base page low from =
@@ -47,55 +36,37 @@ module _ {B : Type 0} where
   abbrev pub has_own : RowOf B → Bool
   has_own row = is_some row.own
 
-  -- what a change of a row does to whether it has bytes of its own
-  abbrev pub Makes : (RowOf B → RowOf B) → (Bool → Bool) → Type 0
-  Makes change owns = (row : RowOf B) → is_some (change row).own ≡ owns (is_some row.own)
-
-  by_row : (change : RowOf B → RowOf B) (owns : Bool → Bool) → Makes change owns → (b : Bool) (o : Option (RowOf B)) → is_some o ≡ true → is_some (option_and_then (λ (row : RowOf B). row.own) (cond b (option_map change o) o)) ≡ cond b (owns (is_some (option_and_then (λ (row : RowOf B). row.own) o))) (is_some (option_and_then (λ (row : RowOf B). row.own) o))
-  by_row change owns makes b None e = cc
-  by_row change owns makes true (Some row) e = makes row
-  by_row change owns makes false (Some row) e = refl
-
-  own_changed : (change : RowOf B → RowOf B) (owns : Bool → Bool) → Makes change owns → (range : Range) (r : RegionOf B) (page : ℕ) → Inside range (pages_of r) → holds_page (pages_of r) page ≡ true → is_some (own_in (change_rows change range r) page) ≡ cond (holds_page range page) (owns (is_some (own_in r page))) (is_some (own_in r page))
-  own_changed change owns makes range r page h e =
-      let w = within (pages_of r) page e in
-      let k = page - r.base in
-      ap (λ o. is_some (option_and_then (λ (row : RowOf B). row.own) o)) (get-change_range change (range.first - r.base) range.count r.rows k)
-      ∙ ap (λ b. is_some (option_and_then (λ (row : RowOf B). row.own) (cond b (option_map change (slice_get r.rows k)) (slice_get r.rows k)))) (same_place range r.base page h.low w.low)
-      ∙ by_row change owns makes (holds_page range page) (slice_get r.rows k) (is_there r.rows k (omega (arith, w.low, w.high)))
+  by_row : (change : RowOf B → RowOf B) (keys : Effect) → ((row : RowOf B) → is_some (change row).own ≡ after keys true (is_some row.own)) → (b : Bool) (o : Option (RowOf B)) → is_some o ≡ true → is_some (option_and_then (λ (row : RowOf B). row.own) (cond b (option_map change o) o)) ≡ after keys b (is_some (option_and_then (λ (row : RowOf B). row.own) o))
+  by_row change keys makes b None e = cc
+  by_row change keys makes true (Some row) e = makes row
+  by_row change keys makes false (Some row) e = sym (outside keys (is_some row.own))
 
   pub same_pages : (change : RowOf B → RowOf B) (range : Range) (r : RegionOf B) → SamePages r (change_rows change range r)
   same_pages change range r = record { base = refl; rows = length-change_range change (range.first - r.base) range.count r.rows }
 
   -- the rows of the range are changed, and all others stay
-  pub own_of_changed : (change : RowOf B → RowOf B) (owns : Bool → Bool) → Makes change owns → (from i : ℕ) (rs : List (RegionOf B)) (range : Range) (r : RegionOf B) (page : ℕ) → LaidOut from rs → slice_get rs i ≡ Some r → Inside range (pages_of r) → is_some (own_page (set rs i (change_rows change range r)) page) ≡ cond (holds_page range page) (owns (is_some (own_page rs page))) (is_some (own_page rs page))
-  own_of_changed change owns makes from i rs range r page laid at h =
-      ap is_some (has_set (λ (r : RegionOf B). own_in r page) from i page rs r (change_rows change range r) laid at (same_pages change range r)) ∙ by_test (holds_page (pages_of r) page) refl
-    where
-      by_test : (b : Bool) → holds_page (pages_of r) page ≡ b → is_some (cond (holds_page (pages_of r) page) (own_in (change_rows change range r) page) (own_page rs page)) ≡ cond (holds_page range page) (owns (is_some (own_page rs page))) (is_some (own_page rs page))
-      by_test true e =
-          ap (λ b. is_some (cond b (own_in (change_rows change range r) page) (own_page rs page))) e
-          ∙ own_changed change owns makes range r page h e
-          ∙ ap (λ o. cond (holds_page range page) (owns (is_some o)) (is_some o)) (sym (has_at (λ (r : RegionOf B). own_in r page) from i page rs r laid at e))
-      by_test false e =
-          ap (λ b. is_some (cond b (own_in (change_rows change range r) page) (own_page rs page))) e
-          ∙ ap (λ b. cond b (owns (is_some (own_page rs page))) (is_some (own_page rs page)))
-          (sym (not_true (holds_page range page) (λ t. let bad : true ≡ false = sym (holds_too range (pages_of r) page h t) ∙ e in cc)))
+  pub own_of_changed : (change : RowOf B → RowOf B) (keys : Effect) → ((row : RowOf B) → is_some (change row).own ≡ after keys true (is_some row.own)) → (from i : ℕ) (rs : List (RegionOf B)) (range : Range) (r : RegionOf B) (page : ℕ) → LaidOut from rs → slice_get rs i ≡ Some r → Inside range (pages_of r) → is_some (own_page (set rs i (change_rows change range r)) page) ≡ after keys (holds_page range page) (is_some (own_page rs page))
+  own_of_changed change keys makes from i rs range r page laid at h =
+      ap is_some (has_set (λ (r : RegionOf B). own_in r page) from i page rs r (change_rows change range r) laid at (same_pages change range r))
+      ∙ cond_both (holds_page (pages_of r) page) (own_in (change_rows change range r) page) (own_page rs page) (λ o. is_some o ≡ after keys (holds_page range page) (is_some (own_page rs page)))
+      (λ e.
+      let w = within (pages_of r) page e in
+      let k = page - r.base in
+      ap (λ o. is_some (option_and_then (λ (row : RowOf B). row.own) o)) (get-change_range change (range.first - r.base) range.count r.rows k)
+      ∙ ap (λ b. is_some (option_and_then (λ (row : RowOf B). row.own) (cond b (option_map change (slice_get r.rows k)) (slice_get r.rows k)))) (same_place range r.base page h.low w.low)
+      ∙ by_row change keys makes (holds_page range page) (slice_get r.rows k) (is_there r.rows k (omega (arith, w.low, w.high)))
+      ∙ ap (λ o. after keys (holds_page range page) (is_some o)) (sym (has_at (λ (r : RegionOf B). own_in r page) from i page rs r laid at e)))
+      (λ e.
+      sym (outside keys (is_some (own_page rs page))) ∙ ap (λ b. after keys b (is_some (own_page rs page)))
+      (sym (not_true (holds_page range page) (λ t. let bad : true ≡ false = sym (holds_too range (pages_of r) page h t) ∙ e in cc))))
 
   -- ---- charges
 
-  charged_private : (k : Kind) → is_private k ≡ true → is_charged {B = B} k ≡ has_own
-  charged_private kind.Private e = refl
-  charged_private (kind.View v) e = cc
-
   pub private_charge : (r : RegionOf B) → is_private r.kind ≡ true → region_charge r ≡ count_by has_own r.rows
-  private_charge r e = ap (λ test. count_by test r.rows) (charged_private r.kind e)
+  private_charge r e = ap (λ k. count_by (is_charged k) r.rows) (private_kind r.kind e)
 
   abbrev pub in_range : Range → RegionOf B → List (RowOf B)
   in_range range r = take range.count (drop (range.first - r.base) r.rows)
-
-  pub length_in : (range : Range) (r : RegionOf B) → Inside range (pages_of r) → length (in_range range r) ≡ range.count
-  length_in range r h = length-range r.rows (range.first - r.base) range.count (omega (arith, h.low, h.high))
 
   -- all rows of the range have bytes of their own from now on
   pub charge_of_commit : (change : RowOf B → RowOf B) → ((row : RowOf B) → has_own (change row) ≡ true) → (range : Range) (r : RegionOf B) → is_private r.kind ≡ true → Inside range (pages_of r) → region_charge (change_rows change range r) + count_by has_own (in_range range r) ≡ region_charge r + range.count
@@ -106,29 +77,10 @@ module _ {B : Type 0} where
         private_charge (change_rows change range r) private,
         count-change_range has_own change (range.first - r.base) range.count r.rows,
         count-all has_own change (in_range range r) all,
-        length_in range r h,
+        length-range r.rows (range.first - r.base) range.count (omega (arith, h.low, h.high)),
       )
-
-  -- none has
-  pub charge_of_decommit : (change : RowOf B → RowOf B) → ((row : RowOf B) → has_own (change row) ≡ false) → (range : Range) (r : RegionOf B) → is_private r.kind ≡ true → region_charge (change_rows change range r) + count_by has_own (in_range range r) ≡ region_charge r
-  charge_of_decommit change none range r private =
-      omega (
-        arith,
-        private_charge r private,
-        private_charge (change_rows change range r) private,
-        count-change_range has_own change (range.first - r.base) range.count r.rows,
-        count_by-none has_own change (in_range range r) none,
-      )
-
-  -- each has where it had
 
   -- ---- pages counted one by one
-
-  by_there : (rs : List (RegionOf B)) (r : RegionOf B) (a n page : ℕ) (o : Option (RowOf B)) → slice_get r.rows (a + n) ≡ o → is_some o ≡ true → own_page rs page ≡ option_and_then (λ (row : RowOf B). row.own) (slice_get r.rows (a + n)) → count_by has_own (take (suc n) (drop a r.rows)) ≡ count_by has_own (take n (drop a r.rows)) + cond (is_some (own_page rs page)) 1 0
-  by_there rs r a n page None at e own = cc
-  by_there rs r a n page (Some row) at e own =
-      count-next has_own r.rows a n row at
-      ∙ ap (λ (o : Option B). count_by has_own (take n (drop a r.rows)) + cond (is_some o) 1 0) (ap (λ o. option_and_then (λ (row : RowOf B). row.own) o) (sym at) ∙ sym own)
 
   pub passing_owned : (from i : ℕ) (rs : List (RegionOf B)) (r : RegionOf B) (range : Range) (n : ℕ) → LaidOut from rs → slice_get rs i ≡ Some r → Inside range (pages_of r) → n ≤ range.count → passing (λ page. is_some (own_page rs page)) range.first n ≡ count_by has_own (take n (drop (range.first - r.base) r.rows))
   passing_owned from i rs r range zero laid at h few = refl
@@ -136,7 +88,8 @@ module _ {B : Type 0} where
       let page = range.first + n in
       let held : holds_page (pages_of r) page ≡ true = holds (pages_of r) page (omega (arith, h.low)) (omega (arith, h.high, few)) in
       let place : page - r.base ≡ range.first - r.base + n = omega (arith, h.low) in
-      let own : own_page rs page ≡ option_and_then (λ (row : RowOf B). row.own) (slice_get r.rows (range.first - r.base + n)) =
-      has_at (λ (r : RegionOf B). own_in r page) from i page rs r laid at held ∙ ap (λ (k : ℕ). option_and_then (λ (row : RowOf B). row.own) (slice_get r.rows k)) place in
-      ap (λ (m : ℕ). m + cond (is_some (own_page rs page)) 1 0) (passing_owned from i rs r range n laid at h (omega (arith, few)))
-      ∙ sym (by_there rs r (range.first - r.base) n page (slice_get r.rows (range.first - r.base + n)) refl (is_there r.rows (range.first - r.base + n) (omega (arith, h.low, h.high, few))) own)
+      let row = some_found (slice_get r.rows (range.first - r.base + n)) (is_there r.rows (range.first - r.base + n) (omega (arith, h.low, h.high, few))) in
+      let own : own_page rs page ≡ row.0.own =
+      has_at (λ (r : RegionOf B). own_in r page) from i page rs r laid at held
+      ∙ ap (λ (k : ℕ). option_and_then (λ (row : RowOf B). row.own) (slice_get r.rows k)) place ∙ ap (λ o. option_and_then (λ (row : RowOf B). row.own) o) row.1 in
+      omega (arith, passing_owned from i rs r range n laid at h (omega (arith, few)), count-next has_own r.rows (range.first - r.base) n row.0 row.1, ap (λ (o : Option B). one_if (is_some o)) own)

@@ -1,82 +1,69 @@
 -- A handle, a section or an area more: references are counted, and the store fits.
-use Rattle.std.proofs.Common.{◌≡◌, ◌≢◌, inl, inr, ℕ, zero, suc, ◌+◌, ◌*◌, ◌≤◌, ◌<◌, ◌^◌, Bool, true, false, Option, Some, None, List, [], ◌∷◌, ◌++◌, refl, sym, ◌∙◌, ap, subst, cond, arith, length, get_or, set, is_some, slice_get, option_map, sum_by, count_by, ◌-◌, unwrap_or, ◌&&◌, not}
+use Rattle.std.proofs.Common.{◌≡◌, ◌≢◌, ◌⊎◌, inl, inr, ℕ, zero, suc, ◌+◌, ◌*◌, ◌≤◌, ◌<◌, ◌^◌, Bool, true, false, Option, Some, None, List, [], ◌∷◌, ◌++◌, refl, sym, ◌∙◌, ap, subst, cond, arith, length, get_or, set, is_some, option_map, sum_by, count_by, unwrap_or, ◌&&◌, not, ◌-◌}
 use Rattle.std.specs.Prelude.{◌==◌, option_and_then}
-use Rattle.std.proofs.lemmas.List.{get_or-set_same, get_or-set_other, length-set}
+use Rattle.std.proofs.lemmas.List.{length-set, length-map, map_push}
 use Rattle.std.proofs.lemmas.List.Sums.{sum_by_push, sum_by-cons, count_by-le-length}
 use Rattle.mm_types.specs.declared.views.Kind.{Kind}
 use Rattle.mm_types.specs.declared.views.Kind.TheVariants as kind
 use Rattle.mm_types.specs.declared.views.View.{View}
-use Rattle.mm_types.specs.Machine.{MachineOf}
 use Rattle.mm_types.specs.declared.numbers.Area.{Area}
 use Rattle.mm_types.specs.declared.numbers.Key.{Key}
 use Rattle.mm_types.specs.declared.numbers.Key.TheVariants as key
-use Rattle.mm_types.specs.declared.numbers.Pid.{Pid}
 use Rattle.mm_types.specs.declared.numbers.Place.{Place}
-use Rattle.mm_types.specs.declared.numbers.Vpn.{Vpn}
 use Rattle.mm_types.proofs.Cells.{same_or_not}
 use Rattle.mm_types.proofs.Lists.{push_other, push_at, none_at_end}
-use Rattle.mm_types.proofs.Options.{some_found, some_map}
+use Rattle.mm_types.proofs.Options.{some_found}
 use Rattle.mm_types.proofs.Tables.{differ}
-use Rattle.mm_world.specs.World.{ProcessOf, RegionOf, SectionOf, Numbered, numbered, Page, RowOf, AreaOf}
+use Rattle.mm_world.specs.World.{ProcessOf, RegionOf, SectionOf, FileOf, Numbered, numbered, Page, RowOf, AreaOf}
 use Rattle.mm_world.specs.Find.{process_of, section_of, Found, region_with, area_at, shared_page}
 use Rattle.mm_world.specs.Contents.{Tables}
 use Rattle.mm_world.specs.Sections.{with_handle, is_handle_to, is_view_of}
 use Rattle.mm_world.specs.WellFormed.{Each, ViewFits, RegionRefers, NumbersFit, References}
 use Rattle.mm_world.specs.Processes.{most_processes}
-use Rattle.mm_world.specs.Charge.{charge, area_charge}
-use Rattle.mm_world.specs.Keys.{Home, InSection, Committed, committed_at, committed_in, home_in, key_of, content_of, own_page, is_file_key}
+use Rattle.mm_world.specs.Charge.{charge}
+use Rattle.mm_world.specs.Keys.{Home, InSection, Committed, committed_at, committed_in, home_in, key_of, content_of, own_page}
 use Rattle.mm_world.specs.Rows.{row_at}
 use Rattle.mm_world.proofs.Charges.{sum_by-put}
-use Rattle.mm_world.proofs.Finding.{numbered_inside, numbered_there, committed_is, HomeCases, IsOwn, IsShared, home_cases}
+use Rattle.mm_world.proofs.Finding.{numbered_there, committed_is, HomeCases, IsOwn, IsShared, home_cases}
 use Rattle.mm_pages.specs.Store.{StoreOf}
 use Rattle.mm_sections.specs.Directories.{CountedSection, section_in, sections_of, new_entry, one_handle_more}
+use Rattle.mm_tables.specs.Effects.{key_in}
 use Rattle.mm_tables.specs.References.{handles_in, views_in, handles_to, views_of, IsFew}
+use Rattle.mm_tables.specs.Shown.{tables_with, shown_processes, shown_accesses}
 use Rattle.mm_tables.specs.Sound.{IsCounted}
+use Rattle.mm_tables.specs.declared.tables.Tables.TheInside.{Inside}
 use Rattle.mm_tables.specs.Fits.{Fits, is_reserved, key_at, is_paging, open_pages, block_in, owned_by, paging_count}
-use Rattle.mm_tables.proofs.Lists.{same_number, same_some, one_if, area_in, area_at_end, area_before, no_area_past}
-use Rattle.mm_tables.proofs.SectionTidy.{with_blocks_used, with_section, with_area_charge, with_handle_charge}
+use Rattle.mm_tables.proofs.Lists.{same_number, same_some, one_if, area_in, no_area_past}
+use Rattle.mm_tables.proofs.OneProcess.{regions_in, reserved_is, content_is, key_in_same, key_at_is}
+use Rattle.mm_tables.proofs.SectionTidy.{with_section, with_areas, with_handle_charge}
+
+-- ---- the tables as they are kept, and with these parts
+
+abbrev pub now : Inside → List (Option (ProcessOf (Unit {0}))) → Numbered CountedSection → List (AreaOf (Unit {0})) → List FileOf → ℕ → Tables
+now i ps es areas files used = tables_with i.machine ps es areas files used i.fails_taken (shown_accesses i.kept)
+
+abbrev pub as_kept : Inside → Tables
+as_kept i = now i (shown_processes i.processes.items) i.directory.entries i.areas.items i.directory.files i.blocks_used
 
 -- ---- a handle more
 
 module _ (w : Tables) (pid : ℕ) (p : ProcessOf (Unit {0})) (number : ℕ) (lives : process_of w pid ≡ Some p) where
-  there : slice_get w.processes pid ≡ Some (Some p)
-  there = numbered_there w.processes pid p lives
-
-  handles_more : (n : ℕ) → handles_to (with_handle w pid p number) n ≡ handles_to w n + cond (number == n) 1 0
-  handles_more n =
+  handles_more : (n : ℕ) (b : Bool) → (number == n) ≡ b → handles_to (with_handle w pid p number) n ≡ handles_to w n + cond b 1 0
+  handles_more n b e =
       let q : ProcessOf (Unit {0}) = record p { handles = p.handles ++ Some number ∷ [] } in
-      let total = sum_by-put (handles_in n) w.processes pid (Some p) (Some q) there in
-      let one : count_by (is_handle_to n) (p.handles ++ Some number ∷ []) ≡ count_by (is_handle_to n) p.handles + cond (number == n) 1 0 =
-      sum_by_push (λ (x : Option ℕ). cond (is_handle_to n x) 1 0) p.handles (Some number) in
+      let total = sum_by-put (handles_in n) w.processes pid (Some p) (Some q) (numbered_there w.processes pid p lives) in
+      let one : count_by (is_handle_to n) (p.handles ++ Some number ∷ []) ≡ count_by (is_handle_to n) p.handles + cond b 1 0 =
+      sum_by_push (λ (x : Option ℕ). cond (is_handle_to n x) 1 0) p.handles (Some number) ∙ ap (λ b. count_by (is_handle_to n) p.handles + cond b 1 0) e in
       omega (arith, total, one)
 
   views_same : (n : ℕ) → views_of (with_handle w pid p number) n ≡ views_of w n
   views_same n =
       let q : ProcessOf (Unit {0}) = record p { handles = p.handles ++ Some number ∷ [] } in
-      let total = sum_by-put (views_in n) w.processes pid (Some p) (Some q) there in
-      omega (arith, total)
-
-  pub handles_here : handles_to (with_handle w pid p number) number ≡ handles_to w number + 1
-  handles_here = handles_more number ∙ ap (λ b. handles_to w number + cond b 1 0) (same_number number number refl)
-
-  pub handles_other : (n : ℕ) → n ≢ number → handles_to (with_handle w pid p number) n ≡ handles_to w n
-  handles_other n other =
-      let none : handles_to w n + cond (number == n) 1 0 ≡ handles_to w n + 0 = ap (λ b. handles_to w n + cond b 1 0) (differ number n (λ e. other (sym e))) in
-      omega (arith, handles_more n, none)
-
-  pub views_here : (n : ℕ) → views_of (with_handle w pid p number) n ≡ views_of w n
-  views_here n = views_same n
+      omega (arith, sum_by-put (views_in n) w.processes pid (Some p) (Some q) (numbered_there w.processes pid p lives))
 
 -- ---- counts stay within their range
 
-few_handles : (w : Tables) → IsFew w → (number : ℕ) (pid : ℕ) → handles_in number (numbered w.processes pid) ≤ 2 ^ 28
-few_handles w few number pid = by_process (numbered w.processes pid) refl
-  where
-    by_process : (o : Option (ProcessOf (Unit {0}))) → numbered w.processes pid ≡ o → handles_in number o ≤ 2 ^ 28
-    by_process None e = omega arith
-    by_process (Some p) e = omega (arith, count_by-le-length (is_handle_to number) p.handles, few.handles pid p e)
-
-sum_few : {A : Type 0} (f : Option A → ℕ) (most : ℕ) (xs : List (Option A)) → ((i : ℕ) → f (get_or xs i None) ≤ most) → sum_by f xs ≤ length xs * most
+pub sum_few : {A : Type 0} (f : Option A → ℕ) (most : ℕ) (xs : List (Option A)) → ((i : ℕ) → f (get_or xs i None) ≤ most) → sum_by f xs ≤ length xs * most
 sum_few f most [] h = omega arith
 sum_few f most (x ∷ xs) h =
     let here = h 0 in
@@ -85,77 +72,76 @@ sum_few f most (x ∷ xs) h =
 
 pub handles_few : (w : Tables) → IsFew w → NumbersFit w → (number : ℕ) → handles_to w number < 2 ^ 60
 handles_few w few numbers number =
-    let total = sum_few (handles_in number) (2 ^ 28) w.processes (few_handles w few number) in
+    let total = sum_few (handles_in number) (2 ^ 28) w.processes (λ pid. by_process pid (numbered w.processes pid) refl) in
     let most : length w.processes * 2 ^ 28 ≤ (most_processes + 1) * 2 ^ 28 = omega (arith, numbers.processes) in
     omega (arith, total, most)
+  where
+    by_process : (pid : ℕ) (o : Option (ProcessOf (Unit {0}))) → numbered w.processes pid ≡ o → handles_in number o ≤ 2 ^ 28
+    by_process pid None e = omega arith
+    by_process pid (Some p) e = omega (arith, count_by-le-length (is_handle_to number) p.handles, few.handles pid p e)
 
 -- ---- entries
 
-entries_set : (entries : Numbered CountedSection) (i : ℕ) → sections_of (set entries i (option_map one_handle_more (numbered entries i))) ≡ sections_of entries
-entries_set [] i = refl
-entries_set (e ∷ es) zero = ap (λ s. s ∷ sections_of es) (same e)
+-- a change that leaves each section as it is
+pub sections_set : (f : CountedSection → CountedSection) → ((c : CountedSection) → (f c).section ≡ c.section) → (entries : Numbered CountedSection) (i : ℕ) → sections_of (set entries i (option_map f (numbered entries i))) ≡ sections_of entries
+sections_set f same [] i = refl
+sections_set f same (e ∷ es) zero = ap (λ s. s ∷ sections_of es) (by_entry e)
   where
-    same : (e : Option CountedSection) → option_map section_in (option_map one_handle_more e) ≡ option_map section_in e
-    same None = refl
-    same (Some c) = refl
-entries_set (e ∷ es) (suc i) = ap (λ ss. option_map section_in e ∷ ss) (entries_set es i)
+    by_entry : (e : Option CountedSection) → option_map section_in (option_map f e) ≡ option_map section_in e
+    by_entry None = refl
+    by_entry (Some c) = ap (λ (s : SectionOf). Some s) (same c)
+sections_set f same (e ∷ es) (suc i) = ap (λ ss. option_map section_in e ∷ ss) (sections_set f same es i)
 
 pub sections_kept : (entries new : Numbered CountedSection) (i : ℕ) → new ≡ set entries i (option_map one_handle_more (numbered entries i)) → sections_of new ≡ sections_of entries
-sections_kept entries new i e = ap sections_of e ∙ entries_set entries i
-
-sections_push : (entries : Numbered CountedSection) (c : CountedSection) → sections_of (entries ++ Some c ∷ []) ≡ sections_of entries ++ Some c.section ∷ []
-sections_push [] c = refl
-sections_push (e ∷ es) c = ap (λ ss. option_map section_in e ∷ ss) (sections_push es c)
+sections_kept entries new i e = ap sections_of e ∙ sections_set one_handle_more (λ c. refl) entries i
 
 pub sections_more : (entries new : Numbered CountedSection) (c : CountedSection) → new ≡ entries ++ Some c ∷ [] → sections_of new ≡ sections_of entries ++ Some c.section ∷ []
-sections_more entries new c e = ap sections_of e ∙ sections_push entries c
+sections_more entries new c e = ap sections_of e ∙ map_push (option_map section_in) entries (Some c)
 
 pub length_sections : (entries : Numbered CountedSection) → length (sections_of entries) ≡ length entries
-length_sections [] = refl
-length_sections (e ∷ es) = ap suc (length_sections es)
-
-pub section_at : (entries : Numbered CountedSection) (n : ℕ) → numbered (sections_of entries) n ≡ option_map section_in (numbered entries n)
-section_at [] n = refl
-section_at (e ∷ es) zero = refl
-section_at (e ∷ es) (suc n) = section_at es n
+length_sections entries = length-map entries (option_map section_in)
 
 -- ---- counted
 
-pub record Counts (w : Tables) (entries : Numbered CountedSection) : Type 0 where
-  pub all : (number : ℕ) (c : CountedSection) → numbered entries number ≡ Some c → IsCounted w number c
+abbrev pub Counts : Tables → Numbered CountedSection → Type 0
+Counts w entries = (number : ℕ) (c : CountedSection) → numbered entries number ≡ Some c → IsCounted w number c
 
-by_entry : (o : Option CountedSection) (c : CountedSection) → option_map one_handle_more o ≡ Some c → (d : CountedSection) × (o ≡ Some d) × (c ≡ one_handle_more d)
-by_entry None c e = cc
-by_entry (Some d) c e = (d, refl, same_some c (one_handle_more d) (sym e))
+-- what stands in a list with one thing set
+set_or : {A : Type 0} (xs : List (Option A)) (i j : ℕ) (x : Option A) (y : A) → get_or (set xs i x) j None ≡ Some y → ((j ≡ i) × (x ≡ Some y)) ⊎ ((j ≢ i) × (get_or xs j None ≡ Some y))
+set_or [] i j x y e = cc
+set_or (z ∷ xs) zero zero x y e = inl (refl, e)
+set_or (z ∷ xs) zero (suc j) x y e = inr ((λ same. absurd (omega (arith, same))), e)
+set_or (z ∷ xs) (suc i) zero x y e = inr ((λ same. absurd (omega (arith, same))), e)
+set_or (z ∷ xs) (suc i) (suc j) x y e =
+    elim (set_or xs i j x y e) [
+      | inl is ↦ inl (ap suc is.0, is.1)
+      | inr is ↦ inr ((λ same. is.0 (omega (arith, same))), is.1)
+    ]
 
-pub handle_counts : (w : Tables) (pid : ℕ) (p : ProcessOf (Unit {0})) (number : ℕ) (entries new : Numbered CountedSection) → process_of w pid ≡ Some p → new ≡ set entries number (option_map one_handle_more (numbered entries number)) → is_some (numbered entries number) ≡ true → Counts w entries → Counts (with_handle w pid p number) new
-handle_counts w pid p number entries new lives e there h =
-    record {
-      all = λ n c at.
-          elim (same_or_not n number) [
-            | inl same ↦
-                let x = some_found (numbered entries number) there in
-                let inside = numbered_inside entries number x.0 x.1 in
-                let found : option_map one_handle_more (numbered entries number) ≡ Some c =
-                sym (get_or-set_same entries number (option_map one_handle_more (numbered entries number)) None inside)
-                ∙ ap (λ (es : Numbered CountedSection). numbered es number) (sym e) ∙ ap (λ (k : ℕ). numbered new k) (sym same) ∙ at in
-                let d = by_entry (numbered entries number) c found in
-                let old = h.all number d.0 d.1 in
-                subst (λ (k : ℕ). IsCounted (with_handle w pid p number) k c) (sym same) (record {
-                  handles = ap (λ (c : CountedSection). c.handles) d.2 ∙ ap (λ (k : ℕ). k + 1) old.handles ∙ sym (handles_here w pid p number lives);
-                  views = ap (λ (c : CountedSection). c.views) d.2 ∙ old.views ∙ sym (views_here w pid p number lives number);
-                })
-            | inr other ↦
-                let found : numbered entries n ≡ Some c =
-                sym (get_or-set_other entries number n (option_map one_handle_more (numbered entries number)) None other)
-                ∙ ap (λ (es : Numbered CountedSection). numbered es n) (sym e) ∙ at in
-                let old = h.all n c found in
-                record {
-                  handles = old.handles ∙ sym (handles_other w pid p number lives n other);
-                  views = old.views ∙ sym (views_here w pid p number lives n);
-                }
-          ];
-    }
+-- one entry counts what its section has now, and the others what they had
+pub counts_set : (w v : Tables) (number : ℕ) (f : CountedSection → CountedSection) (entries new : Numbered CountedSection) → new ≡ set entries number (option_map f (numbered entries number)) → ((c : CountedSection) → IsCounted w number c → IsCounted v number (f c)) → ((n : ℕ) (c : CountedSection) → n ≢ number → IsCounted w n c → IsCounted v n c) → Counts w entries → Counts v new
+counts_set w v number f entries new e here other h n c at =
+    elim (set_or entries number n (option_map f (numbered entries number)) c (ap (λ (es : Numbered CountedSection). numbered es n) (sym e) ∙ at)) [
+      | inl is ↦ subst (λ (k : ℕ). IsCounted v k c) (sym is.0) (by_entry (numbered entries number) refl c is.1)
+      | inr is ↦ other n c is.0 (h n c is.1)
+    ]
+  where
+    by_entry : (o : Option CountedSection) → numbered entries number ≡ o → (c : CountedSection) → option_map f o ≡ Some c → IsCounted v number c
+    by_entry None at c got = cc
+    by_entry (Some d) at c got = subst (λ (c : CountedSection). IsCounted v number c) (same_some (f d) c got) (here d (h number d at))
+
+pub handle_counts : (w : Tables) (pid : ℕ) (p : ProcessOf (Unit {0})) (number : ℕ) (entries new : Numbered CountedSection) → process_of w pid ≡ Some p → new ≡ set entries number (option_map one_handle_more (numbered entries number)) → Counts w entries → Counts (with_handle w pid p number) new
+handle_counts w pid p number entries new lives e h =
+    counts_set w (with_handle w pid p number) number one_handle_more entries new e
+    (λ c k. record {
+      handles = omega (arith, k.handles, handles_more w pid p number lives number true (same_number number number refl));
+      views = k.views ∙ sym (views_same w pid p number lives number);
+    })
+    (λ n c other k. record {
+      handles = omega (arith, k.handles, handles_more w pid p number lives n false (differ number n (λ same. other (sym same))));
+      views = k.views ∙ sym (views_same w pid p number lives n);
+    })
+    h
 
 -- ---- a new section
 
@@ -170,8 +156,7 @@ none_handled w number refers none pid = by_process (numbered w.processes pid) re
         here : (o : Option ℕ) → x ≡ o → one_if (is_handle_to number o) ≡ 0
         here None e = refl
         here (Some n) e = ap one_if (differ n number (λ same.
-            let some : is_some (section_of w n) ≡ true = h 0 n e in
-            let bad : false ≡ true = ap is_some (sym none) ∙ ap (λ (k : ℕ). is_some (section_of w k)) (sym same) ∙ some in
+            let bad : false ≡ true = ap is_some (sym none) ∙ ap (λ (k : ℕ). is_some (section_of w k)) (sym same) ∙ h 0 n e in
             cc))
 
     by_process : (o : Option (ProcessOf (Unit {0}))) → numbered w.processes pid ≡ o → handles_in number o ≡ 0
@@ -199,46 +184,7 @@ none_viewed w number refers none pid = by_process (numbered w.processes pid) ref
     by_process (Some p) e = in_regions p.regions (refers.processes pid p e).views
 
 sum_none : {A : Type 0} (f : Option A → ℕ) (xs : List (Option A)) → ((i : ℕ) → f (get_or xs i None) ≡ 0) → sum_by f xs ≡ 0
-sum_none f [] h = refl
-sum_none f (x ∷ xs) h =
-    let here = h 0 in
-    let rest = sum_none f xs (λ i. h (suc i)) in
-    omega (arith, sum_by-cons f x xs, here, rest)
-
-pub none_to : (w : Tables) (number : ℕ) → References w → section_of w number ≡ None → (handles_to w number ≡ 0) × (views_of w number ≡ 0)
-none_to w number refers none = (
-  sum_none (handles_in number) w.processes (none_handled w number refers none),
-  sum_none (views_in number) w.processes (none_viewed w number refers none),
-)
-
-pub section_counts : (w : Tables) (pid : ℕ) (p : ProcessOf (Unit {0})) (s : SectionOf) (entries new : Numbered CountedSection) → process_of w pid ≡ Some p → References w → w.sections ≡ sections_of entries → new ≡ entries ++ Some (one_handle_more (new_entry s.prot s.name s.area)) ∷ [] → Counts w entries → Counts (with_handle (with_section w s) pid p (length w.sections)) new
-section_counts w pid p s entries new lives refers listed e h =
-    let v = with_handle (with_section w s) pid p (length w.sections) in
-    let number = length w.sections in
-    let count : length w.sections ≡ length entries = ap (λ (ss : Numbered SectionOf). length ss) listed ∙ length_sections entries in
-    let none = none_to w number refers (none_at_end w.sections number refl) in
-    record {
-      all = λ n c at.
-          elim (same_or_not n number) [
-            | inl same ↦
-                let is : c ≡ one_handle_more (new_entry s.prot s.name s.area) =
-                same_some c (one_handle_more (new_entry s.prot s.name s.area))
-                (sym at ∙ ap (λ (es : Numbered CountedSection). numbered es n) e ∙ push_at entries (Some (one_handle_more (new_entry s.prot s.name s.area))) n (same ∙ count)) in
-                subst (λ (k : ℕ). IsCounted v k c) (sym same) (record {
-                  handles = ap (λ (c : CountedSection). c.handles) is ∙ sym (handles_here (with_section w s) pid p number lives ∙ ap (λ (k : ℕ). k + 1) none.0);
-                  views = ap (λ (c : CountedSection). c.views) is ∙ sym (views_here (with_section w s) pid p number lives number ∙ none.1);
-                })
-            | inr other ↦
-                let found : numbered entries n ≡ Some c =
-                sym (push_other entries (Some (one_handle_more (new_entry s.prot s.name s.area))) n (λ k. other (k ∙ sym count)))
-                ∙ ap (λ (es : Numbered CountedSection). numbered es n) (sym e) ∙ at in
-                let old = h.all n c found in
-                record {
-                  handles = old.handles ∙ sym (handles_other (with_section w s) pid p number lives n other);
-                  views = old.views ∙ sym (views_here (with_section w s) pid p number lives n);
-                }
-          ];
-    }
+sum_none f xs h = omega (arith, sum_few f 0 xs (λ i. omega (arith, h i)))
 
 -- one handle more to the section that was made last
 set_last : (entries : Numbered CountedSection) (c : CountedSection) → set (entries ++ Some c ∷ []) (length entries) (option_map one_handle_more (numbered (entries ++ Some c ∷ []) (length entries))) ≡ entries ++ Some (one_handle_more c) ∷ []
@@ -248,49 +194,112 @@ set_last (e ∷ es) c = ap (λ rest. e ∷ rest) (set_last es c)
 pub handled_last : (entries new : Numbered CountedSection) (c : CountedSection) (number : ℕ) → new ≡ entries ++ Some c ∷ [] → number ≡ length entries → set new number (option_map one_handle_more (numbered new number)) ≡ entries ++ Some (one_handle_more c) ∷ []
 handled_last entries new c number e at = (λ i. set (e i) (at i) (option_map one_handle_more (numbered (e i) (at i)))) ∙ set_last entries c
 
--- ---- A store stays that of the tables where a handle, a section or an area is made
+pub section_counts : (w : Tables) (pid : ℕ) (p : ProcessOf (Unit {0})) (s : SectionOf) (entries new : Numbered CountedSection) → process_of w pid ≡ Some p → References w → w.sections ≡ sections_of entries → new ≡ entries ++ Some (one_handle_more (new_entry s.prot s.name s.area)) ∷ [] → Counts w entries → Counts (with_handle (with_section w s) pid p (length w.sections)) new
+section_counts w pid p s entries new lives refers listed e h =
+    let number = length w.sections in
+    let fresh : CountedSection = new_entry s.prot s.name s.area in
+    let count : length w.sections ≡ length entries = ap (λ (ss : Numbered SectionOf). length ss) listed ∙ length_sections entries in
+    let none = none_at_end w.sections number refl in
+    let handles : handles_to w number ≡ 0 = sum_none (handles_in number) w.processes (none_handled w number refers none) in
+    let views : views_of w number ≡ 0 = sum_none (views_in number) w.processes (none_viewed w number refers none) in
+    handle_counts (with_section w s) pid p number (entries ++ Some fresh ∷ []) new lives
+    (e ∙ sym (handled_last entries (entries ++ Some fresh ∷ []) fresh number refl count)) (λ n c at.
+    elim (same_or_not n number) [
+      | inl same ↦
+          subst (λ (c : CountedSection). IsCounted (with_section w s) n c) (same_some fresh c (sym (push_at entries (Some fresh) n (same ∙ count)) ∙ at)) (record {
+            handles = sym (ap (λ (k : ℕ). handles_to w k) same ∙ handles);
+            views = sym (ap (λ (k : ℕ). views_of w k) same ∙ views);
+          })
+      | inr other ↦
+          let old = h n c (sym (push_other entries (Some fresh) n (λ k. other (k ∙ sym count))) ∙ at) in
+          record { handles = old.handles; views = old.views }
+    ])
 
-abbrev regions_in : ProcessOf (Unit {0}) → List (RegionOf (Unit {0}))
-regions_in p = p.regions
+-- ---- A store stays that of the tables where processes have the same regions; sections and files are not its business
 
--- ---- what stands on the regions of a process
+abbrev pub with_processes : Tables → List (Option (ProcessOf (Unit {0}))) → Numbered SectionOf → List FileOf → Tables
+with_processes w ps sections files = record w { processes = ps; sections = sections; files = files }
 
--- the regions of all processes are the same
-pub record SameSpaces (w v : Tables) : Type 0 where
-  pub all : (q : ℕ) → option_map regions_in (process_of v q) ≡ option_map regions_in (process_of w q)
+-- a store with what goes by open processes and files from another
+abbrev pub with_open_of : StoreOf → StoreOf → StoreOf
+with_open_of s z = record s { is_open = z.is_open; last_pid = z.last_pid; file_blocks = z.file_blocks; report = z.report; file_device = z.file_device }
 
-by_regions : {V : Type 0} (f : List (RegionOf (Unit {0})) → V) (none : V) (o q : Option (ProcessOf (Unit {0}))) → option_map regions_in q ≡ option_map regions_in o → unwrap_or (option_map (λ (p : ProcessOf (Unit {0})). f p.regions) q) none ≡ unwrap_or (option_map (λ (p : ProcessOf (Unit {0})). f p.regions) o) none
-by_regions f none None None e = refl
-by_regions f none None (Some q) e = cc
-by_regions f none (Some p) None e = cc
-by_regions f none (Some p) (Some q) e = let same : q.regions ≡ p.regions = cc in ap f same
+module _ (w : Tables) (ps : List (Option (ProcessOf (Unit {0})))) (sections : Numbered SectionOf) (files : List FileOf) (same : (q : ℕ) → regions_in (with_processes w ps sections files) q ≡ regions_in w q) where
+  reserved_same : (place : Place) → is_reserved (with_processes w ps sections files) place ≡ is_reserved w place
+  reserved_same place =
+      reserved_is (with_processes w ps sections files) place ∙ ap (λ rs. is_some (region_with rs place.vpn.0)) (same place.pid.0) ∙ sym (reserved_is w place)
 
-by_content : (f : List (RegionOf (Unit {0})) → Option (Unit {0})) (o q : Option (ProcessOf (Unit {0}))) → option_map regions_in q ≡ option_map regions_in o → option_and_then (λ (p : ProcessOf (Unit {0})). f p.regions) q ≡ option_and_then (λ (p : ProcessOf (Unit {0})). f p.regions) o
-by_content f None None e = refl
-by_content f None (Some q) e = cc
-by_content f (Some p) None e = cc
-by_content f (Some p) (Some q) e = let same : q.regions ≡ p.regions = cc in ap f same
+  live_same : (k : Key) → is_some (content_of (with_processes w ps sections files) k) ≡ is_some (content_of w k)
+  live_same (key.Private q n) =
+      ap is_some (content_is (with_processes w ps sections files) q.0 n.0) ∙ ap (λ rs. is_some (own_page rs n.0)) (same q.0) ∙ sym (ap is_some (content_is w q.0 n.0))
+  live_same (key.Shared area i) = refl
 
-reserved_same : (w v : Tables) → SameSpaces w v → (place : Place) → is_reserved v place ≡ is_reserved w place
-reserved_same w v h place = by_regions (λ rs. is_some (region_with rs place.vpn.0)) false (process_of w place.pid.0) (process_of v place.pid.0) (h.all place.pid.0)
+  paging_same : (k : Key) → is_paging (with_processes w ps sections files) k ≡ is_paging w k
+  paging_same (key.Private q n) = ap (λ b. b && true) (live_same (key.Private q n))
+  paging_same (key.Shared area i) = refl
 
-private_same : (w v : Tables) → SameSpaces w v → (pid : Pid) (page : Vpn) → content_of v (key.Private pid page) ≡ content_of w (key.Private pid page)
-private_same w v h pid page = by_content (λ rs. own_page rs page.0) (process_of w pid.0) (process_of v pid.0) (h.all pid.0)
+  block_same : (k : Key) → block_in (with_processes w ps sections files) k ≡ block_in w k
+  block_same (key.Private q n) = refl
+  block_same (key.Shared area i) = refl
 
-lives_same : (w v : Tables) → SameSpaces w v → (q : ℕ) → is_some (process_of v q) ≡ is_some (process_of w q)
-lives_same w v h q = sym (some_map regions_in (process_of v q)) ∙ ap is_some (h.all q) ∙ some_map regions_in (process_of w q)
+  key_same : (place : Place) → key_at (with_processes w ps sections files) place ≡ key_at w place
+  key_same place =
+      key_at_is (with_processes w ps sections files) place ∙ ap (λ rs. key_in (with_processes w ps sections files) place.pid.0 rs place.vpn.0) (same place.pid.0)
+      ∙ key_in_same (with_processes w ps sections files) w place.pid.0 (regions_in w place.pid.0) place.vpn.0 refl ∙ sym (key_at_is w place)
 
--- ---- the key of a committed row
+  pub fits_processes : (c : Key → Option Page) (s z : StoreOf) → z ≡ with_open_of s z → ((q : ℕ) → z.is_open q ≡ is_some (numbered ps q)) → z.last_pid + 1 ≡ length ps → length z.file_blocks ≡ length s.file_blocks → length z.file_device.named ≡ length s.file_device.named → paging_count (with_processes w ps sections files) ≡ paging_count w → charge (with_processes w ps sections files) ≡ charge w → Fits w c s → Fits (with_processes w ps sections files) c z
+  fits_processes c s z rest opened count stored named counted charged f =
+      record {
+        machine = ap (λ (x : StoreOf). x.machine) rest ∙ f.machine;
+        opened = opened;
+        last_pid = count;
+        areas = λ area. ap (λ (x : StoreOf). x.areas area) rest ∙ f.areas area;
+        bound = λ place. ap (λ (x : StoreOf). x.bound place) rest ∙ f.bound place ∙ sym (reserved_same place);
+        live = λ k. f.live k ∙ sym (live_same k);
+        paging = λ k. ap (λ (x : StoreOf). x.paging k) rest ∙ f.paging k ∙ sym (paging_same k);
+        counted = ap (λ (x : StoreOf). x.paging_keys) rest ∙ f.counted ∙ sym counted;
+        room = omega (arith, f.room, ap (λ (x : StoreOf). x.room) rest, charged);
+        named = λ place k e. key_same place ∙ f.named place k (sym (ap (λ (x : StoreOf). x.names place) rest) ∙ e);
+        blocks = λ k. ap (λ (x : StoreOf). x.block_of k) rest ∙ f.blocks k ∙ sym (block_same k);
+        used = ap (λ (x : StoreOf). x.blocks_used) rest ∙ f.used;
+        stored = stored ∙ f.stored;
+        named_paging = omega (arith, f.named_paging, ap (λ (x : StoreOf). length x.paging_device.named) rest);
+        named_file = omega (arith, f.named_file, named);
+      }
 
--- the committed pages of areas stay
+-- what is read of a thing stays where one is set, or more, of which the same is read
+read_set : {A V : Type 0} (read : Option A → V) (xs : List (Option A)) (i j : ℕ) (x : Option A) → read x ≡ read (get_or xs i None) → read (get_or (set xs i x) j None) ≡ read (get_or xs j None)
+read_set read [] i j x e = refl
+read_set read (y ∷ xs) zero zero x e = e
+read_set read (y ∷ xs) zero (suc j) x e = refl
+read_set read (y ∷ xs) (suc i) zero x e = refl
+read_set read (y ∷ xs) (suc i) (suc j) x e = read_set read xs i j x e
+
+pub read_push : {A V : Type 0} (read : Option A → V) (xs : List (Option A)) (x : Option A) (j : ℕ) → read x ≡ read None → read (get_or (xs ++ x ∷ []) j None) ≡ read (get_or xs j None)
+read_push read [] x zero e = e
+read_push read [] x (suc j) e = refl
+read_push read (y ∷ xs) x zero e = refl
+read_push read (y ∷ xs) x (suc j) e = read_push read xs x j e
+
+pub fits_handle : (w : Tables) (pid : ℕ) (p : ProcessOf (Unit {0})) (number : ℕ) (sections : Numbered SectionOf) → process_of w pid ≡ Some p → (c : Key → Option Page) (s : StoreOf) → Fits w c s → Fits (record (with_handle w pid p number) { sections = sections }) c s
+fits_handle w pid p number sections lives c s f =
+    let q : Option (ProcessOf (Unit {0})) = Some (record p { handles = p.handles ++ Some number ∷ [] }) in
+    let spaces : Option (ProcessOf (Unit {0})) → List (RegionOf (Unit {0})) = λ o. unwrap_or (option_map (λ (p : ProcessOf (Unit {0})). p.regions) o) [] in
+    fits_processes w (set w.processes pid q) sections w.files (λ j. read_set spaces w.processes pid j q (ap spaces (sym lives))) c s s refl
+    (λ j. f.opened j ∙ sym (read_set is_some w.processes pid j q (ap is_some (sym lives)))) (f.last_pid ∙ sym (length-set w.processes pid q)) refl refl
+    (omega (arith, sum_by-put owned_by w.processes pid (Some p) q (numbered_there w.processes pid p lives))) (with_handle_charge w pid p number lives) f
+
+-- ---- the key of a committed row, where committed pages of areas stay
+
 pub record Stays (w v : Tables) : Type 0 where
-  pub all : (area i : ℕ) (x : Unit {0}) → shared_page w area i ≡ Some x → shared_page v area i ≡ Some x
+  pub all : (area i : ℕ) → is_some (shared_page w area i) ≡ true → is_some (shared_page v area i) ≡ true
 
 home_stays : (w v : Tables) → Stays w v → (i : ℕ) (k : Kind) (own : Option (Unit {0})) (home : Home (Unit {0})) → HomeCases w i k own home → home_in v i k own ≡ Some home
 home_stays w v h i k own home (IsOwn bytes at_own at_home) = ap (home_in v i k) at_own ∙ ap (λ (x : Home (Unit {0})). Some x) (sym at_home)
 home_stays w v h i k own home (IsShared x page at_kind at_own at_page at_home) =
+    let there = some_found (shared_page v x.area.0 (x.first + i)) (h.all x.area.0 (x.first + i) (ap is_some at_page)) in
     (λ j. home_in v i (at_kind j) (at_own j))
-    ∙ ap (λ (o : Option (Unit {0})). option_map (λ (page : Unit {0}). InSection x.area.0 (x.first + i)) o) (h.all x.area.0 (x.first + i) page at_page)
+    ∙ ap (λ (o : Option (Unit {0})). option_map (λ (page : Unit {0}). InSection x.area.0 (x.first + i)) o) there.1
     ∙ ap (λ (x : Home (Unit {0})). Some x) (sym at_home)
 
 committed_stays : (w v : Tables) → Stays w v → (rs : List (RegionOf (Unit {0}))) (page : ℕ) (c : Committed (Unit {0})) → committed_at w rs page ≡ Some c → committed_at v rs page ≡ Some c
@@ -302,220 +311,126 @@ committed_stays w v h rs page c e =
     ∙ ap (λ (row : Option (RowOf (Unit {0}))). committed_in v c.region i row) is.row_there
     ∙ ap (λ (o : Option (Home (Unit {0}))). option_map (λ (home : Home (Unit {0})). let made : Committed (Unit {0}) = record { region = c.region; row = c.row; home = home } in made) o) home
 
-key_stays : (w v : Tables) → SameSpaces w v → Stays w v → (place : Place) (k : Key) → key_at w place ≡ Some k → key_at v place ≡ Some k
-key_stays w v same h place k e = by_process (process_of w place.pid.0) (process_of v place.pid.0) (same.all place.pid.0) e
+key_stays : (w : Tables) (areas : List (AreaOf (Unit {0}))) (used : ℕ) → Stays w (with_areas w areas used) → (place : Place) (k : Key) → key_at w place ≡ Some k → key_at (with_areas w areas used) place ≡ Some k
+key_stays w areas used h place k e =
+    key_at_is (with_areas w areas used) place ∙ by_row (committed_at w (regions_in w place.pid.0) place.vpn.0) refl (sym (key_at_is w place) ∙ e)
   where
-    key_in : Tables → List (RegionOf (Unit {0})) → Option Key
-    key_in t rs = option_map (λ (c : Committed (Unit {0})). key_of place.pid.0 place.vpn.0 c.home) (committed_at t rs place.vpn.0)
+    by_row : (o : Option (Committed (Unit {0}))) → committed_at w (regions_in w place.pid.0) place.vpn.0 ≡ o → option_map (λ (c : Committed (Unit {0})). key_of place.pid.0 place.vpn.0 c.home) o ≡ Some k → key_in (with_areas w areas used) place.pid.0 (regions_in w place.pid.0) place.vpn.0 ≡ Some k
+    by_row None at e = cc
+    by_row (Some c) at e =
+        ap (λ (o : Option (Committed (Unit {0}))). option_map (λ (c : Committed (Unit {0})). key_of place.pid.0 place.vpn.0 c.home) o)
+        (committed_stays w (with_areas w areas used) h (regions_in w place.pid.0) place.vpn.0 c at) ∙ e
 
-    by_row : (rs : List (RegionOf (Unit {0}))) (o : Option (Committed (Unit {0}))) → committed_at w rs place.vpn.0 ≡ o → option_map (λ (c : Committed (Unit {0})). key_of place.pid.0 place.vpn.0 c.home) o ≡ Some k → key_in v rs ≡ Some k
-    by_row rs None at e = cc
-    by_row rs (Some c) at e = ap (λ (o : Option (Committed (Unit {0}))). option_map (λ (c : Committed (Unit {0})). key_of place.pid.0 place.vpn.0 c.home) o) (committed_stays w v h rs place.vpn.0 c at) ∙ e
+-- ---- one area is another
 
-    by_process : (o q : Option (ProcessOf (Unit {0}))) → option_map regions_in q ≡ option_map regions_in o → option_and_then (λ (p : ProcessOf (Unit {0})). key_in w p.regions) o ≡ Some k → option_and_then (λ (p : ProcessOf (Unit {0})). key_in v p.regions) q ≡ Some k
-    by_process None q s e = cc
-    by_process (Some p) None s e = cc
-    by_process (Some p) (Some q) s e =
-        let is : q.regions ≡ p.regions = cc in
-        ap (key_in v) is ∙ by_row p.regions (committed_at w p.regions place.vpn.0) refl e
+-- a key of another area, or a private one
+abbrev pub IsOld : ℕ → Key → Type 0
+IsOld at (key.Private pid page) = Unit {0}
+IsOld at (key.Shared area i) = area.0 ≢ at
 
--- ---- nothing that a store sees
-
--- of the tables only handles and sections are others
-pub record SameMemory (w v : Tables) : Type 0 where
-  pub spaces : SameSpaces w v
-  pub machine : v.machine ≡ w.machine
-  pub count : length v.processes ≡ length w.processes
-  pub areas : v.areas ≡ w.areas
-  pub used : v.blocks_used ≡ w.blocks_used
-  pub fails : v.fails_taken ≡ w.fails_taken
-  pub counted : paging_count v ≡ paging_count w
-  pub charged : charge v ≡ charge w
-
-module _ (w v : Tables) (m : SameMemory w v) where
-  area_same : (area : ℕ) → area_at v area ≡ area_at w area
-  area_same area = ap (λ (areas : List (AreaOf (Unit {0}))). area_in areas area) m.areas
-
-  content_same : (k : Key) → content_of v k ≡ content_of w k
-  content_same (key.Private pid page) = private_same w v m.spaces pid page
-  content_same (key.Shared area i) = ap (λ (a : AreaOf (Unit {0})). numbered a.pages i) (area_same area.0)
-
-  file_same : (k : Key) → is_file_key v k ≡ is_file_key w k
-  file_same (key.Private pid page) = refl
-  file_same (key.Shared area i) = ap (λ (a : AreaOf (Unit {0})). is_some a.file_block) (area_same area.0)
-
-  block_same : (k : Key) → block_in v k ≡ block_in w k
-  block_same (key.Private pid page) = refl
-  block_same (key.Shared area i) = ap (λ (a : AreaOf (Unit {0})). cond (is_some (numbered a.pages i)) (option_map (λ (first : ℕ). first + i) a.file_block) None) (area_same area.0)
-
-  pages_stay : Stays w v
-  pages_stay = record { all = λ area i x e. ap (λ (a : AreaOf (Unit {0})). numbered a.pages i) (area_same area) ∙ e }
-
-  pub fits_memory : (c : Key → Option Page) (s : StoreOf) → Fits w c s → Fits v c s
-  fits_memory c s f =
-      record {
-        machine = f.machine ∙ sym m.machine;
-        opened = λ q. f.opened q ∙ sym (lives_same w v m.spaces q);
-        last_pid = f.last_pid ∙ sym m.count;
-        areas = λ area. f.areas area ∙ sym (ap (λ (a : AreaOf (Unit {0})). cond (length a.pages == 0) None (Some (length a.pages))) (area_same area));
-        bound = λ place. f.bound place ∙ sym (reserved_same w v m.spaces place);
-        live = λ k. f.live k ∙ sym (ap is_some (content_same k));
-        paging = λ k. f.paging k ∙ sym (λ i. is_some (content_same k i) && not (file_same k i));
-        counted = f.counted ∙ sym m.counted;
-        room = omega (arith, f.room, m.charged);
-        named = λ place k e. key_stays w v m.spaces pages_stay place k (f.named place k e);
-        blocks = λ k. f.blocks k ∙ sym (block_same k);
-        used = f.used ∙ sym m.used;
-        stored = f.stored ∙ sym (ap (λ (m : MachineOf). m.blocks) m.machine);
-        named_paging = omega (arith, f.named_paging, m.fails);
-        named_file = omega (arith, f.named_file, m.fails);
-      }
-
-pub section_memory : (w : Tables) (s : SectionOf) → SameMemory w (with_section w s)
-section_memory w s =
-    record {
-      spaces = record { all = λ q. refl };
-      machine = refl;
-      count = refl;
-      areas = refl;
-      used = refl;
-      fails = refl;
-      counted = refl;
-      charged = refl;
+-- a store with all that goes by areas and files from another
+abbrev pub with_area_of : StoreOf → StoreOf → StoreOf
+with_area_of s z =
+    record s {
+      areas = z.areas;
+      paging = z.paging;
+      paging_keys = z.paging_keys;
+      room = z.room;
+      block_of = z.block_of;
+      blocks_used = z.blocks_used;
+      file_blocks = z.file_blocks;
+      report = z.report;
+      file_device = z.file_device;
     }
 
-pub handle_memory : (w : Tables) (pid : ℕ) (p : ProcessOf (Unit {0})) (number : ℕ) → process_of w pid ≡ Some p → SameMemory w (with_handle w pid p number)
-handle_memory w pid p number lives =
-    let q : Option (ProcessOf (Unit {0})) = Some (record p { handles = p.handles ++ Some number ∷ [] }) in
-    let total = sum_by-put owned_by w.processes pid (Some p) q (numbered_there w.processes pid p lives) in
-    record {
-      spaces = record {
-        all = λ j.
-            elim (same_or_not j pid) [
-              | inl same ↦
-                  ap (λ (k : ℕ). option_map regions_in (numbered (set w.processes pid q) k)) same
-                  ∙ ap (option_map regions_in) (get_or-set_same w.processes pid q None (numbered_inside w.processes pid p lives))
-                  ∙ sym (ap (λ (k : ℕ). option_map regions_in (process_of w k)) same ∙ ap (option_map regions_in) lives)
-              | inr other ↦ ap (option_map regions_in) (get_or-set_other w.processes pid j q None other)
-            ];
-      };
-      machine = refl;
-      count = length-set w.processes pid q;
-      areas = refl;
-      used = refl;
-      fails = refl;
-      counted = omega (arith, total);
-      charged = with_handle_charge w pid p number lives;
-    }
-
--- ---- an area more
-
--- a key that is none of the new area
-abbrev pub IsOld : Tables → Key → Type 0
-IsOld w (key.Private pid page) = Unit {0}
-IsOld w (key.Shared area i) = area.0 ≢ length w.areas
-
--- what the store shows of the new area, and that the rest is as before
-pub record Grown (w : Tables) (a : AreaOf (Unit {0})) (used : ℕ) (c d : Key → Option Page) (s z : StoreOf) : Type 0 where
+-- the area `at` is `a` now, what the store shows of it, and that the rest is as before
+pub record Grown (w : Tables) (areas : List (AreaOf (Unit {0}))) (at : ℕ) (a : AreaOf (Unit {0})) (used : ℕ) (c d : Key → Option Page) (s z : StoreOf) : Type 0 where
+  pub here : area_in areas at ≡ a
+  pub before : (q : ℕ) → q ≢ at → area_in areas q ≡ area_at w q
+  pub stays : (i : ℕ) → is_some (shared_page w at i) ≡ true → is_some (numbered a.pages i) ≡ true
   pub some : 1 ≤ length a.pages
-  pub live_new : (area : Area) (i : ℕ) → area.0 ≡ length w.areas → is_some (d (key.Shared area i)) ≡ is_some (numbered a.pages i)
-  pub live_old : (k : Key) → IsOld w k → is_some (d k) ≡ is_some (c k)
-  pub paging_new : (area : Area) (i : ℕ) → area.0 ≡ length w.areas → z.paging (key.Shared area i) ≡ (is_some (numbered a.pages i) && not (is_some a.file_block))
-  pub paging_old : (k : Key) → IsOld w k → z.paging k ≡ s.paging k
-  pub block_new : (area : Area) (i : ℕ) → area.0 ≡ length w.areas → z.block_of (key.Shared area i) ≡ cond (is_some (numbered a.pages i)) (option_map (λ (first : ℕ). first + i) a.file_block) None
-  pub block_old : (k : Key) → IsOld w k → z.block_of k ≡ s.block_of k
-  pub areas_new : (q : ℕ) → q ≡ length w.areas → z.areas q ≡ Some (length a.pages)
-  pub areas_old : (q : ℕ) → q ≢ length w.areas → z.areas q ≡ s.areas q
-  pub counted : z.paging_keys ≡ s.paging_keys + area_charge a
-  pub room : charge w + area_charge a ≤ z.room
-  pub machine : z.machine ≡ s.machine
-  pub is_open : z.is_open ≡ s.is_open
-  pub last_pid : z.last_pid ≡ s.last_pid
-  pub bound : z.bound ≡ s.bound
-  pub names : z.names ≡ s.names
+  pub live_new : (area : Area) (i : ℕ) → area.0 ≡ at → is_some (d (key.Shared area i)) ≡ is_some (numbered a.pages i)
+  pub live_old : (k : Key) → IsOld at k → is_some (d k) ≡ is_some (c k)
+  pub paging_new : (area : Area) (i : ℕ) → area.0 ≡ at → z.paging (key.Shared area i) ≡ (is_some (numbered a.pages i) && not (is_some a.file_block))
+  pub paging_old : (k : Key) → IsOld at k → z.paging k ≡ s.paging k
+  pub block_new : (area : Area) (i : ℕ) → area.0 ≡ at → z.block_of (key.Shared area i) ≡ cond (is_some (numbered a.pages i)) (option_map (λ (first : ℕ). first + i) a.file_block) None
+  pub block_old : (k : Key) → IsOld at k → z.block_of k ≡ s.block_of k
+  pub areas_new : z.areas at ≡ Some (length a.pages)
+  pub areas_old : (q : ℕ) → q ≢ at → z.areas q ≡ s.areas q
+  pub counted : z.paging_keys ≡ paging_count (with_areas w areas used)
+  pub room : charge (with_areas w areas used) ≤ z.room
   pub blocks_used : z.blocks_used ≡ used
+  pub rest : z ≡ with_area_of s z
   pub stored : length z.file_blocks ≡ length s.file_blocks
-  pub named_paging : length z.paging_device.named ≡ length s.paging_device.named
   pub named_file : length z.file_device.named ≡ length s.file_device.named
 
-module _ (w : Tables) (a : AreaOf (Unit {0})) (used : ℕ) (c d : Key → Option Page) (s z : StoreOf) (g : Grown w a used c d s z) where
-  here : (q : ℕ) → q ≡ length w.areas → area_at (with_blocks_used w a used) q ≡ a
-  here q e = area_at_end w.areas a q e
+-- an area that is not there yet has no page
+pub no_page : (w : Tables) (i : ℕ) → is_some (shared_page w (length w.areas) i) ≡ true → ⊥
+no_page w i e =
+    let bad : false ≡ true = sym (ap (λ (a : AreaOf (Unit {0})). is_some (numbered a.pages i)) (no_area_past w.areas (length w.areas) (omega arith))) ∙ e in
+    cc
 
-  before : (q : ℕ) → q ≢ length w.areas → area_at (with_blocks_used w a used) q ≡ area_at w q
-  before q n = area_before w.areas a q n
+-- a key of no file has no block
+pub no_block : (b : Bool) (i : ℕ) (o : Option ℕ) → o ≡ None → cond b (option_map (λ (first : ℕ). first + i) o) None ≡ None
+no_block true i o e = ap (option_map (λ (first : ℕ). first + i)) e
+no_block false i o e = refl
 
-  area_stays : Stays w (with_blocks_used w a used)
+pub opened_some : (n : ℕ) → 1 ≤ n → Some n ≡ cond (n == 0) None (Some n)
+opened_some n h = sym (ap (λ b. cond b None (Some n)) (differ n 0 (λ e. absurd (omega (arith, e, h)))))
+
+module _ (w : Tables) (areas : List (AreaOf (Unit {0}))) (at : ℕ) (a : AreaOf (Unit {0})) (used : ℕ) (c d : Key → Option Page) (s z : StoreOf) (g : Grown w areas at a used c d s z) where
+  by_area : (P : AreaOf (Unit {0}) → Type 0) (q : ℕ) → (q ≡ at → P a) → (q ≢ at → P (area_at w q)) → P (area_in areas q)
+  by_area P q new old =
+      elim (same_or_not q at) [
+        | inl same ↦ subst P (sym (ap (λ (k : ℕ). area_in areas k) same ∙ g.here)) (new same)
+        | inr other ↦ subst P (sym (g.before q other)) (old other)
+      ]
+
+  area_stays : Stays w (with_areas w areas used)
   area_stays =
       record {
-        all = λ q i x e.
-            elim (same_or_not q (length w.areas)) [
-              | inl same ↦
-                  let none : shared_page w q i ≡ None = ap (λ (a : AreaOf (Unit {0})). numbered a.pages i) (no_area_past w.areas q (omega (arith, same))) in
-                  let bad : None ≡ Some x = sym none ∙ e in
-                  cc
-              | inr other ↦ ap (λ (a : AreaOf (Unit {0})). numbered a.pages i) (before q other) ∙ e
-            ];
+        all = λ q i e. by_area (λ b. is_some (numbered b.pages i) ≡ true) q (λ same. g.stays i (ap (λ (k : ℕ). is_some (shared_page w k i)) (sym same) ∙ e)) (λ other. e);
       }
 
-  live_at : Fits w c s → (k : Key) → is_some (d k) ≡ is_some (content_of (with_blocks_used w a used) k)
+  live_at : Fits w c s → (k : Key) → is_some (d k) ≡ is_some (content_of (with_areas w areas used) k)
   live_at f (key.Private pid page) = g.live_old (key.Private pid page) tt ∙ f.live (key.Private pid page)
   live_at f (key.Shared area i) =
-      elim (same_or_not area.0 (length w.areas)) [
-        | inl same ↦ g.live_new area i same ∙ sym (ap (λ (a : AreaOf (Unit {0})). is_some (numbered a.pages i)) (here area.0 same))
-        | inr other ↦ g.live_old (key.Shared area i) other ∙ f.live (key.Shared area i) ∙ sym (ap (λ (a : AreaOf (Unit {0})). is_some (numbered a.pages i)) (before area.0 other))
-      ]
+      by_area (λ b. is_some (d (key.Shared area i)) ≡ is_some (numbered b.pages i)) area.0 (g.live_new area i)
+      (λ other. g.live_old (key.Shared area i) other ∙ f.live (key.Shared area i))
 
-  paging_at : Fits w c s → (k : Key) → z.paging k ≡ is_paging (with_blocks_used w a used) k
+  paging_at : Fits w c s → (k : Key) → z.paging k ≡ is_paging (with_areas w areas used) k
   paging_at f (key.Private pid page) = g.paging_old (key.Private pid page) tt ∙ f.paging (key.Private pid page)
   paging_at f (key.Shared area i) =
-      elim (same_or_not area.0 (length w.areas)) [
-        | inl same ↦ g.paging_new area i same ∙ sym (ap (λ (a : AreaOf (Unit {0})). is_some (numbered a.pages i) && not (is_some a.file_block)) (here area.0 same))
-        | inr other ↦
-            g.paging_old (key.Shared area i) other ∙ f.paging (key.Shared area i)
-            ∙ sym (ap (λ (a : AreaOf (Unit {0})). is_some (numbered a.pages i) && not (is_some a.file_block)) (before area.0 other))
-      ]
+      by_area (λ b. z.paging (key.Shared area i) ≡ (is_some (numbered b.pages i) && not (is_some b.file_block))) area.0 (g.paging_new area i)
+      (λ other. g.paging_old (key.Shared area i) other ∙ f.paging (key.Shared area i))
 
-  block_at : Fits w c s → (k : Key) → z.block_of k ≡ block_in (with_blocks_used w a used) k
+  block_at : Fits w c s → (k : Key) → z.block_of k ≡ block_in (with_areas w areas used) k
   block_at f (key.Private pid page) = g.block_old (key.Private pid page) tt ∙ f.blocks (key.Private pid page)
   block_at f (key.Shared area i) =
-      elim (same_or_not area.0 (length w.areas)) [
-        | inl same ↦
-            g.block_new area i same
-            ∙ sym (ap (λ (a : AreaOf (Unit {0})). cond (is_some (numbered a.pages i)) (option_map (λ (first : ℕ). first + i) a.file_block) None) (here area.0 same))
-        | inr other ↦
-            g.block_old (key.Shared area i) other ∙ f.blocks (key.Shared area i)
-            ∙ sym (ap (λ (a : AreaOf (Unit {0})). cond (is_some (numbered a.pages i)) (option_map (λ (first : ℕ). first + i) a.file_block) None) (before area.0 other))
-      ]
+      by_area (λ b. z.block_of (key.Shared area i) ≡ cond (is_some (numbered b.pages i)) (option_map (λ (first : ℕ). first + i) b.file_block) None) area.0 (g.block_new area i)
+      (λ other. g.block_old (key.Shared area i) other ∙ f.blocks (key.Shared area i))
 
-  opened_some : (n : ℕ) → 1 ≤ n → Some n ≡ cond (n == 0) None (Some n)
-  opened_some n h = sym (ap (λ b. cond b None (Some n)) (differ n 0 (λ e. absurd (omega (arith, e, h)))))
-
-  area_open : Fits w c s → (q : ℕ) → z.areas q ≡ open_pages (with_blocks_used w a used) q
+  area_open : Fits w c s → (q : ℕ) → z.areas q ≡ open_pages (with_areas w areas used) q
   area_open f q =
-      elim (same_or_not q (length w.areas)) [
-        | inl same ↦
-            g.areas_new q same ∙ opened_some (length a.pages) g.some
-            ∙ sym (ap (λ (a : AreaOf (Unit {0})). cond (length a.pages == 0) None (Some (length a.pages))) (here q same))
-        | inr other ↦ g.areas_old q other ∙ f.areas q ∙ sym (ap (λ (a : AreaOf (Unit {0})). cond (length a.pages == 0) None (Some (length a.pages))) (before q other))
-      ]
+      by_area (λ b. z.areas q ≡ cond (length b.pages == 0) None (Some (length b.pages))) q
+      (λ same. ap (λ (k : ℕ). z.areas k) same ∙ g.areas_new ∙ opened_some (length a.pages) g.some) (λ other. g.areas_old q other ∙ f.areas q)
 
-  pub fits_area : Fits w c s → Fits (with_blocks_used w a used) d z
+  pub fits_area : Fits w c s → Fits (with_areas w areas used) d z
   fits_area f =
       record {
-        machine = g.machine ∙ f.machine;
-        opened = λ q. ap (λ (h : ℕ → Bool). h q) g.is_open ∙ f.opened q;
-        last_pid = omega (arith, f.last_pid, g.last_pid);
+        machine = ap (λ (x : StoreOf). x.machine) g.rest ∙ f.machine;
+        opened = λ q. ap (λ (x : StoreOf). x.is_open q) g.rest ∙ f.opened q;
+        last_pid = ap (λ (x : StoreOf). x.last_pid + 1) g.rest ∙ f.last_pid;
         areas = area_open f;
-        bound = λ place. ap (λ (h : Place → Bool). h place) g.bound ∙ f.bound place;
+        bound = λ place. ap (λ (x : StoreOf). x.bound place) g.rest ∙ f.bound place;
         live = live_at f;
         paging = paging_at f;
-        counted = omega (arith, g.counted, f.counted, sum_by_push area_charge w.areas a);
-        room = omega (arith, with_area_charge w a, g.room);
-        named = λ place k e. key_stays w (with_blocks_used w a used) (record { all = λ q. refl }) area_stays place k (f.named place k (sym (ap (λ (h : Place → Option Key). h place) g.names) ∙ e));
+        counted = g.counted;
+        room = g.room;
+        named = λ place k e. key_stays w areas used area_stays place k (f.named place k (sym (ap (λ (x : StoreOf). x.names place) g.rest) ∙ e));
         blocks = block_at f;
         used = g.blocks_used;
         stored = g.stored ∙ f.stored;
-        named_paging = omega (arith, f.named_paging, g.named_paging);
+        named_paging = omega (arith, f.named_paging, ap (λ (x : StoreOf). length x.paging_device.named) g.rest);
         named_file = omega (arith, f.named_file, g.named_file);
       }

@@ -1,198 +1,128 @@
 -- A handle or a section is made: what tables keep, and what the store holds of its area.
-use Rattle.std.proofs.Common.{◌≡◌, ℕ, zero, suc, ◌<◌, ◌^◌, true, Option, Some, None, List, [], ◌∷◌, ◌++◌, refl, sym, ◌∙◌, ap, subst, arith, length, set, is_some, slice_get, option_map, unwrap_or, ◌+◌, ◌≤◌, Bool, false, cond, sum_by, count_by, replicate, ◌&&◌, not, nat_lt}
+use Rattle.std.proofs.Common.{◌≡◌, ℕ, zero, suc, ◌<◌, ◌^◌, true, Option, Some, None, List, [], ◌∷◌, ◌++◌, refl, sym, ◌∙◌, ap, subst, arith, length, set, is_some, slice_get, option_map, unwrap_or, ◌+◌, ◌≤◌, Bool, false, cond, replicate, ◌&&◌, not, nat_lt}
 use Rattle.std.specs.Prelude.{IfSome, ◌==◌}
 use Rattle.std.specs.Cmp.{unsigned_Decides}
 use Rattle.std.proofs.lemmas.Bool.{le-leb}
 use Rattle.std.proofs.lemmas.List.{length-replicate, length-append}
 use Rattle.std.proofs.lemmas.List.Folds.{sum_by-replicate}
-use Rattle.std.proofs.lemmas.List.Sums.{sum_by-cons}
-use Rattle.mm_types.specs.Machine.{MachineOf}
+use Rattle.std.proofs.lemmas.List.Sums.{sum_by_push}
 use Rattle.mm_types.specs.declared.numbers.Key.{Key}
 use Rattle.mm_types.specs.declared.numbers.Area.{Area}
 use Rattle.mm_types.specs.declared.numbers.Key.TheVariants as key
-use Rattle.mm_types.specs.declared.views.Kind.{Kind}
-use Rattle.mm_types.specs.declared.views.Kind.TheVariants as kind
-use Rattle.mm_types.proofs.Options.{some_found, some_map, none_of}
-use Rattle.mm_types.proofs.Booleans.{same_tests}
+use Rattle.mm_types.proofs.Options.{some_found, none_of}
+use Rattle.mm_types.proofs.Booleans.{same_tests, and_true}
 use Rattle.mm_types.proofs.Naturals.{none_below}
 use Rattle.mm_types.proofs.Tables.{differ}
-use Rattle.mm_world.specs.World.{Page, ProcessOf, AreaOf, SectionOf, FileOf, Numbered, numbered, KeptOf, RegionOf, RowOf, filled}
+use Rattle.mm_world.specs.World.{Page, ProcessOf, AreaOf, SectionOf, FileOf, Numbered, numbered, filled}
 use Rattle.mm_world.specs.Find.{process_of, section_of, area_at}
-use Rattle.mm_world.specs.Charge.{charge, limit, area_charge, process_charge, region_charge, is_charged}
+use Rattle.mm_world.specs.Charge.{charge, limit, area_charge}
 use Rattle.mm_world.specs.Contents.{Tables}
 use Rattle.mm_world.specs.Sections.{with_handle, new_section}
-use Rattle.mm_world.specs.WellFormed.{WellFormed, Each, RowFits, RowsFit, Spaces, References}
-use Rattle.mm_world.proofs.LaidOut.{less}
-use Rattle.mm_pages.specs.Store.{StoreOf, changed}
+use Rattle.mm_world.specs.WellFormed.{WellFormed, References}
+use Rattle.mm_world.proofs.LaidOut.{less, and-true}
+use Rattle.mm_pages.specs.Store.{StoreOf}
 use Rattle.mm_commit.specs.Charge.{CommitOf}
-use Rattle.mm_sections.specs.Directories.{CountedSection, section_in, sections_of, new_entry, one_handle_more}
+use Rattle.mm_sections.specs.Directories.{CountedSection, DirectoryOf, sections_of, new_entry, one_handle_more}
 use Rattle.mm_sections.specs.Pages.{page_if}
-use Rattle.mm_tables.specs.Fits.{Fits, Carried, Carries, Settled, beside, owned_by, paging_count}
+use Rattle.mm_tables.specs.Fits.{Fits, Carried, Carries, Settled, beside}
 use Rattle.mm_tables.specs.References.{IsFew}
-use Rattle.mm_tables.specs.Shown.{tables_with}
+use Rattle.mm_tables.specs.Shown.{shown_processes}
 use Rattle.mm_tables.specs.Sound.{IsKept}
-use Rattle.mm_tables.specs.SectionSteps.{is_page_of, with_area_keys, Opens}
-use Rattle.mm_tables.proofs.SectionFits.{fits_memory, handle_memory, section_memory, IsOld, Grown, fits_area, Counts, handle_counts, section_counts, handles_few, sections_kept, sections_more, section_at, length_sections}
-use Rattle.mm_tables.proofs.SectionTidy.{Settles, settles_of, handle_settles, section_settles, Rest, rest_of, tidy_by, handle_rest, section_rest, MayList, MayAdd, area_rest, area_settles, with_section, handle_well, new_section_well, with_handle_charge, with_area, area_well, with_area_charge}
-use Rattle.mm_tables.proofs.Carried.{at_same, settled_same}
+use Rattle.mm_tables.specs.SectionSteps.{is_page_of, Opens}
+use Rattle.mm_tables.specs.declared.tables.Tables.TheInside.{Inside}
+use Rattle.mm_tables.proofs.SectionFits.{now, as_kept, fits_handle, no_page, no_block, IsOld, with_area_of, Grown, fits_area, Counts, handle_counts, section_counts, handles_few, sections_kept, sections_more, length_sections}
+use Rattle.mm_tables.proofs.SectionTidy.{Settles, settles_of, handle_settles, section_settles, Rest, rest_of, tidy_by, handle_rest, section_rest, MayList, area_rest, area_settles, with_section, handle_well, new_section_well, with_handle_charge, with_area, area_well, with_area_charge}
+use Rattle.mm_tables.proofs.Carried.{at_added, settled_same}
+use Rattle.mm_tables.proofs.PageByPage.{cond_at}
 use Rattle.mm_tables.proofs.Settled.{settled_as}
-use Rattle.mm_tables.proofs.Lists.{same_number, area_at_end, no_area_past}
-
--- what tables are made of
-pub record Parts : Type 0 where
-  pub machine : MachineOf
-  pub processes : List (Option (ProcessOf (Unit {0})))
-  pub entries : Numbered CountedSection
-  pub areas : List (AreaOf (Unit {0}))
-  pub files : List FileOf
-  pub used : ℕ
-  pub fails : ℕ
-  pub kept : Numbered KeptOf
-
-abbrev pub tables : Parts → Tables
-tables x = tables_with x.machine x.processes x.entries x.areas x.files x.used x.fails x.kept
-
--- ---- the same again
-
--- only room was had
-pub record SameParts (x y : Parts) : Type 0 where
-  pub machine : y.machine ≡ x.machine
-  pub processes : y.processes ≡ x.processes
-  pub entries : y.entries ≡ x.entries
-  pub areas : y.areas ≡ x.areas
-  pub files : y.files ≡ x.files
-  pub used : y.used ≡ x.used
-  pub fails : y.fails ≡ x.fails
-  pub kept : y.kept ≡ x.kept
-
-same_parts : (x y : Parts) → SameParts x y → y ≡ x
-same_parts x y h = λ i. record { machine = h.machine i; processes = h.processes i; entries = h.entries i; areas = h.areas i; files = h.files i; used = h.used i; fails = h.fails i; kept = h.kept i }
-
-pub same_tables : (x y : Parts) (t : Tables) → SameParts x y → tables x ≡ t → tables y ≡ t
-same_tables x y t h view = ap tables (same_parts x y h) ∙ view
-
-pub same_kept : (x y : Parts) (commit : CommitOf) → SameParts x y → IsKept (tables x) x.entries commit → IsKept (tables y) y.entries commit
-same_kept x y commit h k = subst (λ (x : Parts). IsKept (tables x) x.entries commit) (sym (same_parts x y h)) k
-
-pub carries_same : (c : Key → Option Page) → Carries c c
-carries_same c = record { at = λ k. at_same (c k) }
-
-pub fits_as : (t after : Tables) (c : Key → Option Page) (s : StoreOf) → after ≡ t → Fits t c s → Fits after c s
-fits_as t after c s same f = subst (λ (t : Tables). Fits t c s) (sym same) f
+use Rattle.mm_tables.proofs.Lists.{same_number, area_at_end, area_before, no_area_past, if_some}
 
 pub kept_as : (t after : Tables) (entries : Numbered CountedSection) (commit : CommitOf) → after ≡ t → IsKept t entries commit → IsKept after entries commit
 kept_as t after entries commit same h = subst (λ (t : Tables). IsKept t entries commit) (sym same) h
 
-pub counts_of : (w : Tables) (entries : Numbered CountedSection) (commit : CommitOf) → IsKept w entries commit → Counts w entries
-counts_of w entries commit k = record { all = k.counted }
+-- ---- only room was had
+
+module _ (i : Inside) {ps : List (Option (ProcessOf (Unit {0})))} {es : Numbered CountedSection} {areas : List (AreaOf (Unit {0}))} {files : List FileOf} (a : ps ≡ shown_processes i.processes.items) (b : es ≡ i.directory.entries) (c : areas ≡ i.areas.items) (d : files ≡ i.directory.files) where
+  pub same_tables : {t : Tables} → as_kept i ≡ t → now i ps es areas files i.blocks_used ≡ t
+  same_tables view = (λ j. now i (a j) (b j) (c j) (d j) i.blocks_used) ∙ view
+
+  pub same_kept : IsKept (as_kept i) i.directory.entries i.commit → IsKept (now i ps es areas files i.blocks_used) es i.commit
+  same_kept k =
+      subst (λ (es : Numbered CountedSection). IsKept (now i ps es areas files i.blocks_used) es i.commit) (sym b)
+      (kept_as (as_kept i) (now i ps i.directory.entries areas files i.blocks_used) i.directory.entries i.commit (λ j. now i (a j) i.directory.entries (c j) (d j) i.blocks_used) k)
 
 -- ---- a handle
 
-entry_there : (entries : Numbered CountedSection) (number : ℕ) → is_some (numbered (sections_of entries) number) ≡ true → is_some (numbered entries number) ≡ true
-entry_there entries number e = sym (some_map section_in (numbered entries number)) ∙ ap is_some (sym (section_at entries number)) ∙ e
+pub handle_few : (i : Inside) {t : Tables} (number : ℕ) → as_kept i ≡ t → IsKept (as_kept i) i.directory.entries i.commit → IsFew t → IfSome (numbered i.directory.entries number) (λ c. c.handles < 2 ^ 60)
+handle_few i number view k few =
+    let here = subst (λ (t : Tables). IsFew t) (sym view) few in
+    if_some (numbered i.directory.entries number) (λ c. c.handles < 2 ^ 60)
+    (λ c e. omega (arith, (k.counted number c e).handles, handles_few (as_kept i) here k.sound.numbers number))
 
-few_entry : (w : Tables) (entries : Numbered CountedSection) (commit : CommitOf) (number : ℕ) → IsKept w entries commit → IsFew w → IfSome (numbered entries number) (λ c. c.handles < 2 ^ 60)
-few_entry w entries commit number k few = by_entry (numbered entries number) refl
-  where
-    by_entry : (o : Option CountedSection) → numbered entries number ≡ o → IfSome o (λ c. c.handles < 2 ^ 60)
-    by_entry None e = tt
-    by_entry (Some c) e = omega (arith, (k.counted number c e).handles, handles_few w few k.sound.numbers number)
+-- room was had, a reference was counted in the directory, and the process was given its handle
+module _ (i : Inside) {t : Tables} (pid number : ℕ) {mid ps : List (Option (ProcessOf (Unit {0})))} {d : DirectoryOf} (view : as_kept i ≡ t) (grown : mid ≡ shown_processes i.processes.items) (given : (p : ProcessOf (Unit {0})) → numbered mid pid ≡ Some p → ps ≡ set mid pid (Some (record p { handles = p.handles ++ Some number ∷ [] }))) (counted : d ≡ record (i.directory) { entries = set i.directory.entries number (option_map one_handle_more (numbered i.directory.entries number)) }) (p : ProcessOf (Unit {0})) (alive : process_of t pid ≡ Some p) where
+  lives : numbered (shown_processes i.processes.items) pid ≡ Some p
+  lives = ap (λ (t : Tables). process_of t pid) view ∙ alive
 
-pub handle_few : (x : Parts) (t : Tables) (commit : CommitOf) (number : ℕ) → tables x ≡ t → IsKept (tables x) x.entries commit → IsFew t → IfSome (numbered x.entries number) (λ c. c.handles < 2 ^ 60)
-handle_few x t commit number view k few = few_entry (tables x) x.entries commit number k (subst (λ (t : Tables). IsFew t) (sym view) few)
+  entries : d.entries ≡ set i.directory.entries number (option_map one_handle_more (numbered i.directory.entries number))
+  entries = ap (λ (d : DirectoryOf). d.entries) counted
 
--- what becomes of the tables
-pub record GivesHandle (x y : Parts) (pid : ℕ) (p : ProcessOf (Unit {0})) (number : ℕ) : Type 0 where
-  pub machine : y.machine ≡ x.machine
-  pub processes : y.processes ≡ set x.processes pid (Some (record p { handles = p.handles ++ Some number ∷ [] }))
-  pub entries : y.entries ≡ set x.entries number (option_map one_handle_more (numbered x.entries number))
-  pub areas : y.areas ≡ x.areas
-  pub files : y.files ≡ x.files
-  pub used : y.used ≡ x.used
-  pub fails : y.fails ≡ x.fails
-  pub kept : y.kept ≡ x.kept
-
-module _ (x y : Parts) (pid : ℕ) (p : ProcessOf (Unit {0})) (number : ℕ) (lives : numbered x.processes pid ≡ Some p) (h : GivesHandle x y pid p number) where
-  handle_is : tables y ≡ with_handle (tables x) pid p number
+  handle_is : now i ps d.entries i.areas.items d.files i.blocks_used ≡ with_handle (as_kept i) pid p number
   handle_is =
-      λ i. record (tables x) {
-        machine = h.machine i;
-        processes = h.processes i;
-        sections = sections_kept x.entries y.entries number h.entries i;
-        areas = h.areas i;
-        files = h.files i;
-        blocks_used = h.used i;
-        fails_taken = h.fails i;
-        kept = h.kept i;
-      }
+      let made : ps ≡ set (shown_processes i.processes.items) pid (Some (record p { handles = p.handles ++ Some number ∷ [] })) =
+      given p (ap (λ ps. numbered ps pid) grown ∙ lives) ∙ ap (λ ps. set ps pid (Some (record p { handles = p.handles ++ Some number ∷ [] }))) grown in
+      λ j. record (as_kept i) { processes = made j; sections = sections_kept i.directory.entries d.entries number entries j; files = ap (λ (d : DirectoryOf). d.files) counted j }
 
-  pub handle_kept : (commit : CommitOf) → is_some (section_of (tables x) number) ≡ true → IsKept (tables x) x.entries commit → IsKept (tables y) y.entries commit
-  handle_kept commit there k =
-      kept_as (with_handle (tables x) pid p number) (tables y) y.entries commit handle_is (record {
-        sound = handle_well (tables x) pid p number lives there k.sound;
-        tidy = tidy_by (with_handle (tables x) pid p number) (handle_settles (tables x) pid p number lives k.tidy.settled) (handle_rest (tables x) pid p number (rest_of (tables x) k.tidy));
-        counted = (handle_counts (tables x) pid p number x.entries y.entries lives h.entries (entry_there x.entries number there) (counts_of (tables x) x.entries commit k)).all;
-        charged = k.charged ∙ sym (with_handle_charge (tables x) pid p number lives);
+  pub handle_kept : is_some (section_of t number) ≡ true → IsKept (as_kept i) i.directory.entries i.commit → IsKept (now i ps d.entries i.areas.items d.files i.blocks_used) d.entries i.commit
+  handle_kept known k =
+      let w = as_kept i in
+      let there = ap (λ (t : Tables). is_some (section_of t number)) view ∙ known in
+      kept_as (with_handle w pid p number) (now i ps d.entries i.areas.items d.files i.blocks_used) d.entries i.commit handle_is (record {
+        sound = handle_well w pid p number lives there k.sound;
+        tidy = tidy_by (with_handle w pid p number) (handle_settles w pid p number lives k.tidy.settled) (handle_rest w pid p number (rest_of w k.tidy));
+        counted = (handle_counts w pid p number i.directory.entries d.entries lives entries k.counted);
+        charged = k.charged ∙ sym (with_handle_charge w pid p number lives);
         limited = k.limited;
       })
 
-  pub handle_now : (t : Tables) → tables x ≡ t → tables y ≡ with_handle t pid p number
-  handle_now t view = handle_is ∙ ap (λ (t : Tables). with_handle t pid p number) view
+  pub handle_now : now i ps d.entries i.areas.items d.files i.blocks_used ≡ with_handle t pid p number
+  handle_now = handle_is ∙ ap (λ (t : Tables). with_handle t pid p number) view
 
-  pub handle_settled : (t : Tables) (c : Key → Option Page) (s : StoreOf) → tables x ≡ t → Fits t c s → Settled (tables y) c c s s
-  handle_settled t c s view f =
-      settled_as handle_is
-      (settled_same (with_handle (tables x) pid p number) c s
-      (fits_memory (tables x) (with_handle (tables x) pid p number) (handle_memory (tables x) pid p number lives) c s (subst (λ (t : Tables). Fits t c s) (sym view) f)))
+  pub handle_settled : (c : Key → Option Page) (s : StoreOf) → Fits t c s → Settled (now i ps d.entries i.areas.items d.files i.blocks_used) c c s s
+  handle_settled c s f =
+      let w = as_kept i in
+      settled_as handle_is (settled_same (with_handle w pid p number) c s (fits_handle w pid p number w.sections lives c s (subst (λ (t : Tables). Fits t c s) (sym view) f)))
 
 -- ---- a section with a handle
 
-pub section_kept : (w : Tables) (pid : ℕ) (p : ProcessOf (Unit {0})) (s : SectionOf) (entries new : Numbered CountedSection) (commit : CommitOf) → process_of w pid ≡ Some p → s.area < length w.areas → w.sections ≡ sections_of entries → new ≡ entries ++ Some (one_handle_more (new_entry s.prot s.name s.area)) ∷ [] → WellFormed w → Settles s.area w → Rest w → MayList w s → Counts w entries → commit.charge ≡ charge w → commit.limit ≡ limit w → IsKept (new_section w pid p s).world new commit
+section_kept : (w : Tables) (pid : ℕ) (p : ProcessOf (Unit {0})) (s : SectionOf) (entries new : Numbered CountedSection) (commit : CommitOf) → process_of w pid ≡ Some p → s.area < length w.areas → w.sections ≡ sections_of entries → new ≡ entries ++ Some (one_handle_more (new_entry s.prot s.name s.area)) ∷ [] → WellFormed w → Settles s.area w → Rest w → MayList w s → Counts w entries → commit.charge ≡ charge w → commit.limit ≡ limit w → IsKept (new_section w pid p s).world new commit
 section_kept w pid p s entries new commit lives inside listed e well settles rest may counts charged limited =
     let v = with_handle (with_section w s) pid p (length w.sections) in
     record {
       sound = new_section_well w pid p s lives inside well;
       tidy = tidy_by v (section_settles w pid p s lives settles) (handle_rest (with_section w s) pid p (length w.sections) (section_rest w s may rest));
-      counted = (section_counts w pid p s entries new lives well.references listed e counts).all;
+      counted = (section_counts w pid p s entries new lives well.references listed e counts);
       charged = charged ∙ sym (with_handle_charge (with_section w s) pid p (length w.sections) lives);
       limited = limited;
     }
 
-pub section_fits : (w : Tables) (pid : ℕ) (p : ProcessOf (Unit {0})) (s : SectionOf) (c : Key → Option Page) (z : StoreOf) → process_of w pid ≡ Some p → Fits w c z → Fits (new_section w pid p s).world c z
-section_fits w pid p s c z lives f =
-    fits_memory (with_section w s) (with_handle (with_section w s) pid p (length w.sections)) (handle_memory (with_section w s) pid p (length w.sections) lives) c z
-    (fits_memory w (with_section w s) (section_memory w s) c z f)
+-- a section was listed with a handle to it: what becomes of the processes and the directory
+pub record ListsSection (i : Inside) (t : Tables) (pid : ℕ) (s : SectionOf) (ps : List (Option (ProcessOf (Unit {0})))) (es : Numbered CountedSection) (files : List FileOf) : Type 0 where
+  pub view : as_kept i ≡ t
+  pub made : (p : ProcessOf (Unit {0})) → numbered (shown_processes i.processes.items) pid ≡ Some p → ps ≡ set (shown_processes i.processes.items) pid (Some (record p { handles = p.handles ++ Some (length i.directory.entries) ∷ [] }))
+  pub entries : es ≡ i.directory.entries ++ Some (one_handle_more (new_entry s.prot s.name s.area)) ∷ []
+  pub files_are : files ≡ i.directory.files
 
--- what becomes of the tables, whose areas become these
-pub record MakesSection (x y : Parts) (now : List (AreaOf (Unit {0}))) (pid : ℕ) (p : ProcessOf (Unit {0})) (s : SectionOf) : Type 0 where
-  pub machine : y.machine ≡ x.machine
-  pub processes : y.processes ≡ set x.processes pid (Some (record p { handles = p.handles ++ Some (length x.entries) ∷ [] }))
-  pub entries : y.entries ≡ x.entries ++ Some (one_handle_more (new_entry s.prot s.name s.area)) ∷ []
-  pub areas : y.areas ≡ now
-  pub files : y.files ≡ x.files
-  pub used : y.used ≡ x.used
-  pub fails : y.fails ≡ x.fails
-  pub kept : y.kept ≡ x.kept
-
-pub section_is : (x y : Parts) (areas : List (AreaOf (Unit {0}))) (pid : ℕ) (p : ProcessOf (Unit {0})) (s : SectionOf) → MakesSection x y areas pid p s → tables y ≡ (new_section (record (tables x) { areas = areas }) pid p s).world
-section_is x y areas pid p s h =
-    let made : y.processes ≡ set x.processes pid (Some (record p { handles = p.handles ++ Some (length (sections_of x.entries)) ∷ [] })) =
-    h.processes ∙ (λ i. set x.processes pid (Some (record p { handles = p.handles ++ Some (sym (length_sections x.entries) i) ∷ [] }))) in
-    λ i. record (tables x) {
-      machine = h.machine i;
-      processes = made i;
-      sections = sections_more x.entries y.entries (one_handle_more (new_entry s.prot s.name s.area)) h.entries i;
-      areas = h.areas i;
-      files = h.files i;
-      blocks_used = h.used i;
-      fails_taken = h.fails i;
-      kept = h.kept i;
+-- after room was had
+pub lists : (i : Inside) {t : Tables} (pid : ℕ) (s : SectionOf) {mid ps : List (Option (ProcessOf (Unit {0})))} {old es : Numbered CountedSection} {kept files : List FileOf} → as_kept i ≡ t → mid ≡ shown_processes i.processes.items → old ≡ i.directory.entries → kept ≡ i.directory.files → ((p : ProcessOf (Unit {0})) → numbered mid pid ≡ Some p → ps ≡ set mid pid (Some (record p { handles = p.handles ++ Some (length old) ∷ [] }))) → es ≡ old ++ Some (one_handle_more (new_entry s.prot s.name s.area)) ∷ [] → files ≡ kept → ListsSection i t pid s ps es files
+lists i pid s view grown grown_entries grown_files given entries files =
+    record {
+      view = view;
+      made = λ p here.
+          given p (ap (λ ps. numbered ps pid) grown ∙ here) ∙ (λ j. set (grown j) pid (Some (record p { handles = p.handles ++ Some (length (grown_entries j)) ∷ [] })));
+      entries = entries ∙ ap (λ es. es ++ Some (one_handle_more (new_entry s.prot s.name s.area)) ∷ []) grown_entries;
+      files_are = files ∙ grown_files;
     }
-
--- ---- a section of a file
-
-some_number : (o : Option ℕ) → is_some o ≡ true → (first : ℕ) × (o ≡ Some first)
-some_number o e = some_found o e
 
 area_inside : (w : Tables) (area first : ℕ) → (area_at w area).file_block ≡ Some first → area < length w.areas
 area_inside w area first e = by_list w.areas area e
@@ -202,22 +132,39 @@ area_inside w area first e = by_list w.areas area e
     by_list (a ∷ rest) zero e = omega arith
     by_list (a ∷ rest) (suc area) e = omega (arith, by_list rest area e)
 
-module _ (x y : Parts) (pid : ℕ) (p : ProcessOf (Unit {0})) (s : SectionOf) (lives : numbered x.processes pid ≡ Some p) (h : MakesSection x y x.areas pid p s) where
-  pub file_section_kept : (commit : CommitOf) → is_some (area_at (tables x) s.area).file_block ≡ true → IsKept (tables x) x.entries commit → IsKept (tables y) y.entries commit
-  file_section_kept commit file k =
-      let w = tables x in
-      let first = some_number (area_at w s.area).file_block file in
-      kept_as (new_section w pid p s).world (tables y) y.entries commit (section_is x y x.areas pid p s h)
-      (section_kept w pid p s x.entries y.entries commit lives (area_inside w s.area first.0 first.1) refl h.entries k.sound (settles_of s.area w k.tidy.settled) (rest_of w k.tidy)
+module _ {i : Inside} {t : Tables} {pid : ℕ} {s : SectionOf} {ps : List (Option (ProcessOf (Unit {0})))} {es : Numbered CountedSection} {files : List FileOf} (l : ListsSection i t pid s ps es files) (p : ProcessOf (Unit {0})) (alive : process_of t pid ≡ Some p) where
+  here : numbered (shown_processes i.processes.items) pid ≡ Some p
+  here = ap (λ (t : Tables). process_of t pid) l.view ∙ alive
+
+  section_is : {areas later : List (AreaOf (Unit {0}))} → areas ≡ later → now i ps es areas files i.blocks_used ≡ (new_section (record (as_kept i) { areas = later }) pid p s).world
+  section_is e =
+      let made : ps ≡ set (shown_processes i.processes.items) pid (Some (record p { handles = p.handles ++ Some (length (sections_of i.directory.entries)) ∷ [] })) =
+      l.made p here ∙ (λ j. set (shown_processes i.processes.items) pid (Some (record p { handles = p.handles ++ Some (sym (length_sections i.directory.entries) j) ∷ [] }))) in
+      λ j. record (as_kept i) {
+        processes = made j;
+        sections = sections_more i.directory.entries es (one_handle_more (new_entry s.prot s.name s.area)) l.entries j;
+        areas = e j;
+        files = l.files_are j;
+      }
+
+  -- ---- of a file
+
+  pub file_section_kept : is_some (area_at t s.area).file_block ≡ true → IsKept (as_kept i) i.directory.entries i.commit → IsKept (now i ps es i.areas.items files i.blocks_used) es i.commit
+  file_section_kept known k =
+      let w = as_kept i in
+      let first = some_found (area_at w s.area).file_block (ap (λ (t : Tables). is_some (area_at t s.area).file_block) l.view ∙ known) in
+      kept_as (new_section w pid p s).world (now i ps es i.areas.items files i.blocks_used) es i.commit (section_is refl)
+      (section_kept w pid p s i.directory.entries es i.commit here (area_inside w s.area first.0 first.1) refl l.entries k.sound (settles_of s.area w k.tidy.settled) (rest_of w k.tidy)
       (record {
         alone = λ none n r at same. (let bad : Some first.0 ≡ None = sym first.1 ∙ none in cc);
         some = (k.tidy.files s.area first.0 first.1).some;
-      }) (counts_of w x.entries commit k) k.charged k.limited)
+      }) k.counted k.charged k.limited)
 
-  pub file_section_settled : (t : Tables) (c : Key → Option Page) (z : StoreOf) → tables x ≡ t → Fits t c z → Settled (tables y) c c z z
-  file_section_settled t c z view f =
-      settled_as (section_is x y x.areas pid p s h)
-      (settled_same (new_section (tables x) pid p s).world c z (section_fits (tables x) pid p s c z lives (subst (λ (t : Tables). Fits t c z) (sym view) f)))
+  pub file_section_settled : (c : Key → Option Page) (z : StoreOf) → Fits t c z → Settled (now i ps es i.areas.items files i.blocks_used) c c z z
+  file_section_settled c z f =
+      let w = as_kept i in
+      settled_as (section_is refl) (settled_same (new_section w pid p s).world c z
+      (fits_handle w pid p (length w.sections) (w.sections ++ Some s ∷ []) here c z (subst (λ (t : Tables). Fits t c z) (sym l.view) f)))
 
 -- ---- A page-file section with its area: what the store holds of it, and what the tables keep
 
@@ -255,47 +202,6 @@ pub paging_charge : (pages : ℕ) (committed : Bool) → area_charge (paging_pag
 paging_charge pages true = omega (arith, sum_by-replicate (λ (page : Option (Unit {0})). cond (is_some page && true) 1 0) pages (Some tt))
 paging_charge pages false = omega (arith, sum_by-replicate (λ (page : Option (Unit {0})). cond (is_some page && true) 1 0) pages None)
 
--- ---- no more keys than are charged
-
-count_most : {A : Type 0} (P : A → Type 0) (t u : A → Bool) (xs : List A) → ((x : A) → P x → t x ≡ true → u x ≡ true) → Each P xs → count_by t xs ≤ count_by u xs
-count_most P t u [] f h = omega arith
-count_most P t u (x ∷ xs) f h =
-    omega (arith, sum_by-cons (λ x. cond (t x) 1 0) x xs, sum_by-cons (λ x. cond (u x) 1 0) x xs, count_most P t u xs f h.1, one (t x) (u x) (f x h.0))
-  where
-    one : (a b : Bool) → (a ≡ true → b ≡ true) → cond a 1 0 ≤ cond b 1 0
-    one true b f = subst (λ b. 1 ≤ cond b 1 0) (sym (f refl)) (omega arith)
-    one false b f = omega arith
-
-row_charged : (k : Kind) (row : RowOf (Unit {0})) → RowFits k row → is_some row.own ≡ true → is_charged k row ≡ true
-row_charged kind.Private row h e = e
-row_charged (kind.View v) row h e = h.copied e
-
-region_most : (r : RegionOf (Unit {0})) → RowsFit r → count_by (λ (row : RowOf (Unit {0})). is_some row.own) r.rows ≤ region_charge r
-region_most r h = count_most (RowFits r.kind) (λ (row : RowOf (Unit {0})). is_some row.own) (is_charged r.kind) r.rows (row_charged r.kind) h
-
-pub regions_most : (rs : List (RegionOf (Unit {0}))) → Each RowsFit rs → sum_by (λ (r : RegionOf (Unit {0})). count_by (λ (row : RowOf (Unit {0})). is_some row.own) r.rows) rs ≤ sum_by region_charge rs
-regions_most [] h = omega arith
-regions_most (r ∷ rs) h =
-    omega (
-      arith,
-      sum_by-cons (λ (r : RegionOf (Unit {0})). count_by (λ (row : RowOf (Unit {0})). is_some row.own) r.rows) r rs,
-      sum_by-cons region_charge r rs,
-      region_most r h.0,
-      regions_most rs h.1,
-    )
-
-processes_most : (ps : Numbered (ProcessOf (Unit {0}))) → ((q : ℕ) (p : ProcessOf (Unit {0})) → numbered ps q ≡ Some p → Each RowsFit p.regions) → sum_by owned_by ps ≤ sum_by process_charge ps
-processes_most [] h = omega arith
-processes_most (o ∷ ps) h =
-    omega (arith, sum_by-cons owned_by o ps, sum_by-cons process_charge o ps, processes_most ps (λ q p e. h (suc q) p e), here o (h 0))
-  where
-    here : (o : Option (ProcessOf (Unit {0}))) → ((p : ProcessOf (Unit {0})) → o ≡ Some p → Each RowsFit p.regions) → owned_by o ≤ process_charge o
-    here None h = omega arith
-    here (Some p) h = regions_most p.regions (h p refl)
-
-pub keys_most : (t : Tables) → Spaces t → paging_count t ≤ charge t
-keys_most t h = omega (arith, processes_most t.processes (λ q p e. (h q p e).rows))
-
 -- ---- the area is new
 
 pub area_free : (t : Tables) (c : Key → Option Page) (s : StoreOf) (number : ℕ) → Fits t c s → number ≡ length t.areas → s.areas number ≡ None
@@ -314,136 +220,109 @@ free_key t c s b i f e =
 
 -- ---- the store after it was opened and filled
 
-and_left : (a b : Bool) → a ≡ true → (a && b) ≡ b
-and_left true b e = refl
-and_left false b e = cc
-
 or_none : (b : Bool) → cond b true false ≡ b
 or_none true = refl
 or_none false = refl
 
-module _ (t : Tables) (area : Area) (pages : ℕ) (committed : Bool) (c d : Key → Option Page) (s z : StoreOf) (at : area.0 ≡ length t.areas) (f : Fits t c s) (o : Opens area pages (committed_pages pages committed) c d s z) where
-  page_new : (b : Area) (i : ℕ) → b.0 ≡ length t.areas → is_page_of area (committed_pages pages committed) (key.Shared b i) ≡ nat_lt i (committed_pages pages committed)
-  page_new b i e = and_left (b.0 == area.0) (nat_lt i (committed_pages pages committed)) (same_number b.0 area.0 (e ∙ sym at))
+pub some_if : (b : Bool) (x : Page) (y : Option Page) → y ≡ None → is_some (cond b (Some x) y) ≡ b
+some_if true x y e = refl
+some_if false x y e = ap is_some e
 
-  page_old : (k : Key) → IsOld t k → is_page_of area (committed_pages pages committed) k ≡ false
+module _ (t : Tables) (area : Area) (pages : ℕ) (committed : Bool) (c d : Key → Option Page) (s z : StoreOf) (at : area.0 ≡ length t.areas) (f : Fits t c s) (o : Opens area pages (committed_pages pages committed) c d s z) where
+  page_new : (b : Area) (i : ℕ) → b.0 ≡ length t.areas → is_page_of area (committed_pages pages committed) (key.Shared b i) ≡ is_some (numbered (paging_pages pages committed).pages i)
+  page_new b i e = ap (λ x. x && nat_lt i (committed_pages pages committed)) (same_number b.0 area.0 (e ∙ sym at)) ∙ sym (page_there pages committed i)
+
+  page_old : (k : Key) → IsOld (length t.areas) k → is_page_of area (committed_pages pages committed) k ≡ false
   page_old (key.Private pid page) h = refl
   page_old (key.Shared b i) h = ap (λ x. x && nat_lt i (committed_pages pages committed)) (differ b.0 area.0 (λ e. h (e ∙ at)))
 
-  some_or_none : (b : Bool) (x : Option Page) → x ≡ None → is_some (cond b (Some (filled 0)) x) ≡ b
-  some_or_none true x e = refl
-  some_or_none false x e = ap is_some e
-
-  kept_none : (b : Bool) → ◌≡◌ {A = Option ℕ} None (cond b None None)
-  kept_none true = refl
-  kept_none false = refl
-
-  and_not : (b : Bool) → b ≡ (b && not false)
-  and_not true = refl
-  and_not false = refl
-
-  pub opened_grown : 1 ≤ pages → charge t + committed_pages pages committed ≤ z.room → Grown t (paging_pages pages committed) t.blocks_used c d s z
+  opened_grown : 1 ≤ pages → charge t + committed_pages pages committed ≤ z.room → Grown t (t.areas ++ paging_pages pages committed ∷ []) (length t.areas) (paging_pages pages committed) t.blocks_used c d s z
   opened_grown some room =
-      let count : length (paging_pages pages committed).pages ≡ pages = length-replicate pages (page_if committed) in
+      let a = paging_pages pages committed in
+      let count : length a.pages ≡ pages = length-replicate pages (page_if committed) in
       record {
+        here = area_at_end t.areas a (length t.areas) refl;
+        before = area_before t.areas a;
+        stays = λ i e. absurd (no_page t i e);
         some = omega (arith, count, some);
         live_new = λ b i e.
             ap (λ (d : Key → Option Page). is_some (d (key.Shared b i))) o.contents
-            ∙ some_or_none (is_page_of area (committed_pages pages committed) (key.Shared b i)) (c (key.Shared b i)) (key_free t c s b i f e)
-            ∙ page_new b i e ∙ sym (page_there pages committed i);
-        live_old = λ k h.
-            ap (λ (d : Key → Option Page). is_some (d k)) o.contents ∙ ap (λ b. is_some (cond b (Some (filled 0)) (c k))) (page_old k h);
+            ∙ some_if (is_page_of area (committed_pages pages committed) (key.Shared b i)) (filled 0) (c (key.Shared b i)) (key_free t c s b i f e) ∙ page_new b i e;
+        live_old = λ k h. ap (λ (d : Key → Option Page). is_some (d k)) o.contents ∙ ap (λ b. is_some (cond b (Some (filled 0)) (c k))) (page_old k h);
         paging_new = λ b i e.
             ap (λ (x : StoreOf). x.paging (key.Shared b i)) o.store
             ∙ ap (λ x. cond (is_page_of area (committed_pages pages committed) (key.Shared b i)) true x) (free_key t c s b i f e).0
-            ∙ or_none (is_page_of area (committed_pages pages committed) (key.Shared b i)) ∙ page_new b i e ∙ sym (page_there pages committed i)
-            ∙ and_not (is_some (numbered (paging_pages pages committed).pages i));
+            ∙ or_none (is_page_of area (committed_pages pages committed) (key.Shared b i)) ∙ page_new b i e ∙ sym (and_true (is_some (numbered a.pages i)));
         paging_old = λ k h. ap (λ (x : StoreOf). x.paging k) o.store ∙ ap (λ b. cond b true (s.paging k)) (page_old k h);
         block_new = λ b i e.
-            ap (λ (x : StoreOf). x.block_of (key.Shared b i)) o.store ∙ (free_key t c s b i f e).1 ∙ kept_none (is_some (numbered (paging_pages pages committed).pages i));
+            ap (λ (x : StoreOf). x.block_of (key.Shared b i)) o.store ∙ (free_key t c s b i f e).1 ∙ sym (no_block (is_some (numbered a.pages i)) i None refl);
         block_old = λ k h. ap (λ (x : StoreOf). x.block_of k) o.store;
-        areas_new = λ q e.
-            ap (λ (x : StoreOf). x.areas q) o.store ∙ ap (λ b. cond b (Some pages) (s.areas q)) (same_number q area.0 (e ∙ sym at)) ∙ ap (λ (k : ℕ). Some k) (sym count);
+        areas_new =
+            ap (λ (x : StoreOf). x.areas (length t.areas)) o.store
+            ∙ ap (λ b. cond b (Some pages) (s.areas (length t.areas))) (same_number (length t.areas) area.0 (sym at)) ∙ ap (λ (k : ℕ). Some k) (sym count);
         areas_old = λ q h. ap (λ (x : StoreOf). x.areas q) o.store ∙ ap (λ b. cond b (Some pages) (s.areas q)) (differ q area.0 (λ e. h (e ∙ at)));
-        counted = omega (arith, ap (λ (x : StoreOf). x.paging_keys) o.store, paging_charge pages committed);
-        room = omega (arith, room, paging_charge pages committed);
-        machine = ap (λ (x : StoreOf). x.machine) o.store;
-        is_open = ap (λ (x : StoreOf). x.is_open) o.store;
-        last_pid = ap (λ (x : StoreOf). x.last_pid) o.store;
-        bound = ap (λ (x : StoreOf). x.bound) o.store;
-        names = ap (λ (x : StoreOf). x.names) o.store;
+        counted = omega (arith, ap (λ (x : StoreOf). x.paging_keys) o.store, f.counted, paging_charge pages committed, sum_by_push area_charge t.areas a);
+        room = omega (arith, room, paging_charge pages committed, with_area_charge t a);
         blocks_used = ap (λ (x : StoreOf). x.blocks_used) o.store ∙ f.used;
+        rest = o.store ∙ ap (with_area_of s) (sym o.store);
         stored = ap (λ (x : StoreOf). length x.file_blocks) o.store;
-        named_paging = ap (λ (x : StoreOf). length x.paging_device.named) o.store;
         named_file = ap (λ (x : StoreOf). length x.file_device.named) o.store;
       }
 
-  carried : (k : Key) (b : Bool) → (b ≡ true → c k ≡ None) → Carried (c k) (cond b (Some (filled 0)) (c k))
-  carried k true dead = by_none (c k) (dead refl)
-    where
-      by_none : (x : Option Page) → x ≡ None → filled 0 ≡ cond (is_some x && true) (unwrap_or x (filled 0)) (filled 0)
-      by_none None e = refl
-      by_none (Some y) e = cc
-  carried k false dead = (carries_same c).at k
-
   page_dead : (k : Key) → is_page_of area (committed_pages pages committed) k ≡ true → c k ≡ None
   page_dead (key.Private pid page) e = cc
-  page_dead (key.Shared b i) e = by_area (b.0 == area.0) refl e
-    where
-      by_area : (x : Bool) → (b.0 == area.0) ≡ x → (x && nat_lt i (committed_pages pages committed)) ≡ true → c (key.Shared b i) ≡ None
-      by_area true same e = key_free t c s b i f ((unsigned_Decides b.0 area.0).0 same ∙ at)
-      by_area false same e = cc
+  page_dead (key.Shared b i) e =
+      key_free t c s b i f ((unsigned_Decides b.0 area.0).0 (and-true (b.0 == area.0) (nat_lt i (committed_pages pages committed)) e).0 ∙ at)
 
-  pub opened_carries : Carries c d
+  opened_carries : Carries c d
   opened_carries =
-      subst (λ (d : Key → Option Page). Carries c d) (sym o.contents) (record { at = λ k. carried k (is_page_of area (committed_pages pages committed) k) (page_dead k) })
-
-  pub opened_rest : z ≡ beside s z
-  opened_rest =
-      let made : StoreOf = record (with_area_keys area (committed_pages pages committed) s z) { areas = changed ◌==◌ s.areas area.0 (Some pages); room = z.room } in
-      let same : made ≡ beside s made = refl in
-      o.store ∙ same ∙ ap (beside s) (sym o.store)
+      subst (λ (d : Key → Option Page). Carries c d) (sym o.contents) (record {
+        at = λ k.
+            let b = is_page_of area (committed_pages pages committed) k in
+            subst (λ (o : Option Page). Carried (c k) o)
+            (cond_at b (Some (unwrap_or (c k) (filled 0))) (Some (filled 0)) (c k) (λ e. ap (λ (o : Option Page). Some (unwrap_or o (filled 0))) (page_dead k e))) (at_added b (c k));
+      })
 
 -- ---- what the tables keep
 
-module _ (x y : Parts) (pid : ℕ) (p : ProcessOf (Unit {0})) (s : SectionOf) (pages : ℕ) (committed : Bool) (lives : numbered x.processes pid ≡ Some p) (at : s.area ≡ length x.areas) (some : 1 ≤ pages) (h : MakesSection x y (x.areas ++ paging_pages pages committed ∷ []) pid p s) where
-  may_add : MayAdd (tables x) (paging_pages pages committed) x.used
-  may_add = record { later = omega arith; file = λ first e. cc }
-
-  may_list : References (tables x) → MayList (with_area (tables x) (paging_pages pages committed)) s
+module _ {i : Inside} {t : Tables} {pid : ℕ} {s : SectionOf} {ps : List (Option (ProcessOf (Unit {0})))} {es : Numbered CountedSection} {files : List FileOf} (l : ListsSection i t pid s ps es files) (p : ProcessOf (Unit {0})) (alive : process_of t pid ≡ Some p) (pages : ℕ) (committed : Bool) {areas : List (AreaOf (Unit {0}))} (at : s.area ≡ length i.areas.items) (some : 1 ≤ pages) (made : areas ≡ i.areas.items ++ paging_pages pages committed ∷ []) where
+  may_list : References (as_kept i) → MayList (with_area (as_kept i) (paging_pages pages committed)) s
   may_list refers =
       record {
         alone = λ none n r e same. absurd (omega (arith, refers.sections n r e, same, at));
-        some = omega (arith, ap (λ (a : AreaOf (Unit {0})). length a.pages) (area_at_end x.areas (paging_pages pages committed) s.area at), length-replicate pages (page_if committed), some);
+        some = omega (arith, ap (λ (a : AreaOf (Unit {0})). length a.pages) (area_at_end i.areas.items (paging_pages pages committed) s.area at), length-replicate pages (page_if committed), some);
       }
 
-  pub paging_kept : (commit new : CommitOf) → charge (tables x) + committed_pages pages committed ≤ limit (tables x) → new ≡ record commit { charge = commit.charge + committed_pages pages committed } → IsKept (tables x) x.entries commit → IsKept (tables y) y.entries new
-  paging_kept commit new room e k =
-      let w = with_area (tables x) (paging_pages pages committed) in
-      let charged : area_charge (paging_pages pages committed) ≡ committed_pages pages committed = paging_charge pages committed in
-      kept_as (new_section w pid p s).world (tables y) y.entries new (section_is x y (x.areas ++ paging_pages pages committed ∷ []) pid p s h)
-      (section_kept w pid p s x.entries y.entries new lives
-      (omega (arith, at, length-append x.areas (paging_pages pages committed ∷ []))) refl h.entries
-      (area_well (tables x) (paging_pages pages committed) (omega (arith, room, charged)) k.sound)
-      (subst (λ (n : ℕ). Settles n (with_area (tables x) (paging_pages pages committed))) (sym at) (area_settles (tables x) (paging_pages pages committed) x.used k.sound.references k.tidy.settled))
-      (area_rest (tables x) (paging_pages pages committed) x.used k.sound.references may_add (rest_of (tables x) k.tidy))
+  pub paging_kept : (n : ℕ) (new : CommitOf) → charge t + committed_pages pages committed ≤ limit t → n ≡ committed_pages pages committed → new ≡ record (i.commit) { charge = i.commit.charge + n } → IsKept (as_kept i) i.directory.entries i.commit → IsKept (now i ps es areas files i.blocks_used) es new
+  paging_kept n new room charged taken k =
+      let x = as_kept i in
+      let a = paging_pages pages committed in
+      let count : area_charge a ≡ committed_pages pages committed = paging_charge pages committed in
+      kept_as (new_section (with_area x a) pid p s).world (now i ps es areas files i.blocks_used) es new (section_is l p alive made)
+      (section_kept (with_area x a) pid p s i.directory.entries es new (here l p alive) (omega (arith, at, length-append i.areas.items (a ∷ []))) refl l.entries
+      (area_well x a (omega (arith, room, ap (λ (t : Tables). charge t) l.view, ap (λ (t : Tables). limit t) l.view, count)) k.sound)
+      (subst (λ (n : ℕ). Settles n (with_area x a)) (sym at) (area_settles x a i.blocks_used k.tidy.settled))
+      (area_rest x a i.blocks_used k.sound.references (record { later = omega arith; file = λ first e. cc }) (rest_of x k.tidy))
       (may_list k.sound.references)
-      (record { all = λ n c there. let old = k.counted n c there in record { handles = old.handles; views = old.views } })
-      (omega (arith, ap (λ (c : CommitOf). c.charge) e, k.charged, with_area_charge (tables x) (paging_pages pages committed), charged))
-      (ap (λ (c : CommitOf). c.limit) e ∙ k.limited))
+      (λ n c there. let old = k.counted n c there in record { handles = old.handles; views = old.views })
+      (omega (arith, ap (λ (c : CommitOf). c.charge) taken, charged, k.charged, with_area_charge x a, count))
+      (ap (λ (c : CommitOf). c.limit) taken ∙ k.limited))
 
-  pub paging_now : (t : Tables) → tables x ≡ t → tables y ≡ (new_section (record t { areas = t.areas ++ paging_pages pages committed ∷ [] }) pid p s).world
-  paging_now t view =
-      section_is x y (x.areas ++ paging_pages pages committed ∷ []) pid p s h
-      ∙ ap (λ (t : Tables). (new_section (record t { areas = t.areas ++ paging_pages pages committed ∷ [] }) pid p s).world) view
+  pub paging_now : now i ps es areas files i.blocks_used ≡ (new_section (record t { areas = t.areas ++ paging_pages pages committed ∷ [] }) pid p (record s { area = length t.areas })).world
+  paging_now =
+      section_is l p alive made
+      ∙ ap (λ (k : ℕ). (new_section (record (as_kept i) { areas = i.areas.items ++ paging_pages pages committed ∷ [] }) pid p (record s { area = k })).world) at
+      ∙ ap (λ (t : Tables). (new_section (record t { areas = t.areas ++ paging_pages pages committed ∷ [] }) pid p (record s { area = length t.areas })).world) l.view
 
-  pub paging_settled : (t : Tables) (area : Area) (c d : Key → Option Page) (st z : StoreOf) → tables x ≡ t → area.0 ≡ s.area → Fits t c st → Opens area pages (committed_pages pages committed) c d st z → charge (tables x) + committed_pages pages committed ≤ z.room → Settled (tables y) c d st z
-  paging_settled t area c d st z view same fits o room =
-      let f = subst (λ (t : Tables). Fits t c st) (sym view) fits in
-      let new = same ∙ at in
-      settled_as (section_is x y (x.areas ++ paging_pages pages committed ∷ []) pid p s h) (record {
-        fits = section_fits (with_area (tables x) (paging_pages pages committed)) pid p s d z lives
-            (fits_area (tables x) (paging_pages pages committed) x.used c d st z (opened_grown (tables x) area pages committed c d st z new f o some room) f);
-        carries = opened_carries (tables x) area pages committed c d st z new f o;
-        rest = opened_rest (tables x) area pages committed c d st z new f o;
+  pub paging_settled : (area : Area) (n : ℕ) (c d : Key → Option Page) (st z : StoreOf) → area.0 ≡ s.area → Fits t c st → n ≡ committed_pages pages committed → Opens area pages n c d st z → charge (as_kept i) + committed_pages pages committed ≤ z.room → Settled (now i ps es areas files i.blocks_used) c d st z
+  paging_settled area n c d st z same fits count opened room =
+      let x = as_kept i in
+      let a = paging_pages pages committed in
+      let f = subst (λ (t : Tables). Fits t c st) (sym l.view) fits in
+      let o = subst (λ (n : ℕ). Opens area pages n c d st z) count opened in
+      settled_as (section_is l p alive made) (record {
+        fits = fits_handle (with_area x a) pid p (length x.sections) (x.sections ++ Some s ∷ []) (here l p alive) d z
+            (fits_area x (i.areas.items ++ a ∷ []) (length i.areas.items) a i.blocks_used c d st z (opened_grown x area pages committed c d st z (same ∙ at) f o some room) f);
+        carries = opened_carries x area pages committed c d st z (same ∙ at) f o;
+        rest = o.store ∙ ap (beside st) (sym o.store);
       })

@@ -1,46 +1,53 @@
 -- What a store that fits the tables allows to be done to a range of a process.
-use Rattle.std.proofs.Common.{◌≡◌, ◌≤◌, ◌+◌, ◌-◌, ℕ, zero, suc, Bool, true, false, Option, Some, None, List, [], ◌∷◌, refl, sym, ◌∙◌, ap, subst, cond, arith, length, slice_get, is_some, ◌&&◌, ◌||◌, not, nat_le, nat_lt, take, drop, count_by, sum_by, option_map, unwrap_or, set}
+use Rattle.std.proofs.Common.{◌≡◌, ◌≤◌, ◌+◌, ◌-◌, ℕ, zero, suc, Bool, true, false, Option, Some, None, List, [], ◌∷◌, refl, sym, ◌∙◌, ap, subst, arith, length, slice_get, is_some, ◌&&◌, ◌||◌, not, nat_le, take, drop, count_by, sum_by, option_map, unwrap_or, set}
 use Rattle.std.proofs.Math.Path.{fun_ext}
 use Rattle.std.specs.Prelude.{◌==◌, option_and_then, remove, ◌%◌}
 use Rattle.std.specs.List.{list_any}
-use Rattle.std.proofs.lemmas.Bool.{leb-true, le-leb}
+use Rattle.std.proofs.lemmas.Bool.{leb-true}
+use Rattle.std.proofs.lemmas.List.{take_all}
 use Rattle.std.proofs.lemmas.List.Sums.{sum_by-cons}
+use Rattle.std.proofs.lemmas.Option.{get_or_from_slice_get}
 use Rattle.mm_types.specs.declared.moves.LineKind.TheVariants as kind
 use Rattle.mm_types.specs.declared.views.Kind.{Kind}
 use Rattle.mm_types.specs.declared.views.Kind.TheVariants as kind'
 use Rattle.mm_types.specs.declared.numbers.Key.{Key}
 use Rattle.mm_types.specs.declared.numbers.Key.TheVariants as key
 use Rattle.mm_types.specs.declared.numbers.Pid.{Pid}
-use Rattle.mm_types.specs.Address.{Range, meets, is_free, are_user_pages, address_of, end_of, holds_page, lies_within, first_user_page, end_of_user_pages}
+use Rattle.mm_types.specs.Address.{Range, meets, is_free, address_of, end_of, holds_page, lies_within, first_user_page, end_of_user_pages}
 use Rattle.mm_types.specs.Machine.{limit_of}
-use Rattle.mm_types.proofs.Booleans.{both}
-use Rattle.mm_world.specs.World.{Page, ProcessOf, RegionOf, RowOf, numbered, pages_of}
+use Rattle.mm_types.proofs.Booleans.{or_true}
+use Rattle.mm_types.proofs.Options.{none_of, some_found, same_found}
+use Rattle.mm_world.specs.World.{Page, ProcessOf, RegionOf, RowOf, pages_of}
 use Rattle.mm_world.specs.Rows.{row_at, is_committed, is_committed_at, every_page, is_protection_among, private_protections, reserved_row, commit, protected, change_rows, accepts}
 use Rattle.mm_world.specs.Find.{Found, first_where, process_of, region_with, region_around, ranges_of, is_private, set_region, set_regions, add_region}
 use Rattle.mm_world.specs.Free.{private_at}
 use Rattle.mm_world.specs.Charge.{charge, is_charged, region_charge, process_charge}
 use Rattle.mm_world.specs.Keys.{own_page, private_key}
 use Rattle.mm_world.specs.Contents.{Tables, blank}
-use Rattle.mm_world.specs.WellFormed.{Each, WellFormed, RowFits, RowsFit, IsSpace}
+use Rattle.mm_world.specs.WellFormed.{WellFormed, RowFits, RowsFit, IsSpace}
 use Rattle.mm_world.specs.Alloc.{private_region}
-use Rattle.mm_world.proofs.Each.{every_page-at}
+use Rattle.mm_world.proofs.Each.{each-at, every_page-at}
 use Rattle.mm_world.proofs.Disjoint.{is_placed, same_place}
 use Rattle.mm_world.proofs.Finding.{found_stands}
 use Rattle.mm_world.proofs.KeptPages.{own_in}
+use Rattle.mm_world.proofs.Charges.{charge-set_region}
+use Rattle.mm_world.proofs.KindsAndKeys.{private_kind}
 use Rattle.mm_world.proofs.LaidOut.{and-true, or-false, laid_at}
+use Rattle.mm_world.proofs.Ranges.{apart_too, holds_first, lies}
+use Rattle.mm_world.proofs.RowsFit.{rows_committed, rows_cleared, rows_protected}
 use Rattle.mm_pages.specs.Conditions.{place_at}
 use Rattle.mm_pages.specs.Store.{StoreOf}
 use Rattle.mm_spaces.specs.Tables.{owned_in, rows_of}
-use Rattle.mm_tables.specs.Effects.{CanMake, key_in, Effect, Makes, Ends, Leaves, contents_by, Stored, Moves, Roomier, keys_of}
-use Rattle.mm_tables.specs.Fits.{Fits, key_at, new_pages, paging_count, owned_by, Carries, Settled, beside}
+use Rattle.mm_tables.specs.Effects.{CanMake, key_in, Effect, Makes, Ends, Leaves, Stored, Moves, Roomier, keys_of}
+use Rattle.mm_tables.specs.Fits.{Fits, key_at, new_pages, new_marks, paging_count, owned_by, Carries, Settled, beside}
 use Rattle.mm_tables.specs.Ranges.{CanAdd, CanRemove, passing, is_live, is_dead}
 use Rattle.mm_tables.proofs.Lists.{found-cons, one_if}
-use Rattle.mm_tables.proofs.Carried.{private_paging, moved, beside_by, carries_as, carries_same, carries_added, carries_removed}
+use Rattle.mm_tables.proofs.Carried.{private_paging, moved, carries_by, carries_same}
 use Rattle.mm_tables.proofs.PageByPage.{passing_all}
-use Rattle.mm_tables.proofs.OneProcess.{own_rows, regions_of_process, reserved_is, content_is, home_key, region_key, key_in_has, key_at_is, private_home}
-use Rattle.mm_tables.proofs.Regions.{has_at, within, holds, holds_not}
-use Rattle.mm_tables.proofs.Rows.{Inside, inside, has_own, in_range, holds_too, passing_owned, private_charge}
-use Rattle.mm_tables.proofs.Regional.{not-true, commit_moves, commit_charge, commit_paging, commit_stands, decommit_moves, decommit_charge, decommit_paging, decommit_stands, protect_moves, protect_charge, protect_paging, protect_stands, marks_of, release_moves, release_charge, release_paging, release_stands, reserve_moves, reserve_charge, reserve_paging, reserve_stands}
+use Rattle.mm_tables.proofs.OneProcess.{own_rows, paging-remove_region, regions_of_process, reserved_is, content_is, home_key, region_key, key_in_has, key_at_is, private_home}
+use Rattle.mm_tables.proofs.Regions.{has_at, holds}
+use Rattle.mm_tables.proofs.Rows.{Inside, inside, has_own, in_range, holds_too, passing_owned, private_charge, charge_of_commit}
+use Rattle.mm_tables.proofs.Regional.{allowed, one_or_other, is_clear, change_stands, change_moves, commit_moves, decommit_charge, paging_as_charge, protect_count, protect_moves, protect_paging, release_moves, release_charge, release_stands, reserve_moves, reserve_charge, reserve_paging, reserve_stands}
 use Rattle.mm_tables.proofs.Keeping.{StandIn}
 
 pub found_there : {A : Type 0} (test : A → Bool) (xs : List A) (i : ℕ) (x : A) → slice_get xs i ≡ Some x → test x ≡ true → is_some (first_where test xs) ≡ true
@@ -50,58 +57,35 @@ found_there test (y ∷ xs) zero x at e =
     found-cons test y xs ∙ ap (λ b. b || is_some (first_where test xs)) (ap test same ∙ e)
 found_there test (y ∷ xs) (suc i) x at e =
     found-cons test y xs ∙ ap (λ b. test y || b) (found_there test xs i x at e) ∙ or_true (test y)
-  where
-    or_true : (b : Bool) → (b || true) ≡ true
-    or_true true = refl
-    or_true false = refl
 
 pub passing_both : (test : ℕ → Bool) (first n : ℕ) → passing test first n + passing (λ page. not (test page)) first n ≡ n
 passing_both test first zero = refl
-passing_both test first (suc n) = omega (arith, passing_both test first n, one (test (first + n)))
-  where
-    one : (b : Bool) → cond b 1 0 + cond (not b) 1 0 ≡ 1
-    one true = refl
-    one false = refl
+passing_both test first (suc n) = omega (arith, passing_both test first n, one_or_other (test (first + n)))
 
 -- ---- no more page-file keys than pages are charged
 
-private_few : (rows : List (RowOf (Unit {0}))) (k : Kind) → Each (RowFits k) rows → count_by has_own rows ≤ count_by (is_charged k) rows
-private_few [] k h = omega arith
-private_few (row ∷ rows) k h =
-    omega (
-      arith,
-      sum_by-cons (λ (row : RowOf (Unit {0})). one_if (has_own row)) row rows,
-      sum_by-cons (λ (row : RowOf (Unit {0})). one_if (is_charged k row)) row rows,
-      private_few rows k h.1,
-      by_kind k h.0,
-    )
+sum_few : {A : Type 0} (f g : A → ℕ) (xs : List A) → ((i : ℕ) (x : A) → slice_get xs i ≡ Some x → f x ≤ g x) → sum_by f xs ≤ sum_by g xs
+sum_few f g [] h = omega arith
+sum_few f g (x ∷ xs) h = omega (arith, sum_by-cons f x xs, sum_by-cons g x xs, h 0 x refl, sum_few f g xs (λ i. h (suc i)))
+
+row_few : (k : Kind) (row : RowOf (Unit {0})) → RowFits k row → one_if (has_own row) ≤ one_if (is_charged k row)
+row_few kind'.Private row fits = omega arith
+row_few (kind'.View v) row fits = by_two (is_some row.own) row.marked fits.copied
   where
     by_two : (a b : Bool) → (a ≡ true → b ≡ true) → one_if a ≤ one_if b
-    by_two true true f = omega arith
-    by_two true false f = let bad : false ≡ true = f refl in cc
-    by_two false true f = omega arith
-    by_two false false f = omega arith
-
-    by_kind : (k : Kind) → RowFits k row → one_if (has_own row) ≤ one_if (is_charged k row)
-    by_kind kind'.Private fits = omega arith
-    by_kind (kind'.View v) fits = by_two (is_some row.own) row.marked fits.copied
-
-regions_few : (rs : List (RegionOf (Unit {0}))) → Each RowsFit rs → sum_by own_rows rs ≤ sum_by region_charge rs
-regions_few [] h = omega arith
-regions_few (r ∷ rs) h =
-    omega (arith, sum_by-cons own_rows r rs, sum_by-cons region_charge r rs, private_few r.rows r.kind h.0, regions_few rs h.1)
+    by_two true b f = omega (arith, ap one_if (f refl))
+    by_two false b f = omega arith
 
 process_few : (o : Option (ProcessOf (Unit {0}))) → ((p : ProcessOf (Unit {0})) → o ≡ Some p → IsSpace p.regions) → owned_by o ≤ process_charge o
 process_few None h = omega arith
-process_few (Some p) h = regions_few p.regions (h p refl).rows
-
-processes_few : (ps : List (Option (ProcessOf (Unit {0})))) → ((pid : ℕ) (p : ProcessOf (Unit {0})) → numbered ps pid ≡ Some p → IsSpace p.regions) → sum_by owned_by ps ≤ sum_by process_charge ps
-processes_few [] h = omega arith
-processes_few (o ∷ ps) h =
-    omega (arith, sum_by-cons owned_by o ps, sum_by-cons process_charge o ps, process_few o (λ p e. h 0 p e), processes_few ps (λ pid p e. h (suc pid) p e))
+process_few (Some p) h =
+    sum_few own_rows region_charge p.regions (λ i r at.
+    sum_few (λ (row : RowOf (Unit {0})). one_if (has_own row)) (λ (row : RowOf (Unit {0})). one_if (is_charged r.kind row)) r.rows (λ j row there.
+    row_few r.kind row (each-at (RowFits r.kind) r.rows j row (each-at RowsFit p.regions i r (h p refl).rows at) there)))
 
 pub paging_few : (t : Tables) → WellFormed t → paging_count t ≤ charge t
-paging_few t h = omega (arith, processes_few t.processes h.spaces)
+paging_few t h =
+    omega (arith, sum_few owned_by process_charge t.processes (λ pid o at. process_few o (λ p e. h.spaces pid p (get_or_from_slice_get t.processes pid o None at ∙ e))))
 
 -- ---- a process
 
@@ -130,39 +114,24 @@ module _ (t : Tables) (pid : Pid) (p : ProcessOf (Unit {0})) (c : Key → Option
         ∙ passing_owned first_user_page i p.regions r range range.count (h.spaces pid.0 p lives).laid_out at inside (omega arith)
 
     module _ (private : is_private r.kind ≡ true) where
-      -- a private page without bytes names nothing
-      by_row : (page : ℕ) (k : Key) (o : Option (RowOf (Unit {0}))) → option_and_then (λ row. home_key t pid.0 page (page - r.base) r.kind row.own) o ≡ Some k → is_some (option_and_then (λ (row : RowOf (Unit {0})). row.own) o) ≡ true
-      by_row page k None e = cc
-      by_row page k (Some row) e = by_own row.own (sym (private_home t pid.0 page (page - r.base) r.kind row.own private) ∙ e)
-        where
-          by_own : (o : Option (Unit {0})) → option_map (λ x. private_key pid.0 page) o ≡ Some k → is_some o ≡ true
-          by_own None e = cc
-          by_own (Some x) e = refl
+      -- a private page names its own key where it has bytes
+      by_row : (page : ℕ) (o : Option (RowOf (Unit {0}))) → option_and_then (λ row. home_key t pid.0 page (page - r.base) r.kind row.own) o ≡ option_map (λ (x : Unit {0}). private_key pid.0 page) (option_and_then (λ (row : RowOf (Unit {0})). row.own) o)
+      by_row page None = refl
+      by_row page (Some row) = private_home t pid.0 page (page - r.base) r.kind row.own private
 
       pub uncommitted_is : (page : ℕ) → holds_page range page ≡ true → is_live pid c page ≡ false → key_at t (place_at pid page) ≡ None
-      uncommitted_is page held dead = by_key (key_at t (place_at pid page)) refl
-        where
-          in_r : holds_page (pages_of r) page ≡ true
-          in_r = holds_too range (pages_of r) page inside held
+      uncommitted_is page held dead =
+          let laid = (h.spaces pid.0 p lives).laid_out in
+          let in_r = holds_too range (pages_of r) page inside held in
+          let own = has_at (λ (r : RegionOf (Unit {0})). own_in r page) first_user_page i page p.regions r laid at in_r in
+          let none : own_in r page ≡ None = none_of (own_in r page) (ap is_some (sym own) ∙ sym (live_is page) ∙ dead) in
+          key_at_is t (place_at pid page) ∙ ap (λ rs. key_in t pid.0 rs page) (regions_of_process t pid.0 p lives) ∙ key_in_has t pid.0 p.regions page
+          ∙ has_at (region_key t pid.0 page) first_user_page i page p.regions r laid at in_r ∙ by_row page (row_at r page) ∙ ap (option_map (λ (x : Unit {0}). private_key pid.0 page)) none
 
-          by_key : (o : Option Key) → key_at t (place_at pid page) ≡ o → o ≡ None
-          by_key None e = refl
-          by_key (Some k) e =
-              let laid = (h.spaces pid.0 p lives).laid_out in
-              let named : region_key t pid.0 page r ≡ Some k =
-              sym (has_at (region_key t pid.0 page) first_user_page i page p.regions r laid at in_r) ∙ sym (key_in_has t pid.0 p.regions page)
-              ∙ ap (λ rs. key_in t pid.0 rs page) (sym (regions_of_process t pid.0 p lives)) ∙ sym (key_at_is t (place_at pid page)) ∙ e in
-              let own : is_some (own_page p.regions page) ≡ true =
-              ap is_some (has_at (λ (r : RegionOf (Unit {0})). own_in r page) first_user_page i page p.regions r laid at in_r) ∙ by_row page k (row_at r page) named in
-              let bad : true ≡ false = sym own ∙ sym (live_is page) ∙ dead in
-              cc
-
-      pub unnamed_is : (page : ℕ) → holds_page range page ≡ true → is_live pid c page ≡ false → s.names (place_at pid page) ≡ None
-      unnamed_is page held dead = by_name (s.names (place_at pid page)) refl
-        where
-          by_name : (o : Option Key) → s.names (place_at pid page) ≡ o → o ≡ None
-          by_name None e = refl
-          by_name (Some k) e = sym (f.named (place_at pid page) k e) ∙ uncommitted_is page held dead
+      unnamed_is : (page : ℕ) → holds_page range page ≡ true → is_live pid c page ≡ false → s.names (place_at pid page) ≡ None
+      unnamed_is page held dead =
+          elim (s.names (place_at pid page)) as (λ o. s.names (place_at pid page) ≡ o → o ≡ None)
+          [ None ↦ λ e. refl | Some k ↦ λ e. sym (f.named (place_at pid page) k e) ∙ uncommitted_is page held dead ] refl
 
       pub can_remove : s.kind ≡ kind.Unbind pid → CanRemove pid range p.regions c s
       can_remove unbinding =
@@ -201,25 +170,17 @@ around rs range r e =
 
 -- regions lie apart, so the one that has a range is found around it
 module _ (t : Tables) (pid : ℕ) (p : ProcessOf (Unit {0})) (i : ℕ) (r : RegionOf (Unit {0})) (range : Range) (lives : process_of t pid ≡ Some p) (h : WellFormed t) (at : slice_get p.regions i ≡ Some r) (inner : Inside range (pages_of r)) (some : 1 ≤ range.count) where
-  lies : lies_within range (pages_of r) ≡ true
-  lies = both (nat_le r.base range.first) (nat_le (end_of range) (end_of (pages_of r))) (le-leb _ _ inner.low) (le-leb _ _ inner.high)
-
   pub is_around : is_some (region_around p.regions range) ≡ true
-  is_around = found_there (λ (r : RegionOf (Unit {0})). lies_within range (pages_of r)) p.regions i r at lies
-
-  by_found : (o : Option (Found (RegionOf (Unit {0})))) → region_around p.regions range ≡ o → is_some o ≡ true → region_around p.regions range ≡ Some (record { place = i; thing = r })
-  by_found None e there = cc
-  by_found (Some q) e there =
-      let a = around p.regions range q e in
-      let held : holds_page range range.first ≡ true = holds range range.first (omega arith) (omega (arith, some)) in
-      let place : q.place ≡ i =
-      same_place t pid range.first q.place i p q.thing r h lives a.at at (holds_too range (pages_of q.thing) range.first a.inside held) (holds_too range (pages_of r) range.first inner held) in
-      let things : Some q.thing ≡ Some r = sym a.at ∙ ap (slice_get p.regions) place ∙ at in
-      let thing : q.thing ≡ r = cc in
-      e ∙ (λ j. Some (record { place = place j; thing = thing j }))
+  is_around = found_there (λ (r : RegionOf (Unit {0})). lies_within range (pages_of r)) p.regions i r at (lies range (pages_of r) inner)
 
   pub around_is : region_around p.regions range ≡ Some (record { place = i; thing = r })
-  around_is = by_found (region_around p.regions range) refl is_around
+  around_is =
+      let q = some_found (region_around p.regions range) is_around in
+      let a = around p.regions range q.0 q.1 in
+      let place : q.0.place ≡ i =
+      same_place t pid range.first q.0.place i p q.0.thing r h lives a.at at (holds_first range (pages_of q.0.thing) a.inside some) (holds_first range (pages_of r) inner some) in
+      let thing : q.0.thing ≡ r = same_found (slice_get p.regions i) q.0.thing r (ap (slice_get p.regions) (sym place) ∙ a.at) at in
+      q.1 ∙ (λ j. Some (record { place = place j; thing = thing j }))
 
 -- the region that begins at an address
 pub record Begins (rs : List (RegionOf (Unit {0}))) (r : Found (RegionOf (Unit {0}))) : Type 0 where
@@ -231,13 +192,9 @@ begins rs addr r e =
     let stands = found_stands (λ (r : RegionOf (Unit {0})). is_private r.kind && (address_of r.base == addr)) rs r e in
     record { at = stands.there; private = (and-true (is_private r.thing.kind) (address_of r.thing.base == addr) stands.passes).0 }
 
-take-whole : {A : Type 0} (xs : List A) → take (length xs) xs ≡ xs
-take-whole [] = refl
-take-whole (x ∷ xs) = ap (λ ys. x ∷ ys) (take-whole xs)
-
 pub whole_range : (r : RegionOf (Unit {0})) → in_range (pages_of r) r ≡ r.rows
 whole_range r =
-    ap (λ (k : ℕ). take (length r.rows) (drop k r.rows)) (let none : r.base - r.base ≡ 0 = omega arith in none) ∙ take-whole r.rows
+    ap (λ (k : ℕ). take (length r.rows) (drop k r.rows)) (let none : r.base - r.base ≡ 0 = omega arith in none) ∙ take_all (length r.rows) r.rows (omega arith)
 
 pub whole_inside : (r : RegionOf (Unit {0})) (range : Range) → pages_of r ≡ range → Inside range (pages_of r)
 whole_inside r range e = subst (λ (range : Range). Inside range (pages_of r)) e (record { low = omega arith; high = omega arith })
@@ -249,13 +206,9 @@ pages_found (Some r) range e = (r, (refl, (let same : pages_of r.thing ≡ range
 
 -- where each page of the range is committed, all rows of the range have bytes of their own
 module _ (t : Tables) (pid : ℕ) (p : ProcessOf (Unit {0})) (i : ℕ) (r : RegionOf (Unit {0})) (range : Range) (lives : process_of t pid ≡ Some p) (h : WellFormed t) (at : slice_get p.regions i ≡ Some r) (inner : Inside range (pages_of r)) (private : is_private r.kind ≡ true) where
-  committed_own : (k : Kind) (j : ℕ) (row : RowOf (Unit {0})) → is_private k ≡ true → is_committed t k j row ≡ is_some row.own
-  committed_own kind'.Private j row e = refl
-  committed_own (kind'.View v) j row e = cc
-
   by_own : (o : Option (RowOf (Unit {0}))) (k : Kind) (j : ℕ) → is_private k ≡ true → unwrap_or (option_map (is_committed t k j) o) false ≡ is_some (option_and_then (λ (row : RowOf (Unit {0})). row.own) o)
   by_own None k j e = refl
-  by_own (Some row) k j e = committed_own k j row e
+  by_own (Some row) k j e = ap (λ k. is_committed t k j row) (private_kind k e)
 
   pub all_owned : every_page (is_committed_at t r) range ≡ true → count_by has_own (in_range range r) ≡ range.count
   all_owned all =
@@ -269,35 +222,20 @@ module _ (t : Tables) (pid : ℕ) (p : ProcessOf (Unit {0})) (i : ℕ) (r : Regi
 
 -- ---- free pages
 
-apart : (a b : Range) (page : ℕ) → meets a b ≡ false → holds_page a page ≡ true → holds_page b page ≡ false
-apart a b page e in_a =
-    holds_not b page (λ in_b.
-    let h = within a page in_a in
-    let bad : true ≡ false = sym (both (nat_lt a.first (end_of b)) (nat_lt b.first (end_of a)) (le-leb _ _ (omega (arith, in_b.high, h.low))) (le-leb _ _ (omega (arith, in_b.low, h.high)))) ∙ e in
-    cc)
-
 free_page : (rs : List (RegionOf (Unit {0}))) (range : Range) (page : ℕ) → list_any (meets range) (ranges_of rs) ≡ false → holds_page range page ≡ true → is_some (region_with rs page) ≡ false
 free_page [] range page free held = refl
 free_page (r ∷ rs) range page free held =
     let h = or-false (meets range (pages_of r)) (list_any (meets range) (ranges_of rs)) free in
     found-cons (λ (r : RegionOf (Unit {0})). holds_page (pages_of r) page) r rs
-    ∙ ap (λ b. b || is_some (region_with rs page)) (apart range (pages_of r) page h.0 held) ∙ free_page rs range page h.1 held
-
-no_own : (rs : List (RegionOf (Unit {0}))) (page : ℕ) → is_some (region_with rs page) ≡ false → is_some (own_page rs page) ≡ false
-no_own rs page e = by_option (region_with rs page) e
-  where
-    by_option : (o : Option (Found (RegionOf (Unit {0})))) → is_some o ≡ false → is_some (option_and_then (λ (r : Found (RegionOf (Unit {0}))). own_in r.thing page) o) ≡ false
-    by_option None e = refl
-    by_option (Some r) e = cc
+    ∙ ap (λ b. b || is_some (region_with rs page)) (apart_too range (pages_of r) page h.0 held) ∙ free_page rs range page h.1 held
 
 pub can_make : (t : Tables) (pid : Pid) (p : ProcessOf (Unit {0})) (c : Key → Option Page) (s : StoreOf) → process_of t pid.0 ≡ Some p → WellFormed t → Fits t c s → (range : Range) (type total : ℕ) → is_free (ranges_of p.regions) range ≡ true → charge t + new_pages type range ≤ total → total ≤ limit_of s.machine → s.kind ≡ kind.Call → CanMake pid range type total p.regions c s
 can_make t pid p c s lives h f range type total free room within called =
-    let clear = not-true (list_any (meets range) (ranges_of p.regions)) (and-true (are_user_pages range) (not (list_any (meets range) (ranges_of p.regions))) free).1 in
     record {
       live = λ page e. live_is t pid p c s lives h f page;
-      dead = λ page e. no_own p.regions page (free_page p.regions range page clear e);
+      dead = λ page e. ap (λ o. is_some (option_and_then (λ (r : Found (RegionOf (Unit {0}))). own_in r.thing page) o)) (none_of (region_with p.regions page) (free_page p.regions range page (is_clear p.regions range free) e));
       opened = f.opened pid.0 ∙ ap is_some lives;
-      unbound = λ page e. bound_is t pid p c s lives h f page ∙ free_page p.regions range page clear e;
+      unbound = λ page e. bound_is t pid p c s lives h f page ∙ free_page p.regions range page (is_clear p.regions range free) e;
       paging = λ page e. private_paging t c s pid (record { 0 = page }) f;
       few = omega (arith, f.counted, paging_few t h, room);
       within = within;
@@ -317,7 +255,7 @@ module _ (t : Tables) (pid : ℕ) (p : ProcessOf (Unit {0})) (i : ℕ) (r : Regi
 -- ---- nothing but room
 
 pub roomier_beside : (c d : Key → Option Page) (s z : StoreOf) → Roomier c d s z → z ≡ beside s z
-roomier_beside c d s z h = beside_by s z (record s { room = z.room }) h.store refl
+roomier_beside c d s z h = h.store ∙ ap (beside s) (sym h.store)
 
 pub fits_more : (t : Tables) (c : Key → Option Page) (s : StoreOf) (n : ℕ) → Fits t c s → s.room ≤ n → Fits t c (record s { room = n })
 fits_more t c s n f more =
@@ -350,18 +288,11 @@ roomier_settled {t} {after} {c} {d} {s} {z} f same r =
 pub settled_as : {t after : Tables} {c d : Key → Option Page} {s z : StoreOf} → after ≡ t → Settled t c d s z → Settled after c d s z
 settled_as {t} {after} {c} {d} {s} {z} same h = subst (λ (t : Tables). Settled t c d s z) (sym same) h
 
--- ---- a range of a process
-
-carries_by : (keys : Effect) (pid : Pid) (range : Range) (c : Key → Option Page) → Carries c (contents_by keys pid range c)
-carries_by Makes pid range c = carries_added pid range c
-carries_by Ends pid range c = carries_removed pid range c
-carries_by Leaves pid range c = carries_same c c refl
-
 pub settled_by : (t : Tables) (pid : Pid) (p : ProcessOf (Unit {0})) (range : Range) (keys places : Effect) (clears : Bool) (ss : List (RegionOf (Unit {0}))) (c d : Key → Option Page) (s z : StoreOf) → process_of t pid.0 ≡ Some p → Fits t c s → Stored pid range keys places clears c d s z → Moves t pid range keys places clears p.regions ss → z.paging_keys ≡ paging_count (set_regions t pid.0 p ss) → charge (set_regions t pid.0 p ss) ≤ z.room → Settled (set_regions t pid.0 p ss) c d s z
 settled_by t pid p range keys places clears ss c d s z lives f stored moves counted room =
     record {
       fits = moved t pid p range keys places clears ss c d s z lives f stored moves counted room;
-      carries = carries_as c d (contents_by keys pid range c) stored.contents (carries_by keys pid range c);
+      carries = subst (λ (e : Key → Option Page). Carries c e) (sym stored.contents) (carries_by keys pid range c);
       rest = stored.same;
     }
 
@@ -372,83 +303,69 @@ pub record Done (t : Tables) (pid : Pid) (p : ProcessOf (Unit {0})) (ss : List (
   pub settled : Settled (set_regions t pid.0 p ss) c d s z
 
 module _ (t : Tables) (pid : Pid) (p : ProcessOf (Unit {0})) (range : Range) (c d : Key → Option Page) (s z : StoreOf) (lives : process_of t pid.0 ≡ Some p) (h : WellFormed t) (f : Fits t c s) where
+  done : (keys places : Effect) (clears : Bool) (ss : List (RegionOf (Unit {0}))) (total : ℕ) → StandIn t p.regions ss → Moves t pid range keys places clears p.regions ss → Stored pid range keys places clears c d s z → charge (set_regions t pid.0 p ss) ≡ total → z.paging_keys ≡ paging_count (set_regions t pid.0 p ss) → total ≤ z.room → Done t pid p ss total c d s z
+  done keys places clears ss total stands moves stored charged counted room =
+      record {
+        stands = stands;
+        charged = charged;
+        settled = settled_by t pid p range keys places clears ss c d s z lives f stored moves counted (omega (arith, charged, room));
+      }
+
   pub commit_done : (r : Found (RegionOf (Unit {0}))) (prot n : ℕ) → region_around p.regions range ≡ Some r → is_private r.thing.kind ≡ true → is_protection_among private_protections prot ≡ true → n + owned_in p.regions range ≡ range.count → Stored pid range Makes Leaves false c d s z → z.paging_keys ≡ s.paging_keys + passing (is_dead pid c) range.first range.count → charge t + n ≤ z.room → Done t pid p (set p.regions r.place (change_rows (commit tt prot) range r.thing)) (charge t + n) c d s z
   commit_done r prot n found private e counted stored used more =
       let a = around p.regions range r found in
-      let after = commit_charge t pid.0 p r.place r.thing range lives h a.at a.inside private prot in
-      let keys = commit_paging t pid.0 p r.place r.thing range lives h a.at a.inside private prot in
-      let total : charge (set_region t pid.0 p r.place (change_rows (commit tt prot) range r.thing)) ≡ charge t + n = omega (arith, after, counted, a.owned) in
+      let new = change_rows (commit tt prot) range r.thing in
+      let total : charge (set_region t pid.0 p r.place new) ≡ charge t + n =
+      omega (arith, charge-set_region t pid.0 p r.place r.thing new lives a.at, charge_of_commit (commit tt prot) (λ row. refl) range r.thing private a.inside, counted, a.owned) in
+      let keys = paging_as_charge t pid.0 p r.place r.thing range lives h a.at a.inside private (commit tt prot) in
       let live = live_count t pid p c s lives h f r.place r.thing range a.at a.inside in
-      record {
-        stands = commit_stands t pid.0 p r.place r.thing range lives h a.at a.inside private prot e;
-        charged = total;
-        settled = settled_by t pid p range Makes Leaves false (set p.regions r.place (change_rows (commit tt prot) range r.thing)) c d s z lives f stored
-            (commit_moves t pid.0 p r.place r.thing range lives h a.at a.inside private pid prot refl)
-            (omega (arith, keys, used, f.counted, counted, a.owned, live, passing_both (is_live pid c) range.first range.count))
-            (omega (arith, total, more));
-      }
+      done Makes Leaves false (set p.regions r.place new) (charge t + n)
+      (change_stands t pid.0 p r.place r.thing range lives h a.at a.inside (commit tt prot) (λ fit. rows_committed tt r.thing prot range (private_kind r.thing.kind private) fit a.inside.low (allowed prot e)))
+      (commit_moves t pid.0 p r.place r.thing range lives h a.at a.inside private pid prot refl) stored total
+      (omega (arith, keys, total, used, f.counted, counted, a.owned, live, passing_both (is_live pid c) range.first range.count)) more
 
   pub decommit_done : (i : ℕ) (r : RegionOf (Unit {0})) → slice_get p.regions i ≡ Some r → Inside range (pages_of r) → is_private r.kind ≡ true → Stored pid range Ends Leaves true c d s z → z.paging_keys ≡ s.paging_keys - passing (is_live pid c) range.first range.count → z.room ≡ s.room → Done t pid p (set p.regions i (change_rows (λ row. reserved_row) range r)) (charge t - count_by has_own (in_range range r)) c d s z
   decommit_done i r at inside private stored used room =
       let after = decommit_charge t pid.0 p i r range lives h at inside private in
-      let keys = decommit_paging t pid.0 p i r range lives h at inside private in
+      let keys = paging_as_charge t pid.0 p i r range lives h at inside private (λ row. reserved_row) in
       let live = live_count t pid p c s lives h f i r range at inside in
-      record {
-        stands = decommit_stands t pid.0 p i r range lives h at inside private;
-        charged = omega (arith, after);
-        settled = settled_by t pid p range Ends Leaves true (set p.regions i (change_rows (λ row. reserved_row) range r)) c d s z lives f stored
-            (decommit_moves t pid.0 p i r range lives h at inside private pid refl)
-            (omega (arith, keys, used, f.counted, live))
-            (omega (arith, after, room, f.room));
-      }
+      done Ends Leaves true (set p.regions i (change_rows (λ row. reserved_row) range r)) (charge t - count_by has_own (in_range range r))
+      (change_stands t pid.0 p i r range lives h at inside (λ row. reserved_row) (λ fit. rows_cleared r range (private_kind r.kind private) fit inside.low))
+      (change_moves t pid.0 p i r range lives h at inside (λ row. reserved_row) Ends true pid (λ row. refl) (λ v k clear held. let bad : true ≡ false = sym held ∙ clear refl in cc)) stored (omega (arith, after))
+      (omega (arith, keys, after, used, f.counted, live)) (omega (arith, room, f.room))
 
   -- neither keys nor places change
-  pub protect_done : (i : ℕ) (r : RegionOf (Unit {0})) (prot : ℕ) → slice_get p.regions i ≡ Some r → Inside range (pages_of r) → every_page (is_committed_at t r) range ≡ true → every_page (accepts r prot) range ≡ true → Roomier c d s z → charge t + marks_of r.kind prot (in_range range r) ≤ z.room → Done t pid p (set p.regions i (change_rows (protected r.kind prot) range r)) (charge t + marks_of r.kind prot (in_range range r)) c d s z
-  protect_done i r prot at inside there takes more room =
-      let after = protect_charge t pid.0 p i r range lives h at inside prot in
-      let keys = protect_paging t pid.0 p i r range lives h at inside prot in
-      record {
-        stands = protect_stands t pid.0 p i r range lives h at inside prot there takes;
-        charged = after;
-        settled = settled_by t pid p range Leaves Leaves false (set p.regions i (change_rows (protected r.kind prot) range r)) c d s z lives f
-            (record {
-              contents = more.contents;
-              paging = ap (λ (x : StoreOf). x.paging) more.store;
-              bound = ap (λ (x : StoreOf). x.bound) more.store;
-              names = ap (λ (x : StoreOf). x.names) more.store;
-              open_same = ap (λ (x : StoreOf). x.is_open) more.store;
-              areas_same = ap (λ (x : StoreOf). x.areas) more.store;
-              same = roomier_beside c d s z more;
-            })
-            (protect_moves t pid.0 p i r range lives h at inside pid prot refl)
-            (ap (λ (x : StoreOf). x.paging_keys) more.store ∙ f.counted ∙ sym keys)
-            (omega (arith, after, room));
-      }
+  pub protect_done : (r : Found (RegionOf (Unit {0}))) (prot : ℕ) → region_around p.regions range ≡ Some r → every_page (is_committed_at t r.thing) range ≡ true → every_page (accepts r.thing prot) range ≡ true → Roomier c d s z → charge t + new_marks p.regions range prot ≤ z.room → Done t pid p (set p.regions r.place (change_rows (protected r.thing.kind prot) range r.thing)) (charge t + new_marks p.regions range prot) c d s z
+  protect_done r prot found there takes more room =
+      let a = around p.regions range r found in
+      let new = change_rows (protected r.thing.kind prot) range r.thing in
+      done Leaves Leaves false (set p.regions r.place new) (charge t + new_marks p.regions range prot)
+      (change_stands t pid.0 p r.place r.thing range lives h a.at a.inside (protected r.thing.kind prot) (λ fit. rows_protected t r.thing prot range fit a.inside.low there takes))
+      (protect_moves t pid.0 p r.place r.thing range lives h a.at a.inside pid prot)
+      (record {
+        contents = more.contents;
+        paging = ap (λ (x : StoreOf). x.paging) more.store;
+        bound = ap (λ (x : StoreOf). x.bound) more.store;
+        names = ap (λ (x : StoreOf). x.names) more.store;
+        open_same = ap (λ (x : StoreOf). x.is_open) more.store;
+        areas_same = ap (λ (x : StoreOf). x.areas) more.store;
+        same = roomier_beside c d s z more;
+      })
+      (omega (arith, charge-set_region t pid.0 p r.place r.thing new lives a.at, protect_count p.regions range r prot found))
+      (ap (λ (x : StoreOf). x.paging_keys) more.store ∙ f.counted ∙ sym (protect_paging t pid.0 p r.place r.thing range lives h a.at a.inside prot)) room
 
   pub release_done : (i : ℕ) (r : RegionOf (Unit {0})) → slice_get p.regions i ≡ Some r → pages_of r ≡ range → is_private r.kind ≡ true → Stored pid range Ends Ends true c d s z → z.paging_keys ≡ s.paging_keys - passing (is_live pid c) range.first range.count → z.room ≡ s.room → Done t pid p (remove p.regions i) (charge t - own_rows r) c d s z
   release_done i r at pages private stored used room =
-      let after = release_charge t pid.0 p i r lives h at in
-      let keys = release_paging t pid.0 p i r lives h at in
       let live : passing (is_live pid c) range.first range.count ≡ own_rows r =
       live_count t pid p c s lives h f i r range at (whole_inside r range pages) ∙ ap (λ (range : Range). count_by has_own (in_range range r)) (sym pages) ∙ ap (count_by has_own) (whole_range r) in
-      record {
-        stands = release_stands t pid.0 p i r lives h at private;
-        charged = omega (arith, after, private_charge r private);
-        settled = settled_by t pid p range Ends Ends true (remove p.regions i) c d s z lives f stored
-            (subst (λ (range : Range). Moves t pid range Ends Ends true p.regions (remove p.regions i)) pages (release_moves t pid.0 p i r lives h at pid refl))
-            (omega (arith, keys, used, f.counted, live))
-            (omega (arith, after, room, f.room));
-      }
+      done Ends Ends true (remove p.regions i) (charge t - own_rows r)
+      (release_stands t pid.0 p i r lives h at private)
+      (subst (λ (range : Range). Moves t pid range Ends Ends true p.regions (remove p.regions i)) pages (release_moves t pid.0 p i r lives h at pid)) stored
+      (omega (arith, release_charge t pid.0 p i r lives h at, private_charge r private))
+      (omega (arith, paging-remove_region t pid.0 p i r lives at, used, f.counted, live)) (omega (arith, room, f.room))
 
   pub reserve_done : (type prot : ℕ) → is_free (ranges_of p.regions) range ≡ true → range.first % 16 ≡ 0 → 1 ≤ range.count → is_protection_among private_protections prot ≡ true → Stored pid range (keys_of type) Makes true c d s z → z.paging_keys ≡ s.paging_keys + new_pages type range → charge t + new_pages type range ≤ z.room → Done t pid p (add_region (private_region blank type prot range) p.regions) (charge t + new_pages type range) c d s z
   reserve_done type prot free granule some e stored used more =
-      let after = reserve_charge t pid.0 p type prot range lives free in
-      let keys = reserve_paging t pid.0 p type prot range lives free in
-      record {
-        stands = reserve_stands t pid.0 p type prot range lives free granule some e;
-        charged = after;
-        settled = settled_by t pid p range (keys_of type) Makes true (add_region (private_region blank type prot range) p.regions) c d s z lives f stored
-            (reserve_moves t pid.0 p type prot range lives free pid refl)
-            (omega (arith, keys, used, f.counted))
-            (omega (arith, after, more));
-      }
+      done (keys_of type) Makes true (add_region (private_region blank type prot range) p.regions) (charge t + new_pages type range)
+      (reserve_stands t pid.0 p type prot range lives free granule some e) (reserve_moves t pid.0 p type prot range lives free pid refl) stored
+      (reserve_charge t pid.0 p type prot range lives free) (omega (arith, reserve_paging t pid.0 p type prot range lives free, used, f.counted)) more

@@ -1,47 +1,49 @@
--- Places without a committed row.
-use Rattle.std.proofs.Common.{◌≡◌, ℕ, ◌-◌, ◌≤◌, Bool, true, false, Option, Some, None, refl, sym, ◌∙◌, ap, arith, is_some, not, option_map, unwrap_or, cond, set, slice_get}
-use Rattle.std.specs.Prelude.{option_and_then, ◌==◌}
+-- Places without a committed row, and pages of a private region that are decommitted or released.
+use Rattle.std.proofs.Common.{◌≡◌, ℕ, ◌-◌, ◌≤◌, Bool, true, false, Option, Some, None, List, sym, ◌∙◌, ap, arith, is_some, not, option_map, cond, set, slice_get, ◌+◌, subst, count_by}
+use Rattle.std.specs.Prelude.{option_and_then, remove}
 use Rattle.mm_types.specs.declared.numbers.Pid.{Pid}
 use Rattle.mm_types.specs.declared.numbers.Place.{Place}
 use Rattle.mm_types.specs.declared.numbers.Key.{Key}
-use Rattle.mm_types.specs.Address.{Range, end_of, end_of_user_pages, holds_page}
-use Rattle.mm_world.specs.World.{Page, ProcessOf, RegionOf}
-use Rattle.mm_world.specs.Find.{Found, process_of, region_with}
-use Rattle.mm_world.specs.Keys.{Committed, committed_at, committed_in, key_of}
-use Rattle.mm_world.specs.Rows.{row_at}
+use Rattle.mm_types.specs.Address.{Range, end_of, end_of_user_pages}
+use Rattle.mm_world.specs.World.{Page, ProcessOf, RegionOf, pages_of}
+use Rattle.mm_world.specs.Find.{Found, process_of, region_with, set_process, set_regions, is_private, region_around}
+use Rattle.mm_world.specs.Keys.{Committed, committed_at, key_of}
 use Rattle.mm_world.specs.Contents.{Tables}
-use Rattle.std.specs.Cmp.{unsigned_Decides}
 use Rattle.mm_types.proofs.Cells.{get_set_same, get_within}
 use Rattle.mm_pages.specs.Store.{StoreOf}
-use Rattle.mm_world.specs.World.{pages_of}
-use Rattle.mm_world.specs.Charge.{limit}
-use Rattle.mm_world.specs.Find.{set_process, set_regions, is_private}
+use Rattle.mm_world.specs.Charge.{charge}
 use Rattle.mm_world.specs.Rows.{reserved_row, change_rows}
 use Rattle.mm_world.specs.Sections.{settle}
 use Rattle.mm_world.specs.WellFormed.{WellFormed}
 use Rattle.mm_tables.specs.Effects.{Effect, Ends, Leaves, Stored}
 use Rattle.mm_tables.specs.Endings.{AreUnbound}
-use Rattle.mm_tables.specs.Ranges.{is_live}
-use Rattle.mm_tables.proofs.EndingFits.{process_same}
+use Rattle.mm_tables.specs.Ranges.{is_live, CanRemove, passing}
+use Rattle.mm_tables.proofs.EndingFits.{process_same, key_is}
+use Rattle.mm_tables.proofs.EndingPages.{here}
+use Rattle.mm_tables.proofs.OneProcess.{region_key, regions_in, reserved_is, own_rows}
+use Rattle.mm_tables.proofs.Standing.{Held, shown_with, still_kept, regions_by}
+use Rattle.mm_tables.specs.declared.tables.Process.{Process}
+use Rattle.mm_tables.specs.declared.tables.Tables.TheInside as the_inside
+use Rattle.mm_tables.specs.Spaces.{regions_of, Became}
+use Rattle.mm_tables.specs.Sound.{IsKept}
+use Rattle.mm_commit.specs.Charge.{CommitOf}
+use Rattle.mm_types.proofs.Options.{none_of, some_found}
 use Rattle.mm_tables.proofs.Keeping.{sound_after}
 use Rattle.mm_tables.proofs.PageByPage.{own}
-use Rattle.mm_tables.proofs.Rows.{Inside, same_pages}
-use Rattle.mm_tables.proofs.Settled.{Done, ends, uncommitted_is}
-use Rattle.mm_pages.specs.Conditions.{AreAmong, place_at}
-use Rattle.mm_tables.specs.Fits.{Fits, is_reserved, is_uncommitted}
-use Rattle.mm_types.proofs.Booleans.{both}
+use Rattle.mm_tables.proofs.Rows.{Inside, same_pages, has_own, in_range, private_charge}
+use Rattle.mm_tables.proofs.Settled.{Done, ends, settled_as, uncommitted_is, IsAround, decommit_done, can_remove, around, Begins, release_done, is_around, begins, bound_in, whole_inside, pages_found, some_pages, whole_owned}
+use Rattle.mm_pages.specs.Conditions.{AreAmong, place_at, AllBound}
+use Rattle.mm_tables.specs.Fits.{Fits, Settled, is_reserved, is_uncommitted}
+use Rattle.mm_types.specs.declared.moves.LineKind.TheVariants as line_kind
+use Rattle.mm_spaces.specs.Tables.{owned_in}
+use Rattle.mm_tables.proofs.Regional.{decommit_charge, release_charge}
+use Rattle.mm_world.specs.Free.{private_at}
 
 -- a place in no region
-pub unreserved : (t : Tables) (place : Place) → is_reserved t place ≡ false → is_uncommitted t place ≡ true
-unreserved t place e = by_process (process_of t place.pid.0) e
-  where
-    by_region : (o : Option (Found (RegionOf (Unit {0})))) → is_some o ≡ false → not (is_some (option_map (λ (c : Committed (Unit {0})). key_of place.pid.0 place.vpn.0 c.home) (option_and_then (λ (r : Found (RegionOf (Unit {0}))). committed_in t r (place.vpn.0 - r.thing.base) (row_at r.thing place.vpn.0)) o))) ≡ true
-    by_region None e = refl
-    by_region (Some r) e = cc
-
-    by_process : (o : Option (ProcessOf (Unit {0}))) → unwrap_or (option_map (λ (p : ProcessOf (Unit {0})). is_some (region_with p.regions place.vpn.0)) o) false ≡ false → not (is_some (option_and_then (λ (p : ProcessOf (Unit {0})). option_map (λ (c : Committed (Unit {0})). key_of place.pid.0 place.vpn.0 c.home) (committed_at t p.regions place.vpn.0)) o)) ≡ true
-    by_process None e = refl
-    by_process (Some p) e = by_region (region_with p.regions place.vpn.0) e
+unreserved : (t : Tables) (place : Place) → is_reserved t place ≡ false → is_uncommitted t place ≡ true
+unreserved t place e =
+    ap (λ (o : Option Key). not (is_some o)) (key_is t place
+    ∙ ap (option_and_then (λ (r : Found (RegionOf (Unit {0}))). region_key t place.pid.0 place.vpn.0 r.thing)) (none_of (region_with (regions_in t place.pid.0) place.vpn.0) (sym (reserved_is t place) ∙ e)))
 
 -- a place of a process that does not live
 pub ended : (t : Tables) (pid : Pid) (page : ℕ) → process_of t pid.0 ≡ None → is_uncommitted t (place_at pid page) ≡ true
@@ -61,31 +63,137 @@ among_unbound t c z pid range fits unbound =
 
 pub stored_unbound : (pid : Pid) (range : Range) (keys : Effect) (clears : Bool) (c d : Key → Option Page) (s z : StoreOf) → end_of range ≤ end_of_user_pages → Stored pid range keys Ends clears c d s z → AreUnbound pid range z
 stored_unbound pid range keys clears c d s z end a =
-    record {
-      each = λ page e. ap (λ (f : Place → Bool). f (place_at pid page)) a.bound ∙ ap (λ b. cond b false (s.bound (place_at pid page))) (both (pid.0 == pid.0) (holds_page range page) ((unsigned_Decides pid.0 pid.0).1 refl) e);
-      end = end;
-    }
+    record { each = λ page e. ap (λ (f : Place → Bool). f (place_at pid page)) a.bound ∙ ap (λ b. cond b false (s.bound (place_at pid page))) (here pid range page e); end = end }
 
--- pages of a private region that are committed no more
-module _ (t : Tables) (pid : Pid) (p : ProcessOf (Unit {0})) (range : Range) (i : ℕ) (r : RegionOf (Unit {0})) (c d : Key → Option Page) (s z : StoreOf) (total : ℕ) (lives : process_of t pid.0 ≡ Some p) (h : WellFormed t) (at : slice_get p.regions i ≡ Some r) (inside : Inside range (pages_of r)) (private : is_private r.kind ≡ true) where
-  pub among_decommitted : Stored pid range Ends Leaves true c d s z → Done t pid p (set p.regions i (change_rows (λ row. reserved_row) range r)) total c d s z → total ≤ limit t → AreAmong (is_uncommitted (set_regions t pid.0 p (set p.regions i (change_rows (λ row. reserved_row) range r)))) 0 end_of_user_pages pid range
-  among_decommitted stored done within =
-      let new = change_rows (λ row. reserved_row) range r in
-      let ss = set p.regions i new in
-      let q : ProcessOf (Unit {0}) = record p { regions = ss } in
-      let u = set_regions t pid.0 p ss in
-      let now : process_of u pid.0 ≡ Some q = process_same t pid.0 p (Some q) lives in
-      let sound : WellFormed u = sound_after t pid.0 p ss lives done.stands h (omega (arith, done.charged, within)) in
-      let there : slice_get ss i ≡ Some new = get_set_same p.regions i new (get_within p.regions i r at) in
-      let same = same_pages (λ row. reserved_row) range r in
-      let low : new.base ≤ range.first = inside.low in
-      let within : Inside range (pages_of new) = record { low = low; high = omega (arith, inside.high, same.rows) } in
+-- ---- pages of a private region are given up, `n` of them with bytes: what the call's next steps are told, and what they come to
+
+pub record Freed (i : the_inside.Inside) (t : Tables) (pid : Pid) (p : ProcessOf (Unit {0})) (o new : Option Process) (ss : List (RegionOf (Unit {0}))) (n : ℕ) (c d : Key → Option Page) (s z : StoreOf) : Type 0 where
+  pub total : ℕ
+  pub done : Done t pid p ss total c d s z
+  pub became : Became o new ss
+  pub counted : n + total ≡ charge t
+
+module _ {i : the_inside.Inside} {t : Tables} {o new : Option Process} {ss : List (RegionOf (Unit {0}))} {n : ℕ} {c d : Key → Option Page} {s z : StoreOf} (pid : Pid) (h : Held i t pid.0 o) (f : Freed i t pid h.process o new ss n c d s z) where
+  pub freed_charged : n ≤ i.commit.charge
+  freed_charged = omega (arith, f.counted, h.kept.charged)
+
+  pub freed_kept : (commit : CommitOf) → commit ≡ record i.commit { charge = i.commit.charge - n } → IsKept (shown_with i (set i.processes.items (pid.0 - 1) new)) i.directory.entries commit
+  freed_kept commit refunded =
+      still_kept h new ss commit f.total f.became f.done.stands f.done.charged (omega (arith, f.counted, h.kept.sound.charged))
+      (omega (arith, ap (λ (k : CommitOf). k.charge) refunded, h.kept.charged, f.counted)) (ap (λ (k : CommitOf). k.limit) refunded)
+
+  pub freed_is : shown_with i (set i.processes.items (pid.0 - 1) new) ≡ set_regions t pid.0 h.process ss
+  freed_is = h.changed new h.process ss f.became h.lives
+
+  pub freed_settled : Settled (shown_with i (set i.processes.items (pid.0 - 1) new)) c d s z
+  freed_settled = settled_as freed_is f.done.settled
+
+-- by whatever names the process and its region have
+pub freed_named : {i : the_inside.Inside} {t : Tables} {pid : ℕ} {o : Option Process} (h : Held i t pid o) (new : Option Process) (pick : List (RegionOf (Unit {0})) → Option (Found (RegionOf (Unit {0})))) (put : List (RegionOf (Unit {0})) → Found (RegionOf (Unit {0})) → List (RegionOf (Unit {0})))
+    → ((r : Found (RegionOf (Unit {0}))) → pick (regions_of o) ≡ Some r → Became o new (put (regions_of o) r)) → (q : ProcessOf (Unit {0})) (r : Found (RegionOf (Unit {0}))) → process_of t pid ≡ Some q → pick q.regions ≡ Some r → shown_with i (set i.processes.items (pid - 1) new) ≡ set_regions t pid q (put q.regions r)
+freed_named {o = o} h new pick put changed q r lives found =
+    let regions = regions_by h q lives in
+    h.changed new q (put q.regions r) (subst (λ rs. Became o new (put rs r)) regions (changed r (ap pick regions ∙ found))) lives
+
+-- ---- pages of a private region are decommitted
+
+module _ {i : the_inside.Inside} {t : Tables} {o : Option Process} (pid : Pid) (h : Held i t pid.0 o) (range : Range) (inside : (p : ProcessOf (Unit {0})) → process_of t pid.0 ≡ Some p → is_some (region_around p.regions range) ≡ true) (private : (p : ProcessOf (Unit {0})) (r : Found (RegionOf (Unit {0}))) → process_of t pid.0 ≡ Some p → region_around p.regions range ≡ Some r → is_private r.thing.kind ≡ true) {c : Key → Option Page} {s : StoreOf} (fits : Fits t c s) where
+  pub found : (f : Found (RegionOf (Unit {0}))) × (region_around h.process.regions range ≡ Some f)
+  found = some_found (region_around h.process.regions range) (inside h.process h.lives)
+
+  placed : IsAround h.process.regions range found.0
+  placed = around h.process.regions range found.0 found.1
+
+  of_own : is_private found.0.thing.kind ≡ true
+  of_own = private h.process found.0 h.lives found.1
+
+  abbrev pub emptied_rows : List (RegionOf (Unit {0}))
+  emptied_rows = set h.process.regions found.0.place (change_rows (λ row. reserved_row) range found.0.thing)
+
+  pub decommit_end : end_of range ≤ end_of_user_pages
+  decommit_end = ends t pid h.process c s h.lives h.kept.sound fits found.0.place found.0.thing range placed.at placed.inside
+
+  pub decommit_can : s.kind ≡ line_kind.Unbind pid → CanRemove pid range (regions_of o) c s
+  decommit_can unbinding =
+      subst (λ rs. CanRemove pid range rs c s) (sym h.same) (can_remove t pid h.process c s h.lives h.kept.sound fits found.0.place found.0.thing range placed.at placed.inside of_own unbinding)
+
+  pub decommitted : {n : ℕ} {new : Option Process} {d : Key → Option Page} {z : StoreOf} → n ≡ owned_in (regions_of o) range
+      → ((r : Found (RegionOf (Unit {0}))) → region_around (regions_of o) range ≡ Some r → Became o new (set (regions_of o) r.place (change_rows (λ row. reserved_row) range r.thing)))
+      → Stored pid range Ends Leaves true c d s z → z.paging_keys ≡ s.paging_keys - passing (is_live pid c) range.first range.count → z.room ≡ s.room → Freed i t pid h.process o new emptied_rows n c d s z
+  decommitted {n} {new} {d} {z} owned changed stored counted room =
+      let few = decommit_charge t pid.0 h.process found.0.place found.0.thing range h.lives h.kept.sound placed.at placed.inside of_own in
+      let some = owned ∙ ap (λ rs. owned_in rs range) h.same ∙ placed.owned in
       record {
+        total = charge t - count_by has_own (in_range range found.0.thing);
+        done = decommit_done t pid h.process range c d s z h.lives h.kept.sound fits found.0.place found.0.thing placed.at placed.inside of_own stored counted room;
+        became = subst (λ rs. Became o new (set rs found.0.place (change_rows (λ row. reserved_row) range found.0.thing))) h.same (changed found.0 (ap (λ rs. region_around rs range) h.same ∙ found.1));
+        counted = omega (arith, some, few);
+      }
+
+  pub decommit_among : {n : ℕ} {new : Option Process} {d : Key → Option Page} {z : StoreOf} → Freed i t pid h.process o new emptied_rows n c d s z → Stored pid range Ends Leaves true c d s z → AreAmong (is_uncommitted (shown_with i (set i.processes.items (pid.0 - 1) new))) 0 end_of_user_pages pid range
+  decommit_among {n} {new} {d} {z} f stored =
+      let row = change_rows (λ row. reserved_row) range found.0.thing in
+      let q : ProcessOf (Unit {0}) = record h.process { regions = emptied_rows } in
+      let u = set_regions t pid.0 h.process emptied_rows in
+      let now : process_of u pid.0 ≡ Some q = process_same t pid.0 h.process (Some q) h.lives in
+      let sound : WellFormed u = sound_after t pid.0 h.process emptied_rows h.lives f.done.stands h.kept.sound (omega (arith, f.done.charged, f.counted, h.kept.sound.charged)) in
+      let there : slice_get emptied_rows found.0.place ≡ Some row = get_set_same h.process.regions found.0.place row (get_within h.process.regions found.0.place found.0.thing placed.at) in
+      let same = same_pages (λ row. reserved_row) range found.0.thing in
+      let low : row.base ≤ range.first = placed.inside.low in
+      let within : Inside range (pages_of row) = record { low = low; high = omega (arith, placed.inside.high, same.rows) } in
+      subst (λ (w : Tables). AreAmong (is_uncommitted w) 0 end_of_user_pages pid range) (sym (freed_is pid h f)) (record {
         each = λ page e.
             ap (λ (o : Option Key). not (is_some o))
-            (uncommitted_is u pid q d z now sound done.settled.fits i new range there within private page e
-            (ap (λ (f : Key → Option Page). is_live pid f page) stored.contents
-            ∙ ap (λ b. is_some (cond b None (c (own pid page)))) (both (pid.0 == pid.0) (holds_page range page) ((unsigned_Decides pid.0 pid.0).1 refl) e)));
+            (uncommitted_is u pid q d z now sound f.done.settled.fits found.0.place row range there within of_own page e
+            (ap (λ (f : Key → Option Page). is_live pid f page) stored.contents ∙ ap (λ b. is_some (cond b None (c (own pid page)))) (here pid range page e)));
         first = omega arith;
-        last = ends u pid q d z now sound done.settled.fits i new range there within;
+        last = ends u pid q d z now sound f.done.settled.fits found.0.place row range there within;
+      })
+
+-- ---- a private region is released
+
+module _ {i : the_inside.Inside} {t : Tables} {o : Option Process} (pid : Pid) (h : Held i t pid.0 o) (addr : ℕ) (range : Range) (there : (p : ProcessOf (Unit {0})) → process_of t pid.0 ≡ Some p → option_map (λ (r : Found (RegionOf (Unit {0}))). pages_of r.thing) (private_at p.regions addr) ≡ Some range) {c : Key → Option Page} {s : StoreOf} (fits : Fits t c s) where
+  pub begun : (f : Found (RegionOf (Unit {0}))) × ((private_at h.process.regions addr ≡ Some f) × (pages_of f.thing ≡ range))
+  begun = pages_found (private_at h.process.regions addr) range (there h.process h.lives)
+
+  starts : Begins h.process.regions begun.0
+  starts = begins h.process.regions addr begun.0 begun.1.0
+
+  whole : Inside range (pages_of begun.0.thing)
+  whole = whole_inside begun.0.thing range begun.1.1
+
+  abbrev pub without_it : List (RegionOf (Unit {0}))
+  without_it = remove h.process.regions begun.0.place
+
+  pub release_end : end_of range ≤ end_of_user_pages
+  release_end = ends t pid h.process c s h.lives h.kept.sound fits begun.0.place begun.0.thing range starts.at whole
+
+  pub release_inside : is_some (region_around (regions_of o) range) ≡ true
+  release_inside =
+      ap (λ rs. is_some (region_around rs range)) h.same
+      ∙ is_around t pid.0 h.process begun.0.place begun.0.thing range h.lives h.kept.sound starts.at whole (some_pages t pid.0 h.process begun.0.place begun.0.thing range h.lives h.kept.sound starts.at begun.1.1)
+
+  pub release_bound : AllBound s pid range true
+  release_bound = bound_in t pid h.process c s h.lives h.kept.sound fits begun.0.place begun.0.thing range starts.at whole
+
+  pub release_can : s.kind ≡ line_kind.Unbind pid → CanRemove pid range (regions_of o) c s
+  release_can unbinding =
+      subst (λ rs. CanRemove pid range rs c s) (sym h.same) (can_remove t pid h.process c s h.lives h.kept.sound fits begun.0.place begun.0.thing range starts.at whole starts.private unbinding)
+
+  pub release_freed : {n : ℕ} {new : Option Process} {d : Key → Option Page} {z : StoreOf} → n ≡ owned_in (regions_of o) range
+      → ((r : Found (RegionOf (Unit {0}))) → private_at (regions_of o) addr ≡ Some r → Became o new (remove (regions_of o) r.place))
+      → Stored pid range Ends Ends true c d s z → z.paging_keys ≡ s.paging_keys - passing (is_live pid c) range.first range.count → z.room ≡ s.room → Freed i t pid h.process o new without_it n c d s z
+  release_freed {n} {new} {d} {z} owned changed stored counted room =
+      let some = owned ∙ ap (λ rs. owned_in rs range) h.same ∙ whole_owned t pid.0 h.process begun.0.place begun.0.thing range h.lives h.kept.sound starts.at begun.1.1 in
+      let few = release_charge t pid.0 h.process begun.0.place begun.0.thing h.lives h.kept.sound starts.at in
+      record {
+        total = charge t - own_rows begun.0.thing;
+        done = release_done t pid h.process range c d s z h.lives h.kept.sound fits begun.0.place begun.0.thing starts.at begun.1.1 starts.private stored counted room;
+        became = subst (λ rs. Became o new (remove rs begun.0.place)) h.same (changed begun.0 (ap (λ rs. private_at rs addr) h.same ∙ begun.1.0));
+        counted = omega (arith, some, few, private_charge begun.0.thing starts.private);
       }
+
+  pub release_among : {n : ℕ} {new : Option Process} {d : Key → Option Page} {z : StoreOf} → Freed i t pid h.process o new without_it n c d s z → Stored pid range Ends Ends true c d s z → AreAmong (is_uncommitted (shown_with i (set i.processes.items (pid.0 - 1) new))) 0 end_of_user_pages pid range
+  release_among {n} {new} {d} {z} f stored =
+      subst (λ (w : Tables). AreAmong (is_uncommitted w) 0 end_of_user_pages pid range) (sym (freed_is pid h f))
+      (among_unbound (set_regions t pid.0 h.process without_it) d z pid range f.done.settled.fits (stored_unbound pid range Ends true c d s z release_end stored))

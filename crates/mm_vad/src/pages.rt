@@ -35,6 +35,9 @@ impl Row {
     }
 }
 
+/// How many rows are written at once.
+const BLOCK: usize = 64;
+
 /// The rows of a region, one for each page, in the order of its pages.
 #[derive(Drop)]
 pub struct Rows {
@@ -59,9 +62,14 @@ impl Rows {
     pub fn new(alloc: Global, n: u32, row: Row) -> Result<Rows, NoMemory>
         ensures { IfOk result (λ rows. rows ≡ replicate n row) }
     {
-        Ok(Rows {
-            rows: vec![in alloc; row; n as usize]?,
-        })
+        let whole = n as usize;
+        let mut rows = Vec::with_capacity(alloc, whole)?;
+        let block = [row; BLOCK];
+        for _ in 0..whole / BLOCK {
+            rows.extend_from_slice(&block)?;
+        }
+        rows.extend_from_slice(&block[..whole % BLOCK])?;
+        Ok(Rows { rows })
     }
 
     /// How many rows there are.

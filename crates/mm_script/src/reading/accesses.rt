@@ -19,6 +19,7 @@ fn lies_in_page(addr: u32, len: u32) -> bool
 }
 
 /// `read <pid> <addr> <len>`
+#[inline(never)]
 #[tactic(auto, unfolding(crate::specs::Reading::line_of))]
 pub fn read(fields: &mut Fields) -> Result<Event, LineFault>
     requires { fields.old.number ≡ 2 }
@@ -35,6 +36,7 @@ pub fn read(fields: &mut Fields) -> Result<Event, LineFault>
 }
 
 /// `write <pid> <addr> <bytes>`
+#[inline(never)]
 #[tactic(auto, unfolding(crate::specs::Reading::line_of))]
 pub fn write(fields: &mut Fields) -> Result<Event, LineFault>
     requires { fields.old.number ≡ 2 }

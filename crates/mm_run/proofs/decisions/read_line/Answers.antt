@@ -1,24 +1,21 @@
-use Rattle.std.proofs.Common.{List, ℕ, subst, length, arith}
-use Rattle.mm_run.specs.Story.{EndsAt}
-use Rattle.mm_run.proofs.Stories.{filled_either}
+use Rattle.std.proofs.Common.{arith}
 use Rattle.mm_run.specs.Scenes.{Running, scene}
-use Rattle.mm_run.proofs.Stops.{came_end, came_long, came_read}
+use Rattle.mm_run.specs.Story.{outside, stand}
+use Rattle.mm_run.proofs.Finding.{flushed_found}
+use Rattle.mm_run.proofs.Stops.{came_unflushed}
 use Rattle.mm_run.proofs.decisions.read_line.Goals as goal
 
-pub returns-in-Ok-Line-clause-went : goal.returns-in-Ok-Line-clause-went
-returns-in-Ok-Line-clause-went g c =
-    filled_either _ _ _ _ _ _ c.next.ensures.filled _ c.answer_line.result (c.answer_line.ensures.went (g.S.Source.left c.next.new.source))
+pub returns-in-Some-clause-went : goal.returns-in-Some-clause-went
+returns-in-Some-clause-went g c =
+    let f = c.flush in
+    came_unflushed (g.S.Source.left c.args.source.now) (g.O.Sink.taken c.args.out.now) (g.O.Sink.taken f.new.out) c.args.held.now c.args.n (Running (scene c.args.system.now)) (Running (scene f.new.system)) c.in-Some.ending c.in-Some.ensures.ends
+    (omega arith) c.requires.held f.ensures.taken f.ensures.follows
 
-pub returns-in-Ok-Long-clause-went : goal.returns-in-Ok-Long-clause-went
-returns-in-Ok-Long-clause-went g c =
-    let found = rw c.in-Ok-Long.field-0-is at c.in-Ok-Long.ensures.finds in
-    came_long _ _ _ _ _ _ (Running (scene c.args.system.now)) c.next.ensures.filled c.requires.few found.0 found.1
-
-pub returns-in-Ok-End-clause-went : goal.returns-in-Ok-End-clause-went
-returns-in-Ok-End-clause-went g c =
-    let found = rw c.in-Ok-End.field-0-is at c.in-Ok-End.ensures.finds in
-    came_end _ _ _ _ _ _ (Running (scene c.args.system.now)) c.next.ensures.filled _ c.requires.few found.0 found.1
-    (subst (λ (xs : List ℕ). EndsAt c.args.n (length xs) c.at_end.result) c.bytes.ensures c.at_end.ensures)
-
-pub returns-in-Err-clause-went : goal.returns-in-Err-clause-went
-returns-in-Err-clause-went g c = came_read _ _ _ _ _ _ (Running (scene c.args.system.now)) c.next.ensures.filled (omega arith) c.in-Err.ensures.finds
+pub returns-in-None-clause-went : goal.returns-in-None-clause-went
+returns-in-None-clause-went g c =
+    let f = c.flush in
+    let r = c.next_line in
+    let took = g.O.Sink.taken f.new.out in
+    let here = Running (scene f.new.system) in
+    flushed_found (g.S.Source.left c.args.source.now) (g.O.Sink.taken c.args.out.now) took f.ensures.taken c.args.held.now c.args.n (Running (scene c.args.system.now)) here f.ensures.follows
+    (outside (g.S.Source.left r.new.source) took) (stand r.new.held c.args.n here) here r.result (r.ensures.went here took)

@@ -8,8 +8,7 @@ use Rattle.mm_tables.proofs.keys.add_pages.Goals as goal
 pub add_page-requires : goal.add_page-requires
 add_page-requires g c =
     let first : c.range.inside.first ≡ c.args.range.first = ap (λ (r : Range). r.first) c.range.view_is in
-    let count : c.range.inside.count ≡ c.args.range.count = ap (λ (r : Range). r.count) c.range.view_is in
-    let few : c.loop-i.i < c.args.range.count = omega (arith, c.loop-i-test.true, count) in
+    let few : c.loop-i.i < c.args.range.count = omega (arith, c.loop-i-test.true, ap (λ (r : Range). r.count) c.range.view_is) in
     record {
       can = subst (λ (k : ℕ). CanAdd c.args.pid (only (k + c.loop-i.i)) c.args.space.now.regions (g.G.Pages.contents c.loop-i.g) (g.G.Pages.store c.loop-i.g)) (sym first)
           (can_add_next c.args.pid c.args.range c.loop-i.i c.args.space.now.regions (g.G.Pages.contents c.args.g.now) (g.G.Pages.contents c.loop-i.g) (g.G.Pages.store c.args.g.now) (g.G.Pages.store c.loop-i.g) c.requires.can few c.loop-i.invariant.adds);

@@ -3,15 +3,13 @@ use Rattle.mm_types.specs.Address.{Range}
 use Rattle.mm_pages.specs.Conditions.{place_at}
 use Rattle.mm_tables.specs.Ranges.{CanRemove, Removes, only}
 use Rattle.mm_tables.proofs.EndingExits.{page_then, range_passes}
-use Rattle.mm_tables.proofs.PageByPage.{can_remove_next, removes_then}
-use Rattle.mm_tables.proofs.Regions.{holds}
+use Rattle.mm_tables.proofs.PageByPage.{can_remove_next, removes_then, next_held}
 use Rattle.mm_tables.proofs.keys.remove_each.Goals as goal
 
 pub remove_page-requires : goal.remove_page-requires
 remove_page-requires g c =
     let first : c.range.inside.first ≡ c.args.range.first = ap (λ (r : Range). r.first) c.range.view_is in
-    let count : c.range.inside.count ≡ c.args.range.count = ap (λ (r : Range). r.count) c.range.view_is in
-    let few : c.loop-i.i < c.args.range.count = omega (arith, c.loop-i-test.true, count) in
+    let few : c.loop-i.i < c.args.range.count = omega (arith, c.loop-i-test.true, ap (λ (r : Range). r.count) c.range.view_is) in
     record {
       can = subst (λ (k : ℕ). CanRemove c.args.pid (only (k + c.loop-i.i)) c.args.space.now.regions (g.G.Pages.contents c.loop-i.g) (g.G.Pages.store c.loop-i.g)) (sym first)
           (can_remove_next c.args.pid c.args.range c.loop-i.i c.args.space.now.regions (g.G.Pages.contents c.args.g.now) (g.G.Pages.contents c.loop-i.g) (g.G.Pages.store c.args.g.now) (g.G.Pages.store c.loop-i.g) c.requires.can few c.loop-i.invariant.removes);
@@ -20,9 +18,8 @@ remove_page-requires g c =
 pub loop-i-preserved : goal.loop-i-preserved
 loop-i-preserved g c =
     let first : c.range.inside.first ≡ c.args.range.first = ap (λ (r : Range). r.first) c.range.view_is in
-    let count : c.range.inside.count ≡ c.args.range.count = ap (λ (r : Range). r.count) c.range.view_is in
     let at : c.range.inside.first + c.loop-i.i ≡ c.args.range.first + c.loop-i.i = omega (arith, first) in
-    let few : c.args.range.first + c.loop-i.i < c.args.range.first + c.args.range.count = omega (arith, c.loop-i-test.true, count) in
+    let few : c.loop-i.i < c.args.range.count = omega (arith, c.loop-i-test.true, ap (λ (r : Range). r.count) c.range.view_is) in
     record {
       removes = removes_then c.args.pid c.args.range c.loop-i.i (g.G.Pages.contents c.args.g.now) (g.G.Pages.contents c.loop-i.g) (g.G.Pages.contents c.remove_page.new.g)
           (g.G.Pages.store c.args.g.now) (g.G.Pages.store c.loop-i.g) (g.G.Pages.store c.remove_page.new.g) c.loop-i.invariant.removes
@@ -30,13 +27,12 @@ loop-i-preserved g c =
       passes = λ held each. page_then g.G.Pages.unpaged held c.args.range.first c.loop-i.i (g.G.Pages.store c.args.g.now) (g.G.Pages.store c.loop-i.g) (g.G.Pages.store c.remove_page.new.g)
           (g.G.Pages.behind c.args.g.now) (g.G.Pages.behind c.loop-i.g) (g.G.Pages.behind c.remove_page.new.g) (c.loop-i.invariant.passes held each)
           (c.remove_page.ensures.passes held (c.args.range.first + c.loop-i.i) (c.args.range.first + (c.loop-i.i + 1))
-          (ap (λ (k : ℕ). held (place_at c.args.pid k)) at ∙ each (c.args.range.first + c.loop-i.i) (holds c.args.range (c.args.range.first + c.loop-i.i) (omega arith) few))
+          (ap (λ (k : ℕ). held (place_at c.args.pid k)) at ∙ each (c.args.range.first + c.loop-i.i) (next_held c.args.range c.loop-i.i few))
           (omega (arith, at)) (omega (arith, at)));
       loans = c.remove_page.ensures.loans ∙ c.loop-i.invariant.loans;
     }
 
 pub returns-clause-passes : goal.returns-clause-passes
 returns-clause-passes g c held from to among =
-    let count : c.range.inside.count ≡ c.args.range.count = ap (λ (r : Range). r.count) c.range.view_is in
     range_passes g.G.Pages.unpaged held from to c.args.pid c.args.range c.loop-i.i (g.G.Pages.store c.args.g.now) (g.G.Pages.store c.loop-i.g)
-    (g.G.Pages.behind c.args.g.now) (g.G.Pages.behind c.loop-i.g) among (omega (arith, c.loop-i-test.false, c.loop-i.auto.i-end, count)) (c.loop-i.invariant.passes held among.each)
+    (g.G.Pages.behind c.args.g.now) (g.G.Pages.behind c.loop-i.g) among (omega (arith, c.loop-i-test.false, c.loop-i.auto.i-end, ap (λ (r : Range). r.count) c.range.view_is)) (c.loop-i.invariant.passes held among.each)

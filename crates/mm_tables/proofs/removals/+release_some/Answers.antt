@@ -1,7 +1,6 @@
 use Rattle.std.proofs.Common.{◌≡◌, ◌-◌, ◌/◌, ap, arith}
-use Rattle.mm_types.specs.Address.{Range, end_of_user_pages}
-use Rattle.mm_tables.proofs.EndingRuns.{Halves, owned_is, around_low, around_high, counted, can_low, can_high, given_both, passes_both, end_low, end_high}
-use Rattle.mm_tables.specs.Endings.{owned_among, is_owned_at}
+use Rattle.mm_types.specs.Address.{Range}
+use Rattle.mm_tables.proofs.EndingRuns.{owned_is, halves, low_in, high_in, apart, around_part, counted, can_part, can_after, given_halves, halves_pass}
 use Rattle.mm_tables.proofs.removals.+release_some.Goals as goal
 
 pub release_empty-requires-clause-none : goal.release_empty-requires-clause-none
@@ -11,53 +10,38 @@ release_empty-requires-clause-none g t c =
 
 pub owned-low_owned-requires : goal.owned-low_owned-requires
 owned-low_owned-requires g t c =
-    let h : Halves c.args.range c.low_half-low.result c.high_half-high.result = record { low_is = c.low_half-low.ensures; high_is = c.high_half-high.ensures } in
-    record { inside = around_low c.args.space.now.regions c.args.range c.low_half-low.result c.high_half-high.result h c.requires.around }
+    let h = halves c.args.range c.low_half-low.result c.high_half-high.result c.low_half-low.ensures c.high_half-high.ensures in
+    record { inside = around_part c.args.space.now.regions c.requires.around (low_in h) }
 
 pub overflow_sub-owned : goal.overflow_sub-owned
 overflow_sub-owned g t c =
-    let h : Halves c.args.range c.low_half-low.result c.high_half-high.result = record { low_is = c.low_half-low.ensures; high_is = c.high_half-high.ensures } in
-    let sum = counted c.args.space.now.regions c.args.range c.low_half-low.result c.high_half-high.result h c.sound.ensures c.requires.around in
+    let h = halves c.args.range c.low_half-low.result c.high_half-high.result c.low_half-low.ensures c.high_half-high.ensures in
+    let sum = counted h c.args.space.now.regions c.sound.ensures c.requires.around in
     omega (arith, sum)
 
 pub release_some-requires : goal.release_some-requires
 release_some-requires g t c κs within =
-    let h : Halves c.args.range c.low_half-low.result c.high_half-high.result = record { low_is = c.low_half-low.ensures; high_is = c.high_half-high.ensures } in
+    let h = halves c.args.range c.low_half-low.result c.high_half-high.result c.low_half-low.ensures c.high_half-high.ensures in
     let count : c.low_half-low.result.count ≡ c.args.range.count / 2 = ap (λ (r : Range). r.count) c.low_half-low.ensures in
-    let whole : c.range.inside.count ≡ c.args.range.count = ap (λ (r : Range). r.count) c.range.view_is in (
-      omega (arith, count, whole, c.decreases),
-      (
-        within,
-        (
-          end_low c.args.range c.low_half-low.result c.high_half-high.result end_of_user_pages h c.requires.end,
-          (
-            around_low c.args.space.now.regions c.args.range c.low_half-low.result c.high_half-high.result h c.requires.around,
-            (
-              c.owned-low_owned.ensures,
-              can_low c.args.space.now.regions c.args.range c.low_half-low.result c.high_half-high.result h c.args.pid (g.G.Pages.contents c.args.g.now) (g.G.Pages.contents c.args.g.now) (g.G.Pages.store c.args.g.now) (g.G.Pages.store c.args.g.now) c.requires.can,
-            ),
-          ),
-        ),
-      ),
-    )
+    let whole : c.range.inside.count ≡ c.args.range.count = ap (λ (r : Range). r.count) c.range.view_is in
+    (omega (arith, count, whole, c.decreases), (within, (omega (arith, c.requires.end, h.first, h.count), (around_part c.args.space.now.regions c.requires.around (low_in h), (c.owned-low_owned.ensures, can_part c.requires.can (low_in h))))))
 
 pub release_some-requires-else-range-le-FEW_PAGES : goal.release_some-requires-else-range-le-FEW_PAGES
 release_some-requires-else-range-le-FEW_PAGES g t c κs within =
-    let h : Halves c.args.range c.low_half-low.result c.high_half-high.result = record { low_is = c.low_half-low.ensures; high_is = c.high_half-high.ensures } in
+    let h = halves c.args.range c.low_half-low.result c.high_half-high.result c.low_half-low.ensures c.high_half-high.ensures in
     let count : c.high_half-high.result.count ≡ c.args.range.count - c.args.range.count / 2 = ap (λ (r : Range). r.count) c.high_half-high.ensures in
     let whole : c.range.inside.count ≡ c.args.range.count = ap (λ (r : Range). r.count) c.range.view_is in
-    let sum = counted c.args.space.now.regions c.args.range c.low_half-low.result c.high_half-high.result h c.sound.ensures c.requires.around in (
+    let sum = counted h c.args.space.now.regions c.sound.ensures c.requires.around in (
       omega (arith, count, whole, c.decreases),
       (
         within,
         (
-          end_high c.args.range c.low_half-low.result c.high_half-high.result end_of_user_pages h c.requires.end,
+          omega (arith, c.requires.end, h.second, h.count),
           (
-            around_high c.args.space.now.regions c.args.range c.low_half-low.result c.high_half-high.result h c.requires.around,
+            around_part c.args.space.now.regions c.requires.around (high_in h),
             (
               omega (arith, sum, c.owned-low_owned.ensures),
-              can_high c.args.space.now.regions c.args.range c.low_half-low.result c.high_half-high.result h c.args.pid (g.G.Pages.contents c.args.g.now) (g.G.Pages.contents c.release_some.new.g) (g.G.Pages.store c.args.g.now) (g.G.Pages.store c.release_some.new.g) c.requires.can
-                  (owned_among (is_owned_at c.args.space.now.regions c.low_half-low.result.first) c.low_half-low.result.count) c.release_some.ensures.given_up,
+              can_after (apart h) (can_part c.requires.can (high_in h)) c.release_some.ensures.given_up,
             ),
           ),
         ),
@@ -66,12 +50,11 @@ release_some-requires-else-range-le-FEW_PAGES g t c κs within =
 
 pub returns-else-range-le-FEW_PAGES-clause-given_up : goal.returns-else-range-le-FEW_PAGES-clause-given_up
 returns-else-range-le-FEW_PAGES-clause-given_up g t c =
-    let h : Halves c.args.range c.low_half-low.result c.high_half-high.result = record { low_is = c.low_half-low.ensures; high_is = c.high_half-high.ensures } in
-    given_both c.args.space.now.regions c.args.range c.low_half-low.result c.high_half-high.result h c.args.pid (g.G.Pages.contents c.args.g.now) (g.G.Pages.contents c.release_some.new.g) (g.G.Pages.contents c.release_some-else-range-le-FEW_PAGES.new.g)
-    (g.G.Pages.store c.args.g.now) (g.G.Pages.store c.release_some.new.g) (g.G.Pages.store c.release_some-else-range-le-FEW_PAGES.new.g) c.release_some.ensures.given_up c.release_some-else-range-le-FEW_PAGES.ensures.given_up
+    let h = halves c.args.range c.low_half-low.result c.high_half-high.result c.low_half-low.ensures c.high_half-high.ensures in
+    given_halves h c.args.space.now.regions c.release_some.ensures.given_up c.release_some-else-range-le-FEW_PAGES.ensures.given_up
 
 pub returns-else-range-le-FEW_PAGES-clause-passes : goal.returns-else-range-le-FEW_PAGES-clause-passes
 returns-else-range-le-FEW_PAGES-clause-passes g t c held from to among =
-    let h : Halves c.args.range c.low_half-low.result c.high_half-high.result = record { low_is = c.low_half-low.ensures; high_is = c.high_half-high.ensures } in
-    passes_both c.args.space.now.regions c.args.range c.low_half-low.result c.high_half-high.result h g.G.Pages.unpaged held from to c.args.pid (g.G.Pages.store c.args.g.now) (g.G.Pages.store c.release_some.new.g) (g.G.Pages.store c.release_some-else-range-le-FEW_PAGES.new.g)
+    let h = halves c.args.range c.low_half-low.result c.high_half-high.result c.low_half-low.ensures c.high_half-high.ensures in
+    halves_pass h g.G.Pages.unpaged held from to c.args.pid (g.G.Pages.store c.args.g.now) (g.G.Pages.store c.release_some.new.g) (g.G.Pages.store c.release_some-else-range-le-FEW_PAGES.new.g)
     (g.G.Pages.behind c.args.g.now) (g.G.Pages.behind c.release_some.new.g) (g.G.Pages.behind c.release_some-else-range-le-FEW_PAGES.new.g) among c.release_some.ensures.passes c.release_some-else-range-le-FEW_PAGES.ensures.passes

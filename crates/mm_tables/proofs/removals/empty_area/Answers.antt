@@ -5,11 +5,11 @@ use Rattle.mm_tables.proofs.removals.empty_area.Goals as goal
 
 pub close_area-requires-clause-dead : goal.close_area-requires-clause-dead
 close_area-requires-clause-dead g c index =
-    shared_dead c.args.area c.args.pages.now (g.G.Pages.contents c.args.g.now) (g.G.Pages.contents c.remove_shared.new.g) (g.G.Pages.store c.args.g.now) (g.G.Pages.store c.remove_shared.new.g) c.requires.can c.remove_shared.ensures.gone index
+    shared_dead c.args.area c.args.pages.now c.requires.can c.remove_shared.ensures.gone index
 
 pub returns-clause-emptied : goal.returns-clause-emptied
 returns-clause-emptied g c =
-    emptied c.args.area c.args.pages.now (g.G.Pages.contents c.args.g.now) (g.G.Pages.contents c.remove_shared.new.g) (g.G.Pages.contents c.close_area.new.self) (g.G.Pages.store c.args.g.now) (g.G.Pages.store c.remove_shared.new.g) (g.G.Pages.store c.close_area.new.self) c.requires.can c.remove_shared.ensures.gone c.close_area.ensures.contents c.close_area.ensures.store
+    emptied c.args.area c.args.pages.now c.requires.can c.remove_shared.ensures.gone c.close_area.ensures.contents c.close_area.ensures.store
 
 pub returns-clause-passes : goal.returns-clause-passes
 returns-clause-passes g c =

@@ -8,7 +8,7 @@ use Rattle.mm_tables.specs.Endings.{CanGiveUp, GivenUp, is_owned_at, owned_among
 use Rattle.mm_tables.specs.Ranges.{only}
 use Rattle.mm_tables.proofs.EndingPages.{given_none, given_then, given_all, next_can}
 use Rattle.mm_tables.proofs.EndingExits.{page_then, range_passes}
-use Rattle.mm_tables.proofs.Regions.{holds}
+use Rattle.mm_tables.proofs.PageByPage.{next_held}
 use Rattle.mm_tables.proofs.removals.release_each.Goals as goal
 
 pub loop-i-init : goal.loop-i-init
@@ -22,41 +22,35 @@ loop-i-init g c =
 pub release_page-requires : goal.release_page-requires
 release_page-requires g c =
     let first : c.range.inside.first ≡ c.args.range.first = ap (λ (r : Range). r.first) c.range.view_is in
-    let count : c.range.inside.count ≡ c.args.range.count = ap (λ (r : Range). r.count) c.range.view_is in
-    let few : c.loop-i.i < c.args.range.count = omega (arith, c.loop-i-test.true, count) in
+    let few : c.loop-i.i < c.args.range.count = omega (arith, c.loop-i-test.true, ap (λ (r : Range). r.count) c.range.view_is) in
     let rs = c.args.space.now.regions in
     record {
       can = subst (λ (k : ℕ). CanGiveUp c.args.pid (k + c.loop-i.i) (is_some (own_page rs (k + c.loop-i.i))) (g.G.Pages.contents c.loop-i.g) (g.G.Pages.store c.loop-i.g)) (sym first)
-          (next_can c.args.pid c.args.range c.loop-i.i (owned_among (is_owned_at rs c.args.range.first) c.loop-i.i) rs (g.G.Pages.contents c.args.g.now) (g.G.Pages.contents c.loop-i.g) (g.G.Pages.store c.args.g.now) (g.G.Pages.store c.loop-i.g) c.requires.can few c.loop-i.invariant.given_up);
+          (next_can c.args.pid c.args.range c.loop-i.i (owned_among (is_owned_at rs c.args.range.first) c.loop-i.i) rs c.requires.can few c.loop-i.invariant.given_up);
     }
 
 pub loop-i-preserved : goal.loop-i-preserved
 loop-i-preserved g c =
     let first : c.range.inside.first ≡ c.args.range.first = ap (λ (r : Range). r.first) c.range.view_is in
-    let count : c.range.inside.count ≡ c.args.range.count = ap (λ (r : Range). r.count) c.range.view_is in
     let at : c.range.inside.first + c.loop-i.i ≡ c.args.range.first + c.loop-i.i = omega (arith, first) in
-    let few : c.args.range.first + c.loop-i.i < c.args.range.first + c.args.range.count = omega (arith, c.loop-i-test.true, count) in
+    let few : c.loop-i.i < c.args.range.count = omega (arith, c.loop-i-test.true, ap (λ (r : Range). r.count) c.range.view_is) in
     let rs = c.args.space.now.regions in
     record {
-      given_up = given_then c.args.pid c.args.range c.loop-i.i (is_owned_at rs c.args.range.first) (g.G.Pages.contents c.args.g.now) (g.G.Pages.contents c.loop-i.g) (g.G.Pages.contents c.release_page.new.g)
-          (g.G.Pages.store c.args.g.now) (g.G.Pages.store c.loop-i.g) (g.G.Pages.store c.release_page.new.g) c.loop-i.invariant.given_up
+      given_up = given_then c.args.pid c.args.range c.loop-i.i (is_owned_at rs c.args.range.first) c.loop-i.invariant.given_up
           (subst (λ (k : ℕ). GivenUp c.args.pid (only (k + c.loop-i.i)) (cond (is_some (own_page rs (k + c.loop-i.i))) 1 0) (g.G.Pages.contents c.loop-i.g) (g.G.Pages.contents c.release_page.new.g) (g.G.Pages.store c.loop-i.g) (g.G.Pages.store c.release_page.new.g)) first c.release_page.ensures.given_up);
       passes = λ held each. page_then g.G.Pages.unpaged held c.args.range.first c.loop-i.i (g.G.Pages.store c.args.g.now) (g.G.Pages.store c.loop-i.g) (g.G.Pages.store c.release_page.new.g)
           (g.G.Pages.behind c.args.g.now) (g.G.Pages.behind c.loop-i.g) (g.G.Pages.behind c.release_page.new.g) (c.loop-i.invariant.passes held each)
           (c.release_page.ensures.passes held (c.args.range.first + c.loop-i.i) (c.args.range.first + (c.loop-i.i + 1))
-          (ap (λ (k : ℕ). held (place_at c.args.pid k)) at ∙ each (c.args.range.first + c.loop-i.i) (holds c.args.range (c.args.range.first + c.loop-i.i) (omega arith) few))
+          (ap (λ (k : ℕ). held (place_at c.args.pid k)) at ∙ each (c.args.range.first + c.loop-i.i) (next_held c.args.range c.loop-i.i few))
           (omega (arith, at)) (omega (arith, at)));
       loans = c.release_page.ensures.loans ∙ c.loop-i.invariant.loans;
     }
 
 pub returns-clause-given_up : goal.returns-clause-given_up
 returns-clause-given_up g c =
-    let count : c.range.inside.count ≡ c.args.range.count = ap (λ (r : Range). r.count) c.range.view_is in
-    given_all c.args.pid c.args.range c.loop-i.i (is_owned_at c.args.space.now.regions c.args.range.first) (g.G.Pages.contents c.args.g.now) (g.G.Pages.contents c.loop-i.g) (g.G.Pages.store c.args.g.now) (g.G.Pages.store c.loop-i.g)
-    (omega (arith, c.loop-i-test.false, c.loop-i.auto.i-end, count)) c.loop-i.invariant.given_up
+    given_all c.args.pid c.args.range c.loop-i.i (is_owned_at c.args.space.now.regions c.args.range.first) (omega (arith, c.loop-i-test.false, c.loop-i.auto.i-end, ap (λ (r : Range). r.count) c.range.view_is)) c.loop-i.invariant.given_up
 
 pub returns-clause-passes : goal.returns-clause-passes
 returns-clause-passes g c held from to among =
-    let count : c.range.inside.count ≡ c.args.range.count = ap (λ (r : Range). r.count) c.range.view_is in
     range_passes g.G.Pages.unpaged held from to c.args.pid c.args.range c.loop-i.i (g.G.Pages.store c.args.g.now) (g.G.Pages.store c.loop-i.g)
-    (g.G.Pages.behind c.args.g.now) (g.G.Pages.behind c.loop-i.g) among (omega (arith, c.loop-i-test.false, c.loop-i.auto.i-end, count)) (c.loop-i.invariant.passes held among.each)
+    (g.G.Pages.behind c.args.g.now) (g.G.Pages.behind c.loop-i.g) among (omega (arith, c.loop-i-test.false, c.loop-i.auto.i-end, ap (λ (r : Range). r.count) c.range.view_is)) (c.loop-i.invariant.passes held among.each)

@@ -6,17 +6,15 @@ use Rattle.mm_pages.specs.Store.{StoreOf, changed_in}
 use Rattle.mm_tables.proofs.EndingRuns.{given_at_once, dead_at_once}
 use Rattle.mm_tables.proofs.removals.release_empty.Goals as goal
 
-pub unbind-requires-clause-bound : goal.unbind-requires-clause-bound
-unbind-requires-clause-bound g c = subst (λ (r : Range). AllBound (g.G.Pages.store c.args.g.now) c.args.pid r true) (sym c.range.view_is) c.requires.can.bound
-
-pub unbind-requires-clause-dead : goal.unbind-requires-clause-dead
-unbind-requires-clause-dead g c v low high =
-    let first : c.range.inside.first ≡ c.args.range.first = ap (λ (r : Range). r.first) c.range.view_is in
-    let count : c.range.inside.count ≡ c.args.range.count = ap (λ (r : Range). r.count) c.range.view_is in
-    dead_at_once c.args.pid c.args.range c.args.space.now.regions (g.G.Pages.contents c.args.g.now) (g.G.Pages.store c.args.g.now) c.requires.can c.requires.none v (omega (arith, low, first)) (omega (arith, high, first, count))
-
-pub unbind-requires-clause-kind : goal.unbind-requires-clause-kind
-unbind-requires-clause-kind g c = inl c.requires.can.unbinding
+pub unbind-requires : goal.unbind-requires
+unbind-requires g c =
+    let first = ap (λ (r : Range). r.first) c.range.view_is in
+    let count = ap (λ (r : Range). r.count) c.range.view_is in
+    record {
+      bound = subst (λ (r : Range). AllBound (g.G.Pages.store c.args.g.now) c.args.pid r true) (sym c.range.view_is) c.requires.can.bound;
+      dead = λ v low high. dead_at_once c.args.pid c.args.range c.args.space.now.regions (g.G.Pages.contents c.args.g.now) (g.G.Pages.store c.args.g.now) c.requires.can c.requires.none v (omega (arith, low, first)) (omega (arith, high, first, count));
+      kind = inl c.requires.can.unbinding;
+    }
 
 pub returns-clause-given_up : goal.returns-clause-given_up
 returns-clause-given_up g c =

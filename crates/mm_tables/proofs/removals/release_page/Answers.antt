@@ -1,44 +1,28 @@
-use Rattle.std.proofs.Common.{inl, ◌+◌, ℕ, Bool, sym, ap, ◌∙◌, subst, arith, is_some, cond, ◌&&◌}
-use Rattle.mm_world.specs.Failure.{same_key}
-use Rattle.mm_world.specs.Keys.{own_page}
+use Rattle.std.proofs.Common.{inl, ◌+◌, ℕ, Bool, sym, ap, ◌∙◌, subst, arith, cond}
 use Rattle.mm_pages.specs.Conditions.{place_at}
-use Rattle.mm_tables.specs.Endings.{CanGo, Gone}
+use Rattle.mm_tables.specs.Endings.{CanGiveUp, GivenUp}
+use Rattle.mm_tables.specs.Ranges.{only}
 use Rattle.mm_tables.proofs.EndingPages.{page_can_go, page_bound, page_dead, page_unbinding, given_up}
 use Rattle.mm_tables.proofs.EndingExits.{ends_meet}
-use Rattle.mm_tables.proofs.PageByPage.{only_is, own}
+use Rattle.mm_tables.proofs.PageByPage.{only_is}
 use Rattle.mm_tables.proofs.removals.release_page.Goals as goal
 
 pub remove_if-requires : goal.remove_if-requires
 remove_if-requires g c =
-    record {
-      can = subst (λ (b : Bool). CanGo (own c.args.pid c.args.page) b (g.G.Pages.store c.args.g.now)) (sym c.is_owned.ensures)
-          (page_can_go c.args.pid c.args.page (is_some (own_page c.args.space.now.regions c.args.page)) (g.G.Pages.contents c.args.g.now) (g.G.Pages.store c.args.g.now) c.requires.can);
-    }
+    let can = subst (λ (b : Bool). CanGiveUp c.args.pid c.args.page b (g.G.Pages.contents c.args.g.now) (g.G.Pages.store c.args.g.now)) (sym c.is_owned.ensures) c.requires.can in
+    record { can = page_can_go can }
 
-pub unbind-requires-clause-bound : goal.unbind-requires-clause-bound
-unbind-requires-clause-bound g c v e =
-    let owned = is_some (own_page c.args.space.now.regions c.args.page) in
-    let gone = subst (λ (b : Bool). Gone (λ k. b && same_key k (own c.args.pid c.args.page)) (cond b 1 0) (g.G.Pages.contents c.args.g.now) (g.G.Pages.contents c.remove_if.new.g) (g.G.Pages.store c.args.g.now) (g.G.Pages.store c.remove_if.new.g)) c.is_owned.ensures c.remove_if.ensures.gone in
-    page_bound c.args.pid c.args.page owned (g.G.Pages.contents c.args.g.now) (g.G.Pages.store c.args.g.now) c.requires.can (cond owned 1 0) (g.G.Pages.contents c.remove_if.new.g) (g.G.Pages.store c.remove_if.new.g) gone v e
-
-pub unbind-requires-clause-dead : goal.unbind-requires-clause-dead
-unbind-requires-clause-dead g c v low high =
-    let owned = is_some (own_page c.args.space.now.regions c.args.page) in
-    let gone = subst (λ (b : Bool). Gone (λ k. b && same_key k (own c.args.pid c.args.page)) (cond b 1 0) (g.G.Pages.contents c.args.g.now) (g.G.Pages.contents c.remove_if.new.g) (g.G.Pages.store c.args.g.now) (g.G.Pages.store c.remove_if.new.g)) c.is_owned.ensures c.remove_if.ensures.gone in
-    page_dead c.args.pid c.args.page owned (g.G.Pages.contents c.args.g.now) (g.G.Pages.store c.args.g.now) c.requires.can (cond owned 1 0) (g.G.Pages.contents c.remove_if.new.g) (g.G.Pages.store c.remove_if.new.g) gone v low high
-
-pub unbind-requires-clause-kind : goal.unbind-requires-clause-kind
-unbind-requires-clause-kind g c =
-    let owned = is_some (own_page c.args.space.now.regions c.args.page) in
-    let gone = subst (λ (b : Bool). Gone (λ k. b && same_key k (own c.args.pid c.args.page)) (cond b 1 0) (g.G.Pages.contents c.args.g.now) (g.G.Pages.contents c.remove_if.new.g) (g.G.Pages.store c.args.g.now) (g.G.Pages.store c.remove_if.new.g)) c.is_owned.ensures c.remove_if.ensures.gone in
-    inl (page_unbinding c.args.pid c.args.page owned (g.G.Pages.contents c.args.g.now) (g.G.Pages.store c.args.g.now) c.requires.can (cond owned 1 0) (g.G.Pages.contents c.remove_if.new.g) (g.G.Pages.store c.remove_if.new.g) gone)
+pub unbind-requires : goal.unbind-requires
+unbind-requires g c =
+    let can = subst (λ (b : Bool). CanGiveUp c.args.pid c.args.page b (g.G.Pages.contents c.args.g.now) (g.G.Pages.store c.args.g.now)) (sym c.is_owned.ensures) c.requires.can in
+    let gone = c.remove_if.ensures.gone in
+    record { bound = page_bound can gone; dead = page_dead can gone; kind = inl (page_unbinding can gone) }
 
 pub returns-clause-given_up : goal.returns-clause-given_up
 returns-clause-given_up g c =
-    let owned = is_some (own_page c.args.space.now.regions c.args.page) in
-    let gone = subst (λ (b : Bool). Gone (λ k. b && same_key k (own c.args.pid c.args.page)) (cond b 1 0) (g.G.Pages.contents c.args.g.now) (g.G.Pages.contents c.remove_if.new.g) (g.G.Pages.store c.args.g.now) (g.G.Pages.store c.remove_if.new.g)) c.is_owned.ensures c.remove_if.ensures.gone in
-    given_up c.args.pid c.args.page owned (g.G.Pages.contents c.args.g.now) (g.G.Pages.store c.args.g.now) c.requires.can (cond owned 1 0) (g.G.Pages.contents c.remove_if.new.g) (g.G.Pages.store c.remove_if.new.g) gone
-    (g.G.Pages.contents c.unbind.new.self) (g.G.Pages.store c.unbind.new.self) c.unbind.ensures.contents c.unbind.ensures.store
+    let can = subst (λ (b : Bool). CanGiveUp c.args.pid c.args.page b (g.G.Pages.contents c.args.g.now) (g.G.Pages.store c.args.g.now)) (sym c.is_owned.ensures) c.requires.can in
+    subst (λ (b : Bool). GivenUp c.args.pid (only c.args.page) (cond b 1 0) (g.G.Pages.contents c.args.g.now) (g.G.Pages.contents c.unbind.new.self) (g.G.Pages.store c.args.g.now) (g.G.Pages.store c.unbind.new.self)) c.is_owned.ensures
+    (given_up can c.remove_if.ensures.gone c.unbind.ensures.contents c.unbind.ensures.store)
 
 pub returns-clause-passes : goal.returns-clause-passes
 returns-clause-passes g c held from to is low high =

@@ -10,7 +10,7 @@ remove_if-requires g c =
     let few : c.loop-i.i < length c.args.pages.now.pages = omega (arith, c.loop-i-test.true, c.len-count.ensures) in
     record {
       can = subst (λ (b : Bool). CanGo (shared_at c.args.area c.loop-i.i) b (g.G.Pages.store c.loop-i.g)) (sym c.is_committed.ensures)
-          (can_go_next (shared_at c.args.area) (is_committed_in c.args.pages.now) (length c.args.pages.now.pages) c.loop-i.i (g.G.Pages.contents c.args.g.now) (g.G.Pages.contents c.loop-i.g) (g.G.Pages.store c.args.g.now) (g.G.Pages.store c.loop-i.g) c.requires.can few c.loop-i.invariant.gone);
+          (can_go_next (shared_at c.args.area) (is_committed_in c.args.pages.now) (length c.args.pages.now.pages) c.loop-i.i c.requires.can few c.loop-i.invariant.gone);
     }
 
 pub loop-i-preserved : goal.loop-i-preserved
@@ -19,8 +19,7 @@ loop-i-preserved g c =
     let step : Gone (λ k. owned c.loop-i.i && same_key k (shared_at c.args.area c.loop-i.i)) (cond (owned c.loop-i.i) 1 0) (g.G.Pages.contents c.loop-i.g) (g.G.Pages.contents c.remove_if.new.g) (g.G.Pages.store c.loop-i.g) (g.G.Pages.store c.remove_if.new.g) =
     subst (λ (b : Bool). Gone (λ k. b && same_key k (shared_at c.args.area c.loop-i.i)) (cond b 1 0) (g.G.Pages.contents c.loop-i.g) (g.G.Pages.contents c.remove_if.new.g) (g.G.Pages.store c.loop-i.g) (g.G.Pages.store c.remove_if.new.g)) c.is_committed.ensures c.remove_if.ensures.gone in
     record {
-      gone = gone_then (shared_at c.args.area) owned c.loop-i.i (g.G.Pages.contents c.args.g.now) (g.G.Pages.contents c.loop-i.g) (g.G.Pages.contents c.remove_if.new.g)
-          (g.G.Pages.store c.args.g.now) (g.G.Pages.store c.loop-i.g) (g.G.Pages.store c.remove_if.new.g) c.loop-i.invariant.gone step;
+      gone = gone_then (shared_at c.args.area) owned c.loop-i.i c.loop-i.invariant.gone step;
       passes = sections_then g.G.Pages.unpaged (g.G.Pages.store c.args.g.now) (g.G.Pages.store c.loop-i.g) (g.G.Pages.store c.remove_if.new.g) (g.G.Pages.behind c.args.g.now) (g.G.Pages.behind c.loop-i.g) (g.G.Pages.behind c.remove_if.new.g)
           c.loop-i.invariant.passes (λ held from to. c.remove_if.ensures.passes held from to tt);
       loans = c.remove_if.ensures.loans ∙ c.loop-i.invariant.loans;

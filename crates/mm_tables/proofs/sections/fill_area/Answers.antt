@@ -10,7 +10,7 @@ pub add-requires-clause-home : goal.add-requires-clause-home
 add-requires-clause-home g c = (
   c.requires.can.pages,
   (
-    next_area c.args.area c.loop-i.i c.args.n (g.G.Pages.contents c.args.g.now) (g.G.Pages.contents c.loop-i.g) (g.G.Pages.store c.args.g.now) (g.G.Pages.store c.loop-i.g) c.requires.can c.loop-i.invariant.fills,
+    next_area c.args.area c.loop-i.i c.args.n (g.G.Pages.contents c.args.g.now) (g.G.Pages.contents c.loop-i.g) (g.G.Pages.store c.args.g.now) (g.G.Pages.store c.loop-i.g) c.requires.can (omega (arith, c.loop-i-test.true)) c.loop-i.invariant.fills,
     omega (arith, c.loop-i-test.true, c.requires.can.within),
   ),
 )
@@ -19,7 +19,7 @@ pub add-requires-clause-room : goal.add-requires-clause-room
 add-requires-clause-room g c = next_room c.args.area c.loop-i.i c.args.n (g.G.Pages.contents c.args.g.now) (g.G.Pages.contents c.loop-i.g) (g.G.Pages.store c.args.g.now) (g.G.Pages.store c.loop-i.g) c.requires.can (omega (arith, c.loop-i-test.true)) c.loop-i.invariant.fills
 
 pub add-requires-clause-kind : goal.add-requires-clause-kind
-add-requires-clause-kind g c = next_kind c.args.area c.loop-i.i c.args.n (g.G.Pages.contents c.args.g.now) (g.G.Pages.contents c.loop-i.g) (g.G.Pages.store c.args.g.now) (g.G.Pages.store c.loop-i.g) c.requires.can c.loop-i.invariant.fills
+add-requires-clause-kind g c = next_kind c.args.area c.loop-i.i c.args.n (g.G.Pages.contents c.args.g.now) (g.G.Pages.contents c.loop-i.g) (g.G.Pages.store c.args.g.now) (g.G.Pages.store c.loop-i.g) c.requires.can (omega (arith, c.loop-i-test.true)) c.loop-i.invariant.fills
 
 pub loop-i-preserved : goal.loop-i-preserved
 loop-i-preserved g c =

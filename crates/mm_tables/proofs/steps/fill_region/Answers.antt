@@ -13,10 +13,9 @@ pub returns-then-kind-ne-RESERVE_TYPE-clause-counted :
 returns-then-kind-ne-RESERVE_TYPE-clause-counted g c =
     let range : Range = c.args.range in
     let pages : new_pages c.args.kind range ≡ range.count = ap (λ b. cond b 0 range.count) (differ c.args.kind 0x2000 c.if-kind-ne-RESERVE_TYPE.true) in
-    let used = ap (λ (x : StoreOf). x.paging_keys) c.add_pages.ensures.adds.store in
     omega (
       arith,
-      used,
+      ap (λ (x : StoreOf). x.paging_keys) c.add_pages.ensures.adds.store,
       pages,
       passing_all (is_dead c.args.pid (g.G.Pages.contents c.args.g.now)) range.first range.count (λ j few.
           ap not (c.requires.dead (range.first + j) (holds range (range.first + j) (omega arith) (omega (arith, few))))),

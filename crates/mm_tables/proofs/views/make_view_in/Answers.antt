@@ -1,10 +1,10 @@
-use Rattle.std.proofs.Common.{ap, refl}
-use Rattle.std.proofs.lemmas.Result.{on_ok_weaker}
+use Rattle.std.proofs.Common.{◌∙◌, Option, Some, sym, ap, option_map, refl}
+use Rattle.std.proofs.lemmas.Result.{on_ok_weaker, on_err_weaker}
 use Rattle.mm_world.specs.World.{ProcessOf}
 use Rattle.mm_world.specs.Find.{add_region}
 use Rattle.mm_tables.specs.Shown.{shown_process}
 use Rattle.mm_tables.specs.ViewChanges.{region_of_view}
-use Rattle.mm_tables.proofs.ViewAdded.{lives_at, not_none, shown_kept, changed_in, on_err_weaker}
+use Rattle.mm_tables.proofs.ViewWorlds.{lives_at, not_none, still_at, changed_in}
 use Rattle.mm_tables.proofs.views.make_view_in.Goals as goal
 
 pub make_view-requires-clause-free : goal.make_view-requires-clause-free
@@ -26,8 +26,7 @@ returns-clause-made g c =
 pub returns-clause-kept : goal.returns-clause-kept
 returns-clause-kept g c =
     on_err_weaker c.make_view.result
-    (λ e. shown_kept c.args.processes.now.items c.args.pid.0 c.index_mut.result.now c.in-Some.process
-    (record { space = c.make_view.new.space; handles = c.in-Some.process.handles })
-    c.requires.lives c.index_mut.ensures.value c.in-Some.is
-    (ap (λ rs. let q : ProcessOf (Unit {0}) = record { regions = rs; handles = c.in-Some.process.handles.entries } in q) e))
+    (λ e. still_at c.args.processes.now.items c.args.pid.0 c.index_mut.result.now (Some (record { space = c.make_view.new.space; handles = c.in-Some.process.handles }))
+    c.requires.lives c.index_mut.ensures.value
+    (ap (λ rs. let q : Option (ProcessOf (Unit {0})) = Some (record { regions = rs; handles = c.in-Some.process.handles.entries }) in q) e ∙ sym (ap (option_map shown_process) c.in-Some.is)))
     c.make_view.ensures.kept

@@ -4,7 +4,8 @@ use Rattle.mm_world.specs.Find.{region_around}
 use Rattle.mm_world.specs.Rows.{change_rows, protected}
 use Rattle.mm_tables.specs.Shown.{shown_process}
 use Rattle.mm_tables.specs.ViewChanges.{living}
-use Rattle.mm_tables.proofs.ViewAdded.{lives_at, not_none, process_is, changed_in}
+use Rattle.mm_tables.proofs.ViewAdded.{process_is}
+use Rattle.mm_tables.proofs.ViewWorlds.{lives_at, not_none, changed_in}
 use Rattle.mm_tables.proofs.views.protect_view.Goals as goal
 
 pub protect-requires-clause-inside : goal.protect-requires-clause-inside

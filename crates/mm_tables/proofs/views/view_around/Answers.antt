@@ -3,7 +3,8 @@ use Rattle.mm_world.specs.World.{ProcessOf}
 use Rattle.mm_world.specs.Find.{region_around}
 use Rattle.mm_tables.specs.Shown.{shown_process}
 use Rattle.mm_tables.specs.ViewChanges.{living}
-use Rattle.mm_tables.proofs.ViewAdded.{lives_at, not_none, process_is}
+use Rattle.mm_tables.proofs.ViewAdded.{process_is}
+use Rattle.mm_tables.proofs.ViewWorlds.{lives_at, not_none}
 use Rattle.mm_tables.proofs.views.view_around.Goals as goal
 
 pub view_of-requires-clause-inside : goal.view_of-requires-clause-inside

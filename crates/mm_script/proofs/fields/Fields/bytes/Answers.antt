@@ -1,11 +1,13 @@
-use Rattle.std.proofs.Common.{ap, ◌∙◌}
-use Rattle.std.specs.Option.{ok_or}
 use Rattle.mm_script.specs.Shape.{read, ByteWord}
-use Rattle.mm_script.proofs.Given.{given}
+use Rattle.mm_script.proofs.Given.{given_value, given_fault}
 use Rattle.mm_script.proofs.fields.Fields.bytes.Goals as goal
 
-pub returns-clause-value : goal.returns-clause-value
+pub returns-in-Some-clause-value : goal.returns-in-Some-clause-value
 unfolding read
-returns-clause-value c =
-    given (read ByteWord) c.args.self.now c.next.new.self c.in_ok-word.word.now c.fault.result c.ok_or.result c.in_ok-word.ensures.word c.fault.ensures
-    (c.ok_or.ensures.value ∙ ap (λ o. ok_or o c.fault.result) c.bytes.ensures)
+returns-in-Some-clause-value c =
+    given_value (read ByteWord) c.args.self.now c.next.new.self c.in_ok-word.word.now c.in-Some.value c.in_ok-word.ensures.word c.in-Some.ensures
+
+pub returns-in-None-clause-value : goal.returns-in-None-clause-value
+unfolding read
+returns-in-None-clause-value c =
+    given_fault (read ByteWord) c.args.self.now c.next.new.self c.in_ok-word.word.now c.fault.result c.in_ok-word.ensures.word c.in-None.ensures c.fault.ensures

@@ -1,15 +1,23 @@
-use Rattle.std.proofs.Common.{◌≡◌, ◌++◌, ◌∷◌, [], ◌+◌, refl, ◌∙◌, ap, length, arith}
+use Rattle.std.proofs.Common.{◌≡◌, ◌++◌, ◌∷◌, [], refl, sym, ◌∙◌, ap, subst, length, arith}
 use Rattle.mm_world.specs.Contents.{Tables}
-use Rattle.mm_tables.specs.Shown.{shown_processes, shown_accesses}
-use Rattle.mm_tables.proofs.FileKept.{MakesFile, file_kept, file_now, file_fits, nothing_served, fits_wrote}
-use Rattle.mm_tables.proofs.SectionPaging.{area_free, Parts, tables, same_kept, same_tables, fits_as}
+use Rattle.mm_tables.specs.Fits.{Fits}
+use Rattle.mm_tables.proofs.FileKept.{file_area, file_kept, file_now, file_fits, nothing_served, fits_wrote}
+use Rattle.mm_tables.proofs.SectionPaging.{area_free, same_kept, same_tables}
+use Rattle.mm_tables.proofs.tables.Tables.add_file.Given as given
 use Rattle.mm_tables.proofs.tables.Tables.add_file.Goals as goal
 
+-- what has become of the areas and the files
+at_end : (g : given.Over) (c : goal.After-self-1 g) → c.len.result ≡ length c.self.inside.areas.items
+at_end g c = omega (arith, c.len.ensures, c.self.inside.areas.ok.0)
+
+areas_are : (g : given.Over) (c : goal.After-self-1 g) → c.list_file.new.areas.items ≡ c.self.inside.areas.items ++ file_area c.self.inside.blocks_used c.args.pages ∷ []
+areas_are g c = c.list_file.ensures.areas ∙ (λ i. c.grow_for_file-grown.ensures.areas i ++ c.in-Ok.ensures.made i ∷ [])
+
+files_are : (g : given.Over) (c : goal.After-self-1 g) → c.list_file.new.directory.files ≡ c.self.inside.directory.files ++ record { name = c.args.name; area = length c.self.inside.areas.items } ∷ []
+files_are g c = c.list_file.ensures.files ∙ (λ i. c.grow_for_file-grown.ensures.files i ++ record { name = c.args.name; area = at_end g c i } ∷ [])
+
 pub invariant_of-self : goal.invariant_of-self
-invariant_of-self g c =
-    let x : Parts = record { machine = c.self.inside.machine; processes = shown_processes c.self.inside.processes.items; entries = c.self.inside.directory.entries; areas = c.self.inside.areas.items; files = c.self.inside.directory.files; used = c.self.inside.blocks_used; fails = c.self.inside.fails_taken; kept = shown_accesses c.self.inside.kept } in
-    let y : Parts = record x { entries = c.grow_for_file-grown.new.directory.entries; areas = c.grow_for_file-grown.new.areas.items; files = c.grow_for_file-grown.new.directory.files } in
-    same_kept x y c.self.inside.commit (record { machine = refl; processes = refl; entries = c.grow_for_file-grown.ensures.entries; areas = c.grow_for_file-grown.ensures.areas; files = c.grow_for_file-grown.ensures.files; used = refl; fails = refl; kept = refl }) c.self.invariant
+invariant_of-self g c = same_kept c.self.inside refl c.grow_for_file-grown.ensures.entries c.grow_for_file-grown.ensures.areas c.grow_for_file-grown.ensures.files c.self.invariant
 
 pub returns-in-Err-clause-served : goal.returns-in-Err-clause-served
 returns-in-Err-clause-served g c = nothing_served (g.G.Pages.store c.args.g.now)
@@ -21,76 +29,30 @@ make_file-requires-clause-new g c =
 
 pub invariant_of-self-in_err-make_file : goal.invariant_of-self-in_err-make_file
 invariant_of-self-in_err-make_file g c =
-    let x : Parts = record { machine = c.self.inside.machine; processes = shown_processes c.self.inside.processes.items; entries = c.self.inside.directory.entries; areas = c.self.inside.areas.items; files = c.self.inside.directory.files; used = c.self.inside.blocks_used; fails = c.self.inside.fails_taken; kept = shown_accesses c.self.inside.kept } in
-    let y : Parts = record x { entries = c.grow_for_file-grown.new.directory.entries; areas = c.grow_for_file-grown.new.areas.items; files = c.grow_for_file-grown.new.directory.files } in
-    same_kept x y c.self.inside.commit (record { machine = refl; processes = refl; entries = c.grow_for_file-grown.ensures.entries; areas = c.grow_for_file-grown.ensures.areas; files = c.grow_for_file-grown.ensures.files; used = refl; fails = refl; kept = refl }) c.self.invariant
+    same_kept c.self.inside refl c.grow_for_file-grown.ensures.entries c.grow_for_file-grown.ensures.areas c.grow_for_file-grown.ensures.files c.self.invariant
 
 pub returns-in_err-make_file-clause-fits : goal.returns-in_err-make_file-clause-fits
 returns-in_err-make_file-clause-fits g c =
-    let x : Parts = record { machine = c.self.inside.machine; processes = shown_processes c.self.inside.processes.items; entries = c.self.inside.directory.entries; areas = c.self.inside.areas.items; files = c.self.inside.directory.files; used = c.self.inside.blocks_used; fails = c.self.inside.fails_taken; kept = shown_accesses c.self.inside.kept } in
-    let y : Parts = record x { entries = c.grow_for_file-grown.new.directory.entries; areas = c.grow_for_file-grown.new.areas.items; files = c.grow_for_file-grown.new.directory.files } in
-    let old = g.G.Pages.contents c.args.g.now in
+    let same = same_tables c.self.inside refl c.grow_for_file-grown.ensures.entries c.grow_for_file-grown.ensures.areas c.grow_for_file-grown.ensures.files c.self.view_is in
     let new = g.G.Pages.contents c.make_file.new.self in
-    let s = g.G.Pages.store c.args.g.now in
     let z = g.G.Pages.store c.make_file.new.self in
-    fits_as c.args.self.now (tables y) new z (same_tables x y c.args.self.now (record { machine = refl; processes = refl; entries = c.grow_for_file-grown.ensures.entries; areas = c.grow_for_file-grown.ensures.areas; files = c.grow_for_file-grown.ensures.files; used = refl; fails = refl; kept = refl }) c.self.view_is)
-    (fits_wrote c.args.self.now old new s z c.requires.fits c.in_err-make_file.ensures.kept c.in_err-make_file.ensures.err c.in_err-make_file.ensures.stored c.in_err-make_file.ensures.served)
+    subst (λ (t : Tables). Fits t new z) (sym same)
+    (fits_wrote c.args.self.now (g.G.Pages.contents c.args.g.now) new (g.G.Pages.store c.args.g.now) z c.requires.fits c.in_err-make_file.ensures.kept c.in_err-make_file.ensures.err
+    c.in_err-make_file.ensures.stored c.in_err-make_file.ensures.served)
 
 pub invariant_of-self-2 : goal.invariant_of-self-2
 invariant_of-self-2 g c =
-    let x : Parts = record { machine = c.self.inside.machine; processes = shown_processes c.self.inside.processes.items; entries = c.self.inside.directory.entries; areas = c.self.inside.areas.items; files = c.self.inside.directory.files; used = c.self.inside.blocks_used; fails = c.self.inside.fails_taken; kept = shown_accesses c.self.inside.kept } in
-    let y : Parts = record x { entries = c.list_file.new.directory.entries; areas = c.list_file.new.areas.items; files = c.list_file.new.directory.files; used = c.self.inside.blocks_used + c.args.pages } in
-    let at : c.len.result ≡ length c.self.inside.areas.items = omega (arith, c.len.ensures, c.self.inside.areas.ok.0) in
-    let made : MakesFile x y c.args.name c.args.pages =
-    record {
-      machine = refl;
-      processes = refl;
-      entries = c.list_file.ensures.entries ∙ c.grow_for_file-grown.ensures.entries;
-      areas = c.list_file.ensures.areas ∙ (λ i. c.grow_for_file-grown.ensures.areas i ++ c.in-Ok.ensures.made i ∷ []);
-      files = c.list_file.ensures.files ∙ (λ i. c.grow_for_file-grown.ensures.files i ++ record { name = c.args.name; area = at i } ∷ []);
-      used = refl;
-      fails = refl;
-      kept = refl;
-    } in
-    file_kept x y c.args.name c.args.pages c.args.byte c.requires.some made c.args.self.now c.self.inside.commit c.self.view_is c.requires.unnamed c.requires.room c.self.invariant
+    file_kept c.self.inside c.args.name c.args.pages c.args.byte c.self.view_is (c.list_file.ensures.entries ∙ c.grow_for_file-grown.ensures.entries) (areas_are g c) (files_are g c)
+    c.requires.some c.requires.unnamed c.requires.room c.self.invariant
 
 pub returns-clause-ok : goal.returns-clause-ok
 returns-clause-ok g c =
-    let x : Parts = record { machine = c.self.inside.machine; processes = shown_processes c.self.inside.processes.items; entries = c.self.inside.directory.entries; areas = c.self.inside.areas.items; files = c.self.inside.directory.files; used = c.self.inside.blocks_used; fails = c.self.inside.fails_taken; kept = shown_accesses c.self.inside.kept } in
-    let y : Parts = record x { entries = c.list_file.new.directory.entries; areas = c.list_file.new.areas.items; files = c.list_file.new.directory.files; used = c.self.inside.blocks_used + c.args.pages } in
-    let at : c.len.result ≡ length c.self.inside.areas.items = omega (arith, c.len.ensures, c.self.inside.areas.ok.0) in
-    let made : MakesFile x y c.args.name c.args.pages =
-    record {
-      machine = refl;
-      processes = refl;
-      entries = c.list_file.ensures.entries ∙ c.grow_for_file-grown.ensures.entries;
-      areas = c.list_file.ensures.areas ∙ (λ i. c.grow_for_file-grown.ensures.areas i ++ c.in-Ok.ensures.made i ∷ []);
-      files = c.list_file.ensures.files ∙ (λ i. c.grow_for_file-grown.ensures.files i ++ record { name = c.args.name; area = at i } ∷ []);
-      used = refl;
-      fails = refl;
-      kept = refl;
-    } in
-    file_now x y c.args.name c.args.pages c.args.byte c.requires.some made c.args.self.now c.self.view_is c.requires.unnamed c.requires.room
+    file_now c.self.inside c.args.name c.args.pages c.args.byte c.self.view_is (c.list_file.ensures.entries ∙ c.grow_for_file-grown.ensures.entries) (areas_are g c) (files_are g c)
+    c.requires.some c.requires.unnamed c.requires.room
 
 pub returns-clause-fits : goal.returns-clause-fits
 returns-clause-fits g c =
-    let x : Parts = record { machine = c.self.inside.machine; processes = shown_processes c.self.inside.processes.items; entries = c.self.inside.directory.entries; areas = c.self.inside.areas.items; files = c.self.inside.directory.files; used = c.self.inside.blocks_used; fails = c.self.inside.fails_taken; kept = shown_accesses c.self.inside.kept } in
-    let y : Parts = record x { entries = c.list_file.new.directory.entries; areas = c.list_file.new.areas.items; files = c.list_file.new.directory.files; used = c.self.inside.blocks_used + c.args.pages } in
-    let old = g.G.Pages.contents c.args.g.now in
-    let new = g.G.Pages.contents c.make_file.new.self in
-    let s = g.G.Pages.store c.args.g.now in
-    let z = g.G.Pages.store c.make_file.new.self in
-    let at : c.len.result ≡ length c.self.inside.areas.items = omega (arith, c.len.ensures, c.self.inside.areas.ok.0) in
-    let made : MakesFile x y c.args.name c.args.pages =
-    record {
-      machine = refl;
-      processes = refl;
-      entries = c.list_file.ensures.entries ∙ c.grow_for_file-grown.ensures.entries;
-      areas = c.list_file.ensures.areas ∙ (λ i. c.grow_for_file-grown.ensures.areas i ++ c.in-Ok.ensures.made i ∷ []);
-      files = c.list_file.ensures.files ∙ (λ i. c.grow_for_file-grown.ensures.files i ++ record { name = c.args.name; area = at i } ∷ []);
-      used = refl;
-      fails = refl;
-      kept = refl;
-    } in
-    file_fits x y c.args.name c.args.pages c.args.byte c.requires.some made c.args.self.now c.len.result c.self.inside.blocks_used old new s z c.self.view_is c.requires.fits at refl
+    file_fits c.self.inside c.args.name c.args.pages c.args.byte c.self.view_is (c.list_file.ensures.entries ∙ c.grow_for_file-grown.ensures.entries) (areas_are g c) (files_are g c)
+    c.requires.some c.requires.unnamed c.requires.room
+    c.len.result (g.G.Pages.contents c.args.g.now) (g.G.Pages.contents c.make_file.new.self) (g.G.Pages.store c.args.g.now) (g.G.Pages.store c.make_file.new.self) c.requires.fits (at_end g c)
     c.in_ok-make_file.ensures.made c.in_ok-make_file.ensures.ok c.in_ok-make_file.ensures.stored c.in_ok-make_file.ensures.served

@@ -1,10 +1,10 @@
-use Rattle.std.proofs.Common.{◌≤◌, ◌∙◌, ◌++◌, [], ◌∷◌, Some, sym, ap, subst, arith, length, is_some}
+use Rattle.std.proofs.Common.{◌≤◌, ◌∙◌, sym, ap, subst, arith, length, is_some}
 use Rattle.mm_world.specs.Contents.{Tables}
-use Rattle.mm_world.specs.Processes.{most_processes, no_regions}
+use Rattle.mm_world.specs.Processes.{most_processes}
 use Rattle.mm_tables.specs.Fits.{Fits}
-use Rattle.mm_tables.specs.Shown.{shown_processes, tables_with, shown_accesses}
 use Rattle.mm_tables.specs.Sound.{IsKept}
-use Rattle.mm_tables.proofs.Lines.{none_next, more_kept, more_fits}
+use Rattle.mm_tables.proofs.Lines.{none_next, more, shown_as, more_kept, more_fits}
+use Rattle.mm_tables.proofs.Standing.{shown_with}
 use Rattle.mm_types.proofs.Options.{on_err}
 use Rattle.mm_tables.proofs.tables.Tables.add_process.Goals as goal
 
@@ -14,37 +14,25 @@ push_process-requires-clause-new g c =
 
 pub invariant_of-self : goal.invariant_of-self
 invariant_of-self g c =
-    let i = c.self.inside in
-    subst (λ items. IsKept (tables_with i.machine (shown_processes items) i.directory.entries i.areas.items i.directory.files i.blocks_used i.fails_taken (shown_accesses i.kept)) i.directory.entries i.commit) (sym c.in_err-push_process.ensures.same) c.self.invariant
+    subst (λ items. IsKept (shown_with c.self.inside items) c.self.inside.directory.entries c.self.inside.commit) (sym c.in_err-push_process.ensures.same) c.self.invariant
 
 pub invariant_of-self-2 : goal.invariant_of-self-2
 invariant_of-self-2 g c =
     let i = c.self.inside in
-    let t = tables_with i.machine (shown_processes i.processes.items) i.directory.entries i.areas.items i.directory.files i.blocks_used i.fails_taken (shown_accesses i.kept) in
+    let t = shown_with i i.processes.items in
     let few : length t.processes ≤ most_processes = omega (arith, ap (λ (t : Tables). length t.processes) c.self.view_is, c.requires.few) in
-    subst (λ ps. IsKept (tables_with i.machine ps i.directory.entries i.areas.items i.directory.files i.blocks_used i.fails_taken (shown_accesses i.kept)) i.directory.entries i.commit) (sym c.in_ok-push_process.ensures.added)
-    (more_kept t i.directory.entries i.commit c.self.invariant few)
+    subst (λ ps. IsKept (shown_as i ps) i.directory.entries i.commit) (sym c.in_ok-push_process.ensures.added) (more_kept t i.directory.entries i.commit c.self.invariant few)
 
 pub returns-in_err-push_process-clause-kept : goal.returns-in_err-push_process-clause-kept
 returns-in_err-push_process-clause-kept g c =
-    let i = c.self.inside in
-    on_err c.from_residual.result (
-      ap (λ items. tables_with i.machine (shown_processes items) i.directory.entries i.areas.items i.directory.files i.blocks_used i.fails_taken (shown_accesses i.kept)) c.in_err-push_process.ensures.same ∙ c.self.view_is,
-      c.in_err-push_process.ensures.kept,
-    )
+    on_err c.from_residual.result (ap (λ items. shown_with c.self.inside items) c.in_err-push_process.ensures.same ∙ c.self.view_is, c.in_err-push_process.ensures.kept)
 
 pub returns-clause-ok : goal.returns-clause-ok
-returns-clause-ok g c =
-    let i = c.self.inside in
-    ap (λ ps. tables_with i.machine ps i.directory.entries i.areas.items i.directory.files i.blocks_used i.fails_taken (shown_accesses i.kept)) c.in_ok-push_process.ensures.added
-    ∙ ap (λ (t : Tables). record t { processes = t.processes ++ Some no_regions ∷ [] }) c.self.view_is
+returns-clause-ok g c = ap (λ ps. shown_as c.self.inside ps) c.in_ok-push_process.ensures.added ∙ ap more c.self.view_is
 
 pub returns-clause-fits : goal.returns-clause-fits
 returns-clause-fits g c =
-    let i = c.self.inside in
-    let t = c.args.self.now in
-    let now = ap (λ ps. tables_with i.machine ps i.directory.entries i.areas.items i.directory.files i.blocks_used i.fails_taken (shown_accesses i.kept)) c.in_ok-push_process.ensures.added
-    ∙ ap (λ (t : Tables). record t { processes = t.processes ++ Some no_regions ∷ [] }) c.self.view_is in
+    let now = ap (λ ps. shown_as c.self.inside ps) c.in_ok-push_process.ensures.added ∙ ap more c.self.view_is in
     subst (λ (t : Tables). Fits t (g.G.Pages.contents c.push_process.new.g) (g.G.Pages.store c.push_process.new.g)) (sym now)
-    (more_fits t (g.G.Pages.contents c.args.g.now) (g.G.Pages.contents c.push_process.new.g) (g.G.Pages.store c.args.g.now) (g.G.Pages.store c.push_process.new.g) c.args.pid.0 c.requires.next c.requires.starts
-    c.in_ok-push_process.ensures.store c.requires.last_pid c.push_process.ensures.contents)
+    (more_fits c.args.self.now (g.G.Pages.contents c.args.g.now) (g.G.Pages.contents c.push_process.new.g) (g.G.Pages.store c.args.g.now) (g.G.Pages.store c.push_process.new.g) c.args.pid.0
+    c.requires.next c.requires.starts c.in_ok-push_process.ensures.store c.requires.last_pid c.push_process.ensures.contents)

@@ -1,17 +1,17 @@
 use Rattle.std.proofs.Common.{sym, ◌∙◌, ap, subst}
 use Rattle.mm_world.specs.World.{Numbered, KeptOf, numbered}
 use Rattle.mm_tables.specs.Sound.{IsKept}
-use Rattle.mm_tables.specs.Shown.{shown_processes, shown_accesses, tables_with}
+use Rattle.mm_tables.specs.Shown.{shown_accesses}
 use Rattle.mm_tables.proofs.Keeping.{of_others}
+use Rattle.mm_tables.proofs.Standing.{shown_with}
 use Rattle.mm_tables.proofs.KeptAccesses.{kept_dropped}
 use Rattle.mm_tables.proofs.tables.Tables.drop_kept.Goals as goal
 
 pub invariant_of-self : goal.invariant_of-self
 invariant_of-self c =
-    let x = c.self.inside in
-    let t = tables_with x.machine (shown_processes x.processes.items) x.directory.entries x.areas.items x.directory.files x.blocks_used x.fails_taken (shown_accesses x.kept) in
-    subst (λ (ks : Numbered KeptOf). IsKept (record t { kept = ks }) x.directory.entries x.commit) (sym c.drop_accesses.ensures)
-    (kept_dropped t c.args.pid.0 x.directory.entries x.commit c.self.invariant)
+    let t = shown_with c.self.inside c.self.inside.processes.items in
+    subst (λ (ks : Numbered KeptOf). IsKept (record t { kept = ks }) c.self.inside.directory.entries c.self.inside.commit) (sym c.drop_accesses.ensures)
+    (kept_dropped t c.args.pid.0 c.self.inside.directory.entries c.self.inside.commit c.self.invariant)
 
 pub returns-clause-nobody : goal.returns-clause-nobody
 returns-clause-nobody c tid k e =

@@ -1,17 +1,19 @@
-use Rattle.std.proofs.Common.{sym, ◌∙◌}
-use Rattle.mm_tables.proofs.EndingSteps.{process_there}
-use Rattle.mm_tables.proofs.EndingExits.{toward_then, still_none, no_region, regions_fewer, regions_then, regions_end}
+use Rattle.std.proofs.Common.{sym, ◌∙◌, ap, ℕ}
+use Rattle.mm_world.specs.World.{Numbered, numbered}
+use Rattle.mm_types.proofs.Options.{some_found}
+use Rattle.mm_world.specs.Find.{process_of}
+use Rattle.mm_tables.proofs.EndingExits.{toward_then, no_region, regions_fewer, regions_then, regions_end}
 use Rattle.mm_tables.proofs.tables.Tables.drop_regions.Goals as goal
 
 pub loop-info-preserved : goal.loop-info-preserved
 loop-info-preserved g c =
-    let p = process_there c.loop-info.self c.args.pid.0 c.loop-info.invariant.lives in
+    let p = some_found (process_of c.loop-info.self c.args.pid.0) c.loop-info.invariant.lives in
     record {
-      toward = toward_then c.args.pid.0 c.args.self.now c.loop-info.self c.drop_lowest.new.self (g.G.Pages.contents c.args.g.now) (g.G.Pages.contents c.loop-info.g) (g.G.Pages.contents c.drop_lowest.new.g) (g.G.Pages.store c.args.g.now) (g.G.Pages.store c.loop-info.g) (g.G.Pages.store c.drop_lowest.new.g) c.loop-info.invariant.toward c.drop_lowest.ensures.toward;
+      toward = toward_then c.loop-info.invariant.toward c.drop_lowest.ensures.toward;
       lives = c.drop_lowest.ensures.lives;
-      closed = λ q now. still_none p.0 q (c.drop_lowest.ensures.fewer p.0 q p.1 now) (c.loop-info.invariant.closed p.0 p.1);
+      closed = λ q now k. ap (λ (hs : Numbered ℕ). numbered hs k) (c.drop_lowest.ensures.fewer p.0 q p.1 now).same ∙ c.loop-info.invariant.closed p.0 p.1 k;
       passes = λ held all.
-          let q = process_there c.drop_lowest.new.self c.args.pid.0 c.drop_lowest.ensures.lives in
+          let q = some_found (process_of c.drop_lowest.new.self c.args.pid.0) c.drop_lowest.ensures.lives in
           regions_then g.G.Pages.unpaged held c.args.pid c.loop-info.self c.drop_lowest.new.self p.0 q.0 c.in-Some.info (g.G.Pages.store c.args.g.now) (g.G.Pages.store c.loop-info.g) (g.G.Pages.store c.drop_lowest.new.g) (g.G.Pages.behind c.args.g.now) (g.G.Pages.behind c.loop-info.g) (g.G.Pages.behind c.drop_lowest.new.g)
           p.1 q.1 (c.lowest.ensures.sound.spaces c.args.pid.0 p.0 p.1) (sym c.in-Some.is ∙ c.lowest.ensures.found p.0 p.1) (c.drop_lowest.ensures.fewer p.0 q.0 p.1 q.1) all (c.loop-info.invariant.passes held all) c.drop_lowest.ensures.passes;
       loans = c.drop_lowest.ensures.loans ∙ c.loop-info.invariant.loans;
@@ -19,8 +21,8 @@ loop-info-preserved g c =
 
 pub loop-info-smaller : goal.loop-info-smaller
 loop-info-smaller g c =
-    let p = process_there c.loop-info.self c.args.pid.0 c.loop-info.invariant.lives in
-    let q = process_there c.drop_lowest.new.self c.args.pid.0 c.drop_lowest.ensures.lives in
+    let p = some_found (process_of c.loop-info.self c.args.pid.0) c.loop-info.invariant.lives in
+    let q = some_found (process_of c.drop_lowest.new.self c.args.pid.0) c.drop_lowest.ensures.lives in
     regions_fewer c.loop-info.self c.drop_lowest.new.self c.args.pid.0 p.0 q.0 p.1 q.1 (c.drop_lowest.ensures.fewer p.0 q.0 p.1 q.1)
 
 pub returns-clause-empty : goal.returns-clause-empty
@@ -28,6 +30,6 @@ returns-clause-empty g c p lives = no_region p.regions (sym (c.lowest.ensures.fo
 
 pub returns-clause-passes : goal.returns-clause-passes
 returns-clause-passes g c held all =
-    let p = process_there c.loop-info.self c.args.pid.0 c.loop-info.invariant.lives in
+    let p = some_found (process_of c.loop-info.self c.args.pid.0) c.loop-info.invariant.lives in
     regions_end g.G.Pages.unpaged held c.loop-info.self c.args.pid.0 p.0 (g.G.Pages.store c.args.g.now) (g.G.Pages.store c.loop-info.g) (g.G.Pages.behind c.args.g.now) (g.G.Pages.behind c.loop-info.g)
     p.1 (no_region p.0.regions (sym (c.lowest.ensures.found p.0 p.1) ∙ c.in_default.is)) (c.loop-info.invariant.passes held all)

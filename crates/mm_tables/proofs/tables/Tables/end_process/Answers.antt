@@ -8,18 +8,16 @@ use Rattle.mm_types.specs.Address.{end_of_user_pages}
 use Rattle.mm_tables.proofs.tables.Tables.end_process.Goals as goal
 
 pub close_process-requires-clause-nobody : goal.close_process-requires-clause-nobody
-close_process-requires-clause-nobody g c =
-    let steps = toward_then c.args.pid.0 c.drop_kept.new.self c.close_handles.new.self c.drop_regions.new.self (g.G.Pages.contents c.args.g.now) (g.G.Pages.contents c.close_handles.new.g) (g.G.Pages.contents c.drop_regions.new.g) (g.G.Pages.store c.args.g.now) (g.G.Pages.store c.close_handles.new.g) (g.G.Pages.store c.drop_regions.new.g) c.close_handles.ensures.toward c.drop_regions.ensures.toward in
-    toward_nobody c.args.pid.0 c.drop_kept.new.self c.drop_regions.new.self (g.G.Pages.contents c.args.g.now) (g.G.Pages.contents c.drop_regions.new.g) (g.G.Pages.store c.args.g.now) (g.G.Pages.store c.drop_regions.new.g) steps c.drop_kept.ensures.nobody
+close_process-requires-clause-nobody g c = toward_nobody (toward_then c.close_handles.ensures.toward c.drop_regions.ensures.toward) c.drop_kept.ensures.nobody
 
 pub returns-clause-ended : goal.returns-clause-ended
 returns-clause-ended g c =
-    let steps = toward_then c.args.pid.0 c.drop_kept.new.self c.close_handles.new.self c.drop_regions.new.self (g.G.Pages.contents c.args.g.now) (g.G.Pages.contents c.close_handles.new.g) (g.G.Pages.contents c.drop_regions.new.g) (g.G.Pages.store c.args.g.now) (g.G.Pages.store c.close_handles.new.g) (g.G.Pages.store c.drop_regions.new.g) c.close_handles.ensures.toward c.drop_regions.ensures.toward in
-    c.close_process.ensures.ended ∙ steps.same ∙ ap (λ (w : Tables). settle (set_process w c.args.pid.0 None)) c.drop_kept.ensures.dropped
+    c.close_process.ensures.ended ∙ (toward_then c.close_handles.ensures.toward c.drop_regions.ensures.toward).same
+    ∙ ap (λ (w : Tables). settle (set_process w c.args.pid.0 None)) c.drop_kept.ensures.dropped
 
 pub returns-clause-settled : goal.returns-clause-settled
 returns-clause-settled g c =
-    let steps = toward_then c.args.pid.0 c.drop_kept.new.self c.close_handles.new.self c.drop_regions.new.self (g.G.Pages.contents c.args.g.now) (g.G.Pages.contents c.close_handles.new.g) (g.G.Pages.contents c.drop_regions.new.g) (g.G.Pages.store c.args.g.now) (g.G.Pages.store c.close_handles.new.g) (g.G.Pages.store c.drop_regions.new.g) c.close_handles.ensures.toward c.drop_regions.ensures.toward in
+    let steps = toward_then c.close_handles.ensures.toward c.drop_regions.ensures.toward in
     record {
       fits = c.close_process.ensures.settled.fits;
       carries = carries_less (g.G.Pages.contents c.args.g.now) (g.G.Pages.contents c.close_process.new.g) (less_then (g.G.Pages.contents c.args.g.now) (g.G.Pages.contents c.drop_regions.new.g) (g.G.Pages.contents c.close_process.new.g) steps.less c.close_process.ensures.less);
