@@ -5,6 +5,10 @@ pub mod Written
 pub mod ReadAgain
 pub mod Sounds
 pub mod Slotting
+pub mod Outcomes
+pub mod Leaves
+pub mod Pairing
+pub mod NearAndFar
 pub mod Holding
 pub mod Flags
 pub mod Lines

@@ -1,4 +1,7 @@
 pub mod Reading
+pub mod Grids
+pub mod OrderedPairs
+pub mod Pairs
 pub mod Holdings
 pub mod Standing
 pub mod Listed

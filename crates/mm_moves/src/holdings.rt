@@ -1,11 +1,11 @@
-ghost use Rattle.std.specs.Prelude.{◌≡◌, ◌+◌, ◌-◌, ◌<◌, ◌≤◌, ◌==◌, true, false, [], ◌∷◌, ◌++◌, replicate, length, OnOk, OnErr, IfOk, IfNone, Some, None, slice_set, slice_index_or};
+ghost use Rattle.std.specs.Prelude.{◌≡◌, IsSome, ◌+◌, ◌-◌, ◌<◌, ◌≤◌, ◌==◌, true, false, [], ◌∷◌, ◌++◌, replicate, length, OnOk, OnErr, IfOk, IfNone, Some, None, slice_set, slice_index_or};
 ghost use Rattle.mm_types.specs.declared.frames.Held.TheVariants as held;
 ghost use Rattle.mm_life.specs.Life.{changed, same_key, same_place, is_dead};
 
 use crate::free_slots::{flag_at, set_flag};
+use crate::pairs::Pairs;
 use mm_types::{Frame, Held, Key, NoMemory, Place};
 use std::alloc::Global;
-use std::collections::BTreeMap;
 use std::marker::Model;
 
 /// What is known of a live key: its frame or its home, and whether it was added with `zero`.
@@ -18,18 +18,32 @@ pub(crate) struct Alive {
 /// The live keys.
 #[derive(Drop)]
 pub(crate) struct Keys {
-    map: BTreeMap<Key, Alive>,
+    /// Of private pages, by their process and page number.
+    pages: Pairs<Alive>,
+    /// Of shared pages, by their area and index.
+    indices: Pairs<Alive>,
 }
 
 impl Keys {
-    ghost use Rattle.mm_moves.specs.Holdings.{stands_in, paging_in, no_keys, no_paging};
+    ghost use Rattle.mm_moves.specs.Holdings.{alive_in, Written, Stays, stands_in, paging_in, no_keys, no_paging};
 
     pub(crate) fn new(alloc: Global) -> Keys
         ensures stands { stands_in result ≡ no_keys }
         ensures paging { paging_in result ≡ no_paging }
     {
         Keys {
-            map: BTreeMap::new(alloc),
+            pages: Pairs::new(alloc),
+            indices: Pairs::new(alloc),
+        }
+    }
+
+    /// What is known of the key, if it is live.
+    fn alive(&self, key: Key) -> Option<Alive>
+        ensures { result ≡ alive_in self.now key }
+    {
+        match key {
+            Key::Private(pid, vpn) => self.pages.get(u32::from(pid.0), vpn.0),
+            Key::Shared(area, index) => self.indices.get(area.0, index),
         }
     }
 
@@ -37,7 +51,7 @@ impl Keys {
     pub(crate) fn held(&self, key: Key) -> Held
         ensures { result ≡ stands_in self.now key }
     {
-        match self.map.get(&key) {
+        match self.alive(key) {
             Some(alive) => alive.held,
             None => Held::Dead,
         }
@@ -47,9 +61,41 @@ impl Keys {
     pub(crate) fn is_paging(&self, key: Key) -> bool
         ensures { result ≡ paging_in self.now key }
     {
-        match self.map.get(&key) {
+        match self.alive(key) {
             Some(alive) => alive.paging,
             None => false,
+        }
+    }
+
+    /// This is known of the key from now on.
+    fn write(&mut self, key: Key, alive: Alive) -> Result<(), NoMemory>
+        ensures ok { OnOk result (Written (alive_in self.old) (alive_in self.new) key (Some alive)) }
+        ensures err { OnErr result (Stays (alive_in self.old) (alive_in self.new)) }
+    {
+        match key {
+            Key::Private(pid, vpn) => self.pages.insert(u32::from(pid.0), vpn.0, alive),
+            Key::Shared(area, index) => self.indices.insert(area.0, index, alive),
+        }
+    }
+
+    /// This is known of a live key from now on.
+    fn rewrite(&mut self, key: Key, alive: Alive)
+        requires { IsSome (alive_in self.old key) }
+        ensures { Written (alive_in self.old) (alive_in self.new) key (Some alive) }
+    {
+        match key {
+            Key::Private(pid, vpn) => self.pages.change(u32::from(pid.0), vpn.0, alive),
+            Key::Shared(area, index) => self.indices.change(area.0, index, alive),
+        }
+    }
+
+    /// Nothing is known of the key from now on. Answers what was.
+    fn forget(&mut self, key: Key) -> Option<Alive>
+        ensures { Written (alive_in self.old) (alive_in self.new) key None }
+    {
+        match key {
+            Key::Private(pid, vpn) => self.pages.remove(u32::from(pid.0), vpn.0),
+            Key::Shared(area, index) => self.indices.remove(area.0, index),
         }
     }
 
@@ -60,7 +106,7 @@ impl Keys {
         ensures stands_err { OnErr result (stands_in self.new ≡ stands_in self.old) }
         ensures paging_err { OnErr result (paging_in self.new ≡ paging_in self.old) }
     {
-        self.map.insert(key, Alive { held, paging })?;
+        self.write(key, Alive { held, paging })?;
         Ok(())
     }
 
@@ -85,10 +131,8 @@ impl Keys {
         ensures stands { stands_in self.new ≡ changed same_key (stands_in self.old) key held }
         ensures paging { paging_in self.new ≡ paging_in self.old }
     {
-        let Some(alive) = self.map.get_mut(&key) else {
-            unreachable!()
-        };
-        alive.held = held;
+        let paging = self.is_paging(key);
+        self.rewrite(key, Alive { held, paging });
     }
 
     /// A key is not live from now on.
@@ -96,14 +140,14 @@ impl Keys {
         ensures stands { stands_in self.new ≡ changed same_key (stands_in self.old) key held.Dead }
         ensures paging { paging_in self.new ≡ changed same_key (paging_in self.old) key false }
     {
-        let _ = self.map.remove(&key);
+        let _ = self.forget(key);
     }
 }
 
 /// The valid places.
 #[derive(Drop)]
 pub(crate) struct Places {
-    map: BTreeMap<Place, Frame>,
+    frames: Pairs<Frame>,
 }
 
 impl Places {
@@ -113,7 +157,7 @@ impl Places {
         ensures { frames_in result ≡ no_places }
     {
         Places {
-            map: BTreeMap::new(alloc),
+            frames: Pairs::new(alloc),
         }
     }
 
@@ -121,7 +165,7 @@ impl Places {
     pub(crate) fn get(&self, place: Place) -> Option<Frame>
         ensures { result ≡ frames_in self.now place }
     {
-        self.map.get(&place).copied()
+        self.frames.get(u32::from(place.pid.0), place.vpn.0)
     }
 
     /// The place is valid from now on.
@@ -129,7 +173,8 @@ impl Places {
         ensures ok { OnOk result (frames_in self.new ≡ changed same_place (frames_in self.old) place (Some frame)) }
         ensures err { OnErr result (frames_in self.new ≡ frames_in self.old) }
     {
-        self.map.insert(place, frame)?;
+        self.frames
+            .insert(u32::from(place.pid.0), place.vpn.0, frame)?;
         Ok(())
     }
 
@@ -139,7 +184,7 @@ impl Places {
         ensures removed { frames_in self.new ≡ changed same_place (frames_in self.old) place None }
         ensures same { IfNone result (frames_in self.new ≡ frames_in self.old) }
     {
-        self.map.remove(&place)
+        self.frames.remove(u32::from(place.pid.0), place.vpn.0)
     }
 }
 

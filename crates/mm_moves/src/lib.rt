@@ -5,10 +5,13 @@
 mod conditions;
 mod four_lists;
 mod free_slots;
+mod grids;
 mod holdings;
 mod in_flight;
 mod listings;
 mod lives;
+mod ordered_pairs;
+mod pairs;
 mod readings;
 mod recorders;
 mod records;

@@ -104,6 +104,7 @@ fn put_numbered(out: &mut LineBuf, word: &[u8], n: u32)
 }
 
 /// Some words.
+#[inline(always)]
 #[tactic(auto, using(crate::proofs::Onto::onto))]
 fn put_words(out: &mut LineBuf, words: &[u8])
     requires { length out.old + length words.now ≤ 256 }
@@ -114,6 +115,7 @@ fn put_words(out: &mut LineBuf, words: &[u8])
 }
 
 /// A word and the number of a frame.
+#[inline(always)]
 fn put_frame(out: &mut LineBuf, word: &[u8], frame: Frame)
     requires { length out.old + length word.now + 10 ≤ 256 }
     ensures text { (behind : List ℕ) → out.new ++ behind ≡ out.old ++ numbered word.now frame.0 behind }
@@ -123,6 +125,7 @@ fn put_frame(out: &mut LineBuf, word: &[u8], frame: Frame)
     put_numbered(out, word, frame.0);
 }
 
+#[inline(always)]
 fn put_place(out: &mut LineBuf, place: Place)
     requires { length out.old + 21 ≤ 256 }
     ensures text { (behind : List ℕ) → out.new ++ behind ≡ out.old ++ place_onto place behind }
@@ -182,6 +185,7 @@ fn put_kind(out: &mut LineBuf, kind: LineKind)
     }
 }
 
+#[inline(always)]
 fn put_stored(out: &mut LineBuf, stored: Stored)
     requires { length out.old + 17 ≤ 256 }
     ensures text { (behind : List ℕ) → out.new ++ behind ≡ out.old ++ stored_onto stored behind }

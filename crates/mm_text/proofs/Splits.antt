@@ -47,4 +47,33 @@ rest_some line at h = ap (λ b. pick b (words_from at [] (drop at line)) []) (le
 pub rest_none : (line : Text) (at : ℕ) → length line < at → rest_from at line ≡ []
 rest_none line at h = ap (λ b. pick b (words_from at [] (drop at line)) []) (lt-leb at (length line) h)
 
+-- one byte more, at a place that is told otherwise
+longer_at : (line : Text) (from to next : ℕ) → from ≤ to → to < length line → get_or line to 0 ≢ 32 → next ≡ to + 1 → words_from from (slice_range line from to) (drop to line) ≡ words_from from (slice_range line from next) (drop next line)
+longer_at line from to next order within other e =
+    word_longer line from to order within other ∙ ap (λ (k : ℕ). words_from from (slice_range line from k) (drop k line)) (sym e)
+
+-- four bytes a turn
+module _ (line : Text) (from to : ℕ) (order : from ≤ to) where
+  pub word_ended-1 : to + 1 < length line → get_or line to 0 ≢ 32 → get_or line (to + 1) 0 ≡ 32 → words_from from (slice_range line from to) (drop to line) ≡ record { from = from; text = slice_range line from (to + 1) } ∷ rest_from (to + 1 + 1) line
+  word_ended-1 within a same =
+      longer_at line from to (to + 1) order (omega arith) a (omega arith) ∙ word_ended line from (to + 1) (omega arith) within same
+
+  pub word_longer-2 : to + 1 < length line → get_or line to 0 ≢ 32 → get_or line (to + 1) 0 ≢ 32 → words_from from (slice_range line from to) (drop to line) ≡ words_from from (slice_range line from (to + 2)) (drop (to + 2) line)
+  word_longer-2 within a b =
+      longer_at line from to (to + 1) order (omega arith) a (omega arith) ∙ longer_at line from (to + 1) (to + 2) (omega arith) within b (omega arith)
+
+  pub word_ended-2 : to + 2 < length line → get_or line to 0 ≢ 32 → get_or line (to + 1) 0 ≢ 32 → get_or line (to + 2) 0 ≡ 32 → words_from from (slice_range line from to) (drop to line) ≡ record { from = from; text = slice_range line from (to + 2) } ∷ rest_from (to + 2 + 1) line
+  word_ended-2 within a b same = word_longer-2 (omega arith) a b ∙ word_ended line from (to + 2) (omega arith) within same
+
+  pub word_longer-3 : to + 2 < length line → get_or line to 0 ≢ 32 → get_or line (to + 1) 0 ≢ 32 → get_or line (to + 2) 0 ≢ 32 → words_from from (slice_range line from to) (drop to line) ≡ words_from from (slice_range line from (to + 3)) (drop (to + 3) line)
+  word_longer-3 within a b c = word_longer-2 (omega arith) a b ∙ longer_at line from (to + 2) (to + 3) (omega arith) within c (omega arith)
+
+  pub word_ended-3 : to + 3 < length line → get_or line to 0 ≢ 32 → get_or line (to + 1) 0 ≢ 32 → get_or line (to + 2) 0 ≢ 32 → get_or line (to + 3) 0 ≡ 32 → words_from from (slice_range line from to) (drop to line) ≡ record { from = from; text = slice_range line from (to + 3) } ∷ rest_from (to + 3 + 1) line
+  word_ended-3 within a b c same = word_longer-3 (omega arith) a b c ∙ word_ended line from (to + 3) (omega arith) within same
+
+  pub word_longer-4 : to + 3 < length line → get_or line to 0 ≢ 32 → get_or line (to + 1) 0 ≢ 32 → get_or line (to + 2) 0 ≢ 32 → get_or line (to + 3) 0 ≢ 32 → words_from from (slice_range line from to) (drop to line) ≡ words_from from (slice_range line from (to + 4)) (drop (to + 4) line)
+  word_longer-4 within a b c d = word_longer-3 (omega arith) a b c ∙ longer_at line from (to + 3) (to + 4) (omega arith) within d (omega arith)
+
 pub ruleset splits = (word_longer, word_ended, word_over, word_begun, rest_some, rest_none)
+
+pub ruleset fours = (word_longer, word_ended, word_over, word_begun, word_ended-1, word_ended-2, word_ended-3, word_longer-4)

@@ -2,8 +2,9 @@
 use Rattle.std.proofs.Common.{◌≡◌, ℕ, ◌+◌, ◌*◌, ◌^◌, ◌≤◌, ◌<◌, Bool, true, false, cond, [], ◌∷◌, length, drop, get_or, Option, Some, None, refl, sym, ap, ◌∙◌, arith}
 use Rattle.std.specs.Prelude.{nat_lt, nat_le, ◌&&◌}
 use Rattle.std.proofs.lemmas.List.{drop_more, drop_all}
-use Rattle.std.proofs.lemmas.Bool.{and_right, lt-ltb, le-ltb, le-leb, lt-leb}
+use Rattle.std.proofs.lemmas.Bool.{and_right, lt-ltb, le-ltb, le-leb, lt-leb, leb-true, agree_below_at}
 use Rattle.std.proofs.lemmas.Nat.{mul-le}
+use Rattle.std.proofs.lemmas.Grind.{pow_more}
 use Rattle.mm_types.specs.Spelling.{Text}
 use Rattle.mm_text.specs.Field.{digit_value, value_in, are_digits, digits_in, below_limit, limited}
 
@@ -71,10 +72,22 @@ module _ (base n : ℕ) (cs : Text) (i : ℕ) (within : i < length cs) where
   pub scan_bad : base ≤ digit_value (get_or cs i 0) → scan base n (drop i cs) ≡ None
   scan_bad high = scan_at ∙ ap (λ t. when t (scan base (n * base + digit_value (get_or cs i 0)) (drop (i + 1) cs))) (le-ltb (digit_value (get_or cs i 0)) base high)
 
-  pub scan_over : 1 ≤ base → digit_value (get_or cs i 0) < base → 2 ^ 32 ≤ n * base + digit_value (get_or cs i 0) → scan base n (drop i cs) ≡ None
-  scan_over some low large = scan_more low ∙ scan_large base (n * base + digit_value (get_or cs i 0)) (drop (i + 1) cs) some large
-
 pub scan_end : (base n : ℕ) (cs : Text) (i : ℕ) → length cs ≤ i → n < 2 ^ 32 → scan base n (drop i cs) ≡ Some n
 scan_end base n cs i over low = ap (λ r. scan base n r) (drop_all i cs over) ∙ ap (λ t. when t (Some n)) (lt-ltb n (2 ^ 32) low)
 
-pub ruleset values = (scan_whole, digits_in-empty, digits_in-long, scan_more, scan_bad, scan_over, scan_end)
+-- up to ten digits fit 64 bits
+power_fits : (i : ℕ) → i ≤ 10 → 16 ^ i ≤ 2 ^ 40
+power_fits i few = leb-true (16 ^ i) (2 ^ 40) (agree_below_at (λ k. nat_le (16 ^ k) (2 ^ 40)) (λ _. true) 11 i refl (omega arith))
+
+pub sum_fits : (base n i : ℕ) → base ≤ 16 → i ≤ 10 → n < 16 ^ i → n * base ≤ 2 ^ 44
+sum_fits base n i high few low =
+    let power : 16 ^ i ≤ 2 ^ 40 = power_fits i few in
+    let product : n * base ≤ 2 ^ 40 * 16 = mul-le n base (2 ^ 40) 16 (omega arith) high in
+    omega arith
+
+pub sum_grows : (base n d i : ℕ) → base ≤ 16 → d < base → n < 16 ^ i → n * base + d < 16 ^ (i + 1)
+sum_grows base n d i high digit low =
+    let product : n * base ≤ n * 16 = mul-le n base n 16 (omega arith) high in
+    omega (arith, pow_more 16 i)
+
+pub ruleset values = (scan_whole, digits_in-empty, digits_in-long, scan_more, scan_bad, scan_large, scan_end, sum_grows)

@@ -4,20 +4,38 @@ ghost use Rattle.mm_text.specs.Field.{digit_value, hex_digits, is_letter, is_nam
 
 use mm_types::{ByteBuf, Name};
 
+/// The value of each byte as a hexadecimal digit of either case, or 16.
+#[rattlefmt::skip]
+static DIGIT_VALUES: [u8; 256] = [
+    16, 16, 16, 16, 16, 16, 16, 16, 16, 16, 16, 16, 16, 16, 16, 16,
+    16, 16, 16, 16, 16, 16, 16, 16, 16, 16, 16, 16, 16, 16, 16, 16,
+    16, 16, 16, 16, 16, 16, 16, 16, 16, 16, 16, 16, 16, 16, 16, 16,
+     0,  1,  2,  3,  4,  5,  6,  7,  8,  9, 16, 16, 16, 16, 16, 16, // 0 to 9
+    16, 10, 11, 12, 13, 14, 15, 16, 16, 16, 16, 16, 16, 16, 16, 16, // A to F
+    16, 16, 16, 16, 16, 16, 16, 16, 16, 16, 16, 16, 16, 16, 16, 16,
+    16, 10, 11, 12, 13, 14, 15, 16, 16, 16, 16, 16, 16, 16, 16, 16, // a to f
+    16, 16, 16, 16, 16, 16, 16, 16, 16, 16, 16, 16, 16, 16, 16, 16,
+    16, 16, 16, 16, 16, 16, 16, 16, 16, 16, 16, 16, 16, 16, 16, 16,
+    16, 16, 16, 16, 16, 16, 16, 16, 16, 16, 16, 16, 16, 16, 16, 16,
+    16, 16, 16, 16, 16, 16, 16, 16, 16, 16, 16, 16, 16, 16, 16, 16,
+    16, 16, 16, 16, 16, 16, 16, 16, 16, 16, 16, 16, 16, 16, 16, 16,
+    16, 16, 16, 16, 16, 16, 16, 16, 16, 16, 16, 16, 16, 16, 16, 16,
+    16, 16, 16, 16, 16, 16, 16, 16, 16, 16, 16, 16, 16, 16, 16, 16,
+    16, 16, 16, 16, 16, 16, 16, 16, 16, 16, 16, 16, 16, 16, 16, 16,
+    16, 16, 16, 16, 16, 16, 16, 16, 16, 16, 16, 16, 16, 16, 16, 16,
+];
+
 /// The value of a hexadecimal digit of either case, or 16 for another byte.
+#[inline(always)]
 fn digit(byte: u8) -> u8
     ensures value { result ≡ digit_value byte }
     ensures most { result ≤ 16 }
 {
-    match byte {
-        b'0'..=b'9' => byte - b'0',
-        b'A'..=b'F' => byte - b'A' + 10,
-        b'a'..=b'f' => byte - b'a' + 10,
-        _ => 16,
-    }
+    DIGIT_VALUES[byte as usize]
 }
 
 /// What stands after `0x`, where a word begins so.
+#[inline(always)]
 fn hex_digits(word: &[u8]) -> Option<&[u8]>
     ensures { option_map (λ x. x.now) result ≡ hex_digits word.now }
 {
@@ -27,12 +45,14 @@ fn hex_digits(word: &[u8]) -> Option<&[u8]>
     }
 }
 
-/// The number below 2^32 of 1 to `most` digits of a base.
-#[inline]
+/// The number below 2^32 of 1 to `most` digits of a base. No more than ten digits of base 16 or below fit a `u64`, so
+/// that the limit is tested once, after the last.
+#[inline(always)]
 #[tactic(auto, using(crate::proofs::Values::values))]
 fn value(base: u8, most: usize, digits: &[u8]) -> Option<u32>
     requires low { 1 ≤ base }
     requires high { base ≤ 16 }
+    requires few { most ≤ 10 }
     ensures { result ≡ limited (digits_in base most digits.now) }
 {
     if digits.is_empty() || digits.len() > most {
@@ -45,15 +65,16 @@ fn value(base: u8, most: usize, digits: &[u8]) -> Option<u32>
             return None;
         }
         sum = sum * u64::from(base) + u64::from(digit);
-        if sum > 0xFFFF_FFFF {
-            return None;
-        }
+    }
+    if sum > 0xFFFF_FFFF {
+        return None;
     }
     Some(sum as u32)
 }
 
 /// The number that a word is: decimal, of 1 to 10 digits, or `0x` and 1 to 8 hexadecimal digits of either case; leading
 /// zeros are allowed. `None` where the word is another, or the number is 2^32 or more.
+#[inline(always)]
 pub fn number(word: &[u8]) -> Option<u32>
     ensures { result ≡ number_of word.now }
 {
@@ -64,6 +85,7 @@ pub fn number(word: &[u8]) -> Option<u32>
 }
 
 /// The byte of two hexadecimal digits; `None` where one of them is none.
+#[inline(always)]
 fn pair(high: u8, low: u8) -> Option<u8>
     ensures { result ≡ pair_of high low }
 {
@@ -77,6 +99,7 @@ fn pair(high: u8, low: u8) -> Option<u8>
 }
 
 /// The bytes that a word is: 1 to 64 pairs of hexadecimal digits of either case; `None` where it is not that.
+#[inline(always)]
 #[tactic(auto, using(crate::proofs::Pairs::pairs))]
 pub fn bytes(word: &[u8]) -> Option<ByteBuf>
     ensures { result ≡ bytes_of word.now }

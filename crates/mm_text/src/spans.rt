@@ -50,8 +50,9 @@ impl<'a> Words<'a> {
         Words { line, at: 0 }
     }
 
-    #[tactic(auto, using(crate::proofs::Splits::splits))]
     /// The place of the next word; `None` where no word is left.
+    #[inline(always)]
+    #[tactic(auto, using(crate::proofs::Splits::splits))]
     pub fn next(&mut self) -> Option<Span>
         ensures line { self.new.line ≡ self.old.line }
         ensures word { MatchOption result (self.old.left ≡ []) (λ s. self.old.left ≡ word_at self.old.line s ∷ self.new.left) }
@@ -72,8 +73,9 @@ impl<'a> Words<'a> {
     }
 }
 
-/// Where the word ends that begins at `from`: at the next space, or at the line's end.
-#[tactic(auto, using(crate::proofs::Splits::splits))]
+/// Where the word ends that begins at `from`: at the next space, or at the line's end. Four bytes a turn, then the last ones.
+#[inline(always)]
+#[tactic(auto, using(crate::proofs::Splits::fours))]
 fn end_of_word(line: &[u8], from: usize) -> usize
     requires { from ≤ length line.now }
     ensures order { from ≤ result }
@@ -81,7 +83,22 @@ fn end_of_word(line: &[u8], from: usize) -> usize
     ensures word { words_from from [] (drop from line.now) ≡ record { from = from; text = slice_range line.now from result } ∷ rest_from (result + 1) line.now }
 {
     let mut to = from;
-    while to < line.len() && line[to] != b' ' {
+    'fours: while line.len() - to >= 4 {
+        if line[to] == b' ' {
+            return to;
+        }
+        if line[to + 1] == b' ' {
+            return to + 1;
+        }
+        if line[to + 2] == b' ' {
+            return to + 2;
+        }
+        if line[to + 3] == b' ' {
+            return to + 3;
+        }
+        to += 4;
+    }
+    'last: while to < line.len() && line[to] != b' ' {
         to += 1;
     }
     to

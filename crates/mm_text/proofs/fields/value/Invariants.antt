@@ -5,6 +5,6 @@ use Rattle.mm_text.proofs.fields.value.Given as goal
 
 abbrev pub invariant-loop-byte : goal.invariant-loop-byte
 invariant-loop-byte l = record {
-  low : l.sum < 2 ^ 32;
+  few : l.sum < 16 ^ l.byte-index;
   value : limited (digits_in l.base l.most l.digits) ≡ scan l.base l.sum (drop l.byte-index l.digits);
 }

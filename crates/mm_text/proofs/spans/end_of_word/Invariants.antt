@@ -3,12 +3,22 @@ use Rattle.std.specs.Prelude.{slice_range}
 use Rattle.mm_text.specs.Word.{words_from}
 use Rattle.mm_text.proofs.spans.end_of_word.Given as goal
 
-abbrev pub invariant-loop-to : goal.invariant-loop-to
-invariant-loop-to l = record {
+abbrev pub invariant-fours : goal.invariant-fours
+invariant-fours l = record {
   order : l.from ≤ l.to;
   within : l.to ≤ length l.line;
   word : words_from l.from [] (drop l.from l.line) ≡ words_from l.from (slice_range l.line l.from l.to) (drop l.to l.line);
 }
 
-abbrev pub decreases-loop-to : goal.decreases-loop-to
-decreases-loop-to l = length l.line - l.to
+abbrev pub decreases-fours : goal.decreases-fours
+decreases-fours l = length l.line - l.to
+
+abbrev pub invariant-last : goal.invariant-last
+invariant-last l = record {
+  order : l.from ≤ l.to;
+  within : l.to ≤ length l.line;
+  word : words_from l.from [] (drop l.from l.line) ≡ words_from l.from (slice_range l.line l.from l.to) (drop l.to l.line);
+}
+
+abbrev pub decreases-last : goal.decreases-last
+decreases-last l = length l.line - l.to

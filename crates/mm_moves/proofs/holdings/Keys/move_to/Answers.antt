@@ -1,21 +1,17 @@
-use Rattle.std.proofs.Common.{◌≡◌, true, false, Option, refl, ap, ◌∙◌}
-use Rattle.mm_life.specs.Life.{is_dead}
-use Rattle.mm_moves.specs.declared.holdings.Alive.{Alive}
-use Rattle.mm_moves.specs.Holdings.{held_of}
-use Rattle.mm_moves.proofs.Holding.{stands_written, paging_written}
+use Rattle.std.proofs.Common.{Some}
+use Rattle.mm_moves.specs.Holdings.{alive_in, paging_in}
+use Rattle.mm_moves.proofs.Holding.{known, stands_written, paging_written, paging_kept}
 use Rattle.mm_moves.proofs.holdings.Keys.move_to.Goals as goal
 
-pub unreachable-requires : goal.unreachable-requires
-unreachable-requires c =
-    let bad : true ≡ false = ap (λ (x : Option Alive). is_dead (held_of x)) c.in_default.ensures.value ∙ c.requires in
-    cc
+pub rewrite-requires : goal.rewrite-requires
+rewrite-requires c = known (alive_in c.args.self.now c.args.key) c.requires
 
 pub returns-clause-stands : goal.returns-clause-stands
 returns-clause-stands c =
-    let w : Alive = record { held = c.args.held; paging = c.in-Some.alive.now.paging } in
-    stands_written c.args.self.now.map (c.get_mut.follows.lender w) c.args.key c.in-Some.alive.now w (c.get_mut.follows.holds w) c.in-Some.ensures.value
+    stands_written (alive_in c.args.self.now) (alive_in c.rewrite.new.self) c.args.key (Some (record { held = c.args.held; paging = c.is_paging-paging.result })) c.rewrite.ensures
 
 pub returns-clause-paging : goal.returns-clause-paging
 returns-clause-paging c =
-    let w : Alive = record { held = c.args.held; paging = c.in-Some.alive.now.paging } in
-    paging_written c.args.self.now.map (c.get_mut.follows.lender w) c.args.key c.in-Some.alive.now w (c.get_mut.follows.holds w) c.in-Some.ensures.value refl
+    paging_kept (paging_in c.args.self.now) (paging_in c.rewrite.new.self) c.args.key c.is_paging-paging.result
+    (paging_written (alive_in c.args.self.now) (alive_in c.rewrite.new.self) c.args.key (Some (record { held = c.args.held; paging = c.is_paging-paging.result })) c.rewrite.ensures)
+    c.is_paging-paging.ensures
