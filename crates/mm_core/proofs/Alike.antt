@@ -1,8 +1,7 @@
 -- What the frames' half asks of a world with bytes is what its tables tell.
-use Rattle.std.proofs.Common.{◌≡◌, ℕ, ◌+◌, ◌-◌, Bool, true, false, Option, Some, None, List, [], refl, sym, ◌∙◌, ap, subst, cond, is_some, not, ◌&&◌, map, slice_get, option_map, unwrap_or}
+use Rattle.std.proofs.Common.{◌≡◌, ℕ, ◌+◌, ◌-◌, Option, Some, None, List, [], refl, sym, ◌∙◌, ap, cond, is_some, not, ◌&&◌, map, slice_get, option_map, unwrap_or}
 use Rattle.std.specs.Prelude.{option_and_then, ◌==◌}
 use Rattle.std.proofs.Math.Path.{fun_ext}
-use Rattle.mm_types.specs.declared.events.Event.{Event}
 use Rattle.mm_types.specs.declared.moves.LineKind.{LineKind}
 use Rattle.mm_types.specs.declared.moves.LineKind.TheVariants as line_kind
 use Rattle.mm_types.specs.declared.numbers.Key.{Key}
@@ -10,7 +9,6 @@ use Rattle.mm_types.specs.declared.numbers.Pid.{Pid}
 use Rattle.mm_types.specs.declared.numbers.Place.{Place}
 use Rattle.mm_types.specs.declared.views.Kind.{Kind}
 use Rattle.mm_types.specs.declared.views.Kind.TheVariants as kind
-use Rattle.mm_types.specs.declared.views.View.{View}
 use Rattle.mm_types.specs.Address.{Range, page_of, range_of, end_of, lies_within}
 use Rattle.mm_life.specs.Life.{numbers_from}
 use Rattle.mm_world.specs.World.{Page, World, RegionOf, ProcessOf, AreaOf, pages_of}
@@ -22,9 +20,9 @@ use Rattle.mm_world.proofs.Across.{live_back}
 use Rattle.mm_world.proofs.Natural.{first-map, some-map}
 use Rattle.mm_world.proofs.Reconstruct.{tables_back}
 use Rattle.mm_paging.specs.Kinds.{lives, row_key, if_lives}
-use Rattle.mm_paging.specs.Lines.{is_uncommitted, file_pages, flushed_in, flushed_keys}
+use Rattle.mm_paging.specs.Lines.{is_uncommitted, flushed_in, flushed_keys}
 use Rattle.mm_tables.specs.Fits.{key_at, is_uncommitted as is_free}
-use Rattle.mm_views.specs.Stages.{file_keys, keys_of_region, flushed_keys as keys_flushed}
+use Rattle.mm_views.specs.Stages.{keys_of_region, flushed_keys as keys_flushed}
 use Rattle.mm_core.proofs.With.{found_with, home_with, committed_with, pages-with, get-areas, process-with, committed-with}
 
 module _ (t : Tables) (b : Key → Page) where

@@ -1,25 +1,22 @@
 -- A line's `at`, and then the moves of a call.
-use Rattle.std.proofs.Common.{◌≡◌, ℕ, List, [], ◌∷◌, ◌++◌, Bool, true, false, Option, refl, sym, ap, ◌∙◌, subst}
+use Rattle.std.proofs.Common.{◌≡◌, ℕ, List, [], ◌∷◌, ◌++◌, Bool, true, false, refl, sym, ap, ◌∙◌, subst}
 use Rattle.mm_types.specs.declared.moves.LineKind.{LineKind}
 use Rattle.mm_types.specs.declared.moves.Move.{Move}
 use Rattle.mm_types.specs.declared.moves.Move.TheVariants as move
 use Rattle.mm_life.specs.Effect.{after_move}
-use Rattle.mm_life.specs.Life.{FrameLife}
 use Rattle.mm_life.specs.Logs.{Log, Grew}
 use Rattle.mm_life.specs.MoveText.{AreMoves, spelled_moves}
 use Rattle.mm_life.specs.Replay.{Replays}
 use Rattle.mm_life.proofs.Noting.{grew_then}
 use Rattle.mm_life.proofs.Replays.{replays_then, spelled-append, moves-append}
-use Rattle.mm_walks.specs.Waits.{Waiting}
 use Rattle.mm_walks.specs.Walks.{waits_through, ages_through}
-use Rattle.mm_blocks.specs.Devices.{logged_call}
 use Rattle.mm_pages.specs.Store.{StoreOf}
 use Rattle.mm_pages.specs.Behind.{Behind}
 use Rattle.mm_pages.specs.Told.{told_of, told_through, paging_traffic, file_traffic}
 use Rattle.mm_pages.specs.Housekeeping.{OneMove}
 use Rattle.mm_pages.specs.Passing.{Passes, PassesIn, Notes, NotesIn}
 use Rattle.mm_pages.proofs.Passed.{Joins, passes_then}
-use Rattle.mm_paging.specs.Lines.{Traffic, with_line}
+use Rattle.mm_paging.specs.Lines.{with_line}
 use Rattle.mm_core.specs.Noting.{Went}
 
 -- of a store that pages

@@ -6,7 +6,6 @@ use Rattle.mm_types.specs.declared.events.Event.TheVariants as line
 use Rattle.mm_types.specs.declared.texts.Name.{Name}
 use Rattle.mm_blocks.specs.Devices.{DeviceOf}
 use Rattle.mm_pages.specs.Passing.{WritesFile}
-use Rattle.mm_pages.specs.Reports.{called}
 use Rattle.mm_pages.specs.Store.{StoreOf}
 use Rattle.mm_tables.specs.Fits.{beside_file, extended}
 use Rattle.mm_views.specs.Stages.{NewFileMade}

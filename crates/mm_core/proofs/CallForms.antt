@@ -1,7 +1,7 @@
 -- What is noted of a line, form by form: pages taken away, an age, a trim, a flush, a file, a paging file that grows, an end of a process.
-use Rattle.std.proofs.Common.{◌≡◌, ◌<◌, ◌≤◌, ℕ, ◌+◌, List, [], ◌∷◌, ◌++◌, Bool, true, false, Option, Some, None, refl, sym, ap, ◌∙◌, subst, cond, inl, inr, arith, is_some, length, nat_lt, ◌&&◌, nat_le}
-use Rattle.std.specs.Prelude.{Result, Ok, Err, IfOk, OnErr, ◌==◌}
-use Rattle.std.proofs.lemmas.Bool.{lt-ltb, le-ltb, ltb-false}
+use Rattle.std.proofs.Common.{◌≡◌, ℕ, List, [], ◌∷◌, ◌++◌, Bool, true, false, Option, Some, None, refl, sym, ap, ◌∙◌, subst, cond, inl, inr, arith, is_some, length, nat_lt, ◌&&◌, nat_le}
+use Rattle.std.specs.Prelude.{Result, Ok, Err, IfOk, OnErr}
+use Rattle.std.proofs.lemmas.Bool.{lt-ltb}
 use Rattle.mm_types.specs.declared.answers.Answer.{Answer}
 use Rattle.mm_types.specs.declared.answers.Answer.TheVariants as answer
 use Rattle.mm_types.specs.declared.events.Event.{Event}
@@ -14,7 +14,6 @@ use Rattle.mm_types.specs.declared.numbers.Key.{Key}
 use Rattle.mm_types.specs.declared.numbers.Pid.{Pid}
 use Rattle.mm_types.specs.declared.numbers.Place.{Place}
 use Rattle.mm_types.specs.Address.{end_of_user_pages}
-use Rattle.mm_life.specs.Life.{FrameLife}
 use Rattle.mm_life.specs.Logs.{Log}
 use Rattle.mm_world.specs.World.{Page, World, KeptOf}
 use Rattle.mm_world.specs.Find.{process_of}
@@ -28,18 +27,17 @@ use Rattle.mm_walks.specs.Walks.{waits_through, ages_through}
 use Rattle.mm_walks.specs.Chores.{all_aged, Flushing}
 use Rattle.mm_pages.specs.Store.{StoreOf}
 use Rattle.mm_pages.specs.Behind.{Behind}
-use Rattle.mm_pages.specs.Told.{told_of}
-use Rattle.mm_pages.specs.Housekeeping.{Makes, Ends, is_turn, AllTurn, Rises, pages_gone, Turns, OneMove, NoMove, Grows, Trims, Ages, Flushes}
-use Rattle.mm_pages.specs.Passing.{Passes, PassesIn, Notes, NotesIn}
+use Rattle.mm_pages.specs.Housekeeping.{Makes, Ends, AllTurn, Rises, pages_gone, Turns, OneMove, Trims, Ages, Flushes}
+use Rattle.mm_pages.specs.Passing.{PassesIn, Notes, NotesIn}
 use Rattle.mm_paging.specs.Kinds.{lives, if_lives, made_process, grown}
-use Rattle.mm_paging.specs.Lines.{Does, GivesUp, Trimming, Traffic, is_uncommitted, keeps_for, asks_beside, with_line, ages_of_line, waits_of_line, flushed_keys}
+use Rattle.mm_paging.specs.Lines.{Does, GivesUp, Trimming, is_uncommitted, keeps_for, with_line}
 use Rattle.mm_tables.specs.Fits.{Called, bytes_of, is_uncommitted as is_free}
 use Rattle.mm_calls.specs.Growing.{GrowsBy}
 use Rattle.mm_views.specs.Stages.{flushed_keys as keys_flushed}
 use Rattle.mm_core.specs.Forgetting.{is_of, waited}
-use Rattle.mm_core.specs.Noting.{keeps_keys, takes_away, Each, Went, Tells, Idles, IdlesIn, idle_left, Halted}
+use Rattle.mm_core.specs.Noting.{keeps_keys, takes_away, Each, Went, Tells, IdlesIn, idle_left, Halted}
 use Rattle.mm_core.proofs.Alike.{lives-with, kind-with, uncommitted-with, flushed-with}
-use Rattle.mm_core.proofs.Begun.{paged, noted, begun_with, Opens, went_then, noted_from, noted_then, went_alone}
+use Rattle.mm_core.proofs.Begun.{noted, begun_with, went_then, noted_from, noted_then, went_alone}
 use Rattle.mm_core.proofs.Turned.{makes_keep, ends_take}
 use Rattle.mm_core.proofs.Marking.{Plain, marked_ends, marked_trims, marked_flushes, marked_alone, halted_none}
 

@@ -1,5 +1,5 @@
 -- Waits that are forgotten before a process ends.
-use Rattle.std.proofs.Common.{◌≡◌, ◌≢◌, ◌<◌, ◌≤◌, ℕ, ◌+◌, Bool, true, false, Option, Some, None, refl, sym, ◌∙◌, ap, subst, cond, inl, inr, arith, length, nat_lt, ◌&&◌}
+use Rattle.std.proofs.Common.{◌≡◌, ◌≢◌, ◌<◌, ℕ, ◌+◌, Bool, true, false, Option, refl, sym, ◌∙◌, ap, subst, cond, inl, inr, arith, length, nat_lt, ◌&&◌}
 use Rattle.std.specs.Prelude.{◌==◌}
 use Rattle.std.specs.Cmp.{unsigned_Decides}
 use Rattle.std.proofs.lemmas.Bool.{lt-ltb, ltb-true, le-ltb, ltb-false}
@@ -10,7 +10,7 @@ use Rattle.mm_types.specs.declared.answers.Wait.TheVariants as wait
 use Rattle.mm_types.specs.declared.events.Event.TheVariants as event
 use Rattle.mm_types.specs.declared.numbers.Key.{Key}
 use Rattle.mm_types.specs.declared.numbers.Pid.{Pid}
-use Rattle.mm_world.specs.World.{Page, KeptOf, numbered}
+use Rattle.mm_world.specs.World.{Page}
 use Rattle.mm_world.specs.Step.{kept_by, threads}
 use Rattle.mm_world.specs.Contents.{Tables}
 use Rattle.mm_world.proofs.Finding.{numbered_inside}
@@ -19,8 +19,7 @@ use Rattle.mm_pages.specs.Store.{StoreOf, changed}
 use Rattle.mm_pages.specs.Behind.{Behind}
 use Rattle.mm_pages.specs.Accesses.{Forgets}
 use Rattle.mm_pages.specs.Passing.{PassesIn}
-use Rattle.mm_tables.specs.Fits.{Fits, beside}
-use Rattle.mm_core.specs.Forgetting.{is_of, wait_left, waits_but, waited, Forgot, EndsWaits}
+use Rattle.mm_core.specs.Forgetting.{is_of, waits_but, waited, Forgot, EndsWaits}
 use Rattle.mm_core.specs.Deciding.{Keeps, Decided}
 use Rattle.mm_core.specs.Noting.{idle_but, IdlesBut, Idles}
 

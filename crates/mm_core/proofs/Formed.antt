@@ -1,5 +1,4 @@
 -- What the form of a `begin` line says of its access.
-use Rattle.std.proofs.Common.{◌≡◌, ℕ, arith}
 use Rattle.std.proofs.lemmas.Bool.{leb-true}
 use Rattle.mm_types.specs.declared.events.AccessSpec.{AccessSpec}
 use Rattle.mm_types.specs.declared.events.AccessSpec.TheVariants as spec

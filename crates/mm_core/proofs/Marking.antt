@@ -1,6 +1,6 @@
 -- What is noted of a line, by what the calls that it makes pass.
-use Rattle.std.proofs.Common.{◌≡◌, ◌<◌, ℕ, zero, suc, ◌+◌, ◌-◌, List, [], ◌∷◌, ◌++◌, Bool, true, false, Option, Some, None, refl, sym, ap, ◌∙◌, subst, cond, inl, inr, arith, map, take, length, is_some, slice_get}
-use Rattle.std.specs.Prelude.{Result, Ok, Err, IfOk, OnOk, OnErr, ◌⊎◌}
+use Rattle.std.proofs.Common.{◌≡◌, ℕ, ◌-◌, List, [], ◌∷◌, ◌++◌, Bool, true, false, refl, sym, ap, ◌∙◌, subst, cond, inl, inr, map, take}
+use Rattle.std.specs.Prelude.{Result, Ok, Err, IfOk, OnErr}
 use Rattle.mm_types.specs.declared.answers.Answer.{Answer}
 use Rattle.mm_types.specs.declared.events.Event.{Event}
 use Rattle.mm_types.specs.declared.frames.Held.{Held}
@@ -9,31 +9,26 @@ use Rattle.mm_types.specs.declared.frames.Record.{Record}
 use Rattle.mm_types.specs.declared.moves.LineKind.{LineKind}
 use Rattle.mm_types.specs.declared.moves.Move.{Move}
 use Rattle.mm_types.specs.declared.moves.Move.TheVariants as move
-use Rattle.mm_types.specs.declared.moves.Stored.{Stored}
 use Rattle.mm_types.specs.declared.numbers.Frame.{Frame}
 use Rattle.mm_types.specs.declared.numbers.Key.{Key}
 use Rattle.mm_types.specs.declared.numbers.Pid.{Pid}
 use Rattle.mm_types.specs.declared.numbers.Place.{Place}
-use Rattle.mm_types.specs.Address.{end_of_user_pages}
 use Rattle.mm_life.specs.Frames.{record_at, is_read}
-use Rattle.mm_life.specs.Legal.{has_depth}
 use Rattle.mm_life.specs.Life.{FrameLife}
 use Rattle.mm_life.specs.Effect.{after_move}
 use Rattle.mm_life.specs.Logs.{Log}
 use Rattle.mm_life.specs.Victims.{can_be_written}
-use Rattle.mm_life.proofs.Noting.{grew_nothing}
 use Rattle.mm_world.specs.World.{World}
 use Rattle.mm_walks.specs.Waits.{Waiting}
-use Rattle.mm_walks.specs.Walks.{Walk, Through, walked, waits_through, ages_through, is_lost_move}
-use Rattle.mm_walks.specs.Chores.{TrimMove, all_aged, frame_of, clearings, writes_begun, target, ending, IsEndOf, IsWriteOf, FlushMoves, FlushedAt, ends_lost, Flushing}
+use Rattle.mm_walks.specs.Walks.{Walk, Through, walked, waits_through, ages_through}
+use Rattle.mm_walks.specs.Chores.{TrimMove, frame_of, clearings, writes_begun, target, ending, IsEndOf, IsWriteOf, FlushMoves, FlushedAt, ends_lost, Flushing}
 use Rattle.mm_pages.specs.Store.{StoreOf}
 use Rattle.mm_pages.specs.Behind.{Behind}
-use Rattle.mm_pages.specs.Accesses.{walk_from}
-use Rattle.mm_pages.specs.Housekeeping.{Turn, Makes, Ends, AllTurn, Turns, OneMove, NoMove, Exactly, Trims, Clears, WritesOut, Completes, Ages, Flushes}
+use Rattle.mm_pages.specs.Housekeeping.{Turn, Makes, Ends, AllTurn, Turns, OneMove, NoMove, Exactly, Trims, Completes, Flushes}
 use Rattle.mm_pages.specs.Passing.{Passes, PassesIn, Notes, NotesIn}
-use Rattle.mm_paging.specs.Lines.{Does, GivesUp, asks_beside, with_line, ages_of_line, waits_of_line}
-use Rattle.mm_core.specs.Noting.{keeps_keys, takes_away, Each, IsOneWay, Went, Tells, is_later, Halted}
-use Rattle.mm_core.proofs.Begun.{paged, noted, begun_with, Opens, went_from, went_then, noted_then, went_alone}
+use Rattle.mm_paging.specs.Lines.{Does, with_line, ages_of_line, waits_of_line}
+use Rattle.mm_core.specs.Noting.{keeps_keys, Each, IsOneWay, Went, Tells, is_later, Halted}
+use Rattle.mm_core.proofs.Begun.{paged, begun_with, went_then, noted_then, went_alone}
 use Rattle.mm_core.proofs.Turned.{makes_keep, ends_take, still}
 
 -- ---- results

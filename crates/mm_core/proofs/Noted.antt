@@ -1,5 +1,5 @@
 -- What a line noted, beside what its store keeps at all times, is what is told of a line's moves.
-use Rattle.std.proofs.Common.{◌≡◌, ℕ, ◌+◌, List, [], ◌∷◌, Bool, true, false, Option, Some, None, refl, sym, ap, ◌∙◌, subst, cond, is_some, not, ◌&&◌, inl, inr, arith}
+use Rattle.std.proofs.Common.{◌≡◌, ℕ, ◌+◌, List, [], ◌∷◌, Bool, true, false, Option, Some, None, refl, sym, ap, ◌∙◌, subst, cond, is_some, not, inl, inr}
 use Rattle.std.specs.Prelude.{◌⊎◌, Result, Ok, Err, OnErr}
 use Rattle.mm_types.specs.declared.answers.Answer.{Answer}
 use Rattle.mm_types.specs.declared.answers.Answer.TheVariants as answer
@@ -9,15 +9,9 @@ use Rattle.mm_types.specs.declared.moves.LineKind.{LineKind}
 use Rattle.mm_types.specs.declared.moves.LineKind.TheVariants as kind
 use Rattle.mm_types.specs.declared.moves.Move.{Move}
 use Rattle.mm_types.specs.declared.moves.Move.TheVariants as move
-use Rattle.mm_types.specs.declared.numbers.Frame.{Frame}
 use Rattle.mm_types.specs.declared.numbers.Key.{Key}
-use Rattle.mm_types.specs.declared.numbers.Pid.{Pid}
-use Rattle.mm_types.specs.declared.numbers.Place.{Place}
-use Rattle.mm_life.specs.Frames.{record_at}
 use Rattle.mm_life.specs.Life.{FrameLife, is_live, is_dead}
-use Rattle.mm_life.specs.Effect.{after_move, after_at}
-use Rattle.mm_life.specs.Logs.{Grew}
-use Rattle.mm_life.specs.MoveText.{AreMoves, spelled_moves}
+use Rattle.mm_life.specs.Effect.{after_at}
 use Rattle.mm_life.specs.Replay.{Replays}
 use Rattle.mm_world.specs.World.{Page, World, KeptOf}
 use Rattle.mm_world.specs.Keys.{content_of, is_file_key}
@@ -27,9 +21,8 @@ use Rattle.mm_types.proofs.Booleans.{parts}
 use Rattle.mm_pages.specs.Store.{StoreOf}
 use Rattle.mm_pages.specs.Behind.{Behind}
 use Rattle.mm_pages.specs.Standing.{Stands, StandsIn}
-use Rattle.mm_pages.specs.Housekeeping.{AllTurn, Makes}
-use Rattle.mm_paging.specs.Kinds.{kind_of_line, made_process, grown, kept_kind, lives, row_key}
-use Rattle.mm_paging.specs.Lines.{Agrees, TurnsKeys, Line, Noted, Broken}
+use Rattle.mm_paging.specs.Kinds.{kind_of_line, made_process, grown, kept_kind, lives}
+use Rattle.mm_paging.specs.Lines.{Agrees, TurnsKeys, Noted, Broken}
 use Rattle.mm_tables.specs.Fits.{Fits, bytes_of, is_paging}
 use Rattle.mm_core.specs.Deciding.{Keeps}
 use Rattle.mm_core.specs.Noting.{is_later, IsOneWay, IsCut, Marked, MarkedIn, Halted, HaltedIn}
@@ -107,7 +100,7 @@ kind_later w _ a = refl
 
 -- ---- store and tables
 
-stands : (u : Bool) (c : Key → Option Page) (s : StoreOf) (b : Behind) → u ≡ false → StandsIn u c s b → Stands c s b
+pub stands : (u : Bool) (c : Key → Option Page) (s : StoreOf) (b : Behind) → u ≡ false → StandsIn u c s b → Stands c s b
 stands true c s b e h = cc
 stands false c s b e h = h
 

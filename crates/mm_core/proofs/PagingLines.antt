@@ -1,5 +1,5 @@
 -- The lines `io` and `counts`: what the store tells is the answer.
-use Rattle.std.proofs.Common.{◌≡◌, ◌≤◌, ◌<◌, ℕ, ◌+◌, Bool, true, false, Option, Some, None, refl, sym, ◌∙◌, ap, subst, cond, nat_lt, length, arith}
+use Rattle.std.proofs.Common.{◌≡◌, ◌<◌, ℕ, ◌+◌, Bool, true, false, Option, Some, refl, sym, ◌∙◌, ap, subst, cond, nat_lt, length}
 use Rattle.std.proofs.lemmas.Bool.{lt-ltb, ltb-true}
 use Rattle.mm_types.specs.declared.answers.Answer.{Answer}
 use Rattle.mm_types.specs.declared.answers.Answer.TheVariants as answer
@@ -7,12 +7,12 @@ use Rattle.mm_types.specs.declared.events.Event.{Event}
 use Rattle.mm_types.specs.declared.events.Event.TheVariants as line
 use Rattle.mm_types.specs.declared.numbers.Key.{Key}
 use Rattle.mm_world.specs.World.{Page, World}
-use Rattle.mm_world.specs.Outcome.{OutcomeOf, done}
+use Rattle.mm_world.specs.Outcome.{done}
 use Rattle.mm_world.specs.Report.{Report, failed_calls}
 use Rattle.mm_world.specs.Step.{step, stepped, when}
 use Rattle.mm_world.specs.Contents.{Tables, world_with}
 use Rattle.mm_pages.specs.Store.{StoreOf, Ready}
-use Rattle.mm_pages.specs.Reports.{Served, SomeRose, completed, begun}
+use Rattle.mm_pages.specs.Reports.{Served, SomeRose, completed}
 use Rattle.mm_tables.specs.Fits.{Fits, bytes_of}
 use Rattle.mm_core.specs.Serving.{IsFailure, Named, Flushed}
 use Rattle.mm_core.specs.Stepping.{asks_frames}

@@ -33,19 +33,6 @@ pub all-named : (cs : List Call) (x y : DeviceOf) → AllServed cs x y → lengt
 all-named [] x y h = ap (λ (d : DeviceOf). length d.named) h
 all-named (c ∷ cs) x y h = all-named cs h.0 y h.1.1 ∙ ap length h.1.0.after ∙ length-map x.named (one_further c.way)
 
-pub served-then : (a b c : StoreOf) → Served a b → Served b c → Served a c
-served-then a b c h k =
-    record {
-      paging_calls = h.paging_calls ++ k.paging_calls;
-      file_calls = h.file_calls ++ k.file_calls;
-      paging = all-then h.paging_calls k.paging_calls a.paging_device b.paging_device c.paging_device h.paging k.paging;
-      files = all-then h.file_calls k.file_calls a.file_device b.file_device c.file_device h.files k.files;
-      paging_reads = k.paging_reads ∙ ap (tallied way.Read k.paging_calls) h.paging_reads ∙ sym (tallied-then way.Read h.paging_calls k.paging_calls a.report.paging_reads);
-      paging_writes = k.paging_writes ∙ ap (tallied way.Write k.paging_calls) h.paging_writes ∙ sym (tallied-then way.Write h.paging_calls k.paging_calls a.report.paging_writes);
-      file_reads = k.file_reads ∙ ap (tallied way.Read k.file_calls) h.file_reads ∙ sym (tallied-then way.Read h.file_calls k.file_calls a.report.file_reads);
-      file_writes = k.file_writes ∙ ap (tallied way.Write k.file_calls) h.file_writes ∙ sym (tallied-then way.Write h.file_calls k.file_calls a.report.file_writes);
-    }
-
 -- ---- no device was called
 
 pub record Quiet (m z : StoreOf) : Type 0 where

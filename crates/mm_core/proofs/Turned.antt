@@ -2,7 +2,6 @@
 use Rattle.std.proofs.Common.{◌≡◌, ℕ, List, [], ◌∷◌, Bool, true, false, Option, Some, None, refl, sym, ap, ◌∙◌, cond, is_some, arith}
 use Rattle.std.specs.Prelude.{IsTrue, not, ◌&&◌, ◌||◌}
 use Rattle.mm_types.specs.declared.frames.Backing.{Backing}
-use Rattle.mm_types.specs.declared.frames.Backing.TheVariants as backing
 use Rattle.mm_types.specs.declared.frames.Held.{Held}
 use Rattle.mm_types.specs.declared.frames.Held.TheVariants as held
 use Rattle.mm_types.specs.declared.moves.Move.{Move}
@@ -28,6 +27,7 @@ use Rattle.mm_pages.specs.Housekeeping.{Makes, Ends, AllTurn, Turns, Exactly}
 use Rattle.mm_pages.specs.Passing.{Passes}
 use Rattle.mm_paging.specs.Lines.{TurnsOne, TurnsKeys}
 use Rattle.mm_core.specs.Noting.{keeps_keys, takes_away, Each}
+use Rattle.mm_life.proofs.Held.{home_lives}
 
 same_again : (k : Key) → same_key k k ≡ true
 same_again (key.Private p v) = grind arith
@@ -41,11 +41,6 @@ living_if false h g e f = f
 
 live_at : (l : FrameLife) (k : Key) (h : Held) (q : Key) → is_dead h ≡ false → is_live l q ≡ true → not (is_dead (cond (same_key q k) h (l.stands q))) ≡ true
 live_at l k h q e f = living_if (same_key q k) h (l.stands q) e f
-
-home_lives : (b : Backing) → is_dead (home_at b) ≡ false
-home_lives backing.None = refl
-home_lives (backing.Slot s) = refl
-home_lives (backing.Block b) = refl
 
 homed_lives : (l : FrameLife) (o : Option Key) (b : Backing) (q : Key) → is_live l q ≡ true → not (is_dead (homed l o b q)) ≡ true
 homed_lives l None b q f = f

@@ -8,7 +8,7 @@ use Rattle.mm_types.specs.declared.answers.Why.{Why}
 use Rattle.mm_types.specs.declared.numbers.Key.{Key}
 use Rattle.mm_types.specs.declared.numbers.Place.{Place}
 use Rattle.mm_world.specs.World.{Page, World}
-use Rattle.mm_world.specs.Access.{Attempt, access}
+use Rattle.mm_world.specs.Access.{Attempt}
 use Rattle.mm_world.specs.Contents.{Tables}
 use Rattle.mm_world.specs.Failure.{Need, pending, access_fails}
 use Rattle.mm_world.specs.Report.{Report}

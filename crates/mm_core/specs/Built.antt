@@ -16,6 +16,13 @@ is_built (line.Stack tid pid reserve commit) = false
 is_built (line.Probe tid addr) = false
 is_built _ = true
 
+-- a line that makes an access itself, which no thread keeps
+abbrev pub is_access_line : Event → Bool
+is_access_line (line.Read pid addr len) = true
+is_access_line (line.Write pid addr bytes) = true
+is_access_line (line.Exec pid addr) = true
+is_access_line _ = false
+
 -- a line that may run out of memory; of `protect`, one that asks for marks
 abbrev pub takes_memory : Event → Bool
 takes_memory (line.Process min max) = true

@@ -1,6 +1,6 @@
 -- Accesses of threads, which may have to wait.
 -- Profile, "Accesses".
-use Rattle.std.specs.Prelude.{◌≡◌, ℕ, Bool, true, false, Option, Some, None}
+use Rattle.std.specs.Prelude.{◌≡◌, ℕ, Bool, true, false, Some, None}
 use Rattle.mm_types.specs.declared.answers.Answer.{Answer}
 use Rattle.mm_types.specs.declared.answers.Why.{Why}
 use Rattle.mm_world.specs.World.{World}

@@ -1,6 +1,6 @@
 -- What is told of a line, by the worlds over a store before it and after it.
 -- Profile, "A run".
-use Rattle.std.specs.Prelude.{◌≡◌, ◌⊎◌, ℕ}
+use Rattle.std.specs.Prelude.{◌≡◌, ◌⊎◌}
 use Rattle.mm_types.specs.declared.answers.Answer.{Answer}
 use Rattle.mm_types.specs.declared.events.Event.{Event}
 use Rattle.mm_pages.specs.declared.pages.Pages.{Ghosts as PagesGhosts}

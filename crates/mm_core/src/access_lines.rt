@@ -165,7 +165,7 @@ pub(crate) fn read_line<G: Pages>(
     }
     let row = match admit(t, pid, addr, Access::Read) {
         Ok(row) => row,
-        Err(answer) => return answer,
+        Err(why) => return Answer::Raised(why),
     };
     read_at(t, g, pid, addr, row, len)
 }
@@ -192,7 +192,7 @@ pub(crate) fn write_line<G: Pages>(
     }
     let row = match admit(t, pid, addr, Access::Write) {
         Ok(row) => row,
-        Err(answer) => return answer,
+        Err(why) => return Answer::Raised(why),
     };
     if row.copies {
         write_to_copy(t, g, pid, addr, row, bytes)
@@ -221,7 +221,7 @@ pub(crate) fn exec_line<G: Pages>(
     }
     let row = match admit(t, pid, addr, Access::Execute) {
         Ok(row) => row,
-        Err(answer) => return answer,
+        Err(why) => return Answer::Raised(why),
     };
     execute_at(t, g, pid, addr, row)
 }

@@ -1,7 +1,7 @@
 ghost use Rattle.std.specs.Prelude.{◌≡◌, ◌≤◌, ◌+◌, ℕ, true, false, IfOk, OnErr, IsOk};
 ghost use Rattle.mm_types.specs.declared.answers.Wait.TheVariants as wait;
 ghost use Rattle.mm_script.specs.Printed.{IsWellFormed};
-ghost use Rattle.mm_core.specs.Built.{is_built, takes_memory};
+ghost use Rattle.mm_core.specs.Built.{is_access_line, is_built, takes_memory};
 ghost use Rattle.mm_core.specs.Forgetting.{EndsWaits};
 ghost use Rattle.mm_core.specs.Over.{AskedBesideOver, DecidedOver, HaltedOver, IdleOver, KeepsOver, MarkedOver};
 
@@ -23,9 +23,10 @@ use mm_tables::Tables;
 use mm_types::{Answer, Event, NoMemory};
 use std::alloc::Global;
 
-/// Decides a line of a form that is built.
+/// Decides a line of a form that is built, and makes no access itself.
+#[inline(never)]
 #[tactic(auto, using(crate::proofs::Formed::fits_page))]
-pub(crate) fn decide<G: Pages>(
+fn decide_other<G: Pages>(
     alloc: Global,
     t: &mut Tables,
     g: &mut G,
@@ -34,6 +35,7 @@ pub(crate) fn decide<G: Pages>(
 ) -> Result<Answer, NoMemory>
     requires well_formed { IsWellFormed event.now }
     requires built { is_built event.now ≡ true }
+    requires other { is_access_line event.now ≡ false }
     requires keeps { KeepsOver G.Pages t.old g.old }
     requires next { line ≡ (G.store g.old).line + 1 }
     requires few { line ≤ 1000000 }
@@ -99,9 +101,6 @@ pub(crate) fn decide<G: Pages>(
         ),
         Event::Unmap { pid, addr } => Ok(unmap_line(t, g, line, *pid, *addr)),
         Event::Flush { pid, addr, size } => Ok(flush_line(t, g, line, *pid, *addr, *size)),
-        Event::Read { pid, addr, len } => Ok(read_line(t, g, line, *pid, *addr, *len)),
-        Event::Write { pid, addr, bytes } => Ok(write_line(t, g, line, *pid, *addr, bytes)),
-        Event::Exec { pid, addr } => Ok(exec_line(t, g, line, *pid, *addr)),
         Event::Begin { tid, pid, access } => Ok(begin_line(t, g, line, *tid, *pid, access)),
         Event::Resume { tid } => Ok(resume_line(t, g, line, *tid)),
         Event::Trim { pid, count } => Ok(trim_line(t, g, line, *pid, *count)),
@@ -117,5 +116,36 @@ pub(crate) fn decide<G: Pages>(
             count,
         } => Ok(fail_line(t, g, line, *device, *direction, *nth, *count)),
         _ => unreachable!(),
+    }
+}
+
+/// Decides a line of a form that is built. Accesses come first, since they are the commonest.
+pub(crate) fn decide<G: Pages>(
+    alloc: Global,
+    t: &mut Tables,
+    g: &mut G,
+    line: u32,
+    event: &Event,
+) -> Result<Answer, NoMemory>
+    requires well_formed { IsWellFormed event.now }
+    requires built { is_built event.now ≡ true }
+    requires keeps { KeepsOver G.Pages t.old g.old }
+    requires next { line ≡ (G.store g.old).line + 1 }
+    requires few { line ≤ 1000000 }
+    requires idle { G.unpaged ≡ true → (tid : ℕ) → (G.store g.old).report.wait tid ≡ wait.None }
+    ensures ok { IfOk result (λ a. DecidedOver G.Pages event.now line t.old g.old a t.new g.new) }
+    ensures err { OnErr result (IdleOver G.Pages t.old g.old t.new g.new) }
+    ensures no_memory { takes_memory event.now ≡ false → IsOk result }
+    ensures waits { IfOk result (λ a. EndsWaits t.old event.now a (G.store g.new).report) }
+    ensures marked { IfOk result (λ a. MarkedOver G.Pages event.now line t.old g.old a t.new g.new) }
+    ensures halted { OnErr result (HaltedOver G.Pages line g.old g.new) }
+    ensures beside { G.unpaged ≡ false → IfOk result (λ a. AskedBesideOver G.Pages t.old event.now a g.old g.new) }
+    ensures loans { G.loans g.new ≡ G.loans g.old }
+{
+    match event {
+        Event::Read { pid, addr, len } => Ok(read_line(t, g, line, *pid, *addr, *len)),
+        Event::Write { pid, addr, bytes } => Ok(write_line(t, g, line, *pid, *addr, bytes)),
+        Event::Exec { pid, addr } => Ok(exec_line(t, g, line, *pid, *addr)),
+        _ => decide_other(alloc, t, g, line, event),
     }
 }

@@ -15,30 +15,30 @@ ghost use Rattle.mm_core.specs.Accessing.{Refuses, Admits};
 ghost use Rattle.mm_core.specs.Deciding.{Keeps};
 
 use mm_tables::{CommittedRow, Tables};
-use mm_types::{Access, Answer, PAGE_SIZE, Pid, Raise, permits};
+use mm_types::{Access, PAGE_SIZE, Pid, Raise, permits};
 
 /// The alarm of a committed page of a living process whose guard is on; from then on it is off.
-fn alarm(t: &mut Tables, pid: Pid, page: u32) -> Answer
+fn alarm(t: &mut Tables, pid: Pid, page: u32) -> Raise
     requires lives { is_some (process_of t.old pid.0) ≡ true }
     requires committed { (p : ProcessOf (Unit {0})) → process_of t.old pid.0 ≡ Some p → is_some (committed_at t.old p.regions page) ≡ true }
     ensures off { (p : ProcessOf (Unit {0})) (c : Committed (Unit {0})) → process_of t.old pid.0 ≡ Some p → committed_at t.old p.regions page ≡ Some c → t.new ≡ guard_off t.old pid.0 p c page }
     ensures fits { (contents : Key → Option Page) (s : StoreOf) → Fits t.old contents s → Fits t.new contents s }
-    ensures raised { result ≡ answer.Raised raise.GuardPage }
+    ensures raised { result ≡ raise.GuardPage }
 {
     t.take_guard_off(pid, page);
-    Answer::Raised(Raise::GuardPage)
+    Raise::GuardPage
 }
 
-/// What the page of an address of a living process tells an access that it permits. An error is the answer of an access that is
+/// What the page of an address of a living process tells an access that it permits. An error is what an access raises that is
 /// refused: by no committed page, by its guard, which is off from then on, or by its protection.
 pub(crate) fn admit(
     t: &mut Tables,
     pid: Pid,
     addr: u32,
     wanted: Access,
-) -> Result<CommittedRow, Answer>
+) -> Result<CommittedRow, Raise>
     requires lives { is_some (process_of t.old pid.0) ≡ true }
-    ensures refused { IfErr result (λ a. (bytes : Key → Page) (what : Attempt) → access_of what ≡ wanted → Refuses (world_with t.old bytes) pid.0 addr what a (world_with t.new bytes)) }
+    ensures refused { IfErr result (λ why. (bytes : Key → Page) (what : Attempt) → access_of what ≡ wanted → Refuses (world_with t.old bytes) pid.0 addr what (answer.Raised why) (world_with t.new bytes)) }
     ensures admitted { IfOk result (λ row. Admits t.old pid.0 addr wanted row) }
     ensures at { IfOk result (λ row. key_at t.old (place_at pid (page_of addr)) ≡ Some row.key) }
     ensures unchanged { OnOk result (t.new ≡ t.old) }
@@ -47,14 +47,14 @@ pub(crate) fn admit(
     let page = addr / PAGE_SIZE;
     let row = match t.committed_row(pid, page) {
         Some(row) => row,
-        None => return Err(Answer::Raised(Raise::AccessViolation)),
+        None => return Err(Raise::AccessViolation),
     };
     // The guard comes before the protection.
     if row.guard {
         return Err(alarm(t, pid, page));
     }
     if !permits(row.prot, wanted) {
-        return Err(Answer::Raised(Raise::AccessViolation));
+        return Err(Raise::AccessViolation);
     }
     Ok(row)
 }

@@ -165,7 +165,7 @@ pub(crate) fn read_access<G: Pages>(
     t.sound();
     let row = match admit(t, pid, addr, Access::Read) {
         Ok(row) => row,
-        Err(answer) => return Threaded::Refused(answer),
+        Err(why) => return Threaded::Refused(Answer::Raised(why)),
     };
     if failed {
         return Threaded::Failed;
@@ -201,7 +201,7 @@ pub(crate) fn write_access<G: Pages>(
     t.sound();
     let row = match admit(t, pid, addr, Access::Write) {
         Ok(row) => row,
-        Err(answer) => return Threaded::Refused(answer),
+        Err(why) => return Threaded::Refused(Answer::Raised(why)),
     };
     if failed {
         return Threaded::Failed;

@@ -1,5 +1,5 @@
 -- The frames in flight stay distinct, and each thread that waits waits for one of them.
-use Rattle.std.proofs.Common.{◌≡◌, ◌≢◌, ℕ, zero, suc, ◌-◌, Bool, true, false, not, cond, List, [], ◌∷◌, ◌++◌, length, map, replicate, Option, Some, None, refl, sym, ap, ◌∙◌, ◌<◌, inl, inr, arith}
+use Rattle.std.proofs.Common.{◌≡◌, ◌≢◌, ◌⊎◌, ℕ, zero, suc, ◌+◌, ◌-◌, Bool, true, false, not, cond, List, [], ◌∷◌, ◌++◌, length, map, take, drop, replicate, Option, Some, None, refl, sym, ap, ◌∙◌, ◌<◌, ◌≤◌, inl, inr, arith}
 use Rattle.std.specs.Prelude.{◌==◌, ◌||◌, slice_get, slice_set, option_map}
 use Rattle.std.specs.Cmp.{unsigned_Decides}
 use Rattle.std.proofs.lemmas.Option.{slice_get-map}
@@ -9,7 +9,7 @@ use Rattle.mm_types.proofs.Cells.{set_cases}
 use Rattle.mm_types.proofs.Tables.{differ}
 use Rattle.mm_flight.specs.declared.flights.Waiting.{Waiting}
 use Rattle.mm_flight.specs.declared.flights.Waiting.TheVariants as waiting
-use Rattle.mm_flight.specs.Requests.{FlightOf, Holds, IsKept, AreDistinct, is_in, without, nth_oldest, ended, number_of}
+use Rattle.mm_flight.specs.Requests.{FlightOf, Holds, IsKept, AreDistinct, NoneWaitsFrom, is_for, is_in, without, nth_oldest, ended, number_of}
 use Rattle.mm_types.proofs.Booleans.{or_true}
 
 -- ---- membership
@@ -110,6 +110,63 @@ numbers_more (x ∷ xs) f = ap (λ ys. x.0 ∷ ys) (numbers_more xs f)
 pub nth_at : (i : ℕ) (frames : List ℕ) → i ≢ 0 → nth_oldest i frames ≡ slice_get frames (i - 1)
 nth_at zero frames some = absurd (some refl)
 nth_at (suc i) frames some = let before : i ≡ suc i - 1 = omega arith in ap (slice_get frames) before
+
+-- ---- threads that do not wait
+
+stays : (f : ℕ) (ok : Bool) (w : Waiting) → is_for w ≡ false → ended f ok w ≡ w
+stays f ok waiting.Nothing e = refl
+stays f ok (waiting.For g) e = cc
+stays f ok waiting.Done e = refl
+stays f ok waiting.Failed e = refl
+
+none_ends : (f : ℕ) (ok : Bool) (ws : List Waiting) → NoneWaitsFrom 0 ws → map (ended f ok) ws ≡ ws
+none_ends f ok [] h = refl
+none_ends f ok (w ∷ ws) h =
+    ap (λ v. v ∷ map (ended f ok) ws) (stays f ok w (h zero w (omega arith) refl))
+    ∙ ap (λ vs. w ∷ vs) (none_ends f ok ws (λ t v le e. h (suc t) v (omega arith) e))
+
+-- the end of a request asks no thread from n on
+pub all_ended : (f : ℕ) (ok : Bool) (n : ℕ) (ws : List Waiting) → NoneWaitsFrom n ws → map (ended f ok) (take n ws) ++ drop n ws ≡ map (ended f ok) ws
+all_ended f ok zero [] h = refl
+all_ended f ok (suc n) [] h = refl
+all_ended f ok zero (w ∷ ws) h = sym (none_ends f ok (w ∷ ws) h)
+all_ended f ok (suc n) (w ∷ ws) h = ap (λ vs. ended f ok w ∷ vs) (all_ended f ok n ws (λ t v le e. h (suc t) v (omega arith) e))
+
+pub covered : (g : Waiting → Waiting) (n : ℕ) (ws : List Waiting) → length (map g (take n ws) ++ drop n ws) ≡ length ws
+covered g zero [] = refl
+covered g (suc n) [] = refl
+covered g zero (w ∷ ws) = refl
+covered g (suc n) (w ∷ ws) = ap suc (covered g n ws)
+
+still_none : (f : ℕ) (ok : Bool) (o : Option Waiting) (w : Waiting) → ((v : Waiting) → o ≡ Some v → is_for v ≡ false) → option_map (ended f ok) o ≡ Some w → is_for w ≡ false
+still_none f ok None w h e = cc
+still_none f ok (Some v) w h e =
+    let here : ended f ok v ≡ w = cc in ap is_for (sym here ∙ stays f ok v (h v refl)) ∙ h v refl
+
+none_after : (f : ℕ) (ok : Bool) (n : ℕ) (ws : List Waiting) → NoneWaitsFrom n ws → NoneWaitsFrom n (map (ended f ok) ws)
+none_after f ok n ws h t w le e = still_none f ok (slice_get ws t) w (λ v s. h t v le s) (sym (slice_get-map (ended f ok) ws t) ∙ e)
+
+below_or_not : (a b : ℕ) → (a < b) ⊎ (b ≤ a)
+below_or_not a zero = inr (omega arith)
+below_or_not zero (suc b) = inl (omega arith)
+below_or_not (suc a) (suc b) = elim (below_or_not a b) [ inl h ↦ inl (omega (arith, h)) | inr h ↦ inr (omega (arith, h)) ]
+
+-- none waits below n, by one who asked, and none from n on
+pub none_left : (f : ℕ) (ok : Bool) (m n : ℕ) (ws vs : List Waiting) → NoneWaitsFrom n ws → vs ≡ map (ended f ok) ws → ((t : ℕ) (w : Waiting) → m ≤ t → t < n → slice_get vs t ≡ Some w → is_for w ≡ false) → NoneWaitsFrom m vs
+none_left f ok m n ws vs h is below t w le e = elim (below_or_not t n) [
+  | inl low ↦ below t w le low e
+  | inr high ↦ none_after f ok n ws h t w high (ap (λ us. slice_get us t) (sym is) ∙ e)
+]
+
+-- one more thread was asked
+pub none_asked : (m t : ℕ) (ws : List Waiting) (x : Waiting) → t < length ws → is_for x ≡ false → ((k : ℕ) (w : Waiting) → m ≤ k → k < t → slice_get ws k ≡ Some w → is_for w ≡ false) → (k : ℕ) (w : Waiting) → m ≤ k → k < t + 1 → slice_get (slice_set ws t x) k ≡ Some w → is_for w ≡ false
+none_asked m t ws x inside idle before k w le lt e = elim (set_cases ws t k x w inside e) [
+  | inl here ↦ ap is_for (sym here.1) ∙ idle
+  | inr apart ↦ before k w le (below apart.0) apart.1
+]
+  where
+    below : k ≢ t → k < t
+    below other = elim (below_or_not k t) [ inl low ↦ low | inr high ↦ absurd (other (omega (arith, high, lt))) ]
 
 -- ---- what the type keeps
 

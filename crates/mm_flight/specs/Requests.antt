@@ -46,6 +46,17 @@ wait_of (waiting.For g) = wait.InFlight
 wait_of waiting.Done = wait.Done
 wait_of waiting.Failed = wait.Failed
 
+-- the thread waits for a request in flight
+abbrev pub is_for : Waiting → Bool
+is_for waiting.Nothing = false
+is_for (waiting.For g) = true
+is_for waiting.Done = false
+is_for waiting.Failed = false
+
+-- no thread from this number on waits for a request in flight
+abbrev pub NoneWaitsFrom : ℕ → List Waiting → Type 0
+NoneWaitsFrom n waits = (t : ℕ) (w : Waiting) → n ≤ t → slice_get waits t ≡ Some w → is_for w ≡ false
+
 -- room for `depth` frames, `frames` of which are in flight, and a wait for each thread
 pub record HasRoom (depth frames room threads : ℕ) : Type 0 where
   pub fits : depth < 2 ^ 32

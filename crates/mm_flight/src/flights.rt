@@ -1,11 +1,9 @@
 ghost use Rattle.std.specs.Prelude.{◌≡◌, ◌-◌, ◌<◌, ◌≤◌, [], ◌∷◌, ◌++◌, length, map, not, replicate, IsTrue, IfOk, slice_get, slice_set, Some, option_map, true, false, filter, ◌==◌, vec_len, vec_capacity};
-ghost use Rattle.mm_flight.specs.Requests.{FlightOf, Holds, is_in, without, nth_oldest, place_in, ended, wait_of, number_of};
+ghost use Rattle.mm_flight.specs.Requests.{FlightOf, Holds, is_in, without, nth_oldest, place_in, ended, wait_of, number_of, is_for, NoneWaitsFrom};
 
-use mm_types::{Frame, NoMemory, Tid, Wait};
+use mm_types::{Frame, NoMemory, THREADS, Tid, Wait};
 use std::alloc::Global;
 use std::marker::Model;
-
-const THREADS: usize = 256;
 
 /// What a thread waits for.
 #[derive(Clone, Copy, PartialEq, Eq, Debug)]
@@ -27,11 +25,13 @@ pub struct Flight {
     depth: u32,
     frames: Vec<Frame>,
     waits: Vec<Waiting>,
+    /// No thread from this number on waits for a request, so that the end of a request asks none of them.
+    upto: usize,
 }
 
 impl Model for Flight {
-    ghost use Rattle.std.specs.Prelude.{map, length, vec_len, vec_capacity};
-    ghost use Rattle.mm_flight.specs.Requests.{FlightOf, number_of, HasRoom, IsKept};
+    ghost use Rattle.std.specs.Prelude.{map, length, vec_len, vec_capacity, ◌≤◌};
+    ghost use Rattle.mm_flight.specs.Requests.{FlightOf, number_of, HasRoom, IsKept, NoneWaitsFrom};
 
     ghost Value = { FlightOf };
 
@@ -40,6 +40,8 @@ impl Model for Flight {
     ghost invariant = { λ f. record {
       room : HasRoom f.depth (vec_len f.frames) (vec_capacity f.frames) (length f.waits.items);
       kept : IsKept (map number_of f.frames.items) f.waits.items;
+      within : f.upto ≤ 256;
+      idle : NoneWaitsFrom f.upto f.waits.items;
     } };
 }
 
@@ -55,6 +57,7 @@ impl Flight {
             depth,
             frames,
             waits,
+            upto: 0,
         })
     }
 
@@ -123,7 +126,7 @@ impl Flight {
         ensures { self.new ≡ record self.old { frames = without f.0 self.old.frames; waits = map (ended f.0 ok) self.old.waits } }
     {
         remove_frame(&mut self.frames, f);
-        end_waits(&mut self.waits, f, ok);
+        self.upto = end_waits(&mut self.waits, self.upto, f, ok);
     }
 
     /// The thread waits for the request of a frame in flight from now on.
@@ -133,6 +136,9 @@ impl Flight {
         ensures there { t.0 < length self.old.waits }
     {
         self.waits[t.0 as usize] = Waiting::For(f);
+        if self.upto <= t.0 as usize {
+            self.upto = t.0 as usize + 1;
+        }
     }
 
     /// How the thread's wait stands.
@@ -173,13 +179,34 @@ fn after_end(waiting: Waiting, f: Frame, ok: bool) -> Waiting
     }
 }
 
-/// Ends each wait for the request of frame `f`.
-fn end_waits(waits: &mut Vec<Waiting>, f: Frame, ok: bool)
-    ensures { waits.new.items ≡ map (ended f.0 ok) waits.old.items }
+/// Whether a thread waits for a request in flight.
+fn is_for(waiting: Waiting) -> bool
+    ensures { result ≡ is_for waiting }
 {
-    for waiting in waits.iter_mut() {
-        *waiting = after_end(*waiting, f, ok);
+    match waiting {
+        Waiting::For(_) => true,
+        _ => false,
     }
+}
+
+/// Ends each wait for the request of frame `f`, where no thread from `upto` on waits for one. Answers from which thread on
+/// none does then.
+fn end_waits(waits: &mut Vec<Waiting>, upto: usize, f: Frame, ok: bool) -> usize
+    requires within { upto ≤ length waits.old.items }
+    requires idle { NoneWaitsFrom upto waits.old.items }
+    ensures waits { waits.new.items ≡ map (ended f.0 ok) waits.old.items }
+    ensures idle { NoneWaitsFrom result waits.new.items }
+    ensures within { result ≤ upto }
+{
+    let mut from = 0usize;
+    for t in 0..upto {
+        let after = after_end(waits[t], f, ok);
+        waits[t] = after;
+        if is_for(after) {
+            from = t + 1;
+        }
+    }
+    from
 }
 
 /// Takes frame `f` out of the list.

@@ -188,20 +188,9 @@ fn a_page_on_standby_is_stolen(rt: HostRuntime) -> Result<(), Fail> {
     Ok(())
 }
 
+/// The first modified frame has no block, the second has one.
 #[test]
-fn modified_frames_are_walked(rt: HostRuntime) -> Result<(), Fail> {
-    let mut frames = Frames::new(rt.alloc(), 2)?;
-    let first = new_page(&mut frames, SHARED);
-    let second = new_page(&mut frames, PAGE);
-    let front = frames.front_modified().expect(&rt, "modified");
-    assert_eq!(rt; Some(front), first);
-    assert_eq!(rt; frames.next_modified(front), second);
-    Ok(())
-}
-
-/// The first modified frame has no block: the walk begins at the second.
-#[test]
-fn modified_frames_with_a_block_are_walked(rt: HostRuntime) -> Result<(), Fail> {
+fn the_first_modified_frames_are_told(rt: HostRuntime) -> Result<(), Fail> {
     let mut frames = Frames::new(rt.alloc(), 2)?;
     let plain = new_page(&mut frames, PAGE);
     let backed = start_read(&mut frames).expect(&rt, "second");
@@ -213,6 +202,5 @@ fn modified_frames_with_a_block_are_walked(rt: HostRuntime) -> Result<(), Fail> 
     assert_eq!(rt; frames.modified_with_block(), 1);
     let first = frames.front_modified_with_block().expect(&rt, "one");
     assert_eq!(rt; first, backed);
-    assert_eq!(rt; frames.next_modified_with_block(first), None);
     Ok(())
 }

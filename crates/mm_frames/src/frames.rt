@@ -149,21 +149,6 @@ impl Frames {
         Some(Frame(self.with_block.front(WITH_BLOCK)?))
     }
 
-    /// The modified frame that has a block and is the next such one after `f`, which is one; `None` exactly
-    /// where `f` is the last of them.
-    pub fn next_modified_with_block(&self, f: Frame) -> Option<Frame>
-        requires { (k : ℕ) × (slice_get (modified_with_block self.now.table) k ≡ Some f.0) }
-        ensures behind { (k : ℕ) → slice_get (modified_with_block self.now.table) k ≡ Some f.0
-            → option_map (λ g. g.0) result
-            ≡ slice_get (modified_with_block self.now.table) (k + 1) }
-        ensures there { IfSome result (λ g. g.0 < length self.now.table.records) }
-        ensures rests { IfSome result (λ g. IsAtRest true (record_at self.now.table g.0)) }
-        ensures block { IfSome result (λ g. has_block (record_at self.now.table g.0).backing ≡ true) }
-    {
-        let behind = self.with_block.next(f.0)?;
-        Some(Frame(behind))
-    }
-
     /// Whether the frame is on modified.
     pub fn is_modified(&self, f: Frame) -> bool
         requires { f.0 < length self.now.table.records }
@@ -328,18 +313,6 @@ impl Frames {
         })
     }
 
-    /// The modified frame after `f`, `None` exactly where `f` is the last.
-    pub fn next_modified(&self, f: Frame) -> Option<Frame>
-        requires { (k : ℕ) × (slice_get self.now.table.modified k ≡ Some f.0) }
-        ensures behind { (k : ℕ) → slice_get self.now.table.modified k ≡ Some f.0
-            → option_map (λ g. g.0) result ≡ slice_get self.now.table.modified (k + 1) }
-        ensures there { IfSome result (λ g. g.0 < length self.now.table.records) }
-        ensures rests { IfSome result (λ g. IsAtRest true (record_at self.now.table g.0)) }
-    {
-        let behind = self.lists.next(f.0)?;
-        Some(Frame(behind))
-    }
-
     /// Reads bytes of a frame that has an owner and no read request: its page has 4,096 bytes.
     pub fn read(&self, f: Frame, off: u16, out: &mut [u8])
         requires owned { IsSome (record_at self.now.table f.0).owner }
@@ -354,14 +327,14 @@ impl Frames {
         self.ram.read(f, off, out);
     }
 
-    /// Reads all bytes of a frame that has an owner or a write request, and no read request.
-    pub fn take(&self, f: Frame, out: &mut [u8; 4096])
+    /// All bytes of a frame that has an owner or a write request, and no read request, where they are.
+    pub fn page(&self, f: Frame) -> &[u8; 4096]
         requires kept { is_bound (record_at self.now.table f.0) ≡ true }
         requires not_read { is_read (record_at self.now.table f.0).request ≡ false }
-        ensures bytes { out.new ≡ bytes_of self.now.bytes f.0 }
-        ensures page { page_at self.now.bytes f.0 ≡ Some out.new }
+        ensures bytes { result.now ≡ bytes_of self.now.bytes f.0 }
+        ensures page { page_at self.now.bytes f.0 ≡ Some result.now }
     {
-        self.ram.take(f, out);
+        self.ram.page(f)
     }
 
     /// Writes bytes of a frame that has an owner and no read request.

@@ -25,12 +25,9 @@ use Rattle.mm_walks.specs.Walks.{Walk, walked, walked_all, waits_through, ages_t
 use Rattle.mm_moving.specs.Shown.{StateOf, CalledFor, backing_of_frame, Made}
 use Rattle.mm_moving.specs.Doing.{Does, walk_of}
 use Rattle.mm_types.proofs.Bytes.{append_nil}
+use Rattle.mm_pages.proofs.Passed.{told_then}
 
 -- ---- moves, one list behind another
-
-pub told_then : (xs ys : List Move) (l m : FrameLife) (r : Told) → Replays xs l m → told_through l (xs ++ ys) r ≡ told_through m ys (told_through l xs r)
-told_then [] ys l m r e = ap (λ (k : FrameLife). told_through k ys r) (sym e)
-told_then (x ∷ xs) ys l m r h = told_then xs ys (after_move l x) m (told_after l x r) h.1
 
 module _ (on : Direction → Bool → Backing → List DeviceCall) where
   pub calls_then : (xs ys : List Move) (l m : FrameLife) → Replays xs l m → calls_of on l (xs ++ ys) ≡ calls_of on l xs ++ calls_of on m ys

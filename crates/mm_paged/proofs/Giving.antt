@@ -17,10 +17,6 @@ use Rattle.mm_moving.specs.Shown.{StateOf, names_after_give}
 use Rattle.mm_paged.specs.Pieces.{NamesFor}
 use Rattle.mm_paged.proofs.Records.{set_there}
 
--- a function changed at one place
-pub place_here : {V : Type 0} (f : Place → V) (p : Place) (v : V) → changed same_place f p v p ≡ v
-place_here f p v = ap (λ (b : Bool). if b then v else f p) (same_place-self p)
-
 -- changed twice
 pub place_twice : {V : Type 0} (f : Place → V) (p : Place) (x v : V) → changed same_place (changed same_place f p x) p v ≡ changed same_place f p v
 place_twice {V} f p x v = λ i. λ q. at q i

@@ -22,7 +22,7 @@ use Rattle.mm_moving.specs.Holds.{Holds}
 use Rattle.mm_moving.proofs.Doing.{does_one}
 use Rattle.mm_paged.specs.Pieces.{Went, InFrame}
 use Rattle.mm_paged.proofs.Doing.{went_then}
-use Rattle.mm_paged.proofs.Giving.{place_here}
+use Rattle.mm_laws.proofs.PlaceCounts.{place_here}
 use Rattle.mm_paged.proofs.Placing.{own_test, map_legal, in_frame_then, kind_then, went_map}
 use Rattle.mm_paged.proofs.Records.{settled_record}
 use Rattle.mm_paged.proofs.Writing.{look_set}

@@ -37,6 +37,7 @@ use Rattle.mm_paged.specs.Shown.{OwnOf, Kept, store_of, report_of, behind_of}
 use Rattle.mm_paged.proofs.Reading.{valid_passes, had_ends, framed_at, named_by}
 use Rattle.mm_paged.proofs.Shows.{changed_keys}
 use Rattle.mm_life.proofs.Records.{soiled_shares}
+use Rattle.mm_life.proofs.Records.{soiled_request}
 
 -- what is looked at in the records, where one changes
 pub look_set : {A : Type 0} (look : Record → A) (xs : List Record) (f g : ℕ) (r : Record) → look r ≡ look (slice_index_or xs f blank) → look (slice_index_or (slice_set xs f r) g blank) ≡ look (slice_index_or xs g blank)
@@ -54,13 +55,6 @@ count_set test [] f r e = refl
 count_set test (x ∷ xs) zero r e = count_cons test r xs ∙ ap (λ (b : Bool). (0 + cond b 1 0) + count_by test xs) e ∙ sym (count_cons test x xs)
 count_set test (x ∷ xs) (suc f) r e = count_cons test x (slice_set xs f r) ∙ ap (λ (n : ℕ). (0 + cond (test x) 1 0) + n) (count_set test xs f r e) ∙ sym (count_cons test x xs)
 
-soiled_waits : (r : Record) → has_request (soiled r).request ≡ has_request r.request
-soiled_waits r = at (has_request r.request) refl
-  where
-    at : (b : Bool) → has_request r.request ≡ b → has_request (if b then record r { request = request.WriteAgain } else record r { changed = true; backing = without_slot r.backing }).request ≡ has_request r.request
-    at true e = sym e
-    at false e = refl
-
 soiled_unread : (r : Record) → is_read r.request ≡ false → is_read (soiled r).request ≡ is_read r.request
 soiled_unread r u = at (has_request r.request)
   where
@@ -72,7 +66,7 @@ soiled_active : (r : Record) → is_active (soiled r) ≡ is_active r
 soiled_active r = ap (λ (n : ℕ). nat_lt 0 n) (soiled_shares r)
 
 soiled_transition : (r : Record) → is_in_transition (soiled r) ≡ is_in_transition r
-soiled_transition r = ap (λ (n : ℕ). (n == 0) && has_request (soiled r).request) (soiled_shares r) ∙ ap (λ (b : Bool). (r.shares == 0) && b) (soiled_waits r)
+soiled_transition r = ap (λ (n : ℕ). (n == 0) && has_request (soiled r).request) (soiled_shares r) ∙ ap (λ (b : Bool). (r.shares == 0) && b) (soiled_request r)
 
 -- the life of the frames once a page is soiled
 abbrev pub soiled_life : FrameLife → Frame → FrameLife

@@ -14,8 +14,9 @@ use Rattle.mm_words.specs.Words.{WordsOf}
 use Rattle.mm_parts.specs.Shown.{owners, stands_of, valid_of, names_of, is_paging, paging_of, LineOf, life_of}
 use Rattle.mm_parts.specs.Words.{WordsKept}
 use Rattle.mm_parts.specs.Kept.{AreWaits}
-use Rattle.mm_parts.proofs.Facts.{Facts}
+use Rattle.mm_laws.proofs.Facts.{Facts}
 use Rattle.mm_parts.proofs.Stands.{paging_at, same_life}
+use Rattle.mm_life.proofs.Records.{records_settled}
 
 -- one frame has this record now, and the others are as before
 pub record Rewrites (d d' : FrameTable) (f : ℕ) (r : Record) : Type 0 where
@@ -33,14 +34,6 @@ rewrites_none d d' f e = record {
   elsewhere = λ g m. ap (λ (xs : List Record). slice_index_or xs g blank) e;
   here = ap (λ (xs : List Record). slice_index_or xs f blank) e;
 }
-
-records_settled : (r : Record) (d : FrameTable) (f : ℕ) → (settled_by r d f).records ≡ d.records
-records_settled r d f = by (is_idle r) r.changed
-  where
-    by : (b c : Bool) → (if b then (if c then record d { modified = d.modified ++ f ∷ [] } else record d { standby = d.standby ++ f ∷ [] }) else d).records ≡ d.records
-    by true true = refl
-    by true false = refl
-    by false c = refl
 
 -- a frame that settles has the record that it was given
 pub settled_records : (d : FrameTable) (f : ℕ) (r : Record) → (settled (with_record d f r) f).records ≡ slice_set d.records f r

@@ -33,6 +33,8 @@ use Rattle.mm_parts.proofs.FrameChanges.{Rewrites, rewrites_by, rewrites_none, s
 use Rattle.mm_parts.proofs.Keeping.{Step, known, quiet_step}
 use Rattle.mm_parts.proofs.RequestLists.{ended_requests, ended_waits, ended_depth, ended_within, waits_ended, unread_waits, begun_requests, begun_within, begun_depth, begun_waits, waits_begun}
 use Rattle.mm_life.proofs.Requests.{write_not_read}
+use Rattle.mm_life.proofs.Records.{soiled_part}
+use Rattle.mm_life.proofs.Records.{done_part}
 
 -- ---- clear
 
@@ -43,13 +45,6 @@ clear_step t kept f bytes' legal =
     (rewrites_none t.table (after_clear t.table f.0) f.0 refl) (record { owner = refl; shares = refl; blocks = λ k e. refl }) refl kept.waits refl kept.within.requesting
 
 -- ---- soil
-
-by_request : {X : Type 0} (part : Record → X) (r : Record) → part (record r { request = request.WriteAgain }) ≡ part r → part (record r { changed = true; backing = without_slot r.backing }) ≡ part r → part (soiled r) ≡ part r
-by_request part r a b = by (has_request r.request)
-  where
-    by : (c : Bool) → part (if c then record r { request = request.WriteAgain } else record r { changed = true; backing = without_slot r.backing }) ≡ part r
-    by true = a
-    by false = b
 
 pub block_without : (b : Backing) → has_block (without_slot b) ≡ has_block b
 block_without backing.None = refl
@@ -67,9 +62,9 @@ soil_step t kept f legal =
     let change = rewrites_by t.table (after_soil t.table f.0) f.0 (soiled r) low refl in
     quiet_step t kept (move.Soil f) legal (after_soil t.table f.0) t.bytes (freed t.free (slot_after_soil r)) t.flight t.own f.0 (soiled r) change
     (record {
-      owner = by_request (λ (x : Record). x.owner) r refl refl;
-      shares = by_request (λ (x : Record). x.shares) r refl refl;
-      blocks = λ k e. by_request (λ (x : Record). has_block x.backing) r refl (block_without r.backing);
+      owner = soiled_part (λ (x : Record). x.owner) r refl refl;
+      shares = soiled_part (λ (x : Record). x.shares) r refl refl;
+      blocks = λ k e. soiled_part (λ (x : Record). has_block x.backing) r refl (block_without r.backing);
     })
     refl
     (waits_frame t.table (after_soil t.table f.0) f.0 (soiled r) t.flight change (λ read.
@@ -128,13 +123,6 @@ got_step t kept f bytes' legal =
     (read_has r.request reading) (records_ended (is_some r.owner) (read_done r) t.table f.0)
     (quiet_by t.table f.0 (read_done r) ((known t kept).standing f.0).fit refl refl refl) refl
 
-done_by : {X : Type 0} (part : Record → X) (r : Record) → part (record r { request = request.None; backing = without_slot r.backing }) ≡ part r → part (record r { request = request.None; changed = false }) ≡ part r → part (write_done r) ≡ part r
-done_by part r a b = by (is_again r.request)
-  where
-    by : (c : Bool) → part (if c then record r { request = request.None; backing = without_slot r.backing } else record r { request = request.None; changed = false }) ≡ part r
-    by true = a
-    by false = b
-
 abbrev pub table_end : Bool → FrameTable → ℕ → FrameTable
 table_end true d f = after_wrote d f
 table_end false d f = after_lost d f
@@ -147,7 +135,7 @@ write_ends t kept f true legal =
     let writing = (and_parts (is_write r.request) (is_io t.line.kind || is_access t.line.kind || is_call t.line.kind) legal).0 in
     end_step t kept (move.Wrote f) legal (after_wrote t.table f.0) t.bytes (freed t.free (slot_after_wrote r)) f.0 (if is_some r.owner then write_done r else blank) true
     (write_has r.request writing) (records_ended (is_some r.owner) (write_done r) t.table f.0)
-    (quiet_by t.table f.0 (write_done r) ((known t kept).standing f.0).fit (done_by (λ (x : Record). x.owner) r refl refl) (done_by (λ (x : Record). x.shares) r refl refl) (done_by (λ (x : Record). has_block x.backing) r (block_without r.backing) refl)) refl
+    (quiet_by t.table f.0 (write_done r) ((known t kept).standing f.0).fit (done_part (λ (x : Record). x.owner) r refl refl) (done_part (λ (x : Record). x.shares) r refl refl) (done_part (λ (x : Record). has_block x.backing) r (block_without r.backing) refl)) refl
 write_ends t kept f false legal =
     let r = record_at t.table f.0 in
     let writing = (and_parts (is_write r.request) (is_io t.line.kind || is_access t.line.kind || is_call t.line.kind) legal).0 in

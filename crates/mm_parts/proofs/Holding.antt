@@ -22,7 +22,7 @@ use Rattle.mm_words.specs.Words.{word_of, has_word, is_there, valid_frame}
 use Rattle.mm_parts.specs.Shown.{JoinedParts, Owners, owners, owned_by, held_by, named_by, life_in, shown_of, requests, requests_in, own_is}
 use Rattle.mm_parts.specs.Holds.{HasSet, LinesHold, PagesHold, StorageHolds}
 use Rattle.mm_parts.specs.Kept.{Kept}
-use Rattle.mm_parts.proofs.Facts.{Facts}
+use Rattle.mm_laws.proofs.Facts.{Facts}
 use Rattle.mm_parts.proofs.Keeping.{known}
 use Rattle.mm_parts.proofs.RequestLists.{own_apart}
 use Rattle.mm_parts.proofs.Reading.{word_home}

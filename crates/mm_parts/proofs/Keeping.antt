@@ -11,7 +11,7 @@ use Rattle.mm_flight.specs.Requests.{FlightOf}
 use Rattle.mm_parts.specs.Shown.{JoinedParts, PartsOf, life_of, life_in, shown_of, requests, requests_in, is_own_line}
 use Rattle.mm_parts.specs.Kept.{Kept, AreWaits}
 use Rattle.mm_parts.specs.Moves.{after}
-use Rattle.mm_parts.proofs.Facts.{Facts, facts_of, reached_by}
+use Rattle.mm_laws.proofs.Facts.{Facts, facts_of, reached_by}
 use Rattle.mm_parts.proofs.FrameChanges.{Rewrites, Quiet, life_quiet, words_frame, names_frame}
 
 -- what the parts are after a call: they keep what they keep, and show this

@@ -31,7 +31,7 @@ use Rattle.mm_parts.specs.Shown.{JoinedParts, LineOf, owners, owned_by, held_by,
 use Rattle.mm_parts.specs.Words.{WordsKept, is_aside_entry, names_other}
 use Rattle.mm_parts.specs.Kept.{Kept}
 use Rattle.mm_parts.specs.Moves.{after, aside_added, aside_after_add, IsClear, HasHome, copy_place}
-use Rattle.mm_parts.proofs.Facts.{reached_by}
+use Rattle.mm_laws.proofs.Facts.{reached_by}
 use Rattle.mm_parts.proofs.Stands.{same_life, sets_set}
 use Rattle.mm_parts.proofs.NameChanges.{names_none}
 use Rattle.mm_parts.proofs.Keeping.{Step, known}

@@ -30,7 +30,7 @@ use Rattle.mm_parts.specs.Shown.{JoinedParts, LineOf, owners, owned_by, held_by,
 use Rattle.mm_parts.specs.Words.{WordsKept, is_aside_entry, names_other}
 use Rattle.mm_parts.specs.Kept.{Kept, LineKept, AreWaits}
 use Rattle.mm_parts.specs.Moves.{after}
-use Rattle.mm_parts.proofs.Facts.{Facts, reached_by}
+use Rattle.mm_laws.proofs.Facts.{Facts, reached_by}
 use Rattle.mm_parts.proofs.Stands.{paging_at, same_life, stands_set, stands_owner, sets_set, valid_set, word_set}
 use Rattle.mm_parts.proofs.FrameChanges.{Rewrites}
 use Rattle.mm_parts.proofs.Keeping.{Step, known}

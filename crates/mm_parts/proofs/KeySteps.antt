@@ -36,6 +36,7 @@ use Rattle.mm_parts.proofs.FrameSteps.{Holding, held_by_request, end_step}
 use Rattle.mm_parts.proofs.Conditions.{home_can}
 use Rattle.mm_parts.proofs.KeyChanges.{Rewords, is_resting, is_beside, key_step, key_life}
 use Rattle.mm_parts.proofs.StandingWords.{resting_word, zero_word, stored_word, away_calm, home_held, home_paging, home_lands, home_resting, home_used, home_aside, stored_paging, own_backing, stored_used}
+use Rattle.mm_life.proofs.Records.{records_taken}
 
 -- a frame that nobody owns is no key's
 pub none_in : (t : JoinedParts) → Kept t → (f : Frame) (k : Key) → (record_at t.table f.0).owner ≡ None → (q : Key) → stands_of (owners t.table) t.words q ≡ held.Frame f → q ≡ k
@@ -85,13 +86,6 @@ give_step t kept f k legal =
     (waits_frame d (after_give d f.0 k) f.0 (given k) t.flight change (λ read. let bad : true ≡ false = sym read ∙ ap (λ (x : Record). is_read x.request) bare in cc) kept.waits)
 
 -- ---- read
-
-records_taken : (d : FrameTable) → (taken_for_read d).records ≡ d.records
-records_taken d = by (is_empty d.free)
-  where
-    by : (b : Bool) → (if b then record d { zeroed = rest d.zeroed } else record d { free = rest d.free }).records ≡ d.records
-    by true = refl
-    by false = refl
 
 pub read_step : (t : JoinedParts) → Kept t → (f : Frame) (k : Key) → IsLegal (move.Read f k) (life_in t) → (is_own_line t.line.kind ≡ true → t.own ≡ None)
     → Step (record t { table = after_read t.table f.0 k (backing_of ((life_in t).stands k)); words = with_word t.words k (entry.Transition f); flight = flight_begun (is_own_line t.line.kind) t.flight f; own = own_after t.line.kind t.own f })

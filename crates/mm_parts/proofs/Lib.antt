@@ -1,5 +1,3 @@
-pub mod PrivateKeys
-pub mod Facts
 pub mod Stands
 pub mod FrameChanges
 pub mod NameChanges

@@ -19,7 +19,7 @@ use Rattle.mm_parts.specs.Shown.{JoinedParts, life_in, shown_of, requests_in}
 use Rattle.mm_parts.specs.Kept.{Kept, WithinLine}
 use Rattle.mm_parts.specs.Moves.{after, IsPlainLine, words_begun, CanBeginSet}
 use Rattle.mm_parts.specs.Start.{more_slots}
-use Rattle.mm_parts.proofs.Facts.{reached_by}
+use Rattle.mm_laws.proofs.Facts.{reached_by}
 use Rattle.mm_parts.proofs.Keeping.{Step, known}
 
 -- the line after

@@ -27,7 +27,7 @@ use Rattle.mm_parts.specs.Shown.{JoinedParts, Owners, owners, owned_by, held_by,
 use Rattle.mm_parts.specs.Words.{WordsKept, names_other}
 use Rattle.mm_parts.specs.Kept.{Kept}
 use Rattle.mm_parts.specs.Moves.{after, left_by, names_after_map}
-use Rattle.mm_parts.proofs.Facts.{reached_by}
+use Rattle.mm_laws.proofs.Facts.{reached_by}
 use Rattle.mm_parts.proofs.Stands.{same_life, own_by, not_valid}
 use Rattle.mm_parts.proofs.FrameChanges.{Rewrites, rewrites_by, settled_records, same_owners, stands_frame, paging_frame, waits_frame}
 use Rattle.mm_parts.proofs.NameChanges.{names_at, same_there}

@@ -31,7 +31,7 @@ use Rattle.mm_parts.proofs.Stands.{at_place}
 use Rattle.mm_parts.proofs.NameChanges.{is_used}
 use Rattle.mm_parts.proofs.KeyChanges.{is_resting}
 use Rattle.mm_parts.proofs.FrameSteps.{no_block}
-use Rattle.mm_parts.proofs.PrivateKeys.{stored_live}
+use Rattle.mm_life.proofs.Held.{stored_live}
 
 -- ---- a key in a frame
 
@@ -193,13 +193,6 @@ backing_held own (entry.Valid f n) = by (own f)
     by true = refl
     by false = refl
 backing_held own (entry.Proto a i) = refl
-
-pub stored_backed : (h : Held) → is_stored h ≡ true → is_backed (backing_of h) ≡ true
-stored_backed (held.Frame f) e = cc
-stored_backed (held.Slot s) e = refl
-stored_backed (held.Block b) e = refl
-stored_backed held.Zero e = cc
-stored_backed held.Dead e = cc
 
 pub stored_paging : (d d' : FrameTable) (h : Held) (f : Frame) → is_stored h ≡ true → (record_at d' f.0).backing ≡ backing_of h → is_paging d' (held.Frame f) ≡ is_paging d h
 stored_paging d d' (held.Frame g) f e b = cc

@@ -37,7 +37,7 @@ machine_passes m h =
     (le-leb m.blocks 65536 h.most_blocks))
     (le-leb (2 * m.depth + 4) m.frames h.enough_frames)
 
-first_legal : (m : MachineOf) → IsMachine m → IsLegal (first_move m) unstarted
+pub first_legal : (m : MachineOf) → IsMachine m → IsLegal (first_move m) unstarted
 first_legal m h = machine_passes m h
 
 dead_at_start : (m : MachineOf) (k : Key) → stands_of (owners (free_table m.frames)) no_words k ≡ held.Dead

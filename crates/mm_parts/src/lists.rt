@@ -9,7 +9,7 @@ ghost use Rattle.mm_parts.specs.Reading.{first_of};
 use crate::parts::Parts;
 use mm_types::{Counts, Frame};
 
-#[tactic(auto, using(crate::proofs::Reading::first_is, crate::proofs::Reading::none_first, crate::proofs::Facts::facts_of))]
+#[tactic(auto, using(crate::proofs::Reading::first_is, crate::proofs::Reading::none_first, mm_laws::proofs::Facts::facts_of))]
 impl Parts {
     ghost use Rattle.mm_parts.specs.PartsShown.{shown};
 

@@ -81,7 +81,7 @@ impl Parts {
 
     /// A page that is valid somewhere differs from its backing from now on: a slot that backed it is free. While it is being
     /// written, it is to be written again.
-    #[tactic(auto, using(crate::proofs::Facts::facts_of))]
+    #[tactic(auto, using(mm_laws::proofs::Facts::facts_of))]
     pub fn soil(&mut self, f: Frame)
         requires legal { IsLegal (move.Soil f) (shown self.old).life }
         ensures made { shown self.new ≡ after (shown self.old) (move.Soil f) }

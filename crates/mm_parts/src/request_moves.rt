@@ -114,12 +114,12 @@ impl Parts {
         to
     }
 
-    /// The bytes of a frame that is being written.
-    pub fn take(&self, f: Frame, out: &mut [u8; 4096])
+    /// The bytes of a frame that is being written, where they are.
+    pub fn page(&self, f: Frame) -> &[u8; 4096]
         requires { is_write (record_at (shown self.now).life.frames f.0).request ≡ true }
-        ensures { page_at (shown self.now).bytes f.0 ≡ Some out.new }
+        ensures { page_at (shown self.now).bytes f.0 ≡ Some result.now }
     {
-        self.frames.take(f, out);
+        self.frames.page(f)
     }
 
     /// A write has ended, well or not.

@@ -129,12 +129,13 @@ impl Ram {
         put_bytes(page, off as usize, bytes);
     }
 
-    /// Reads all bytes of a frame that was written.
-    pub fn take(&self, f: Frame, out: &mut [u8; 4096])
+    /// All bytes of a frame that was written, where they are.
+    pub fn page(&self, f: Frame) -> &[u8; 4096]
         requires { IsSome (page_at self.now f.0) }
-        ensures { out.new ≡ bytes_of self.now f.0 }
+        ensures { result.now ≡ bytes_of self.now f.0 }
     {
-        *out = *self.cells.get(self.base, f.0 as usize);
+        let i = f.0 as usize;
+        self.cells.get(self.base, i)
     }
 
     /// A law, which does nothing: each frame that was written has 4,096 bytes.

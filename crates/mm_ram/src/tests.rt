@@ -12,9 +12,7 @@ fn bytes_stay_in_their_frame(rt: HostRuntime) -> Result<(), Fail> {
     ram.read(Frame(0), 4093, &mut two);
     assert_eq!(rt; two, [0, 0x5A]);
     ram.fill(Frame(2), &[7; 4096]);
-    let mut page = [1; 4096];
-    ram.take(Frame(2), &mut page);
-    assert_eq!(rt; page[4095], 7);
+    assert_eq!(rt; ram.page(Frame(2))[4095], 7);
     ram.read(Frame(1), 4094, &mut two);
     assert_eq!(rt; two, [0x5A, 0x5B]);
     Ok(())

@@ -41,6 +41,7 @@ use Rattle.mm_types.proofs.Booleans.{or_false}
 use Rattle.mm_reclaim.proofs.Writables.{block_is}
 use Rattle.mm_reclaim.proofs.Trying.{kind_write}
 use Rattle.mm_reclaim.proofs.Props.{nat_set}
+use Rattle.mm_world.proofs.LaidOut.{or-false}
 
 -- ---- the first that passes a test
 
@@ -143,15 +144,11 @@ none_freed (true ∷ free) t e = cc
 none_freed (false ∷ free) zero e = e
 none_freed (false ∷ free) (suc t) e = none_freed free t e
 
-or_parts : (a b : Bool) → (a || b) ≡ false → (a ≡ false) × (b ≡ false)
-or_parts true b h = cc
-or_parts false b h = (refl, h)
-
 still_not : (l : FrameLife) (f : Frame) (home : Stored) (g : ℕ) → g ≢ f.0 → can_be_written l g ≡ false → can_be_written (after_move l (move.Write f home)) g ≡ false
 still_not l f home g n h = ap (λ (r : Record). owner_is (λ k. not ((after_move l (move.Write f home)).paging k)) r || list_any (λ b. b) (after_move l (move.Write f home)).free_slots) (write_others l f home g n) ∙ at home
   where
     parts : (owner_is (λ k. not (l.paging k)) (record_at l.frames g) ≡ false) × (list_any (λ b. b) l.free_slots ≡ false)
-    parts = or_parts (owner_is (λ k. not (l.paging k)) (record_at l.frames g)) (list_any (λ b. b) l.free_slots) h
+    parts = or-false (owner_is (λ k. not (l.paging k)) (record_at l.frames g)) (list_any (λ b. b) l.free_slots) h
 
     at : (home : Stored) → (owner_is (λ k. not ((after_move l (move.Write f home)).paging k)) (record_at l.frames g) || list_any (λ b. b) (after_move l (move.Write f home)).free_slots) ≡ false
     at (stored.Slot t) = ap (λ b. b || list_any (λ c. c) (slice_set l.free_slots t.0 false)) parts.0 ∙ none_freed l.free_slots t.0 parts.1

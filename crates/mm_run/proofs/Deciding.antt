@@ -13,10 +13,6 @@ use Rattle.mm_pages.specs.Standing.{Stands, StandsIn}
 use Rattle.mm_paging.specs.Runs.{DevicesHold}
 use Rattle.mm_tables.specs.Fits.{bytes_of}
 
-pub stands : (u : Bool) (c : Key → Option Page) (s : StoreOf) (b : Behind) → u ≡ false → StandsIn u c s b → Stands c s b
-stands true c s b e h = cc
-stands false c s b e h = h
-
 one_content : (o p : Option Page) → is_some p ≡ is_some o → ((x : Page) → o ≡ Some x → x ≡ unwrap_or p (filled 0)) → o ≡ p
 one_content None None e h = refl
 one_content None (Some y) e h = cc

@@ -37,21 +37,6 @@ nobody_waits zero t = refl
 nobody_waits (suc n) zero = refl
 nobody_waits (suc n) (suc t) = nobody_waits n t
 
--- the first line is legal
-pub first_legal : (m : MachineOf) → IsMachine m → IsLegal (first_move m) unstarted
-first_legal m h =
-    both _ (nat_le (2 * m.depth + 4) m.frames)
-    (both _ (nat_le m.blocks 65536)
-    (both _ (nat_le m.depth 64)
-    (both _ (nat_le 1 m.depth)
-    (both _ (nat_le m.slots 262144)
-    (both (nat_le 6 m.frames) (nat_le m.frames 262144) (le-leb 6 m.frames h.least_frames) (le-leb m.frames 262144 h.most_frames))
-    (le-leb m.slots 262144 h.most_slots))
-    (le-leb 1 m.depth h.least_depth))
-    (le-leb m.depth 64 h.most_depth))
-    (le-leb m.blocks 65536 h.most_blocks))
-    (le-leb (2 * m.depth + 4) m.frames h.enough_frames)
-
 abbrev own : OwnOf
 own = own_of None None 0
 

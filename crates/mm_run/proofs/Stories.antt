@@ -259,11 +259,6 @@ module _ (a b : Outside) (x y : Stand) (left : Option Text) (held : Text) (f : F
         stands = h.stands;
       }
 
-  pub filled_either : (end : Stage) (r : Option Ending) → MatchOption r (Went a b x y) (λ e. Came a b x e end)
-      → MatchOption r (Went (record a { left = left }) b (record x { held = held }) y) (λ e. Came (record a { left = left }) b (record x { held = held }) e end)
-  filled_either end None h = filled_went h
-  filled_either end (Some e) h = filled_came end e h
-
   pub filled_comes : (x_left : Left) (e : Ending) → Comes a b x e x_left → Comes (record a { left = left }) b (record x { held = held }) e x_left
   filled_comes x_left e h = record { end = h.end; came = filled_came h.end e h.came; leaves = h.leaves }
 

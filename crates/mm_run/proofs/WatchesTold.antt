@@ -24,23 +24,9 @@ use Rattle.mm_run.specs.Answered.{DecidedLine, IsNext, AreAnswered, last_stage, 
 use Rattle.mm_run.proofs.Unpaged.{outcome_is}
 use Rattle.mm_run.proofs.WrittenPages.{Agrees, MakesNew, writes_to}
 use Rattle.mm_run.proofs.WatchLines.{step_agrees, watch_gives}
+use Rattle.mm_system.proofs.Staying.{reserving}
 
 -- ---- a region that a line makes was not watched
-
-watched_cases : (type addr : ℕ) → is_watched_type type ≡ true → is_reserving addr (type - 0x200000) ≡ true
-watched_cases type addr e = by_first (0x202000 == type) refl e
-  where
-    by_second : (b : Bool) → (0x203000 == type) ≡ b → (b || false) ≡ true → is_reserving addr (type - 0x200000) ≡ true
-    by_second true is h = subst (λ (t : ℕ). is_reserving addr (t - 0x200000) ≡ true) (equals 0x203000 type is) (or_right (addr == 0) true refl)
-    by_second false is h = cc
-
-    by_first : (b : Bool) → (0x202000 == type) ≡ b → (b || ((0x203000 == type) || false)) ≡ true → is_reserving addr (type - 0x200000) ≡ true
-    by_first true is h = subst (λ (t : ℕ). is_reserving addr (t - 0x200000) ≡ true) (equals 0x202000 type is) (or_right (addr == 0) true refl)
-    by_first false is h = by_second (0x203000 == type) refl h
-
-reserving : (type addr : ℕ) (b : Bool) → is_watched_type type ≡ b → b ≡ true → is_reserving addr (cond b (type - 0x200000) type) ≡ true
-reserving type addr true is e = watched_cases type addr is
-reserving type addr false is e = cc
 
 makes_new : (s : System) (v : World) (e : Event) (a : Answer) (before after : Report) → outcome s e before after ≡ done a v → are_live s.world s.watches ≡ true → MakesNew s.watches e a
 makes_new s v (line.Alloc pid addr size type prot) (answer.At base) before after h live = λ watched.

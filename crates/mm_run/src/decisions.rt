@@ -134,7 +134,8 @@ fn answer_event<G: FlushesMoves, O: Sink>(
     ensures form { result ≢ Some Ending.Usage }
     ensures loans { loans system.new ≡ loans system.old }
 {
-    match &decide(alloc, n + 1, event, system) {
+    let decided = decide(alloc, n + 1, event, system);
+    match &decided {
         Ok(answer) => {
             if system.world.pages.moves_failed() {
                 return Some(Ending::MovesFault);

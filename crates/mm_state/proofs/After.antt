@@ -28,19 +28,13 @@ use Rattle.mm_located.specs.Carried.{IsSoiled, is_calm}
 use Rattle.mm_located.proofs.Alone.{others_set, here_set, records_ended}
 use Rattle.mm_laws.proofs.Facts.{facts_of}
 use Rattle.mm_located.proofs.FrameMoves.{owned_low, asked_low, shown_calm}
+use Rattle.mm_laws.proofs.FreshMoves.{stored_backed}
 
 asked_write : (q : Request) → has_request q ≡ true → is_read q ≡ false → is_write q ≡ true
 asked_write request.None h c = cc
 asked_write request.Read h c = cc
 asked_write request.Write h c = refl
 asked_write request.WriteAgain h c = refl
-
-stored_backed : (h : Held) → is_stored h ≡ true → is_backed (backing_of h) ≡ true
-stored_backed (held.Frame f) e = cc
-stored_backed (held.Slot s) e = refl
-stored_backed (held.Block b) e = refl
-stored_backed held.Zero e = cc
-stored_backed held.Dead e = cc
 
 calm_quiet : (q : Request) → has_request q ≡ false → is_calm q ≡ true
 calm_quiet request.None e = refl

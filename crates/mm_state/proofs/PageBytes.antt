@@ -23,6 +23,7 @@ use Rattle.mm_parts.specs.Shown.{Owners, named_by, names_of, valid_of}
 use Rattle.mm_located.proofs.Carrying.{page_of_key}
 use Rattle.mm_laws.proofs.Facts.{facts_of}
 use Rattle.mm_located.proofs.FrameMoves.{shown_calm}
+use Rattle.mm_located.proofs.PageMoves.{calm_is}
 
 pub pick : {A : Type 0} (o : Option A) → IsSome o → (x : A) × (o ≡ Some x)
 pick None h = cc
@@ -65,12 +66,6 @@ module _ (l : FrameLife) (reached : ∥ Reached l ∥₁) (ram : FrameBytes) (sl
 
   pub own_bytes : (f : Frame) (k : Key) → (record_at l.frames f.0).owner ≡ Some k → is_read (record_at l.frames f.0).request ≡ false → bytes_of ram f.0 ≡ unwrap_or (contents_of l ram slots blocks k) zero_page
   own_bytes f k owner calm = sym (ap (λ (o : Option (List ℕ)). unwrap_or o zero_page) (own_page f k owner calm))
-
-calm_is : (q : Request) → is_calm q ≡ true → is_read q ≡ false
-calm_is request.None e = refl
-calm_is request.Read e = cc
-calm_is request.Write e = cc
-calm_is request.WriteAgain e = refl
 
 pub soiled_calm : (r : Record) → IsSoiled r → is_read r.request ≡ false
 soiled_calm r s = calm_is r.request s.calm

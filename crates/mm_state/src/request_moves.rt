@@ -109,9 +109,9 @@ impl<P: Inject, F: Inject, M: Moves> State<P, F, M> {
         ensures loans { loans self.new ≡ loans self.old }
     {
         self.parts.bytes_hold();
-        self.parts.take(f, &mut self.page);
+        let page = self.parts.page(f);
         let home = self.parts.look(f).backing;
-        let ok = put_page(&mut self.paging, &mut self.files, home, &self.page);
+        let ok = put_page(&mut self.paging, &mut self.files, home, page);
         self.parts.end_write(f, ok);
         self.told.wrote(home, ok);
         self.moves.note(write_move(f, ok));

@@ -1,6 +1,6 @@
 -- A line of a system, from the line that the world was given and the answer that it gave.
 use Rattle.std.proofs.Common.{◌≡◌, ℕ, ◌-◌, Bool, true, false, Option, Some, None, List, refl, sym, ◌∙◌, ap, subst, cond, not, option_map, unwrap_or}
-use Rattle.std.specs.Prelude.{◌==◌}
+use Rattle.std.specs.Prelude.{◌==◌, Result, Ok, IfOk, OnOk}
 use Rattle.mm_types.specs.declared.answers.Answer.{Answer}
 use Rattle.mm_types.specs.declared.answers.Answer.TheVariants as answer
 use Rattle.mm_types.specs.declared.codes.Code.TheVariants as code
@@ -22,6 +22,14 @@ use Rattle.mm_watch.specs.Watches.{WatchesOf}
 use Rattle.mm_watch.proofs.Lines.{reset_had_region}
 use Rattle.mm_stack.specs.Lines.{is_stack_line}
 use Rattle.mm_system.specs.Lines.{is_beside, world_line, given_outcome, said, told_of_range, unless_gone, written_pages, is_gone, with_room, pages_asked}
+
+-- ---- what holds of a result that is known to be Ok
+
+pub at_ok : {A E : Type 0} (P : A → Type 0) (r : Result A E) (a : A) → r ≡ Ok a → IfOk r P → P a
+at_ok P r a is h = subst (λ q. IfOk q P) is h
+
+pub at_on : {A E X : Type 0} (r : Result A E) (a : A) → r ≡ Ok a → OnOk r X → X
+at_on {X = X} r a is h = subst (λ q. OnOk q X) is h
 
 -- ---- lines of watched regions
 

@@ -1,5 +1,5 @@
 -- Each stack keeps its region: what lines leave of it, and the region that a new one gets.
-use Rattle.std.proofs.Common.{◌≡◌, ◌≤◌, ◌<◌, ℕ, zero, suc, ◌+◌, ◌-◌, Bool, true, false, Option, Some, None, List, [], ◌∷◌, refl, sym, ◌∙◌, ap, subst, cond, arith, length, map, set, replicate, ◌&&◌, ◌||◌, nat_le, nat_lt, not, option_map}
+use Rattle.std.proofs.Common.{◌≡◌, ◌≤◌, ◌<◌, ℕ, zero, suc, ◌+◌, ◌-◌, Bool, true, false, Option, Some, None, List, [], ◌∷◌, refl, sym, ◌∙◌, ap, subst, cond, arith, length, map, set, replicate, ◌&&◌, ◌||◌, nat_le, nat_lt, option_map}
 use Rattle.std.specs.Prelude.{◌==◌}
 use Rattle.std.specs.List.{list_any}
 use Rattle.std.proofs.lemmas.Bool.{leb-true, le-leb, lt-ltb, ltb-true, ltb-false}
@@ -16,7 +16,7 @@ use Rattle.mm_types.specs.Allocation.{release_type}
 use Rattle.mm_world.specs.Keys.{Committed, committed_at, guard_off}
 use Rattle.mm_world.specs.Outcome.{OutcomeOf, done, refused}
 use Rattle.mm_world.specs.Report.{Report}
-use Rattle.mm_world.specs.Stack.{StackOf, stack, made, stack_region, probe, probe_at, probe_in, probe_of, grown, is_overflow, without, is_stack_at, is_stack_in, moved}
+use Rattle.mm_world.specs.Stack.{StackOf, stack, made, stack_region, probe_at, probe_in, probe_of, grown, is_overflow, without, is_stack_at, is_stack_in, moved}
 use Rattle.mm_world.specs.System.{stacks_after}
 use Rattle.mm_world.specs.Watch.{WatchOf}
 use Rattle.mm_world.proofs.Tables.{Holds, tables}

@@ -148,7 +148,7 @@ watched_cases type addr e = by_first (0x202000 == type) refl e
     by_first true is h = subst (λ (t : ℕ). is_reserving addr (t - 0x200000) ≡ true) (equals 0x202000 type is) (or_right (addr == 0) true refl)
     by_first false is h = by_second (0x203000 == type) refl h
 
-reserving : (type addr : ℕ) (b : Bool) → is_watched_type type ≡ b → b ≡ true → is_reserving addr (cond b (type - 0x200000) type) ≡ true
+pub reserving : (type addr : ℕ) (b : Bool) → is_watched_type type ≡ b → b ≡ true → is_reserving addr (cond b (type - 0x200000) type) ≡ true
 reserving type addr true is e = watched_cases type addr is
 reserving type addr false is e = cc
 

@@ -65,9 +65,12 @@ fn decide_alone<G: Pages>(
     ensures loans { loans world.new ≡ loans world.old }
 {
     let other = other_line(event);
-    let given = world.step(alloc, line, either(&other, event))?;
-    stacks.follow(event, &given);
-    Ok(given)
+    let given = world.step(alloc, line, either(&other, event));
+    match &given {
+        Ok(answer) => stacks.follow(event, answer),
+        Err(_) => {}
+    }
+    given
 }
 
 /// Decides a line by the world, with the stacks beside it: what the world answers, and which stacks there are after it.

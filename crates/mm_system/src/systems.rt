@@ -157,16 +157,14 @@ impl<G: Pages> System<G> {
             self.spent = true;
             return Err(why);
         }
-        match decide(&mut self.world, &mut self.stacks, alloc, line, event) {
-            Ok(given) => {
-                let answer = follow(&mut self.watch, &self.writes, event, given);
-                self.writes.follow(event, &answer);
-                Ok(answer)
+        let mut decided = decide(&mut self.world, &mut self.stacks, alloc, line, event);
+        match &mut decided {
+            Ok(answer) => {
+                follow(&mut self.watch, &self.writes, event, answer);
+                self.writes.follow(event, answer);
             }
-            Err(why) => {
-                self.spent = true;
-                Err(why)
-            }
+            Err(_) => self.spent = true,
         }
+        decided
     }
 }

@@ -1,4 +1,4 @@
-ghost use Rattle.std.specs.Prelude.{◌≡◌, ◌≤◌, ℕ, false, List, OnOk, OnErr, IsOk};
+ghost use Rattle.std.specs.Prelude.{◌≡◌, ◌≤◌, ℕ, true, false, List, OnOk, OnErr, IsOk};
 ghost use Rattle.mm_types.specs.declared.events.Event.TheVariants as line;
 ghost use Rattle.mm_types.specs.declared.answers.Answer.TheVariants as answer;
 ghost use Rattle.mm_script.specs.Printed.{IsWellFormed};
@@ -244,18 +244,18 @@ fn note(watch: &mut Watch, writes: &KeptWrites, event: &Event, answer: &Answer)
     }
 }
 
-/// What a line answers, from the answer that the world gave, and what is watched and written after it.
-pub(crate) fn follow(
-    watch: &mut Watch,
-    writes: &KeptWrites,
-    event: &Event,
-    answer: Answer,
-) -> Answer
+/// What a line that tells or resets written pages answers, in place of what the world gave, which says whether the process
+/// lives.
+#[inline(never)]
+fn tell_written(watch: &mut Watch, event: &Event, answer: &mut Answer)
     requires well_formed { IsWellFormed event.now }
-    requires can { CanWatch watch.old event.now answer }
-    ensures answer { result ≡ said watch.old.watches event.now answer }
-    ensures watches { (w : World) → writes.now ≡ writes_of w → watch.new.watches ≡ watches_after w watch.old.watches event.now result }
+    requires asks { asks_written event.now ≡ true }
+    ensures answer { answer.new ≡ said watch.old.watches event.now answer.old }
+    ensures watches { (w : World) → watch.new.watches ≡ watches_after w watch.old.watches event.now answer.new }
 {
+    if is_gone(answer) {
+        return;
+    }
     match event {
         Event::Watch {
             pid,
@@ -263,21 +263,24 @@ pub(crate) fn follow(
             addr,
             size,
             count,
-        } => {
-            if is_gone(&answer) {
-                return Answer::Error(Code::InvalidHandle);
-            }
-            list_written(watch, *pid, *unwrites, *addr, *size, *count)
-        }
+        } => *answer = list_written(watch, *pid, *unwrites, *addr, *size, *count),
         Event::ResetWatch { pid, addr, size } => {
-            if is_gone(&answer) {
-                return Answer::Error(Code::InvalidHandle);
-            }
-            reset_written(watch, *pid, *addr, *size)
+            *answer = reset_written(watch, *pid, *addr, *size);
         }
-        _ => {
-            note(watch, writes, event, &answer);
-            answer
-        }
+        _ => unreachable!(),
+    }
+}
+
+/// What a line answers, in place of what the world gave, and what is watched and written after it. An answer is large, and
+/// stays where it was made.
+pub(crate) fn follow(watch: &mut Watch, writes: &KeptWrites, event: &Event, answer: &mut Answer)
+    requires well_formed { IsWellFormed event.now }
+    requires can { CanWatch watch.old event.now answer.old }
+    ensures answer { answer.new ≡ said watch.old.watches event.now answer.old }
+    ensures watches { (w : World) → writes.now ≡ writes_of w → watch.new.watches ≡ watches_after w watch.old.watches event.now answer.new }
+{
+    match event {
+        Event::Watch { .. } | Event::ResetWatch { .. } => tell_written(watch, event, answer),
+        _ => note(watch, writes, event, answer),
     }
 }

@@ -33,7 +33,7 @@ returns-in-Err-clause-decided g c =
     let mid = g.G.Pages.contents c.begin_access.new.g in
     let m = g.G.Pages.store c.begin_access.new.g in
     let begins = c.begin_access.ensures.begins in
-    decided-refused g.G.Pages.unpaged (event.Exec c.args.pid c.args.addr) c.args.line t old mid s m c.in-Err.answer c.admit.new.t mid m c.args.pid.0 c.args.addr Execute
+    decided-refused g.G.Pages.unpaged (event.Exec c.args.pid c.args.addr) c.args.line t old mid s m (answer.Raised c.in-Err.why) c.admit.new.t mid m c.args.pid.0 c.args.addr Execute
     c.begin_access.ensures.contents begins (c.admit.ensures.keeps mid m (keeps-begun c.args.line t old mid s m c.requires.keeps c.requires.next begins c.begin_access.ensures.fits)) refl refl refl tt tt refl
     (c.in-Err.ensures.refused (bytes_of mid) Execute refl)
 
@@ -79,7 +79,7 @@ returns-in-Err-clause-passes g c =
     let b = g.G.Pages.behind c.args.g.now in
     let y = g.G.Pages.behind c.begin_access.new.g in
     let began = c.begin_access.ensures in
-    refused-passes g.G.Pages.unpaged (event.Exec c.args.pid c.args.addr) c.args.line t old mid began.contents s m b y c.args.pid c.args.addr Execute (plain-exec w c.args.pid c.args.addr) c.begin_access.result began.lives began.passes c.in-Err.answer (world_with c.admit.new.t (bytes_of mid))
+    refused-passes g.G.Pages.unpaged (event.Exec c.args.pid c.args.addr) c.args.line t old mid began.contents s m b y c.args.pid c.args.addr Execute (plain-exec w c.args.pid c.args.addr) c.begin_access.result began.lives began.passes (answer.Raised c.in-Err.why) (world_with c.admit.new.t (bytes_of mid))
     (c.in-Err.ensures.refused (bytes_of mid) Execute refl).needless
 
 pub returns-clause-passes : goal.returns-clause-passes

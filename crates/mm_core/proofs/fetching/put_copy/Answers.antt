@@ -4,11 +4,11 @@ use Rattle.mm_types.specs.declared.numbers.Key.{Key}
 use Rattle.mm_types.specs.Address.{page_of}
 use Rattle.mm_pages.specs.Conditions.{place_at, touch, copying, IsReady}
 use Rattle.mm_core.proofs.AccessForms.{copied_then, copied_err}
-use Rattle.mm_core.proofs.Serving.{served-then}
+use Rattle.mm_pages.proofs.Served.{served_then}
 use Rattle.mm_core.proofs.fetching.put_copy.Goals as goal
 
 pub returns-clause-served : goal.returns-clause-served
-returns-clause-served g c = served-then _ _ _ c.copy.ensures.served c.put.ensures.served
+returns-clause-served g c = served_then _ _ _ c.copy.ensures.served c.put.ensures.served
 
 pub returns-in_err-copy-clause-passes : goal.returns-in_err-copy-clause-passes
 returns-in_err-copy-clause-passes g c =

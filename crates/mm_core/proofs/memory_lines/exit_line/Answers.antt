@@ -1,4 +1,4 @@
-use Rattle.std.proofs.Common.{refl, sym, subst, ap, ◌∙◌, ◌≡◌, ◌+◌, ℕ, Option}
+use Rattle.std.proofs.Common.{refl, sym, subst, ap, ◌∙◌, ◌+◌, Option}
 use Rattle.mm_types.specs.declared.events.Event.TheVariants as event
 use Rattle.mm_types.specs.declared.numbers.Key.{Key}
 use Rattle.mm_world.specs.World.{Page}
@@ -10,8 +10,6 @@ use Rattle.mm_pages.specs.Store.{StoreOf}
 use Rattle.mm_core.proofs.Making.{in_exit}
 use Rattle.mm_core.proofs.Lines.{decided-call}
 use Rattle.mm_core.proofs.Forgotten.{keeps-forgot, decided-forgot, ends-waits}
-use Rattle.mm_types.specs.declared.moves.LineKind.TheVariants as kind
-use Rattle.mm_world.specs.Contents.{world_with}
 use Rattle.mm_core.proofs.CallForms.{marked_exit}
 use Rattle.mm_core.proofs.memory_lines.exit_line.Goals as goal
 

@@ -8,8 +8,6 @@ use Rattle.mm_world.specs.Free.{free}
 use Rattle.mm_world.proofs.Across.{free_across}
 use Rattle.mm_core.proofs.Making.{in_free}
 use Rattle.mm_core.proofs.Lines.{decided-call}
-use Rattle.mm_types.specs.declared.moves.LineKind.TheVariants as kind
-use Rattle.mm_world.specs.Contents.{world_with}
 use Rattle.mm_core.proofs.CallForms.{marked_release}
 use Rattle.mm_core.proofs.memory_lines.free_line.Goals as goal
 

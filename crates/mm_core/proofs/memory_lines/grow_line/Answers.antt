@@ -1,6 +1,3 @@
-use Rattle.std.proofs.Common.{refl}
-use Rattle.mm_types.specs.declared.events.Event.TheVariants as event
-use Rattle.mm_types.specs.declared.moves.LineKind.TheVariants as kind
 use Rattle.mm_world.specs.Contents.{world_with}
 use Rattle.mm_tables.specs.Fits.{bytes_of}
 use Rattle.mm_core.proofs.CallForms.{marked_grow, halted_grow}

@@ -8,8 +8,6 @@ use Rattle.mm_core.proofs.Lines.{decided-same}
 use Rattle.mm_core.proofs.Fitting.{fits-same}
 use Rattle.mm_core.proofs.Rows.{gone-by, lives-by}
 use Rattle.mm_core.proofs.Accesses.{store-gone, store-lives}
-use Rattle.mm_types.specs.declared.moves.LineKind.TheVariants as kind
-use Rattle.mm_world.specs.Contents.{world_with}
 use Rattle.mm_core.proofs.CallForms.{marked_no_age, marked_age}
 use Rattle.mm_core.proofs.paging_lines.age_line.Goals as goal
 

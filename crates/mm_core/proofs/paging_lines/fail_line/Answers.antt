@@ -12,7 +12,6 @@ use Rattle.mm_world.proofs.Across.{take_fail_across}
 use Rattle.mm_core.proofs.Lines.{stepped-plain, called-across, bytes-kept, keeps-made}
 use Rattle.mm_core.proofs.Making.{in_take_fail}
 use Rattle.mm_core.proofs.Files.{fail-taken, devices-named, is-named, named-line}
-use Rattle.mm_types.specs.declared.moves.LineKind.TheVariants as kind
 use Rattle.mm_core.proofs.CallForms.{marked_fail}
 use Rattle.mm_core.proofs.paging_lines.fail_line.Goals as goal
 

@@ -1,5 +1,5 @@
 use Rattle.std.proofs.Common.{◌≡◌, true, false, sym, ◌∙◌, ap, subst}
-use Rattle.mm_types.specs.declared.answers.Answer.{Answer}
+use Rattle.mm_types.specs.declared.codes.Raise.{Raise}
 use Rattle.mm_types.specs.declared.answers.Answer.TheVariants as answer
 use Rattle.mm_types.specs.declared.codes.Raise.TheVariants as raise
 use Rattle.mm_types.specs.Address.{page_of}
@@ -27,7 +27,7 @@ returns-then-row-clause-refused c =
     let r = row-told t c.args.pid.0 (page_of c.args.addr) l.process c.in-Some.row c.committed_row.result l.lives c.in-Some.is c.committed_row.ensures in
     let off = c.alarm.ensures.off l.process r.committed l.lives r.there in
     λ bytes what is.
-    subst (λ (a : Answer). Refuses (world_with t bytes) c.args.pid.0 c.args.addr what a (world_with c.alarm.new.t bytes)) (sym c.alarm.ensures.raised)
+    subst (λ (why : Raise). Refuses (world_with t bytes) c.args.pid.0 c.args.addr what (answer.Raised why) (world_with c.alarm.new.t bytes)) (sym c.alarm.ensures.raised)
     (subst (λ (v : Tables). Refuses (world_with t bytes) c.args.pid.0 c.args.addr what (answer.Raised raise.GuardPage) (world_with v bytes)) (sym off)
     (accesses.guarded t bytes c.args.pid.0 c.args.addr what l.process l.lives r.committed r.there (ap (λ (x : CommittedRow). x.guard) r.is ∙ c.if-row.true)))
 

@@ -6,9 +6,6 @@ use Rattle.mm_pages.specs.Store.{StoreOf}
 use Rattle.mm_core.proofs.Lines.{decided-served, faulted-answer, one-later}
 use Rattle.mm_core.proofs.Making.{in_flush}
 use Rattle.mm_core.proofs.Files.{flush-stepped, flushed-line}
-use Rattle.mm_types.specs.declared.moves.LineKind.TheVariants as kind
-use Rattle.mm_world.specs.Contents.{world_with}
-use Rattle.mm_tables.specs.Fits.{bytes_of}
 use Rattle.mm_core.proofs.CallForms.{marked_flush}
 use Rattle.mm_core.proofs.section_lines.flush_line.Goals as goal
 

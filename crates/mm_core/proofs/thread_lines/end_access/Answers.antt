@@ -1,8 +1,5 @@
-use Rattle.std.proofs.Common.{◌≡◌, None, ◌∙◌, ap, ℕ}
-use Rattle.mm_types.specs.declared.answers.Wait.{Wait}
+use Rattle.std.proofs.Common.{None, ◌∙◌, ap}
 use Rattle.mm_pages.specs.Store.{StoreOf}
-use Rattle.mm_core.specs.Forgetting.{waited}
-use Rattle.mm_core.specs.Deciding.{Keeps}
 use Rattle.mm_core.proofs.Forgotten.{keeps-forgot}
 use Rattle.mm_core.proofs.Waiting.{keeps_kept, rest_forgot, idle_now}
 use Rattle.mm_core.proofs.thread_lines.end_access.Goals as goal

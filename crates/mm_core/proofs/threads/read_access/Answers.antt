@@ -1,3 +1,4 @@
+use Rattle.mm_types.specs.declared.answers.Answer.TheVariants as answer
 use Rattle.std.proofs.Common.{refl, sym, subst, ap}
 use Rattle.mm_world.specs.Access.{ReadOf}
 use Rattle.mm_core.specs.Pending.{Permitted}
@@ -26,7 +27,7 @@ read_on-requires-clause-spaces g c = subst (λ (v : Tables). Spaces v) (sym c.in
 pub returns-in-Err-clause-passes : goal.returns-in-Err-clause-passes
 returns-in-Err-clause-passes g c =
     let old = bytes_of (g.G.Pages.contents c.args.g.now) in
-    turned_refused g.G.Pages.unpaged (world_with c.args.t.now old) c.args.pid c.args.addr (ReadOf c.args.len) c.args.tid.0 c.in-Err.answer (g.G.Pages.store c.args.g.now) (g.G.Pages.behind c.args.g.now) (c.in-Err.ensures.refused old (ReadOf c.args.len) refl).needless
+    turned_refused g.G.Pages.unpaged (world_with c.args.t.now old) c.args.pid c.args.addr (ReadOf c.args.len) c.args.tid.0 (answer.Raised c.in-Err.why) (g.G.Pages.store c.args.g.now) (g.G.Pages.behind c.args.g.now) (c.in-Err.ensures.refused old (ReadOf c.args.len) refl).needless
 
 pub returns-then-failed-clause-passes : goal.returns-then-failed-clause-passes
 returns-then-failed-clause-passes g c =

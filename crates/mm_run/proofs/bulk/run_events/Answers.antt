@@ -9,7 +9,8 @@ use Rattle.mm_types.specs.declared.events.Event.TheVariants as line
 use Rattle.mm_run.specs.declared.endings.Ending.TheVariants as ending
 use Rattle.mm_run.specs.Scenes.{NotBegun, Running, outset, scene}
 use Rattle.mm_run.specs.Story.{IsBlamed, counts_with}
-use Rattle.mm_run.proofs.Starting.{opened_of, is_new, is_made, first_legal, three_names}
+use Rattle.mm_run.proofs.Starting.{opened_of, is_new, is_made, three_names}
+use Rattle.mm_parts.proofs.Starting.{first_legal}
 use Rattle.mm_run.proofs.Batches.{stopped_here}
 use Rattle.mm_run.proofs.Stories.{log_left_at}
 use Rattle.mm_run.proofs.bulk.run_events.Goals as goal

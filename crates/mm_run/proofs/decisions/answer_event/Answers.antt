@@ -7,19 +7,19 @@ use Rattle.mm_run.proofs.decisions.answer_event.Goals as goal
 pub returns-then-moves_failed-clause-went : goal.returns-then-moves_failed-clause-went
 returns-then-moves_failed-clause-went g c = λ left.
     let old = c.args.system.now in
-    let new = c.decide.new.system in
-    let d = (rw c.in-Ok.is at c.decide.ensures.decided) in
+    let new = c.decide-decided.new.system in
+    let d = (rw c.in-Ok.is at c.decide-decided.ensures.decided) in
     told_muted c.args.held.now c.args.len c.args.n c.requires.line c.requires.few c.requires.behind left _ _ (Running (scene old)) (Running (scene new)) c.args.event.now c.in-Ok.answer d.moves
     c.requires.says c.requires.grammar d.decided refl (sym c.if-moves_failed.ensures)
 
 pub returns-else-moves_failed-clause-went : goal.returns-else-moves_failed-clause-went
 returns-else-moves_failed-clause-went g c = λ left.
     let old = c.args.system.now in
-    let new = c.decide.new.system in
-    let d = (rw c.in-Ok.is at c.decide.ensures.decided) in
+    let new = c.decide-decided.new.system in
+    let d = (rw c.in-Ok.is at c.decide-decided.ensures.decided) in
     told_either c.args.held.now c.args.len c.args.n c.requires.line c.requires.few c.requires.behind left _ _ (Running (scene old)) (Running (scene new)) c.args.event.now c.in-Ok.answer d.moves
     c.requires.says c.requires.grammar d.decided (sym c.if-moves_failed.ensures) c.tell.new.held c.tell.ensures.held c.tell.result c.tell.ensures.told
 
 pub returns-in-Err-clause-went : goal.returns-in-Err-clause-went
 returns-in-Err-clause-went g c = λ left.
-    came_broken c.args.held.now c.args.len c.args.n c.requires.line c.requires.few c.requires.behind left _ (scene c.args.system.now) (scene c.decide.new.system) c.args.event.now c.requires.says c.requires.grammar (rw c.in-Err.is at c.decide.ensures.takes) (rw c.in-Err.is at c.decide.ensures.breaks)
+    came_broken c.args.held.now c.args.len c.args.n c.requires.line c.requires.few c.requires.behind left _ (scene c.args.system.now) (scene c.decide-decided.new.system) c.args.event.now c.requires.says c.requires.grammar (rw c.in-Err.is at c.decide-decided.ensures.takes) (rw c.in-Err.is at c.decide-decided.ensures.breaks)

@@ -6,7 +6,8 @@ use Rattle.mm_core.specs.Serving.{Named}
 use Rattle.mm_system.specs.Shown.{system, report, behind, paging_device, file_device}
 use Rattle.mm_run.specs.Scenes.{Running, scene}
 use Rattle.mm_run.specs.Steps.{Moved, Breaks}
-use Rattle.mm_run.proofs.Deciding.{stands, devices_hold}
+use Rattle.mm_run.proofs.Deciding.{devices_hold}
+use Rattle.mm_core.proofs.Noted.{stands}
 use Rattle.mm_run.proofs.Unpaged.{unpaged_system, plain_system}
 use Rattle.mm_run.proofs.decisions.decide.Goals as goal
 

@@ -7,7 +7,8 @@ use Rattle.mm_moving.specs.Shown.{StateOf}
 use Rattle.mm_paged.specs.Store as paged
 use Rattle.mm_run.specs.Scenes.{NotBegun, Running, outset, scene}
 use Rattle.mm_run.specs.Story.{IsBlamed, counts_with}
-use Rattle.mm_run.proofs.Starting.{opened_of, is_new, is_made, first_legal, three_names}
+use Rattle.mm_run.proofs.Starting.{opened_of, is_new, is_made, three_names}
+use Rattle.mm_parts.proofs.Starting.{first_legal}
 use Rattle.mm_run.proofs.Stories.{comes_here, follows_here, log_left_at}
 use Rattle.mm_run.proofs.Stops.{came_memory}
 use Rattle.mm_run.proofs.machines.run_machine.Goals as goal

@@ -1,6 +1,5 @@
-use Rattle.std.proofs.Common.{◌≡◌, ◌≤◌, ℕ, zero, suc, None, Some, refl, sym, ap, ◌∙◌, subst, arith}
+use Rattle.std.proofs.Common.{◌≡◌, ℕ, zero, suc, None, Some, refl, sym, ◌∙◌, subst, arith}
 use Rattle.mm_types.specs.Machine.{MachineOf}
-use Rattle.mm_world.specs.World.{ProcessOf}
 use Rattle.mm_world.specs.Find.{process_of}
 use Rattle.mm_world.specs.Contents.{Tables}
 use Rattle.mm_world.specs.Step.{first_world}

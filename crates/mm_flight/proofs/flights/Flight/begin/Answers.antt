@@ -21,4 +21,6 @@ invariant_of-self c =
         all = c.self.invariant.room.all;
       };
       kept = subst (λ (xs : List ℕ). IsKept xs waits) (sym more) (kept_begun frames waits c.self.invariant.kept f new);
+      within = c.self.invariant.within;
+      idle = c.self.invariant.idle;
     }

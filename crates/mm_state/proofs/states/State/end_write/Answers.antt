@@ -24,8 +24,8 @@ use Rattle.mm_state.proofs.Whole.{slots_whole, blocks_whole}
 use Rattle.mm_state.proofs.Ends.{write_low, is_writing, write_legal, write_carries, write_ages, write_waits, write_tells, write_calls, called_at, write_calm, same_page, no_block}
 use Rattle.mm_state.proofs.states.State.end_write.Goals as goal
 
-pub take-requires : goal.take-requires
-take-requires g c = is_writing (parts_of.shown c.args.self.now.parts).life c.args.f c.requires.legal
+pub page-page-requires : goal.page-page-requires
+page-page-requires g c = is_writing (parts_of.shown c.args.self.now.parts).life c.args.f c.requires.legal
 
 pub look-home-requires : goal.look-home-requires
 look-home-requires g c = let s = c.args.self.now in write_low (parts_of.shown s.parts).life s.parts.kept.reached c.args.f c.requires.legal
@@ -56,14 +56,14 @@ invariant_of-self g c =
     let s = c.args.self.now in
     let u = parts_of.shown s.parts in
     let ok = c.put_page-ok.result in
-    let page = c.take.new.out in
+    let page = c.page-page.result.now in
     let slots = g.P.Blocks.blocks s.paging in
     let blocks = g.F.Blocks.blocks s.files in
     let now = carried_on _ _ _ _ _ _ _ c.end_write.ensures.made
     (c.put_page-ok.ensures.slots ∙ ap (λ (x : Record). written_if ok (slots_written x.backing page) slots) c.look-home.ensures)
     (c.put_page-ok.ensures.blocks ∙ ap (λ (x : Record). written_if ok (blocks_written x.backing page) blocks) c.look-home.ensures)
-    (write_carries ok u.life s.parts.kept.reached u.bytes slots blocks s.located c.args.f page c.requires.legal c.take.ensures) in
-    let n = c.bytes_hold.ensures.whole c.args.f.0 page c.take.ensures in
+    (write_carries ok u.life s.parts.kept.reached u.bytes slots blocks s.located c.args.f page c.requires.legal c.page-page.ensures) in
+    let n = c.bytes_hold.ensures.whole c.args.f.0 page c.page-page.ensures in
     record {
       located = now.located;
       tallied = subst IsTallied (sym c.wrote.ensures) (tallied_write s.told ok c.look-home.result.backing s.tallied);
@@ -93,13 +93,13 @@ returns-clause-rest g c =
     let s = c.args.self.now in
     let u = parts_of.shown s.parts in
     let ok = c.put_page-ok.result in
-    let page = c.take.new.out in
+    let page = c.page-page.result.now in
     let slots = g.P.Blocks.blocks s.paging in
     let blocks = g.F.Blocks.blocks s.files in
     let now = carried_on _ _ _ _ _ _ _ c.end_write.ensures.made
     (c.put_page-ok.ensures.slots ∙ ap (λ (x : Record). written_if ok (slots_written x.backing page) slots) c.look-home.ensures)
     (c.put_page-ok.ensures.blocks ∙ ap (λ (x : Record). written_if ok (blocks_written x.backing page) blocks) c.look-home.ensures)
-    (write_carries ok u.life s.parts.kept.reached u.bytes slots blocks s.located c.args.f page c.requires.legal c.take.ensures) in
+    (write_carries ok u.life s.parts.kept.reached u.bytes slots blocks s.located c.args.f page c.requires.legal c.page-page.ensures) in
     rest_of _ _ _ _ _ _ _ _ _ c.end_write.ensures.made now.bytes
 
 pub returns-clause-wrote : goal.returns-clause-wrote
@@ -111,7 +111,7 @@ returns-clause-wrote g c =
     let blocks = g.F.Blocks.blocks s.files in
     λ k page owner content.
     let own = page_of_key u.life s.parts.kept.reached u.bytes slots blocks s.located c.args.f k owner (write_calm u.life c.args.f c.requires.legal) in
-    let same = same_page c.take.new.out page (sym c.take.ensures ∙ sym own ∙ content) in
+    let same = same_page c.page-page.result.now page (sym c.page-page.ensures ∙ sym own ∙ content) in
     record {
       slots_are = c.put_page-ok.ensures.slots ∙ (λ i. written_if ok (slots_written (c.look-home.ensures i).backing (same i)) slots);
       blocks_are = c.put_page-ok.ensures.blocks ∙ (λ i. written_if ok (blocks_written (c.look-home.ensures i).backing (same i)) blocks);
@@ -122,7 +122,7 @@ returns-clause-ownerless g c =
     let s = c.args.self.now in
     let u = parts_of.shown s.parts in
     let ok = c.put_page-ok.result in
-    let page = c.take.new.out in
+    let page = c.page-page.result.now in
     let blocks = g.F.Blocks.blocks s.files in
     λ none. c.put_page-ok.ensures.blocks ∙ ap (λ (x : Record). written_if ok (blocks_written x.backing page) blocks) c.look-home.ensures
     ∙ no_block u.life s.parts.kept.reached c.args.f none ok page blocks
