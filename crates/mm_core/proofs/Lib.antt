@@ -32,3 +32,4 @@ pub mod Marking
 pub mod Noted
 pub mod CallForms
 pub mod AccessMarks
+pub mod Promised

@@ -10,4 +10,4 @@ pub mod Answering
 pub mod Lining
 pub mod Noting
 pub mod Over
-pub mod Told
+pub mod Promise

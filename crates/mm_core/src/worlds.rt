@@ -1,22 +1,15 @@
-ghost use Rattle.std.specs.Prelude.{◌≡◌, ◌≢◌, ◌≤◌, ◌⊎◌, ◌+◌, ℕ, true, false, IfOk, OnOk, OnErr, IsOk};
-ghost use Rattle.mm_types.specs.declared.answers.Answer.TheVariants as answer;
-ghost use Rattle.mm_types.specs.declared.answers.Wait.TheVariants as wait;
+ghost use Rattle.std.specs.Prelude.{◌≡◌, ◌≤◌, ◌+◌, true, false, IfOk, OnOk, OnErr, IsOk};
 ghost use Rattle.mm_types.specs.declared.events.Event.TheVariants as lines;
 ghost use Rattle.mm_world.specs.World.{filled};
 ghost use Rattle.mm_world.specs.Stack.{stack, probe};
-ghost use Rattle.mm_world.specs.Step.{first_world, step, unpaged};
+ghost use Rattle.mm_world.specs.Step.{first_world};
 ghost use Rattle.mm_world.specs.Charge.{charge, limit};
-ghost use Rattle.mm_world.specs.Contents.{tables_of};
-ghost use Rattle.mm_world.specs.Laws.{LineLeaves};
 ghost use Rattle.mm_world.specs.System.{stacks_after};
 ghost use Rattle.mm_pages.specs.Conditions.{IsNew};
 ghost use Rattle.mm_script.specs.Printed.{IsWellFormed};
 ghost use Rattle.mm_tables.specs.Fits.{Fits};
-ghost use Rattle.mm_tables.specs.References.{IsTidy, MadeAtMost};
+ghost use Rattle.mm_tables.specs.References.{MadeAtMost};
 ghost use Rattle.mm_core.specs.Built.{is_built, takes_memory};
-ghost use Rattle.mm_core.specs.Forgetting.{EndsWaits};
-ghost use Rattle.mm_core.specs.Stepping.{asks_frames};
-ghost use Rattle.mm_core.specs.Serving.{IsFailure, Flushed, is_grow, is_fail};
 
 use crate::deciding::decide;
 use crate::stack_lines::{probe_line, stack_line};
@@ -40,8 +33,8 @@ pub struct World<G: Pages> {
 }
 
 impl<G: Pages> World<G> {
-    ghost use Rattle.mm_core.specs.Told.{AsksBeside, AsksFiles, AsksNone, AsksPaging, FailsFrom, IsBroken, IsNoted, NamesCalls};
-    ghost use Rattle.mm_core.specs.Shown.{world, report, line_of, paging_device, file_device, file_blocks, loans};
+    ghost use Rattle.mm_core.specs.Promise.{DecidesStep, DecidesBy, Breaks, scene};
+    ghost use Rattle.mm_core.specs.Shown.{world, line_of, loans};
 
     /// The world after the `machine` line, over a new store of that machine.
     pub fn new(alloc: Global, machine: Machine, pages: G) -> World<G>
@@ -79,44 +72,33 @@ impl<G: Pages> World<G> {
         self.tables.charge()
     }
 
-    /// Decides one line, the next one: its answer is that of the definitions' step from the world that there was, by the
-    /// store's reports before and after it, and the world that there is then is the step's.
+    /// Decides one line, the next one: its answer is that of the definitions' step from the world
+    /// that there was, by the store's reports before and after it, and the world that there is then
+    /// is the step's.
     ///
-    /// Each form is the Windows call that `mm_calls` and `mm_views` name at its function, or this profile's own. `line` is the number of the
-    /// line in its script, where `machine` is line 1.
+    /// Each form is the Windows call that `mm_calls` and `mm_views` name at its function, or this
+    /// profile's own. `line` is the number of the line in its script, where `machine` is line 1.
     ///
-    /// `NoMemory` comes only from `process`, `file`, `alloc`, `create`, `createfile`, `open`, `map`, `grow`, and a `protect` that
-    /// asks for marks. Then the world is as it was, and no further line can be decided. A failed access and a `fault` come only where a
-    /// device's count of faults rose in the line, or, of a `resume`, where the read that its thread waited for failed before.
+    /// `NoMemory` comes only from `process`, `file`, `alloc`, `create`, `createfile`, `open`,
+    /// `map`, `grow`, and a `protect` that asks for marks. Then the world is as it was, and no
+    /// further line can be decided. A failed access and a `fault` come only where a device's count
+    /// of faults rose in the line, or, of a `resume`, where the read that its thread waited for
+    /// failed before.
     ///
-    /// Over a store that pages, the line's piece of the log of moves is its `at` and the moves that its form allows (`paged`); after
-    /// `NoMemory` it is an `at` alone, or empty (`broken`).
-    #[tactic(auto, using(crate::proofs::Charged::charges, crate::proofs::Readiness::idle_in))]
+    /// What is told of a line that was decided is one record (`Decides`), and of one that ran out
+    /// of memory another (`Breaks`). Over a store that pages, the line's piece of the log of moves
+    /// is its `at` and the moves that its form allows (`Told`: `line`); after `NoMemory` it is an
+    /// `at` alone, or empty (`broken`).
+    #[tactic(auto, using(crate::proofs::Readiness::idle_in))]
     pub fn step(&mut self, alloc: Global, line: u32, event: &Event) -> Result<Answer, NoMemory>
         requires well_formed { IsWellFormed event.now }
         requires built { is_built event.now ≡ true }
         requires next { line ≡ line_of self.old + 1 }
         requires few { line ≤ 1000000 }
         requires ready { self.old.spent ≡ false }
-        ensures step { IfOk result (λ a. step (world self.old) event.now (report self.old) (report self.new) ≡ record { answer = a; world = world self.new }) }
-        ensures told { G.unpaged ≡ true → asks_frames event.now ≡ false → IfOk result (λ a. a ≢ answer.Fault → unpaged (world self.old) event.now ≡ record { answer = a; world = world self.new }) }
-        ensures err { OnErr result (world self.new ≡ world self.old) }
-        ensures leaves { IfOk result (λ a. LineLeaves (world self.old) event.now (record { answer = a; world = world self.new })) }
-        ensures within { charge (world self.new) ≤ limit (world self.new) }
-        ensures lives { IsTidy (tables_of (world self.new)) }
-        ensures asked_files { is_fail event.now ≡ false → OnOk result (AsksFiles self.old self.new) }
-        ensures asked_paging { is_fail event.now ≡ false → is_grow event.now ≡ false → OnOk result (AsksPaging self.old self.new) }
-        ensures beside { G.unpaged ≡ false → IfOk result (λ a. AsksBeside self.old event.now a self.new) }
-        ensures named { IfOk result (λ a. NamesCalls self.old event.now a self.new) }
-        ensures idle { OnErr result (AsksNone self.old self.new) }
-        ensures failed { IfOk result (λ a. IsFailure a → FailsFrom self.old event.now self.new) }
-        ensures unwaited { G.unpaged ≡ true → (tid : ℕ) → ((report self.old).wait tid ≡ wait.None) × ((report self.new).wait tid ≡ wait.None) }
-        ensures waits { IfOk result (λ a. EndsWaits (world self.old) event.now a (report self.new)) }
-        ensures paging_later { (paging_device self.old).faults ≤ (paging_device self.new).faults }
-        ensures files_later { (file_device self.old).faults ≤ (file_device self.new).faults }
-        ensures flushed { IfOk result (λ a. Flushed (world self.new) (file_blocks self.new) event.now a) }
-        ensures paged { G.unpaged ≡ false → IfOk result (λ a. IsNoted self.old event.now a self.new) }
-        ensures broken { G.unpaged ≡ false → OnErr result (IsBroken self.old self.new) }
+        ensures decided { IfOk result (λ a.
+            DecidesStep G.unpaged (scene self.old) event.now a (scene self.new)) }
+        ensures broke { OnErr result (Breaks G.unpaged (scene self.old) (scene self.new)) }
         ensures no_memory { takes_memory event.now ≡ false → IsOk result }
         ensures line { OnOk result (line_of self.new ≡ line) }
         ensures ready { OnOk result (self.new.spent ≡ false) }
@@ -131,13 +113,12 @@ impl<G: Pages> World<G> {
         result
     }
 
-    /// Decides a `stack` line, the next one: a thread gets a stack, which grows through its guard page (this profile's own).
-    /// Answer and new world are those of the definitions' `stack` from the world and the stacks that there were, and the stacks
-    /// are those that the line leaves.
+    /// Decides a `stack` line, the next one: a thread gets a stack, which grows through its guard
+    /// page (this profile's own). Answer and new world are those of the definitions' `stack` from
+    /// the world and the stacks that there were, and the stacks are those that the line leaves.
     ///
-    /// What else is said of it is what `step` says of each line. After `NoMemory` world and stacks are as they were, and no
-    /// further line can be decided.
-    #[tactic(auto, using(crate::proofs::Charged::charges, crate::proofs::Readiness::idle_in))]
+    /// What else is told of it is what `step` tells of each line. After `NoMemory` world and stacks
+    /// are as they were, and no further line can be decided.
     pub fn create_stack(
         &mut self,
         alloc: Global,
@@ -151,24 +132,13 @@ impl<G: Pages> World<G> {
         requires next { line ≡ line_of self.old + 1 }
         requires few { line ≤ 1000000 }
         requires ready { self.old.spent ≡ false }
-        ensures step { IfOk result (λ a. stack filled (world self.old) stacks.old tid.0 pid.0 reserve commit ≡ record { answer = a; world = world self.new }) }
-        ensures stacks { IfOk result (λ a. stacks.new ≡ stacks_after stacks.old (lines.Stack tid pid reserve commit) a) }
-        ensures err { OnErr result (world self.new ≡ world self.old) }
+        ensures decided { IfOk result (λ a.
+            DecidesBy (stack filled (world self.old) stacks.old tid.0 pid.0 reserve commit)
+            G.unpaged (scene self.old) (lines.Stack tid pid reserve commit) a (scene self.new)) }
+        ensures broke { OnErr result (Breaks G.unpaged (scene self.old) (scene self.new)) }
+        ensures stacks { IfOk result (λ a.
+            stacks.new ≡ stacks_after stacks.old (lines.Stack tid pid reserve commit) a) }
         ensures unmoved { OnErr result (stacks.new ≡ stacks.old) }
-        ensures within { charge (world self.new) ≤ limit (world self.new) }
-        ensures lives { IsTidy (tables_of (world self.new)) }
-        ensures asked_files { OnOk result (AsksFiles self.old self.new) }
-        ensures asked_paging { OnOk result (AsksPaging self.old self.new) }
-        ensures named { IfOk result (λ a. NamesCalls self.old (lines.Stack tid pid reserve commit) a self.new) }
-        ensures idle { OnErr result (AsksNone self.old self.new) }
-        ensures failed { IfOk result (λ a. IsFailure a → FailsFrom self.old (lines.Stack tid pid reserve commit) self.new) }
-        ensures unwaited { G.unpaged ≡ true → (tid : ℕ) → ((report self.old).wait tid ≡ wait.None) × ((report self.new).wait tid ≡ wait.None) }
-        ensures waits { IfOk result (λ a. EndsWaits (world self.old) (lines.Stack tid pid reserve commit) a (report self.new)) }
-        ensures paging_later { (paging_device self.old).faults ≤ (paging_device self.new).faults }
-        ensures files_later { (file_device self.old).faults ≤ (file_device self.new).faults }
-        ensures flushed { IfOk result (λ a. Flushed (world self.new) (file_blocks self.new) (lines.Stack tid pid reserve commit) a) }
-        ensures paged { G.unpaged ≡ false → IfOk result (λ a. IsNoted self.old (lines.Stack tid pid reserve commit) a self.new) }
-        ensures broken { G.unpaged ≡ false → OnErr result (IsBroken self.old self.new) }
         ensures line { OnOk result (line_of self.new ≡ line) }
         ensures ready { OnOk result (self.new.spent ≡ false) }
         ensures spent { OnErr result (self.new.spent ≡ true) }
@@ -192,13 +162,14 @@ impl<G: Pages> World<G> {
         result
     }
 
-    /// Decides a `probe` line, the next one: the touch that a compiled function makes before it uses a page of its stack
-    /// (this profile's own). Answer and new world are those of the definitions' `probe` from the world and the stacks that there
-    /// were, and the stacks are those that the line leaves.
+    /// Decides a `probe` line, the next one: the touch that a compiled function makes before it
+    /// uses a page of its stack (this profile's own). Answer and new world are those of the
+    /// definitions' `probe` from the world and the stacks that there were, and the stacks are those
+    /// that the line leaves.
     ///
-    /// What else is said of it is what `step` says of each line. After `NoMemory`, which comes only where the stack would have
-    /// grown, world and stacks are as they were, and no further line can be decided.
-    #[tactic(auto, using(crate::proofs::Charged::charges, crate::proofs::Readiness::idle_in))]
+    /// What else is told of it is what `step` tells of each line. After `NoMemory`, which comes
+    /// only where the stack would have grown, world and stacks are as they were, and no further
+    /// line can be decided.
     pub fn probe_stack(
         &mut self,
         line: u32,
@@ -209,24 +180,13 @@ impl<G: Pages> World<G> {
         requires next { line ≡ line_of self.old + 1 }
         requires few { line ≤ 1000000 }
         requires ready { self.old.spent ≡ false }
-        ensures step { IfOk result (λ a. probe filled (world self.old) stacks.old tid.0 addr ≡ record { answer = a; world = world self.new }) }
-        ensures stacks { IfOk result (λ a. stacks.new ≡ stacks_after stacks.old (lines.Probe tid addr) a) }
-        ensures err { OnErr result (world self.new ≡ world self.old) }
+        ensures decided { IfOk result (λ a.
+            DecidesBy (probe filled (world self.old) stacks.old tid.0 addr)
+            G.unpaged (scene self.old) (lines.Probe tid addr) a (scene self.new)) }
+        ensures broke { OnErr result (Breaks G.unpaged (scene self.old) (scene self.new)) }
+        ensures stacks { IfOk result (λ a.
+            stacks.new ≡ stacks_after stacks.old (lines.Probe tid addr) a) }
         ensures unmoved { OnErr result (stacks.new ≡ stacks.old) }
-        ensures within { charge (world self.new) ≤ limit (world self.new) }
-        ensures lives { IsTidy (tables_of (world self.new)) }
-        ensures asked_files { OnOk result (AsksFiles self.old self.new) }
-        ensures asked_paging { OnOk result (AsksPaging self.old self.new) }
-        ensures named { IfOk result (λ a. NamesCalls self.old (lines.Probe tid addr) a self.new) }
-        ensures idle { OnErr result (AsksNone self.old self.new) }
-        ensures failed { IfOk result (λ a. IsFailure a → FailsFrom self.old (lines.Probe tid addr) self.new) }
-        ensures unwaited { G.unpaged ≡ true → (tid : ℕ) → ((report self.old).wait tid ≡ wait.None) × ((report self.new).wait tid ≡ wait.None) }
-        ensures waits { IfOk result (λ a. EndsWaits (world self.old) (lines.Probe tid addr) a (report self.new)) }
-        ensures paging_later { (paging_device self.old).faults ≤ (paging_device self.new).faults }
-        ensures files_later { (file_device self.old).faults ≤ (file_device self.new).faults }
-        ensures flushed { IfOk result (λ a. Flushed (world self.new) (file_blocks self.new) (lines.Probe tid addr) a) }
-        ensures paged { G.unpaged ≡ false → IfOk result (λ a. IsNoted self.old (lines.Probe tid addr) a self.new) }
-        ensures broken { G.unpaged ≡ false → OnErr result (IsBroken self.old self.new) }
         ensures line { OnOk result (line_of self.new ≡ line) }
         ensures ready { OnOk result (self.new.spent ≡ false) }
         ensures spent { OnErr result (self.new.spent ≡ true) }

@@ -20,10 +20,10 @@ use Rattle.mm_log.specs.declared.endings.Ending.{Ending}
 use Rattle.mm_log.specs.declared.endings.Ending.TheVariants as ending
 
 -- nothing is left, or what is left is stuck
-abbrev Ended : FrameLife → Text → Type 0
+abbrev pub Ended : FrameLife → Text → Type 0
 Ended l rest = (rest ≡ []) ⊎ IsStuck l rest
 
-in_front : (m : Move) (ms : List Move) (b : Text) → spelled_moves (m ∷ ms) ++ b ≡ move_onto m (10 ∷ (spelled_moves ms ++ b))
+pub in_front : (m : Move) (ms : List Move) (b : Text) → spelled_moves (m ∷ ms) ++ b ≡ move_onto m (10 ∷ (spelled_moves ms ++ b))
 in_front m ms b =
     append_assoc (spelling_of_move m) (spelled_moves ms) b
     ∙ ap (λ t. t ++ (spelled_moves ms ++ b)) (move_onto-is m (10 ∷ []))
@@ -31,7 +31,7 @@ in_front m ms b =
     ∙ sym (move_onto-is m (10 ∷ (spelled_moves ms ++ b)))
 
 -- what is left does not begin with a legal line
-no_more : (l : FrameLife) (rest : Text) (m : Move) (ms : List Move) (b : Text) → Ended l rest → IsMove m → is_legal l m ≡ true → rest ≡ spelled_moves (m ∷ ms) ++ b → ⊥
+pub no_more : (l : FrameLife) (rest : Text) (m : Move) (ms : List Move) (b : Text) → Ended l rest → IsMove m → is_legal l m ≡ true → rest ≡ spelled_moves (m ∷ ms) ++ b → ⊥
 no_more l rest m ms b (inl none) k h e =
     let long : length rest ≡ length (move_onto m (10 ∷ (spelled_moves ms ++ b))) = ap length (e ∙ in_front m ms b) in
     omega (arith, long, ap length none, ap length (move_onto-is m (10 ∷ (spelled_moves ms ++ b))), length-append (move_onto m []) (10 ∷ (spelled_moves ms ++ b)))
@@ -54,11 +54,11 @@ one_reading (m ∷ ms) (n ∷ ns) a b l p q i j r s u v e =
     (ap (λ (x : Move). x ∷ ms) one.0 ∙ ap (λ (xs : List Move). n ∷ xs) h.0, h.1)
 
 -- where all is told, the bytes taken are a front of the text
-taken_told : (text : Text) (left' : Option Text) (taken : Text) → Took (Some text) left' taken → (more : Text) × ((left' ≡ Some more) × (text ≡ taken ++ more))
+pub taken_told : (text : Text) (left' : Option Text) (taken : Text) → Took (Some text) left' taken → (more : Text) × ((left' ≡ Some more) × (text ≡ taken ++ more))
 taken_told text None taken t = absurd t
 taken_told text (Some more) taken t = (more, (refl, t))
 
-end_told : (left' : Option Text) (more : Text) → left' ≡ Some more → IsEnd left' → more ≡ []
+pub end_told : (left' : Option Text) (more : Text) → left' ≡ Some more → IsEnd left' → more ≡ []
 end_told None more e h = cc
 end_told (Some b) more e h = let same : b ≡ more = cc in sym same ∙ h
 

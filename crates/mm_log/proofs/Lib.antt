@@ -1,7 +1,10 @@
 pub mod Marked
 pub mod Counts
 pub mod Stuck
+pub mod Readings
 pub mod Stories
 pub mod Pieces
 pub mod Shown
 pub mod Exactly
+pub mod AskedWords
+pub mod Refusals

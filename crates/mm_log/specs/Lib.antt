@@ -2,5 +2,6 @@ pub mod Marking
 pub mod Counting
 pub mod LogText
 pub mod Verdict
+pub mod Reading
 pub mod Stepping
 pub mod Exact

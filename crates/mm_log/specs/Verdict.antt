@@ -65,6 +65,10 @@ pub record Tore (took took' : Option Text) (text : Text) : Type 0 where
 abbrev pub Shows : Option Text → Option Text → Text → ℕ → ℕ → Type 0
 Shows took took' text status result = ((result ≡ status) × Appended took took' text) ⊎ ((result ≡ 5) × Tore took took' text)
 
+-- Memory was refused as the words were read, and nothing was written.
+abbrev pub IsRefused : Option Text → Option Text → ℕ → Type 0
+IsRefused took took' result = (result ≡ 1) × (took' ≡ took)
+
 -- The whole run, over words that are a form.
 pub record Ran (asked : Asked) (left left' took took' : Option Text) (result : ℕ) : Type 0 where
   pub ending : Ending

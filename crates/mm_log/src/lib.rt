@@ -4,8 +4,11 @@
 mod checks;
 mod endings;
 mod marks;
+mod readers;
 mod tallies;
 mod texts;
 mod top;
 
-pub use top::run_log;
+pub use endings::Ending;
+pub use readers::{LogReader, MOST_LINES};
+pub use top::{run_log, write_text};

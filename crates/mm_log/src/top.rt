@@ -1,4 +1,4 @@
-ghost use Rattle.std.specs.Prelude.{◌≡◌, ◌≢◌, ◌⊎◌, ◌↔◌, ◌≤◌, ◌+◌, ◌++◌, ℕ, List, Option, Some, map, length, IsTrue, IfSome, string_bytes, is_err};
+ghost use Rattle.std.specs.Prelude.{◌≡◌, ◌≢◌, ◌⊎◌, ◌≤◌, ◌+◌, ◌++◌, ℕ, List, Option, Some, map, length, IfOk, IfSome, string_bytes, is_err};
 ghost use Rattle.mm_types.specs.Outside.{Rose, Appended, HasCause};
 ghost use Rattle.mm_io.specs.Io.{Wrote};
 ghost use Rattle.mm_types.specs.declared.moves.Move.{Move};
@@ -8,49 +8,53 @@ ghost use Rattle.mm_life.specs.Replay.{Replays};
 ghost use Rattle.mm_life.specs.LogCounts.{counts_of_log};
 ghost use Rattle.mm_log.specs.declared.endings.Asked.{Asked};
 ghost use Rattle.mm_log.specs.LogText.{Asks, IsForm, usage_text, yes_text};
-ghost use Rattle.mm_log.specs.Verdict.{most_bytes, Shows, Ran, IsStuck};
+ghost use Rattle.mm_log.specs.Verdict.{most_bytes, Shows, Ran, IsRefused, IsStuck};
 ghost use Rattle.mm_log.specs.Exact.{IsFault, SaysYes, SaysNo};
 
 use crate::checks::{Checker, check_log};
 use crate::endings::{Asked, Ending};
 use crate::texts::{status_of, text_of};
+use mm_forms::{Form, read_words};
 use mm_io::{Sink, Source, write_all};
 use mm_moves::read_key;
-use mm_types::{Failed, Key};
+use mm_types::{Failed, NoMemory};
 use std::alloc::Global;
 
 /// The status of a run in which a write to `out` failed, or the flush after it.
 const OUT_FAULT: u8 = 5;
 
-/// Whether a word is this text.
-fn is_word(word: &String, text: &[u8]) -> bool
-    ensures { IsTrue result ↔ (string_bytes word.now ≡ text.now) }
-{
-    word.as_bytes() == text
-}
+/// The status of a run in which memory was refused.
+const NO_MEMORY: u8 = 1;
 
-/// What the words ask, where they are a form.
-fn asked(words: &[String]) -> Option<Asked>
-    ensures forms { IfSome result (Asks (map string_bytes words.now)) }
-    ensures all { (a : Asked) → Asks (map string_bytes words.now) a → result ≡ Some a }
+/// What the words ask, where they are a form. A form is told by how many values it has.
+/// An `Err` is memory that was refused.
+fn asked(alloc: Global, words: &[String]) -> Result<Option<Asked>, NoMemory>
+    ensures forms { IfOk result (λ r. IfSome r (Asks (map string_bytes words.now))) }
+    ensures all { IfOk result (λ r. (a : Asked) → Asks (map string_bytes words.now) a → r ≡ Some a) }
 {
-    match words {
-        [word] => {
-            if is_word(word, b"check") {
-                Some(Asked::Check)
-            } else {
-                None
-            }
-        }
-        [word, key] => {
-            if is_word(word, b"where") {
-                let key = read_key(key.as_bytes())?;
-                Some(Asked::Where(key))
-            } else {
-                None
-            }
-        }
-        _ => None,
+    let forms = [
+        Form {
+            name: "check",
+            least: 0,
+            most: 0,
+        },
+        Form {
+            name: "where",
+            least: 1,
+            most: 1,
+        },
+    ];
+    let said = match read_words(alloc, &forms, words)? {
+        Some(said) => said,
+        None => return Ok(None),
+    };
+    match said.values.as_slice() {
+        [] => Ok(Some(Asked::Check)),
+        [key] => match read_key(key.as_bytes()) {
+            Some(key) => Ok(Some(Asked::Where(key))),
+            None => Ok(None),
+        },
+        _ => Ok(None),
     }
 }
 
@@ -65,7 +69,7 @@ fn write_flushed<O: Sink>(out: &mut O, text: &[u8]) -> Result<(), Failed>
 
 /// Writes the text, if any, and flushes it. Answers the status, or that of a write or flush that failed.
 #[tactic(auto, using(crate::proofs::Shown::shown))]
-fn write_text<O: Sink>(out: &mut O, text: &[u8], status: u8) -> u8
+pub fn write_text<O: Sink>(out: &mut O, text: &[u8], status: u8) -> u8
     requires { status ≢ 5 }
     ensures shows { Shows (O.taken out.old) (O.taken out.new) text.now status result }
     ensures later { O.faults out.old ≤ O.faults out.new }
@@ -112,8 +116,9 @@ pub fn run_log<S: Source, O: Sink>(
     ensures no { (a : Asked) (text rest : List ℕ) (moves : List Move) (l : FrameLife) → Asks (map string_bytes words.now) a → S.left source.old ≡ Some text → length text ≤ most_bytes
         → AreMoves moves → text ≡ spelled_moves moves ++ rest → Replays moves unstarted l → IsStuck l rest → SaysNo (length moves + 1) (O.taken out.old) (O.taken out.new) result ⊎ IsFault result }
 
-    // Words that are no form are answered by the usage line, and nothing is read.
-    ensures usage { (IsForm (map string_bytes words.now) → ⊥) → Shows (O.taken out.old) (O.taken out.new) usage_text 2 result }
+    // Words that are no form are answered by the usage line, or memory was refused and nothing is written. Nothing is read.
+    ensures usage { (IsForm (map string_bytes words.now) → ⊥) → Shows (O.taken out.old) (O.taken out.new) usage_text 2 result
+        ⊎ IsRefused (O.taken out.old) (O.taken out.new) result }
     ensures unread { (IsForm (map string_bytes words.now) → ⊥) → S.left source.new ≡ S.left source.old }
     ensures form { IsForm (map string_bytes words.now) → result ≢ 2 }
 
@@ -123,8 +128,9 @@ pub fn run_log<S: Source, O: Sink>(
     ensures read_fault { result ≡ 4 → Rose (S.faults source.old) (S.faults source.new) }
     ensures out_fault { result ≡ 5 → Rose (O.faults out.old) (O.faults out.new) }
 {
-    match asked(words) {
-        Some(asked) => answer(alloc, asked, source, out),
-        None => write_text(out, b"usage: mmlog check | mmlog where KEY\n", 2),
+    match asked(alloc, words) {
+        Ok(Some(asked)) => answer(alloc, asked, source, out),
+        Ok(None) => write_text(out, b"usage: mmlog check | mmlog where KEY\n", 2),
+        Err(NoMemory) => NO_MEMORY,
     }
 }

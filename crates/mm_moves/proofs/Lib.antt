@@ -14,5 +14,6 @@ pub mod Flags
 pub mod Lines
 pub mod Fresh
 pub mod Placing
+pub mod Looked
 pub mod Soundness
 pub mod Flying

@@ -8,6 +8,7 @@ pub mod Listed
 pub mod Listings
 pub mod Slotted
 pub mod Sound
+pub mod Looking
 pub mod Replaying
 pub mod Flying
 pub mod Recorded

@@ -1,4 +1,4 @@
-ghost use Rattle.std.specs.Prelude.{◌≡◌, ◌++◌, ◌<◌, ◌∷◌, [], IfOk, drop, map};
+ghost use Rattle.std.specs.Prelude.{◌≡◌, ℕ, ◌+◌, ◌++◌, ◌<◌, ◌∷◌, [], IfOk, Some, drop, length, map};
 ghost use Rattle.mm_lists.specs.Lists.{IsOnOne, IsOnNone, list_at, number_at, with_list, without};
 ghost use Rattle.mm_moves.specs.Listed.{AreFour, free_alone, no_lists};
 
@@ -15,6 +15,19 @@ pub(crate) const FREE: u32 = 1;
 pub(crate) const STANDBY: u32 = 2;
 
 pub(crate) const MODIFIED: u32 = 3;
+
+/// A list of page frames that hold no valid page and have no request.
+#[derive(Clone, Copy, PartialEq, Eq, Debug)]
+pub enum FrameList {
+    /// Frames of zeros, for pages of zeros.
+    Zeroed,
+    /// Frames that hold nothing.
+    Free,
+    /// Frames of pages that are as on their device, to be used again first.
+    Standby,
+    /// Frames of changed pages, to be written first.
+    Modified,
+}
 
 /// Four lists over the frames; before the machine is known over none, and without memory.
 #[derive(Drop)]
@@ -58,6 +71,29 @@ impl FourLists {
     {
         match &self.lists {
             Some(lists) => lists.front(list),
+            None => None,
+        }
+    }
+
+    /// How many numbers are on the list.
+    pub(crate) fn len(&self, list: u32) -> u32
+        requires { list < 4 }
+        ensures { result ≡ length (list_at self.now.lists list) }
+    {
+        match &self.lists {
+            Some(lists) => lists.len(list),
+            None => 0,
+        }
+    }
+
+    /// The number after `x` on its list, `None` exactly where `x` is the last.
+    pub(crate) fn next(&self, x: u32) -> Option<u32>
+        requires { IsOnOne self.now.lists x }
+        ensures { (j k : ℕ) → number_at self.now.lists j k ≡ Some x
+            → result ≡ number_at self.now.lists j (k + 1) }
+    {
+        match &self.lists {
+            Some(lists) => lists.next(x),
             None => None,
         }
     }

@@ -1,6 +1,7 @@
 ghost use Rattle.std.specs.Prelude.{◌≡◌, ◌+◌, ◌-◌, ◌<◌, ◌≤◌, ◌^◌, true, false, [], ◌++◌, length, replicate, OnOk, OnErr, IfOk, Some, slice_get, slice_index_or, slice_set};
 ghost use Rattle.mm_life.specs.Legal.{is_lowest};
 ghost use Rattle.mm_life.specs.Effect.{freed};
+ghost use Rattle.mm_slots.specs.Slots.{free_count};
 ghost use Rattle.mm_moves.specs.Slotted.{no_slots, IsLowestIn, without_slot};
 
 use mm_slots::Slots;
@@ -37,6 +38,20 @@ impl SlotTree {
     {
         let slots = Slots::new(alloc, n)?;
         Ok(SlotTree { slots: Some(slots) })
+    }
+
+    /// How many slots are free: not all that can be counted.
+    fn free_count(&self) -> u32
+        ensures value { result ≡ free_count self.now.free }
+        ensures few { length self.now.free < 2 ^ 32 }
+    {
+        match &self.slots {
+            Some(slots) => {
+                let _all = slots.len();
+                slots.free_count()
+            }
+            None => 0,
+        }
     }
 
     /// Takes the lowest free slot, if any is free.
@@ -188,6 +203,24 @@ impl SlotMap {
         match self.lowest {
             Some(lowest) => lowest == slot,
             None => false,
+        }
+    }
+
+    /// Whether a slot is there and free.
+    pub(crate) fn is_free(&self, slot: u32) -> bool
+        ensures { result ≡ slice_index_or self.now slot false }
+    {
+        flag_at(&self.free, slot)
+    }
+
+    /// How many slots are free.
+    pub(crate) fn count(&self) -> u32
+        ensures { result ≡ free_count self.now }
+    {
+        let others = self.others.free_count();
+        match self.lowest {
+            Some(_) => others + 1,
+            None => others,
         }
     }
 

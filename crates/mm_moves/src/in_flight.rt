@@ -1,4 +1,4 @@
-ghost use Rattle.std.specs.Prelude.{◌≡◌, ℕ, ◌++◌, ◌<◌, ◌∷◌, [], IfOk, Some, length, map, replicate, false, slice_get};
+ghost use Rattle.std.specs.Prelude.{◌≡◌, ℕ, ◌+◌, ◌++◌, ◌<◌, ◌∷◌, [], IfOk, Some, None, length, map, replicate, false, slice_get};
 ghost use Rattle.mm_life.specs.Frames.{without};
 ghost use Rattle.mm_lists.specs.Lists.{IsOnOne, IsOnNone, list_at, with_list, without as without_number};
 ghost use Rattle.mm_moves.specs.Flying.{IsOne, no_requests};
@@ -51,6 +51,28 @@ impl RequestList {
         match &self.lists {
             Some(lists) => lists.len(0),
             None => 0,
+        }
+    }
+
+    /// The first number on the list, `None` exactly where it is empty.
+    fn front(&self) -> Option<u32>
+        ensures { result ≡ slice_get (list_at self.now.lists 0) 0 }
+    {
+        match &self.lists {
+            Some(lists) => lists.front(0),
+            None => None,
+        }
+    }
+
+    /// The number after `x` on the list, `None` exactly where `x` is the last.
+    fn next(&self, x: u32) -> Option<u32>
+        requires { IsOnOne self.now.lists x }
+        ensures { (k : ℕ) → slice_get (list_at self.now.lists 0) k ≡ Some x
+            → result ≡ slice_get (list_at self.now.lists 0) (k + 1) }
+    {
+        match &self.lists {
+            Some(lists) => lists.next(x),
+            None => None,
         }
     }
 
@@ -128,6 +150,26 @@ impl InFlight {
         ensures { result ≡ length self.now.requests }
     {
         self.list.len()
+    }
+
+    /// The frame of the oldest request, if there is any.
+    pub(crate) fn first(&self) -> Option<u32>
+        ensures { result ≡ slice_get self.now.requests 0 }
+    {
+        self.list.front()
+    }
+
+    /// The frame of the request after that of `f`, if `f` has one and it is not the youngest.
+    pub(crate) fn next(&self, f: u32) -> Option<u32>
+        ensures behind { (k : ℕ) → slice_get self.now.requests k ≡ Some f
+            → result ≡ slice_get self.now.requests (k + 1) }
+        ensures none { ((k : ℕ) → slice_get self.now.requests k ≡ Some f → ⊥) → result ≡ None }
+    {
+        if flag_at(&self.flags, f) {
+            self.list.next(f)
+        } else {
+            None
+        }
     }
 
     /// The youngest request is of this frame, which had none.

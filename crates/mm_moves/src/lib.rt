@@ -10,6 +10,7 @@ mod holdings;
 mod in_flight;
 mod listings;
 mod lives;
+mod looks;
 mod ordered_pairs;
 mod pairs;
 mod readings;
@@ -19,6 +20,7 @@ mod spellings;
 mod states;
 mod tables;
 
+pub use four_lists::FrameList;
 pub use lives::{ApplyFault, Life};
 pub use readings::{lines_determine_moves, read_key, read_move};
 pub use recorders::{Moves, Recorder};

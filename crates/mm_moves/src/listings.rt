@@ -1,7 +1,7 @@
-ghost use Rattle.std.specs.Prelude.{◌≡◌, ◌++◌, ◌<◌, ◌∷◌, [], true, false, is_some, replicate, IfOk, slice_set, slice_index_or};
+ghost use Rattle.std.specs.Prelude.{◌≡◌, ℕ, ◌+◌, ◌++◌, ◌<◌, ◌∷◌, [], true, false, is_some, length, replicate, IfOk, Some, None, slice_set, slice_index_or};
 ghost use Rattle.mm_life.specs.Frames.{FrameTable, blank, record_at, is_idle, is_on, off_lists, with_record, settled, to_free};
 ghost use Rattle.mm_life.specs.Life.{free_table, numbers_from};
-ghost use Rattle.mm_lists.specs.Lists.{number_at};
+ghost use Rattle.mm_lists.specs.Lists.{IsOnNone, list_at, number_at};
 ghost use Rattle.mm_moves.specs.Listed.{AreFour, free_alone, belongs, is_owned, first_taken, put_behind};
 
 use crate::four_lists::{FREE, FourLists, MODIFIED, STANDBY};
@@ -92,6 +92,35 @@ impl Listing {
         ensures { result ≡ number_at self.now.lists.lists list 0 }
     {
         self.lists.front(list)
+    }
+
+    /// How many frames are on a list.
+    pub(crate) fn len(&self, list: u32) -> u32
+        requires { list < 4 }
+        ensures { result ≡ length (list_at self.now.lists.lists list) }
+    {
+        self.lists.len(list)
+    }
+
+    /// The frame after `f` on its list, if `f` is on one and is not the last.
+    pub(crate) fn next(&self, f: u32) -> Option<u32>
+        requires { IsKept self.now }
+        ensures behind { (j k : ℕ) → number_at self.now.lists.lists j k ≡ Some f
+            → result ≡ number_at self.now.lists.lists j (k + 1) }
+        ensures none { IsOnNone self.now.lists.lists f → result ≡ None }
+    {
+        if (f as usize) < self.records.len() && is_idle(&self.record(f)) {
+            self.lists.next(f)
+        } else {
+            None
+        }
+    }
+
+    /// The record of each frame.
+    pub(crate) fn records(&self) -> &[Record]
+        ensures { result.now ≡ (table self.now).records }
+    {
+        &self.records
     }
 
     /// Whether a frame is on the modified list.

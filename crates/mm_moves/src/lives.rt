@@ -23,7 +23,7 @@ pub enum ApplyFault {
 /// The replay of a log as a running check: the state after the moves so far. It keeps none of them.
 #[derive(Drop)]
 pub struct Life {
-    state: State,
+    pub(crate) state: State,
     ghost reached: { ∥ Reached (life_of state) ∥₁ },
 }
 
@@ -46,6 +46,23 @@ impl Life {
         self.state.held(key)
     }
 
+    /// Whether the next move may be this one.
+    pub fn is_legal(&self, m: &Move) -> bool
+        ensures { result ≡ is_legal (life self.now) m.now }
+    {
+        is_legal(&self.state, m)
+    }
+
+    /// Makes a move that is legal in the state so far. Where memory for it was refused nothing has changed.
+    pub fn make(&mut self, m: &Move) -> Result<(), NoMemory>
+        requires legal { IsLegal m.now (life self.old) }
+        ensures ok { OnOk result (life self.new ≡ after_move (life self.old) m.now) }
+        ensures err { OnErr result (life self.new ≡ life self.old) }
+    {
+        self.state.table.keeps_lists();
+        self.state.make(m)
+    }
+
     /// Takes the next move. `Illegal` comes exactly where the move is not legal in the state so far, `Memory`
     /// where memory for a legal one was refused; after either nothing has changed.
     pub fn apply(&mut self, m: &Move) -> Result<(), ApplyFault>
@@ -54,11 +71,10 @@ impl Life {
         ensures illegal { (result ≡ Err ApplyFault.Illegal) ↔ (is_legal (life self.old) m.now ≡ false) }
         ensures err { OnErr result (life self.new ≡ life self.old) }
     {
-        if !is_legal(&self.state, m) {
+        if !self.is_legal(m) {
             return Err(ApplyFault::Illegal);
         }
-        self.state.table.keeps_lists();
-        match self.state.make(m) {
+        match self.make(m) {
             Ok(()) => Ok(()),
             Err(NoMemory) => Err(ApplyFault::Memory),
         }

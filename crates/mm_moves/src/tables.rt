@@ -1,15 +1,16 @@
-ghost use Rattle.std.specs.Prelude.{◌≡◌, ◌+◌, ◌<◌, ◌≤◌, ◌^◌, ◌&&◌, ◌||◌, true, false, is_some, IfOk};
+ghost use Rattle.std.specs.Prelude.{◌≡◌, ◌+◌, ◌<◌, ◌≤◌, ◌^◌, ◌&&◌, ◌||◌, true, false, is_some, length, IfOk, slice_get};
+ghost use Rattle.mm_moves.specs.Looking.{frames_on, IsBehind};
 ghost use Rattle.mm_life.specs.Frames.{record_at, is_first, is_empty, is_on, is_read, is_write, has_request, taken_for_read, after_clear, after_steal, after_give, after_read, after_got, after_bad, after_map, after_unmap, after_soil, after_write, after_wrote, after_lost, after_drop};
 ghost use Rattle.mm_life.specs.Life.{free_table};
 ghost use Rattle.mm_moves.specs.Sound.{Listed};
 
-use crate::four_lists::{FREE, MODIFIED, STANDBY, ZEROED};
+use crate::four_lists::{FREE, FrameList, MODIFIED, STANDBY, ZEROED};
 use crate::listings::Listing;
 use crate::records::{
     being_read, being_written, disowned, given, has_request, read_done, shared, soiled, unshared,
     write_done, write_lost,
 };
-use mm_types::{Backing, Key, NoMemory, Record};
+use mm_types::{Backing, Frame, Key, NoMemory, Record};
 use std::alloc::Global;
 use std::marker::Model;
 
@@ -55,6 +56,47 @@ impl Table {
         ensures { result ≡ record_at self.now f }
     {
         self.listing.record(f)
+    }
+
+    /// The record of each frame.
+    pub(crate) fn records(&self) -> &[Record]
+        ensures { result.now ≡ self.now.records }
+    {
+        self.listing.records()
+    }
+
+    /// How many frames are on a list.
+    pub(crate) fn len(&self, list: FrameList) -> u32
+        ensures { result ≡ length (frames_on self.now list) }
+    {
+        match list {
+            FrameList::Zeroed => self.listing.len(ZEROED),
+            FrameList::Free => self.listing.len(FREE),
+            FrameList::Standby => self.listing.len(STANDBY),
+            FrameList::Modified => self.listing.len(MODIFIED),
+        }
+    }
+
+    /// The first frame of a list, if any.
+    pub(crate) fn first(&self, list: FrameList) -> Option<u32>
+        ensures { result ≡ slice_get (frames_on self.now list) 0 }
+    {
+        match list {
+            FrameList::Zeroed => self.listing.first(ZEROED),
+            FrameList::Free => self.listing.first(FREE),
+            FrameList::Standby => self.listing.first(STANDBY),
+            FrameList::Modified => self.listing.first(MODIFIED),
+        }
+    }
+
+    /// The frame after `f` on its list, if `f` is on one and is not the last.
+    pub(crate) fn next(&self, f: u32) -> Option<Frame>
+        ensures { IsBehind (frames_on self.now) f result }
+    {
+        match self.listing.next(f) {
+            Some(next) => Some(Frame(next)),
+            None => None,
+        }
     }
 
     pub(crate) fn is_zeroed_empty(&self) -> bool

@@ -91,16 +91,16 @@ rose_from o s z p f (inr r) = inr (rose_later o.files s.files.faults z.files.fau
 module _ (o : Outset) (s z : Scene) (e : Event) (a : Answer) (ms : List Move) (d : Decides s e a ms z) (replays : Replays ms s.behind.life z.behind.life) (calm : Calm o s) where
   calm_line : NamesNone e a → Calm o z
   calm_line u =
-      let p = d.paging_later in let f = d.files_later in let po = calm.paging_later in let fo = calm.files_later in
+      let p = d.told.paging_later in let f = d.told.files_later in let po = calm.paging_later in let fo = calm.files_later in
       record {
         none = count_stays s.system z.system e a s.report z.report (names_not_ok e a u) d.answered ∙ calm.none;
-        paging_named = d.few_paging;
-        files_named = d.few_files;
+        paging_named = d.told.few_paging;
+        files_named = d.told.few_files;
         paging_later = omega arith;
         files_later = omega arith;
         sound = kept_along ms s.behind.life z.behind.life calm.sound replays;
-        waits_are = d.line.agrees.waits;
-        lost = λ t h. elim (lost_line s.system.world s.report s.behind s.paging s.files e a ms z.system.world z.report z.behind z.paging z.files d.line calm.sound replays t h) [
+        waits_are = (d.told.line refl).agrees.waits;
+        lost = λ t h. elim (lost_line s.system.world s.report s.behind s.paging s.files e a ms z.system.world z.report z.behind z.paging z.files (d.told.line refl) calm.sound replays t h) [
           | inl was ↦ rose_on o s z p f (calm.lost t was)
           | inr rose ↦ rose_from o s z po fo rose
         ];
@@ -111,8 +111,8 @@ module _ (o : Outset) (s z : Scene) (e : Event) (a : Answer) (ms : List Move) (d
   by_thread (Some t) h = calm.lost t (sym (ap wait_failed (calm.waits_are t)) ∙ h)
 
   fails_line : IsFailure a → RoseTo o z
-  fails_line bad = elim (d.failed bad) [
-    | inl before ↦ rose_on o s z d.paging_later d.files_later (by_thread (resumed_thread e) before)
+  fails_line bad = elim (d.told.failed bad) [
+    | inl before ↦ rose_on o s z d.told.paging_later d.told.files_later (by_thread (resumed_thread e) before)
     | inr rose ↦ rose_from o s z calm.paging_later calm.files_later rose
   ]
 
@@ -154,7 +154,7 @@ quiet_more : (o : Outset) (s m n z : Scene) (l : DecidedLine) (ls : List Decided
 quiet_more o s m n z l ls ms h d r calm q =
     let same = same_devices s m h in
     let sp = ap (λ (x : DeviceOf). x.faults) same.0 in let sf = ap (λ (x : DeviceOf). x.faults) same.1 in
-    let pl = d.paging_later in let fl = d.files_later in let ql = q.paging_later in let rl = q.files_later in
+    let pl = d.told.paging_later in let fl = d.told.files_later in let ql = q.paging_later in let rl = q.files_later in
     record {
       calm = q.calm;
       paging_later = omega arith;
@@ -243,7 +243,7 @@ breaks_end : (o : Outset) (s : Scene) (before end : Stage) → Calm o s → Foll
 breaks_end o s (NotBegun f) end c h b = absurd b
 breaks_end o s (Running m) (NotBegun f) c h b = absurd b
 breaks_end o s (Running m) (Running z) c h b =
-    let same = same_devices s m h in ended_same o s z c (b.paging ∙ same.0) (b.files ∙ same.1)
+    let same = same_devices s m h in ended_same o s z c (b.broke.paging ∙ same.0) (b.broke.files ∙ same.1)
 
 mutes_end : (o : Outset) (s : Scene) (l : DecidedLine) (before after end : Stage) → Calm o s → Follows (Running s) before → IsDecided before l.event l.answer l.moves after → end ≡ after → NoneNamed end → EndedAt o s end
 mutes_end o s l (NotBegun f) after end c h d q none = absurd (let bad = h.same in cc)
@@ -251,7 +251,7 @@ mutes_end o s l (Running m) (NotBegun f) end c h d q none = absurd d.step
 mutes_end o s l (Running m) (Running z) end c h d q none =
     let same = same_devices s m h in
     let sp = ap (λ (x : DeviceOf). x.faults) same.0 in let sf = ap (λ (x : DeviceOf). x.faults) same.1 in
-    let pl = d.step.1.paging_later in let fl = d.step.1.files_later in
+    let pl = d.step.1.told.paging_later in let fl = d.step.1.told.files_later in
     let named = subst NoneNamed q none in
     subst (λ (x : Stage). EndedAt o s x) (sym q) (record {
       paging_later = omega arith;

@@ -2,7 +2,6 @@ pub mod Ends
 pub mod Scripts
 pub mod Stops
 pub mod Stories
-pub mod Words
 pub mod Failures
 pub mod Firsts
 pub mod Later
@@ -19,7 +18,7 @@ pub mod Batches
 pub mod Drawn
 pub mod Events
 pub mod Tallies
-pub mod ThreeWords
+pub mod FormWords
 pub mod WrittenPages
 pub mod WatchLines
 pub mod WatchesTold

@@ -162,7 +162,9 @@ module _ (old last : Stage) (moves : List Move) (l : Logged old moves last) (sta
   break_notes : (e : Ending) (mid end : Stage) → e ≡ ending.NoMemory → Follows last mid → BreaksAt mid end → LogRan (log_of old).bytes (log_of end).bytes (log_of old).faults (log_of end).faults moves e last end
   break_notes e (NotBegun o) end q h b = absurd b
   break_notes e (Running s) (NotBegun o) q h b = absurd b
-  break_notes e (Running s) (Running z) q h b = log_more e (Running s) (Running z) b.moves h b.notes (λ n m. n q)
+  break_notes e (Running s) (Running z) q h b =
+      let p = b.broke.broken refl in
+      log_more e (Running s) (Running z) p.piece h (record { in_range = p.in_range; grew = p.grew; replays = p.replays }) (λ n m. n q)
 
   pub log_closed : (e : Ending) (end : Stage) → ClosesEvents e last end → LogRan (log_of old).bytes (log_of end).bytes (log_of old).faults (log_of end).faults moves e last end
   log_closed ending.NoMemory end (inl h) = log_whole ending.NoMemory end h

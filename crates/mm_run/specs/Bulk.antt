@@ -20,7 +20,7 @@ use Rattle.mm_run.specs.Steps.{IsDecided}
 use Rattle.mm_run.specs.Answered.{DecidedLine, last_stage, answers_of, moves_of, NoneNames, NoneFails}
 use Rattle.mm_run.specs.Texts.{status_of}
 use Rattle.mm_run.specs.Ends.{BreaksOff, Leaves}
-use Rattle.mm_run.specs.Ran.{Around, LogRan, EndsHolding, NoneNamed, SomeRose, begun_at}
+use Rattle.mm_run.specs.Ran.{Around, IsRefused, LogRan, EndsHolding, NoneNamed, SomeRose, begun_at}
 
 -- ---- the words
 
@@ -139,3 +139,6 @@ pub record BulkRan (a b : Around) (events : List Event) (status : ℕ) : Type 0 
   pub log : LogRan a.beside.moves b.beside.moves a.beside.moves_faults b.beside.moves_faults (moves_of lines) e (last_stage (begun_at a.beside) lines) end
   pub holds : e ≡ ending.Done → EndsHolding end b.beside.paging.blocks b.beside.files.blocks
   pub faultless : (SomeRose a.beside b.beside → ⊥) → NoneNames lines → (e ≡ ending.MovesFault → NoneNamed end) → NoneFails lines
+
+abbrev pub BulkRanOrRefused : Around → Around → List Event → ℕ → Type 0
+BulkRanOrRefused a b events status = BulkRan a b events status ⊎ IsRefused a b status

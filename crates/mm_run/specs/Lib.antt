@@ -9,5 +9,6 @@ pub mod Story
 pub mod Ran
 pub mod Script
 pub mod Bulk
+pub mod WordForms
 pub mod Batch
 pub mod Seen

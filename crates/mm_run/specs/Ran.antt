@@ -97,3 +97,12 @@ pub record Ran (a b : Around) (form : Type 0) (status : ℕ) : Type 0 where
   -- If no `fail` line was answered `ok`, nor named calls as the line without an answer, an answer tells of a failure only where a
   -- device's count of faults rose.
   pub faultless : (SomeRose a.beside b.beside → ⊥) → NoneNames lines → (e ≡ ending.MovesFault → NoneNamed end) → NoneFails lines
+
+-- Memory was refused as the words were read, before anything else: the status is 1, and everything
+-- stands as it stood.
+pub record IsRefused (a b : Around) (status : ℕ) : Type 0 where
+  pub status_is : status ≡ 1
+  pub stands : b ≡ a
+
+abbrev pub RanOrRefused : Around → Around → Type 0 → ℕ → Type 0
+RanOrRefused a b form status = Ran a b form status ⊎ IsRefused a b status

@@ -9,6 +9,7 @@ use Rattle.mm_world.specs.System.{System}
 use Rattle.mm_blocks.specs.Devices.{DeviceOf}
 use Rattle.mm_pages.specs.Behind.{Behind}
 use Rattle.mm_pages.specs.declared.pages.Pages.{Ghosts as PagesGhosts}
+use Rattle.mm_core.specs.Promise.{Scene as WorldScene}
 use Rattle.mm_system.specs.declared.systems.System.{System as Kept}
 use Rattle.mm_system.specs.Shown.{system, report, behind, paging_device, file_device, file_blocks}
 
@@ -20,6 +21,17 @@ pub record Scene : Type 0 where
   pub files : DeviceOf
   pub blocks : List Page
   pub behind : Behind
+
+-- what its world shows
+abbrev pub shown : Scene → WorldScene
+shown s = record {
+  world = s.system.world;
+  report = s.report;
+  paging = s.paging;
+  files = s.files;
+  blocks = s.blocks;
+  behind = s.behind;
+}
 
 -- Before its first line: the counts of faults of both devices, and how the sink of moves stands.
 pub record Outset : Type 0 where

@@ -1,20 +1,17 @@
 -- What one line does.
 -- Profile, "A run".
-use Rattle.std.specs.Prelude.{◌≡◌, ◌⊎◌, ◌≤◌, ◌+◌, ℕ, Bool, true, false, List, [], ◌∷◌, length, replicate, unwrap_or}
+use Rattle.std.specs.Prelude.{◌≡◌, ◌≤◌, ℕ, Bool, true, false, List, [], ◌∷◌, replicate, unwrap_or}
 use Rattle.mm_types.specs.Machine.{MachineOf, limit_of}
 use Rattle.mm_types.specs.declared.answers.Answer.{Answer}
 use Rattle.mm_types.specs.declared.answers.Answer.TheVariants as answer
 use Rattle.mm_types.specs.declared.answers.Wait.TheVariants as wait
 use Rattle.mm_types.specs.declared.events.Event.{Event}
 use Rattle.mm_types.specs.declared.events.Event.TheVariants as line
-use Rattle.mm_types.specs.declared.moves.LineKind.{LineKind}
 use Rattle.mm_types.specs.declared.moves.Move.{Move}
-use Rattle.mm_types.specs.declared.moves.Move.TheVariants as move
 use Rattle.mm_life.specs.Logs.{Grew}
 use Rattle.mm_life.specs.MoveText.{AreMoves, spelled_moves}
 use Rattle.mm_life.specs.Replay.{Replays}
 use Rattle.mm_world.specs.Charge.{charge, limit}
-use Rattle.mm_world.specs.Contents.{tables_of}
 use Rattle.mm_world.specs.Report.{Report, failed_calls}
 use Rattle.mm_world.specs.World.{Page}
 use Rattle.mm_world.specs.Outcome.{OutcomeOf, done}
@@ -22,18 +19,15 @@ use Rattle.mm_world.specs.Step.{unpaged, is_told, is_failed_extension}
 use Rattle.mm_world.specs.System.{System, first_system, beside, plain_line, system_step}
 use Rattle.mm_blocks.specs.Traffic.{NoneLogged, empty_block}
 use Rattle.mm_blocks.specs.Devices.{DeviceOf}
-use Rattle.mm_tables.specs.References.{IsTidy}
 use Rattle.mm_walks.specs.Waits.{Idle}
-use Rattle.mm_paging.specs.Lines.{Line}
 use Rattle.mm_paging.specs.Runs.{DevicesHold, first_move}
 use Rattle.mm_core.specs.Stepping.{asks_frames}
-use Rattle.mm_core.specs.Serving.{AskedBeside, AskedFiles, AskedPaging, Named, IsFailure, FailedBefore, OneRose, Flushed, is_fail, is_grow}
-use Rattle.mm_core.specs.Forgetting.{EndsWaits}
+use Rattle.mm_core.specs.Promise.{Told, Breaks as WorldBreaks}
 use Rattle.mm_watch.specs.Watches.{AreApart}
 use Rattle.mm_system.specs.Live.{are_live}
 use Rattle.mm_system.specs.Writes.{writes_of, writes_after}
 use Rattle.mm_system.specs.Lines.{is_machine}
-use Rattle.mm_run.specs.Scenes.{Scene, Outset, Stage, NotBegun, Running, life_of, log_of}
+use Rattle.mm_run.specs.Scenes.{Scene, Outset, Stage, NotBegun, Running, shown, life_of, log_of}
 
 -- ---- the first line
 
@@ -95,27 +89,9 @@ pub record Decides (s : Scene) (e : Event) (a : Answer) (moves : List Move) (z :
   pub watched : AreWatched z.system
   -- the writes that threads keep change as the line and its answer tell
   pub kept : writes_of z.system.world ≡ writes_after (writes_of s.system.world) e a
-  -- sections and names live while something refers to them
-  pub lives : IsTidy (tables_of z.system.world)
-  -- but of `grow` and `fail` lines, the calls of a device in this line are those of its log and of the report
-  pub asked_paging : is_fail e ≡ false → is_grow e ≡ false → AskedPaging s.paging z.paging z.report
-  pub asked_files : is_fail e ≡ false → AskedFiles s.files z.files z.report
-  -- what these lines ask beside: a `file` line writes the blocks of its file in rising order, `grow` asks the paging device to grow, and `fail` names calls
-  pub beside : AskedBeside s.system.world.blocks_used e a s.paging z.paging s.files z.files
-  pub named : Named false e a s.paging z.paging s.files z.files
-  -- no more calls of a device are named than `fail` lines were answered `ok`
-  pub few_paging : length z.paging.named ≤ z.system.world.fails_taken
-  pub few_files : length z.files.named ≤ z.system.world.fails_taken
-  -- a failure is a device's in this line, or, of a `resume`, that of the read that its thread waited for
-  pub failed : IsFailure a → FailedBefore e s.report ⊎ OneRose s.paging z.paging s.files z.files
-  pub paging_later : s.paging.faults ≤ z.paging.faults
-  pub files_later : s.files.faults ≤ z.files.faults
-  -- after a `flush` answered `ok` the blocks hold the bytes of their pages
-  pub flushed : Flushed z.system.world z.blocks e a
-  -- threads whose access or whose process ends wait no more
-  pub waits : EndsWaits s.system.world e a z.report
-  -- the line's moves are one `at` with its number and kind, and what its form allows
-  pub line : Line s.system.world s.report s.behind s.paging s.files e a moves z.system.world z.report z.behind z.paging z.files
+  -- what the promise of a world tells beside: of sections and names, of devices, of waits, and of the moves, which are one `at` with the
+  -- line's number and kind, and what its form allows
+  pub told : Told false (shown s) e a moves (shown z)
 
 -- ---- any line
 
@@ -162,10 +138,5 @@ pub record Moved (old : Stage) (e : Event) (a : Answer) (new : Stage) : Type 0 w
 
 -- A line ran out of memory: it noted its `at` alone or nothing, and system and devices are as before.
 pub record Breaks (s z : Scene) : Type 0 where
-  pub moves : List Move
-  pub at_most : (moves ≡ []) ⊎ ((k : LineKind) × (moves ≡ move.At (s.behind.life.line + 1) k ∷ []))
-  pub notes : Notes (Running s) moves (Running z)
   pub system : z.system ≡ s.system
-  pub paging : z.paging ≡ s.paging
-  pub files : z.files ≡ s.files
-  pub blocks : z.blocks ≡ s.blocks
+  pub broke : WorldBreaks false (shown s) (shown z)

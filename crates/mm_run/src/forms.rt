@@ -1,9 +1,23 @@
-ghost use Rattle.std.specs.Prelude.{◌≡◌, ◌≤◌, ℕ, Some, MatchOption};
+ghost use Rattle.std.specs.Prelude.{◌≡◌, ◌≤◌, ℕ, Some, IfOk, MatchOption};
 ghost use Rattle.mm_text.specs.Field.{digit_value};
-ghost use Rattle.mm_run.specs.Bulk.{IsBulk, IsNoBulk, word_value};
+ghost use Rattle.mm_run.specs.Bulk.{word_value};
+ghost use Rattle.mm_run.specs.WordForms.{SaysForm};
+
+use mm_forms::{Form, read_words};
+use mm_types::NoMemory;
+use std::alloc::Global;
 
 /// The most events that a generated script draws.
 const MOST_DRAWN: u64 = 100_000;
+
+/// The form that the words of a run are.
+#[derive(Clone, Copy)]
+pub(crate) enum WordsForm {
+    /// `run`: the script is read.
+    Run,
+    /// `bulk SEED COUNT`: the script is generated of these two numbers.
+    Bulk { seed: u64, count: u32 },
+}
 
 /// The value of a hexadecimal digit of either case, or 16 for another byte.
 fn digit(byte: u8) -> u8
@@ -61,18 +75,35 @@ fn numbers(seed: &[u8], count: &[u8]) -> Option<(u64, u32)>
     }
 }
 
-/// The seed and the count, where the words are the form `bulk`. No word of it begins with `-`.
-pub(crate) fn bulk_words(words: &[String]) -> Option<(u64, u32)>
-    ensures { MatchOption result (IsNoBulk words.now) (λ r. IsBulk words.now r.0 r.1) }
+/// The form that the words are, told by how many values it has; `None` where they are none. No word
+/// of a form begins with `-`. An `Err` is memory that was refused.
+pub(crate) fn words_form(alloc: Global, words: &[String]) -> Result<Option<WordsForm>, NoMemory>
+    ensures { IfOk result (λ r. MatchOption r
+        ((f : WordsForm) → SaysForm words.now f → ⊥)
+        (SaysForm words.now)) }
 {
-    match words {
-        [form, seed, count] => {
-            if form.as_str() == "bulk" {
-                numbers(seed.as_bytes(), count.as_bytes())
-            } else {
-                None
-            }
-        }
-        _ => None,
+    let forms = [
+        Form {
+            name: "run",
+            least: 0,
+            most: 0,
+        },
+        Form {
+            name: "bulk",
+            least: 2,
+            most: 2,
+        },
+    ];
+    let said = match read_words(alloc, &forms, words)? {
+        Some(said) => said,
+        None => return Ok(None),
+    };
+    match said.values.as_slice() {
+        [] => Ok(Some(WordsForm::Run)),
+        [seed, count] => match numbers(seed.as_bytes(), count.as_bytes()) {
+            Some((seed, count)) => Ok(Some(WordsForm::Bulk { seed, count })),
+            None => Ok(None),
+        },
+        _ => Ok(None),
     }
 }

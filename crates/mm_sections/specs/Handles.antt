@@ -1,6 +1,6 @@
 -- The handles of one process.
 -- Profile, "Regions, rows, sections".
-use Rattle.std.specs.Prelude.{ℕ, ◌/◌, ◌%◌, ◌==◌, if◌then◌else◌, Option, None}
+use Rattle.std.specs.Prelude.{◌≡◌, ◌≤◌, ◌<◌, ◌^◌, ℕ, ◌*◌, ◌/◌, ◌%◌, ◌==◌, true, is_some, if◌then◌else◌, Option, None, option_map}
 use Rattle.mm_types.specs.declared.numbers.SectionId.{SectionId}
 use Rattle.mm_world.specs.World.{Numbered, numbered}
 
@@ -15,3 +15,17 @@ number_of id = id.0
 -- the section of a handle
 abbrev pub held : Numbered ℕ → ℕ → Option ℕ
 held entries handle = if handle % 4 == 0 then numbered entries (handle / 4) else None
+
+abbrev pub handle_at : ℕ → ℕ
+handle_at index = 4 * index
+
+-- ---- how they are kept: what is found by an open handle is its section
+
+abbrev pub section_at : (ℕ → Option SectionId) → ℕ → Option ℕ
+section_at find index = option_map number_of (find (handle_at index))
+
+-- `lowest` is a fourth of the lowest open handle, and of the next one where none is open
+pub record AreOpen (find : ℕ → Option SectionId) (lowest next : ℕ) : Type 0 where
+  pub numbers : (1 ≤ lowest) × (lowest ≤ next) × (next ≤ 2 ^ 28)
+  pub among : (handle : ℕ) → is_some (find handle) ≡ true → (handle % 4 ≡ 0) × (4 * lowest ≤ handle) × (handle < 4 * next)
+  pub first : lowest < next → is_some (find (handle_at lowest)) ≡ true

@@ -1,6 +1,8 @@
-ghost use Rattle.std.specs.Prelude.{◌≡◌, ◌≤◌, ◌<◌, ◌+◌, ◌*◌, ◌/◌, ◌^◌, ◌++◌, [], ◌∷◌, true, is_some, length, Some, None, OnOk, OnErr, option_map, slice_set};
-ghost use Rattle.mm_sections.specs.Handles.{held, number_of};
+ghost use Rattle.std.specs.Prelude.{◌≡◌, ◌≤◌, ◌<◌, ◌+◌, ◌*◌, ◌/◌, ◌^◌, ◌++◌, [], ◌∷◌, ℕ, true, is_some, length, Some, None, OnOk, nat_eq, option_map, position, slice_set};
+ghost use Rattle.indexmap.specs.IndexMap.{get};
+ghost use Rattle.mm_sections.specs.Handles.{held, handle_at, number_of};
 
+use indexmap::IndexMap;
 use mm_types::{NoMemory, SectionId};
 use std::alloc::Global;
 use std::marker::Model;
@@ -8,28 +10,36 @@ use std::marker::Model;
 /// The handles of a process. The k-th that it gets is 4 * k, and no number is given again (own).
 #[derive(Drop)]
 pub struct Handles {
-    sections: Vec<Option<SectionId>>,
+    // The sections of the open handles, by these.
+    sections: IndexMap<u32, SectionId>,
+    // A fourth of the lowest open handle; of the next one where none is open.
+    lowest: u32,
+    // A fourth of the next handle.
+    next: u32,
 }
 
 impl Model for Handles {
-    ghost use Rattle.std.specs.Prelude.{◌∷◌, ◌-◌, ◌^◌, ◌<◌, length, map, None, option_map};
-    ghost use Rattle.std.specs.Vec.{vec_capacity, vec_len};
-    ghost use Rattle.mm_sections.specs.Handles.{HandlesOf, number_of};
+    ghost use Rattle.std.specs.Prelude.{map, nat_eq};
+    ghost use Rattle.std.specs.List.{range_with_len};
+    ghost use Rattle.indexmap.specs.IndexMap.{get, spare};
+    ghost use Rattle.mm_sections.specs.Handles.{HandlesOf, AreOpen, section_at};
 
     ghost Value = { HandlesOf };
 
-    ghost view = { λ h. record { entries = None ∷ map (option_map number_of) h.sections.items; spare = vec_capacity h.sections - vec_len h.sections } };
+    ghost view = { λ h. record { entries = map (section_at (get nat_eq h.sections)) (range_with_len 0 h.next); spare = spare h.sections } };
 
-    ghost invariant = { λ h. length h.sections.items < 2 ^ 28 };
+    ghost invariant = { λ h. AreOpen (get nat_eq h.sections) h.lowest h.next };
 }
 
 impl Handles {
     /// No handle.
     pub fn new(alloc: Global) -> Handles
-        ensures { result ≡ record { entries = None ∷ []; spare = 0 } }
+        ensures { result.entries ≡ None ∷ [] }
     {
         Handles {
-            sections: Vec::new(alloc),
+            sections: IndexMap::new(alloc),
+            lowest: 1,
+            next: 1,
         }
     }
 
@@ -51,10 +61,11 @@ impl Handles {
         ensures added { self.new.entries ≡ self.old.entries ++ Some id.0 ∷ [] }
         ensures room { self.old.spare ≤ self.new.spare + 1 }
     {
-        let handle = 4 * self.made();
-        let Ok(()) = self.sections.push(Some(id)) else {
+        let handle = 4 * self.next;
+        let Ok(_) = self.sections.insert(handle, id) else {
             unreachable!()
         };
+        self.next += 1;
         handle
     }
 
@@ -62,13 +73,17 @@ impl Handles {
     pub fn section(&self, handle: u32) -> Option<SectionId>
         ensures { option_map number_of result ≡ held self.now.entries handle }
     {
-        let sections = &self.sections;
-        if handle % 4 != 0 || handle == 0 {
-            return None;
-        }
-        match sections.get((handle / 4 - 1) as usize) {
-            Some(section) => *section,
-            None => None,
+        self.sections.get(&handle).copied()
+    }
+
+    /// The lowest handle that the process has. None exactly where it has none.
+    pub fn lowest(&self) -> Option<u32>
+        ensures { result ≡ option_map handle_at (position is_some self.now.entries) }
+    {
+        if self.lowest < self.next {
+            Some(4 * self.lowest)
+        } else {
+            None
         }
     }
 
@@ -76,16 +91,30 @@ impl Handles {
     pub fn close(&mut self, handle: u32)
         requires { is_some (held self.old.entries handle) ≡ true }
         ensures closed { self.new.entries ≡ slice_set self.old.entries (handle / 4) None }
-        ensures room { self.new.spare ≡ self.old.spare }
+        ensures room { self.old.spare ≤ self.new.spare }
     {
-        self.sections[(handle / 4 - 1) as usize] = None;
+        let Handles {
+            sections,
+            lowest,
+            next,
+        } = self;
+        sections.swap_remove(&handle);
+        *lowest = first_open(sections, *lowest, *next);
     }
+}
 
-    /// One more than the handles that were ever given: the next handle is 4 times this.
-    pub fn made(&self) -> u32
-        ensures made { result ≡ length self.now.entries }
-        ensures few { result ≤ 2 ^ 28 }
-    {
-        self.sections.len() as u32 + 1
+/// A fourth of the lowest open handle from `4 * from` on, and `end` where none is below `4 * end`.
+fn first_open(sections: &IndexMap<u32, SectionId>, from: u32, end: u32) -> u32
+    requires within { from ≤ end }
+    requires few { end ≤ 2 ^ 28 }
+    ensures from { from ≤ result }
+    ensures end { result ≤ end }
+    ensures before { (i : ℕ) → from ≤ i → i < result → get nat_eq sections.now (4 * i) ≡ None }
+    ensures found { result < end → is_some (get nat_eq sections.now (4 * result)) ≡ true }
+{
+    let mut index = from;
+    while index < end && !sections.contains_key(&(4 * index)) {
+        index += 1;
     }
+    index
 }

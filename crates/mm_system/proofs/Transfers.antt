@@ -1,11 +1,12 @@
 -- What is told of the line that the world was given holds of the system's line.
-use Rattle.std.proofs.Common.{◌≡◌, ◌⊎◌, ℕ, Bool, true, false, Option, Some, None, List, refl, cond, option_map, unwrap_or}
+use Rattle.std.proofs.Common.{◌≡◌, ◌⊎◌, ℕ, Bool, true, false, Option, Some, None, List, refl, sym, ◌∙◌, subst, cond, option_map, unwrap_or}
 use Rattle.std.specs.Prelude.{◌==◌}
 use Rattle.mm_types.specs.declared.answers.Answer.{Answer}
 use Rattle.mm_types.specs.declared.answers.Answer.TheVariants as answer
 use Rattle.mm_types.specs.declared.codes.Code.TheVariants as code
 use Rattle.mm_types.specs.declared.events.Event.{Event}
 use Rattle.mm_types.specs.declared.events.Event.TheVariants as line
+use Rattle.mm_types.specs.declared.moves.Move.{Move}
 use Rattle.mm_types.specs.Address.{range_of}
 use Rattle.mm_world.specs.World.{Page, World}
 use Rattle.mm_world.specs.Find.{Found}
@@ -13,10 +14,11 @@ use Rattle.mm_world.specs.Report.{Report}
 use Rattle.mm_world.specs.Watch.{WatchOf, watch_around}
 use Rattle.mm_blocks.specs.Devices.{DeviceOf}
 use Rattle.mm_pages.specs.Behind.{Behind}
-use Rattle.mm_paging.specs.Lines.{Line, Noted}
+use Rattle.mm_paging.specs.Lines.{Line}
 use Rattle.mm_core.specs.Built.{takes_memory}
 use Rattle.mm_core.specs.Forgetting.{EndsWaits}
-use Rattle.mm_core.specs.Serving.{AskedBeside, IsFailure, Flushed, Named, is_grow, is_fail, FailedBefore}
+use Rattle.mm_core.specs.Promise.{Scene, Told, Decides}
+use Rattle.mm_core.specs.Serving.{AskedBeside, IsFailure, Flushed, Named, OneRose, is_grow, is_fail, FailedBefore}
 use Rattle.mm_system.specs.Lines.{world_line, said, written_pages, is_gone}
 
 pub same_fail : (e : Event) → is_fail (world_line e) ≡ is_fail e
@@ -87,19 +89,40 @@ failed watches (line.ResetWatch pid addr size) b before R h f = absurd (no_failu
 failed watches (line.Alloc pid addr size type prot) b before R h f = h f
 failed watches _ b before R h f = h f
 
-module _ (w : World) (before : Report) (b : Behind) (paging files : DeviceOf) (v : World) (after : Report) (c : Behind) (paging' files' : DeviceOf) (watches : List WatchOf) (given : Answer) where
+module _ (w : World) (before : Report) (b : Behind) (paging files : DeviceOf) (v : World) (after : Report) (c : Behind) (paging' files' : DeviceOf) (watches : List WatchOf) (given : Answer) (ms : List Move) where
   -- the moves of a `query` are those of a line of watched regions, and those of an `alloc` do not go by its type
-  noted_with : (e q : Event) (a : Answer) (h : Noted w before b paging files q given v after c paging' files') → Line w before b paging files e a h.piece v after c paging' files' → Noted w before b paging files e a v after c paging' files'
-  noted_with e q a h l = record { piece = h.piece; in_range = h.in_range; grew = h.grew; replays = h.replays; line = l }
+  moves_of : (e : Event) → Line w before b paging files (world_line e) given ms v after c paging' files' → Line w before b paging files e (said watches e given) ms v after c paging' files'
+  moves_of (line.Watch pid unwrites addr size count) l =
+      record { moves = l.moves; begins = l.begins; agrees = l.agrees; keys = l.keys; does = l.does; ages = l.ages; waits = l.waits; told = l.told; traffic = l.traffic }
+  moves_of (line.ResetWatch pid addr size) l =
+      record { moves = l.moves; begins = l.begins; agrees = l.agrees; keys = l.keys; does = l.does; ages = l.ages; waits = l.waits; told = l.told; traffic = l.traffic }
+  moves_of (line.Alloc pid addr size type prot) l =
+      record { moves = l.moves; begins = l.begins; agrees = l.agrees; keys = l.keys; does = l.does; ages = l.ages; waits = l.waits; told = l.told; traffic = l.traffic }
+  moves_of _ l = l
 
-  pub noted : (e : Event) → Noted w before b paging files (world_line e) given v after c paging' files' → Noted w before b paging files e (said watches e given) v after c paging' files'
-  noted (line.Watch pid unwrites addr size count) h =
-      let l = h.line in
-      noted_with _ _ _ h (record { moves = l.moves; begins = l.begins; agrees = l.agrees; keys = l.keys; does = l.does; ages = l.ages; waits = l.waits; told = l.told; traffic = l.traffic })
-  noted (line.ResetWatch pid addr size) h =
-      let l = h.line in
-      noted_with _ _ _ h (record { moves = l.moves; begins = l.begins; agrees = l.agrees; keys = l.keys; does = l.does; ages = l.ages; waits = l.waits; told = l.told; traffic = l.traffic })
-  noted (line.Alloc pid addr size type prot) h =
-      let l = h.line in
-      noted_with _ _ _ h (record { moves = l.moves; begins = l.begins; agrees = l.agrees; keys = l.keys; does = l.does; ages = l.ages; waits = l.waits; told = l.told; traffic = l.traffic })
-  noted _ h = h
+module _ (u : Bool) (x y : Scene) (watches : List WatchOf) (e : Event) (b : Answer) where
+  told_so : (ms : List Move) → Told u x (world_line e) b ms y → Told u x e (said watches e b) ms y
+  told_so ms h = record {
+    sound = h.sound;
+    asked_paging = λ none nothing. h.asked_paging (same_fail e ∙ none) (same_grow e ∙ nothing);
+    asked_files = λ none. h.asked_files (same_fail e ∙ none);
+    beside = λ paging. beside watches e b x.world.blocks_used x.paging y.paging x.files y.files (h.beside paging);
+    named = named watches e b u x.paging y.paging x.files y.files h.named;
+    few_paging = h.few_paging;
+    few_files = h.few_files;
+    failed = failed watches e b x.report (OneRose x.paging y.paging x.files y.files) h.failed;
+    paging_later = h.paging_later;
+    files_later = h.files_later;
+    flushed = flushed watches e b y.world y.blocks h.flushed;
+    waits = waits watches e b x.world y.report h.waits;
+    line = λ paging. moves_of x.world x.report x.behind x.paging x.files y.world y.report y.behind y.paging y.files watches b ms e (h.line paging);
+  }
+
+  -- what is told of the world's line is told of the system's, whatever is said of its answer
+  pub told : {P : Type 0} (Q : Type 0) (a : Answer) → a ≡ said watches e b → Decides P u x (world_line e) b y → Q → Decides Q u x e a y
+  told Q a is h outcome = record {
+    outcome = outcome;
+    moves = h.moves;
+    notes = h.notes;
+    told = subst (λ (a : Answer). Told u x e a h.moves y) (sym is) (told_so h.moves h.told);
+  }

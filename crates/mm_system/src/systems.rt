@@ -1,24 +1,16 @@
-ghost use Rattle.std.specs.Prelude.{◌≡◌, ◌≢◌, ◌≤◌, ◌⊎◌, ◌+◌, ℕ, true, false, IfOk, OnOk, OnErr, IsOk};
-ghost use Rattle.mm_types.specs.declared.answers.Answer.TheVariants as answer;
-ghost use Rattle.mm_types.specs.declared.answers.Wait.TheVariants as wait;
-ghost use Rattle.mm_world.specs.Step.{unpaged};
-ghost use Rattle.mm_world.specs.System.{first_system, system_step, watches_after};
+ghost use Rattle.std.specs.Prelude.{◌≡◌, ◌≤◌, ◌+◌, true, false, IfOk, OnOk, OnErr, IsOk};
+ghost use Rattle.mm_world.specs.System.{first_system};
 ghost use Rattle.mm_world.specs.Charge.{charge, limit};
 ghost use Rattle.mm_world.specs.Contents.{tables_of};
-ghost use Rattle.mm_world.specs.Laws.{SystemLeaves};
 ghost use Rattle.mm_pages.specs.Conditions.{IsNew};
 ghost use Rattle.mm_script.specs.Printed.{IsWellFormed};
 ghost use Rattle.mm_tables.specs.References.{IsTidy};
 ghost use Rattle.mm_watch.specs.Watches.{AreApart};
-ghost use Rattle.mm_watch.specs.Told.{HadRegion};
 ghost use Rattle.mm_core.specs.Built.{takes_memory};
-ghost use Rattle.mm_core.specs.Forgetting.{EndsWaits};
-ghost use Rattle.mm_core.specs.Stepping.{asks_frames};
-ghost use Rattle.mm_core.specs.Serving.{IsFailure, Flushed, is_grow, is_fail};
 ghost use Rattle.mm_core.specs.Shown.{world as world_of};
-ghost use Rattle.mm_system.specs.Lines.{is_machine, is_beside};
+ghost use Rattle.mm_system.specs.Lines.{is_machine};
 ghost use Rattle.mm_system.specs.Live.{are_live, are_stacked};
-ghost use Rattle.mm_system.specs.Writes.{writes_of, writes_after};
+ghost use Rattle.mm_system.specs.Writes.{writes_of};
 
 use crate::kept_writes::KeptWrites;
 use crate::lines::decide;
@@ -30,7 +22,8 @@ use mm_types::{Answer, Event, Machine, NoMemory};
 use mm_watch::Watch;
 use std::alloc::Global;
 
-/// A machine's address spaces over a store of their pages, with the watched regions and the stacks of threads beside them.
+/// A machine's address spaces over a store of their pages, with the watched regions and the stacks
+/// of threads beside them.
 ///
 /// After `NoMemory` it is spent: nothing is to be asked of it but its charge and its store.
 #[derive(Drop)]
@@ -49,8 +42,9 @@ pub struct System<G: Pages> {
 }
 
 impl<G: Pages> System<G> {
-    ghost use Rattle.mm_core.specs.Told.{AsksBeside, AsksFiles, AsksNone, AsksPaging, FailsFrom, IsBroken, IsNoted, NamesCalls};
-    ghost use Rattle.mm_system.specs.Shown.{world, watches, stacks, system, report, line_of, paging_device, file_device, file_blocks, loans};
+    ghost use Rattle.mm_core.specs.Promise.{Breaks, scene};
+    ghost use Rattle.mm_system.specs.Promise.{DecidesSystem};
+    ghost use Rattle.mm_system.specs.Shown.{world, watches, stacks, system, line_of, loans};
 
     /// The system after the `machine` line, over a new store of that machine.
     pub fn new(alloc: Global, machine: Machine, pages: G) -> System<G>
@@ -91,9 +85,9 @@ impl<G: Pages> System<G> {
         self.world.charge()
     }
 
-    /// Hands on what the type keeps: no two watched regions of a process share a page, and each is a private region of its
-    /// process, which lives; so does the process of each stack, whose base is that of a private region of it, which holds its
-    /// guard page, above its base. Does nothing.
+    /// Hands on what the type keeps: no two watched regions of a process share a page, and each is
+    /// a private region of its process, which lives; so does the process of each stack, whose base
+    /// is that of a private region of it, which holds its guard page, above its base. Does nothing.
     pub fn sound(&self)
         ensures apart { AreApart (watches self.now) }
         ensures live { are_live (world self.now) (watches self.now) ≡ true }
@@ -102,48 +96,34 @@ impl<G: Pages> System<G> {
         self.watch.regions_lie_apart();
     }
 
-    /// Decides one line, the next one: its answer is that of the definitions' step from the system that there was, by the
-    /// store's reports before and after it, and the system that there is then is the step's.
+    /// Decides one line, the next one: its answer is that of the definitions' step from the system
+    /// that there was, by the store's reports before and after it, and the system that there is
+    /// then is the step's.
     ///
-    /// `watch` is GetWriteWatch, `resetwatch` is ResetWriteWatch, and an `alloc` of the types 0x202000 and 0x203000 has
-    /// MEM_WRITE_WATCH; `stack` and `probe` are this profile's own. Each other line is decided by the world, as is what such an
-    /// `alloc` does to it. `line` is the number of the line in its script, where `machine` is line 1, which is no line for
-    /// this call.
+    /// `watch` is GetWriteWatch, `resetwatch` is ResetWriteWatch, and an `alloc` of the types
+    /// 0x202000 and 0x203000 has MEM_WRITE_WATCH; `stack` and `probe` are this profile's own. Each
+    /// other line is decided by the world, as is what such an `alloc` does to it. `line` is the
+    /// number of the line in its script, where `machine` is line 1, which is no line for this call.
     ///
-    /// `NoMemory` comes only from the lines from which it comes of a world, and from `stack` and `probe`. Then the system is as
-    /// it was, and no further line can be decided. An `alloc` of a watched region takes the room for its written pages first,
-    /// so that such a line may run out of memory before a check that would refuse it. `watch` and `resetwatch` take no memory.
+    /// `NoMemory` comes only from the lines from which it comes of a world, and from `stack` and
+    /// `probe`. Then the system is as it was, and no further line can be decided. An `alloc` of a
+    /// watched region takes the room for its written pages first, so that such a line may run out
+    /// of memory before a check that would refuse it. `watch` and `resetwatch` take no memory.
     ///
-    /// Over a store that pages, the line's piece of the log of moves is its `at` and the moves that its form allows (`paged`);
-    /// after `NoMemory` it is an `at` alone, or empty (`broken`).
+    /// What is told of a line is what the world's step tells of it, with the outcome of the system
+    /// in place of the world's.
     pub fn step(&mut self, alloc: Global, line: u32, event: &Event) -> Result<Answer, NoMemory>
         requires well_formed { IsWellFormed event.now }
         requires later { is_machine event.now ≡ false }
         requires next { line ≡ line_of self.old + 1 }
         requires few { line ≤ 1000000 }
         requires ready { self.old.spent ≡ false }
-        ensures step { IfOk result (λ a. system_step (system self.old) event.now (report self.old) (report self.new) ≡ record { answer = a; system = system self.new }) }
-        ensures told { G.unpaged ≡ true → asks_frames event.now ≡ false → is_beside event.now ≡ false → IfOk result (λ a. a ≢ answer.Fault → unpaged (world self.old) event.now ≡ record { answer = a; world = world self.new }) }
-        ensures watched { IfOk result (λ a. watches self.new ≡ watches_after (world self.old) (watches self.old) event.now a) }
-        ensures kept { IfOk result (λ a. writes_of (world self.new) ≡ writes_after (writes_of (world self.old)) event.now a) }
-        ensures had { IfOk result (λ a. HadRegion (watches self.old) event.now a) }
+        ensures decided { IfOk result (λ a.
+            DecidesSystem G.unpaged (system self.old) (scene self.old.world) event.now a
+            (system self.new) (scene self.new.world)) }
+        ensures broke { OnErr result
+            (Breaks G.unpaged (scene self.old.world) (scene self.new.world)) }
         ensures err { OnErr result (system self.new ≡ system self.old) }
-        ensures leaves { IfOk result (λ a. SystemLeaves (system self.old) event.now (record { answer = a; system = system self.new })) }
-        ensures within { charge (world self.new) ≤ limit (world self.new) }
-        ensures lives { IsTidy (tables_of (world self.new)) }
-        ensures asked_files { is_fail event.now ≡ false → OnOk result (AsksFiles self.old.world self.new.world) }
-        ensures asked_paging { is_fail event.now ≡ false → is_grow event.now ≡ false → OnOk result (AsksPaging self.old.world self.new.world) }
-        ensures beside { G.unpaged ≡ false → IfOk result (λ a. AsksBeside self.old.world event.now a self.new.world) }
-        ensures named { IfOk result (λ a. NamesCalls self.old.world event.now a self.new.world) }
-        ensures idle { OnErr result (AsksNone self.old.world self.new.world) }
-        ensures failed { IfOk result (λ a. IsFailure a → FailsFrom self.old.world event.now self.new.world) }
-        ensures unwaited { G.unpaged ≡ true → (tid : ℕ) → ((report self.old).wait tid ≡ wait.None) × ((report self.new).wait tid ≡ wait.None) }
-        ensures waits { IfOk result (λ a. EndsWaits (world self.old) event.now a (report self.new)) }
-        ensures paging_later { (paging_device self.old).faults ≤ (paging_device self.new).faults }
-        ensures files_later { (file_device self.old).faults ≤ (file_device self.new).faults }
-        ensures flushed { IfOk result (λ a. Flushed (world self.new) (file_blocks self.new) event.now a) }
-        ensures paged { G.unpaged ≡ false → IfOk result (λ a. IsNoted self.old.world event.now a self.new.world) }
-        ensures broken { G.unpaged ≡ false → OnErr result (IsBroken self.old.world self.new.world) }
         ensures no_memory { takes_memory event.now ≡ false → IsOk result }
         ensures line { OnOk result (line_of self.new ≡ line) }
         ensures ready { OnOk result (self.new.spent ≡ false) }

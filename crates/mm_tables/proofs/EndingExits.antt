@@ -1,9 +1,11 @@
 -- Calls that give up pages, one after another: their moves, the pages of a range, the regions of a process, and its end.
-use Rattle.std.specs.Prelude.{remove, ◌==◌, ◌/◌, ◌%◌, option_and_then, IfSome}
-use Rattle.std.proofs.Common.{option_map, slice_get, ◌≡◌, ℕ, ◌+◌, ◌≤◌, ◌<◌, Bool, true, false, List, [], ◌∷◌, ◌++◌, Option, Some, None, refl, sym, ap, ◌∙◌, subst, arith, ◌-◌, cond, length, set, is_some, nat_lt, ◌&&◌, inl, inr, zero, suc, ◌*◌, length-set, map, sum_by, count_by, not}
+use Rattle.std.specs.Prelude.{position, remove, ◌==◌, ◌/◌, ◌%◌, option_and_then, IfSome}
+use Rattle.std.proofs.Common.{option_map, slice_get, ◌≡◌, ℕ, ◌+◌, ◌≤◌, ◌<◌, Bool, true, false, List, [], ◌∷◌, ◌++◌, Option, Some, None, refl, sym, ap, ◌∙◌, subst, arith, ◌-◌, cond, length, set, is_some, nat_lt, ◌&&◌, suc, ◌*◌, map, sum_by, count_by, not}
 use Rattle.std.specs.Cmp.{unsigned_Decides}
-use Rattle.std.proofs.lemmas.List.{get_or-set_other, set-set}
-use Rattle.std.proofs.lemmas.List.Sums.{sum_by-cons}
+use Rattle.std.specs.List.{position_or_len}
+use Rattle.std.proofs.lemmas.Bool.{ltb-true, ltb-false}
+use Rattle.std.proofs.lemmas.List.{get_or_past, set-set}
+use Rattle.std.proofs.lemmas.List.Sums.{sum_by-cons, sum_by-set, passes_at_first, fails_before_first}
 use Rattle.mm_types.specs.declared.numbers.Pid.{Pid}
 use Rattle.mm_types.specs.declared.numbers.Place.{Place}
 use Rattle.mm_types.specs.Address.{Range, holds_page, end_of, end_of_user_pages, address_of}
@@ -15,8 +17,8 @@ use Rattle.mm_types.specs.declared.views.Kind.{Kind}
 use Rattle.mm_types.specs.declared.views.Kind.TheVariants as kind
 use Rattle.mm_types.specs.declared.views.View.{View}
 use Rattle.mm_types.proofs.Booleans.{both, not_true}
-use Rattle.mm_types.proofs.Cells.{same_or_not, get_within}
-use Rattle.mm_types.proofs.Options.{some_found, same_found, some_map}
+use Rattle.mm_types.proofs.Cells.{get_within}
+use Rattle.mm_types.proofs.Options.{none_of, some_found, same_found, some_map}
 use Rattle.std.proofs.lemmas.List.Edits.{length-remove}
 use Rattle.mm_world.specs.World.{RegionOf, ProcessOf, pages_of, Page, Numbered, SectionOf, numbered}
 use Rattle.mm_world.specs.Find.{process_of, Found, first_where, one_later, set_regions, region_around, is_private, set_process, section_of}
@@ -37,10 +39,10 @@ use Rattle.mm_pages.specs.Store.{StoreOf, changed}
 use Rattle.mm_pages.proofs.Passed.{Joins, passes_then, all_turn_then, moved_then, gone_then, rises_wider, ends_anywhere, ends_then, ends_more}
 use Rattle.mm_commit.specs.Charge.{CommitOf}
 use Rattle.mm_sections.specs.Directories.{CountedSection}
-use Rattle.mm_sections.specs.Handles.{held}
+use Rattle.mm_sections.specs.Handles.{held, handle_at}
 use Rattle.mm_spaces.specs.Tables.{info_of, owned_in, found_info}
 use Rattle.mm_spaces.specs.declared.spaces.RegionInfo.{RegionInfo}
-use Rattle.mm_tables.specs.Endings.{Fewer, CanRelease, Released, Less, Toward, Closes, HasNoHandle, nowhere}
+use Rattle.mm_tables.specs.Endings.{Fewer, CanRelease, Released, Less, Toward, HasNoHandle, nowhere}
 use Rattle.mm_tables.specs.declared.tables.Process.{Process}
 use Rattle.mm_tables.specs.declared.tables.Tables.TheInside.{Inside}
 use Rattle.mm_tables.specs.References.{IsTidy, handles_to, views_of, NobodyKeeps}
@@ -231,38 +233,64 @@ after_set t v pid p q lives is = ap (λ (w : Tables). process_of w pid) is ∙ p
 
 -- ---- handles
 
-none_at : (hs : Numbered ℕ) (i : ℕ) → numbered (set hs i None) i ≡ None
-none_at [] i = refl
-none_at (x ∷ hs) zero = refl
-none_at (x ∷ hs) (suc i) = none_at hs i
-
-none_still : (hs : Numbered ℕ) (i k : ℕ) → numbered hs k ≡ None → numbered (set hs i None) k ≡ None
-none_still hs i k e =
-    elim (same_or_not k i) [ inl same ↦ ap (numbered (set hs i None)) same ∙ none_at hs i | inr other ↦ get_or-set_other hs i k None None other ∙ e ]
-
 held_at : (hs : Numbered ℕ) (index : ℕ) → held hs (4 * index) ≡ numbered hs index
 held_at hs index =
     let whole : 4 * index % 4 ≡ 0 = omega arith in
     let part : 4 * index / 4 ≡ index = omega arith in
     ap (λ b. cond b (numbered hs (4 * index / 4)) None) ((unsigned_Decides (4 * index % 4) 0).1 whole) ∙ ap (numbered hs) part
 
-pub closes_one : (p q : ProcessOf (Unit {0})) (index : ℕ) → q ≡ closed p (4 * index) → Closes index p q
-closes_one p q index same =
-    let part : 4 * index / 4 ≡ index = omega arith in
-    let handles : q.handles ≡ set p.handles index None = ap (λ (q : ProcessOf (Unit {0})). q.handles) same ∙ ap (λ (n : ℕ). set p.handles n None) part in
-    record {
-      at = ap (λ (hs : Numbered ℕ). numbered hs index) handles ∙ none_at p.handles index;
-      still = λ k e. ap (λ (hs : Numbered ℕ). numbered hs k) handles ∙ none_still p.handles index k e;
-      made = ap (λ (hs : Numbered ℕ). length hs) handles ∙ length-set p.handles index None;
-    }
+-- what is told of the lowest handle is its place, and that it is open
+pub lowest_at : (hs : Numbered ℕ) (handle : ℕ) → option_map handle_at (position (is_some {T = ℕ}) hs) ≡ Some handle → (i : ℕ) × (handle ≡ 4 * i) × (i < length hs) × (is_some (numbered hs i) ≡ true)
+lowest_at hs handle told =
+    let at = position_or_len (is_some {T = ℕ}) hs in
+    elim (nat_lt at (length hs)) as (λ b. nat_lt at (length hs) ≡ b → option_map handle_at (cond b (Some at) None) ≡ Some handle → (i : ℕ) × (handle ≡ 4 * i) × (i < length hs) × (is_some (numbered hs i) ≡ true)) [
+      | true ↦ λ e f. (
+          let inside = ltb-true at (length hs) e in
+          let same : 4 * at ≡ handle = cc in
+          (at, sym same, inside, passes_at_first (is_some {T = ℕ}) hs None inside))
+      | false ↦ λ e f. cc
+    ] refl told
+
+pub no_lowest : (hs : Numbered ℕ) → option_map handle_at (position (is_some {T = ℕ}) hs) ≡ None → (k : ℕ) → numbered hs k ≡ None
+no_lowest hs told k =
+    let at = position_or_len (is_some {T = ℕ}) hs in
+    elim (nat_lt at (length hs)) as (λ b. nat_lt at (length hs) ≡ b → option_map handle_at (cond b (Some at) None) ≡ None → numbered hs k ≡ None) [
+      | true ↦ λ e f. cc
+      | false ↦ λ e f. (
+          let past = ltb-false at (length hs) e in
+          elim (nat_lt k (length hs)) as (λ b. nat_lt k (length hs) ≡ b → numbered hs k ≡ None) [
+            | true ↦ λ inside. (let lt = ltb-true k (length hs) inside in none_of (numbered hs k) (fails_before_first (is_some {T = ℕ}) hs k None (omega (arith, past, lt))))
+            | false ↦ λ beyond. get_or_past hs k None (ltb-false k (length hs) beyond)
+          ] refl)
+    ] refl told
 
 -- the section of a handle lives
-pub section_there : (t : Tables) (pid : ℕ) (p : ProcessOf (Unit {0})) (index : ℕ) → WellFormed t → process_of t pid ≡ Some p → is_some (held p.handles (4 * index)) ≡ true → is_some (handle_section t p (4 * index)) ≡ true
-section_there t pid p index sound lives some =
-    let n = some_found (held p.handles (4 * index)) some in
-    ap (λ (o : Option ℕ). is_some (option_and_then (λ n. option_map (λ (s : SectionOf). let f : Found SectionOf = record { place = n; thing = s } in f) (section_of t n)) o)) n.1
+at_handle : (t : Tables) (pid : ℕ) (p : ProcessOf (Unit {0})) (index : ℕ) → WellFormed t → process_of t pid ≡ Some p → is_some (numbered p.handles index) ≡ true → is_some (handle_section t p (4 * index)) ≡ true
+at_handle t pid p index sound lives some =
+    let n = some_found (numbered p.handles index) some in
+    ap (λ (o : Option ℕ). is_some (option_and_then (λ n. option_map (λ (s : SectionOf). let f : Found SectionOf = record { place = n; thing = s } in f) (section_of t n)) o)) (held_at p.handles index ∙ n.1)
     ∙ some_map (λ (s : SectionOf). let f : Found SectionOf = record { place = n.0; thing = s } in f) (section_of t n.0)
-    ∙ (sound.references.processes pid p lives).handles index n.0 (sym (held_at p.handles index) ∙ n.1)
+    ∙ (sound.references.processes pid p lives).handles index n.0 n.1
+
+pub section_there : (t : Tables) (pid : ℕ) (p : ProcessOf (Unit {0})) (handle : ℕ) → WellFormed t → process_of t pid ≡ Some p → option_map handle_at (position (is_some {T = ℕ}) p.handles) ≡ Some handle → is_some (handle_section t p handle) ≡ true
+section_there t pid p handle sound lives told =
+    let at = lowest_at p.handles handle told in
+    ap (λ (n : ℕ). is_some (handle_section t p n)) at.1 ∙ at_handle t pid p at.0 sound lives at.3
+
+-- one handle less is open
+abbrev pub open_handles : Option (ProcessOf (Unit {0})) → ℕ
+open_handles None = 0
+open_handles (Some p) = count_by is_some p.handles
+
+pub handles_fewer : (t v : Tables) (pid : ℕ) (p : ProcessOf (Unit {0})) (handle : ℕ) → process_of t pid ≡ Some p → process_of v pid ≡ Some (closed p handle) → option_map handle_at (position (is_some {T = ℕ}) p.handles) ≡ Some handle → open_handles (process_of v pid) < open_handles (process_of t pid)
+handles_fewer t v pid p handle lives now told =
+    let at = lowest_at p.handles handle told in
+    let part : handle / 4 ≡ at.0 = omega (arith, at.1) in
+    let one : (o : Option ℕ) → ℕ = λ o. cond (is_some o) 1 0 in
+    let less = sum_by-set one p.handles at.0 None None at.2 in
+    let set_is : count_by is_some (set p.handles (handle / 4) None) ≡ sum_by one (set p.handles at.0 None) = ap (λ (n : ℕ). sum_by one (set p.handles n None)) part in
+    let counted : one (numbered p.handles at.0) ≡ 1 = ap (λ b. cond b 1 0) at.3 in
+    omega (arith, less, counted, set_is, ap open_handles lives, ap open_handles now)
 
 -- ---- regions
 
@@ -390,11 +418,3 @@ view_info p range view first lowest is = ap (option_map found_info) (view_lowest
 pub regions_fewer : (t v : Tables) (pid : ℕ) (p q : ProcessOf (Unit {0})) → process_of t pid ≡ Some p → process_of v pid ≡ Some q → Fewer p q → length (regions_in v pid) < length (regions_in t pid)
 regions_fewer t v pid p q lives now fewer =
     omega (arith, ap (λ (o : Option (ProcessOf (Unit {0}))). length (regions_of o)) lives, ap (λ (o : Option (ProcessOf (Unit {0}))). length (regions_of o)) now, fewer.count)
-
--- one handle more is closed
-pub more_closed : (p q : ProcessOf (Unit {0})) (index : ℕ) → Closes index p q → ((k : ℕ) → k < index → numbered p.handles k ≡ None) → (k : ℕ) → k < index + 1 → numbered q.handles k ≡ None
-more_closed p q index closes before k few =
-    elim (same_or_not k index) [
-      | inl same ↦ ap (numbered q.handles) same ∙ closes.at
-      | inr other ↦ closes.still k (before k (omega (arith, few, other)))
-    ]

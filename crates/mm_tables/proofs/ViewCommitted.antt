@@ -17,7 +17,7 @@ use Rattle.mm_types.proofs.Booleans.{not_true}
 use Rattle.mm_types.proofs.Cells.{get_set_other}
 use Rattle.mm_types.proofs.Options.{some_found}
 use Rattle.mm_types.proofs.Tables.{differ}
-use Rattle.mm_world.specs.World.{RowOf, RegionOf, ProcessOf, pages_of, Page, AreaOf, Numbered, numbered, filled}
+use Rattle.mm_world.specs.World.{RegionOf, ProcessOf, pages_of, Page, AreaOf, Numbered, numbered, filled}
 use Rattle.mm_world.specs.Charge.{charge, limit, area_charge}
 use Rattle.mm_world.specs.Contents.{Tables, blank}
 use Rattle.mm_world.specs.Sections.{is_view_of}

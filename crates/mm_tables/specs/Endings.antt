@@ -172,12 +172,6 @@ pub record Toward (pid : ℕ) (t u : Tables) (c d : Key → Option Page) (s z : 
 abbrev pub HasNoHandle : ProcessOf (Unit {0}) → Type 0
 HasNoHandle p = (place : ℕ) → numbered p.handles place ≡ None
 
--- one handle is closed, and none opened
-pub record Closes (index : ℕ) (p q : ProcessOf (Unit {0})) : Type 0 where
-  pub at : numbered q.handles index ≡ None
-  pub still : (k : ℕ) → numbered p.handles k ≡ None → numbered q.handles k ≡ None
-  pub made : length q.handles ≡ length p.handles
-
 -- one region less, the lowest
 pub record Fewer (p q : ProcessOf (Unit {0})) : Type 0 where
   pub left : q.regions ≡ remove p.regions 0

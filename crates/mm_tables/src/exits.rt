@@ -1,4 +1,4 @@
-ghost use Rattle.std.specs.Prelude.{◌≡◌, ◌≤◌, ◌<◌, ◌^◌, [], ℕ, Bool, true, is_some, map, length, Some, None, IfSome, option_map, slice_get};
+ghost use Rattle.std.specs.Prelude.{◌≡◌, ◌≤◌, [], ℕ, Bool, true, is_some, map, Some, None, IfSome, option_map, position, slice_get};
 ghost use Rattle.mm_types.specs.declared.moves.LineKind.TheVariants as line_kind;
 ghost use Rattle.mm_types.specs.declared.numbers.Place.{Place};
 ghost use Rattle.mm_pages.specs.Conditions.{AreAmong, place_at};
@@ -10,12 +10,12 @@ ghost use Rattle.mm_world.specs.Find.{process_of, set_process};
 ghost use Rattle.mm_world.specs.Processes.{kept_of_others};
 ghost use Rattle.mm_world.specs.Sections.{settle};
 ghost use Rattle.mm_world.specs.WellFormed.{WellFormed};
-ghost use Rattle.mm_sections.specs.Handles.{held};
+ghost use Rattle.mm_sections.specs.Handles.{handle_at};
 ghost use Rattle.mm_spaces.specs.Tables.{info_of};
 ghost use Rattle.mm_tables.specs.References.{IsTidy, NobodyKeeps};
 ghost use Rattle.mm_tables.specs.Shown.{shown_process};
 ghost use Rattle.mm_tables.specs.Fits.{Fits, Settled};
-ghost use Rattle.mm_tables.specs.Endings.{Less, Toward, Closes, Fewer, HasNoHandle};
+ghost use Rattle.mm_tables.specs.Endings.{Less, Toward, Fewer, HasNoHandle};
 
 use crate::Tables;
 use crate::tables::Process;
@@ -37,23 +37,14 @@ impl Tables {
         }
     }
 
-    /// Whether a living process has this handle.
-    fn has_handle(&self, pid: Pid, handle: u32) -> bool
+    /// The lowest handle of a living process. None exactly where it has no handle.
+    fn lowest_handle(&self, pid: Pid) -> Option<u32>
         requires lives { is_some (process_of self.now pid.0) ≡ true }
-        ensures held { (p : ProcessOf (Unit {0})) → process_of self.now pid.0 ≡ Some p → result ≡ is_some (held p.handles handle) }
+        ensures found { (p : ProcessOf (Unit {0})) → process_of self.now pid.0 ≡ Some p → result ≡ option_map handle_at (position is_some p.handles) }
         ensures sound { WellFormed self.now }
-    {
-        self.process(pid).handles.section(handle).is_some()
-    }
-
-    /// One more than the handles that a living process was ever given.
-    fn handles_made(&self, pid: Pid) -> u32
-        requires lives { is_some (process_of self.now pid.0) ≡ true }
-        ensures made { (p : ProcessOf (Unit {0})) → process_of self.now pid.0 ≡ Some p → result ≡ length p.handles }
-        ensures few { result ≤ 2 ^ 28 }
         ensures tidy { IsTidy self.now }
     {
-        self.process(pid).handles.made()
+        self.process(pid).handles.lowest()
     }
 
     /// The lowest region of a living process. None exactly where it has no region.
@@ -64,25 +55,6 @@ impl Tables {
         ensures sound { WellFormed self.now }
     {
         self.process(pid).space.lowest()
-    }
-
-    /// Closes the handle `4 * index` of a process, if it is open.
-    #[tactic(auto, using(mm_pages::proofs::Passed::turns_same))]
-    fn close_at<G: Pages>(&mut self, g: &mut G, pid: Pid, index: u32)
-        requires fits { Fits self.old (G.contents g.old) (G.store g.old) }
-        requires kind { (G.store g.old).kind ≡ line_kind.Unbind pid }
-        requires lives { is_some (process_of self.old pid.0) ≡ true }
-        requires few { index < 2 ^ 28 }
-        ensures toward { Toward pid.0 self.old self.new (G.contents g.old) (G.contents g.new) (G.store g.old) (G.store g.new) }
-        ensures lives { is_some (process_of self.new pid.0) ≡ true }
-        ensures closed { (p q : ProcessOf (Unit {0})) → process_of self.old pid.0 ≡ Some p → process_of self.new pid.0 ≡ Some q → Closes index p q }
-        ensures passes { (held : Place → Bool) (from to : ℕ) → PassesIn G.unpaged (Turns (Ends held from to)) (G.store g.old) (G.store g.new) (G.behind g.old) (G.behind g.new) }
-        ensures loans { G.loans g.new ≡ G.loans g.old }
-    {
-        let handle = 4 * index;
-        if self.has_handle(pid, handle) {
-            self.close_handle(g, pid, handle);
-        }
     }
 
     /// Closes all handles of a process, in rising order.
@@ -97,9 +69,8 @@ impl Tables {
         ensures passes { (held : Place → Bool) (from to : ℕ) → PassesIn G.unpaged (Turns (Ends held from to)) (G.store g.old) (G.store g.new) (G.behind g.old) (G.behind g.new) }
         ensures loans { G.loans g.new ≡ G.loans g.old }
     {
-        let made = self.handles_made(pid);
-        for index in 0..made {
-            self.close_at(g, pid, index);
+        while let Some(handle) = self.lowest_handle(pid) {
+            self.close_handle(g, pid, handle);
         }
     }
 

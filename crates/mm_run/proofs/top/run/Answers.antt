@@ -1,36 +1,121 @@
+use Rattle.std.proofs.Common.{◌≡◌, false, true, refl, inl, inr}
+use Rattle.mm_run.specs.declared.forms.WordsForm.TheVariants as form
+use Rattle.mm_run.specs.Bulk.{IsBulk}
 use Rattle.mm_run.specs.Story.{IsForm}
 use Rattle.mm_run.proofs.Scripts.{exact, usage, not_usage}
-use Rattle.mm_run.proofs.ThreeWords.{one_bulk, no_run, bulk_same}
+use Rattle.mm_run.proofs.FormWords.{bulk_same, form_said, no_run, one_bulk}
 use Rattle.mm_run.proofs.top.run.Goals as goal
 
-pub returns-in-None-clause-exact : goal.returns-in-None-clause-exact
-returns-in-None-clause-exact g c = λ text lines e told words script. exact _ _ (IsForm c.args.words.now) c.end.result c.end.ensures.ran text lines e told words script
+-- the words are `bulk SEED COUNT`
 
-pub returns-in-None-clause-usage : goal.returns-in-None-clause-usage
-returns-in-None-clause-usage g c = λ no other. usage _ _ (IsForm c.args.words.now) c.end.result c.end.ensures.ran no
+pub returns-in-Bulk-clause-ran : goal.returns-in-Bulk-clause-ran
+returns-in-Bulk-clause-ran g c = λ no.
+    let some = rw c.in-Some.is at c.in-Ok.ensures in
+    let says : IsBulk c.args.words.now c.in-Bulk.seed c.in-Bulk.count = rw c.in-Bulk.is at some in
+    absurd (no c.in-Bulk.seed c.in-Bulk.count says)
 
-pub returns-in-None-clause-form : goal.returns-in-None-clause-form
-returns-in-None-clause-form g c = not_usage _ _ (IsForm c.args.words.now) c.end.result c.end.ensures.ran
+pub returns-in-Bulk-clause-bulk : goal.returns-in-Bulk-clause-bulk
+returns-in-Bulk-clause-bulk g c = λ s n is.
+    let some = rw c.in-Some.is at c.in-Ok.ensures in
+    let says : IsBulk c.args.words.now c.in-Bulk.seed c.in-Bulk.count = rw c.in-Bulk.is at some in
+    let one = one_bulk c.args.words.now c.in-Bulk.seed c.in-Bulk.count s n says is in
+    inl (bulk_same _ _ c.in-Bulk.seed c.in-Bulk.count s n c.bulk.result one.0 one.1 (c.bulk.ensures.ran (g.S.Source.left c.args.source.now)))
+
+pub returns-in-Bulk-clause-usage : goal.returns-in-Bulk-clause-usage
+returns-in-Bulk-clause-usage g c = λ no other.
+    let some = rw c.in-Some.is at c.in-Ok.ensures in
+    let says : IsBulk c.args.words.now c.in-Bulk.seed c.in-Bulk.count = rw c.in-Bulk.is at some in
+    absurd (other c.in-Bulk.seed c.in-Bulk.count says)
+
+pub returns-in-Bulk-clause-form : goal.returns-in-Bulk-clause-form
+returns-in-Bulk-clause-form g c = λ run.
+    let some = rw c.in-Some.is at c.in-Ok.ensures in
+    let says : IsBulk c.args.words.now c.in-Bulk.seed c.in-Bulk.count = rw c.in-Bulk.is at some in
+    absurd (no_run c.args.words.now run c.in-Bulk.seed c.in-Bulk.count says)
+
+pub returns-in-Bulk-clause-exact : goal.returns-in-Bulk-clause-exact
+returns-in-Bulk-clause-exact g c = λ text lines e told run script.
+    let some = rw c.in-Some.is at c.in-Ok.ensures in
+    let says : IsBulk c.args.words.now c.in-Bulk.seed c.in-Bulk.count = rw c.in-Bulk.is at some in
+    absurd (no_run c.args.words.now run c.in-Bulk.seed c.in-Bulk.count says)
+
+-- the words are `run`
+
+pub returns-in-Run-clause-ran : goal.returns-in-Run-clause-ran
+returns-in-Run-clause-ran g c = λ no.
+    let some = rw c.in-Some.is at c.in-Ok.ensures in
+    let says : IsForm c.args.words.now = rw c.in-Run.is at some in
+    inl (form_said _ _ (true ≡ true) (IsForm c.args.words.now) c.end.result (λ p. says) (λ p. refl) c.end.ensures.ran)
+
+pub returns-in-Run-clause-bulk : goal.returns-in-Run-clause-bulk
+returns-in-Run-clause-bulk g c = λ s n is.
+    let some = rw c.in-Some.is at c.in-Ok.ensures in
+    let says : IsForm c.args.words.now = rw c.in-Run.is at some in
+    absurd (no_run c.args.words.now says s n is)
+
+pub returns-in-Run-clause-unread : goal.returns-in-Run-clause-unread
+returns-in-Run-clause-unread g c = λ s n is.
+    let some = rw c.in-Some.is at c.in-Ok.ensures in
+    let says : IsForm c.args.words.now = rw c.in-Run.is at some in
+    absurd (no_run c.args.words.now says s n is)
+
+pub returns-in-Run-clause-exact : goal.returns-in-Run-clause-exact
+returns-in-Run-clause-exact g c = λ text lines e told run script.
+    let some = rw c.in-Some.is at c.in-Ok.ensures in
+    let says : IsForm c.args.words.now = rw c.in-Run.is at some in
+    exact _ _ (IsForm c.args.words.now) c.end.result (form_said _ _ (true ≡ true) (IsForm c.args.words.now) c.end.result (λ p. says) (λ p. refl) c.end.ensures.ran) text lines e told run script
+
+pub returns-in-Run-clause-usage : goal.returns-in-Run-clause-usage
+returns-in-Run-clause-usage g c = λ no other.
+    let some = rw c.in-Some.is at c.in-Ok.ensures in
+    let says : IsForm c.args.words.now = rw c.in-Run.is at some in
+    absurd (no says)
+
+pub returns-in-Run-clause-form : goal.returns-in-Run-clause-form
+returns-in-Run-clause-form g c = λ run.
+    let some = rw c.in-Some.is at c.in-Ok.ensures in
+    let says : IsForm c.args.words.now = rw c.in-Run.is at some in
+    not_usage _ _ (IsForm c.args.words.now) c.end.result (form_said _ _ (true ≡ true) (IsForm c.args.words.now) c.end.result (λ p. says) (λ p. refl) c.end.ensures.ran) run
+
+-- the words are no form
+
+no_true : {X : Type 0} → false ≡ true → X
+no_true p = cc
+
+pub returns-in-None-clause-ran : goal.returns-in-None-clause-ran
+returns-in-None-clause-ran g c = λ no.
+    let none = rw c.in-None.is at c.in-Ok.ensures in
+    inl (form_said _ _ (false ≡ true) (IsForm c.args.words.now) c.end-in-None.result no_true (λ run. absurd (none form.Run run)) c.end-in-None.ensures.ran)
 
 pub returns-in-None-clause-bulk : goal.returns-in-None-clause-bulk
-returns-in-None-clause-bulk g c = λ s n is. absurd (c.in-None.ensures s n is)
+returns-in-None-clause-bulk g c = λ s n is.
+    let none = rw c.in-None.is at c.in-Ok.ensures in
+    absurd (none (form.Bulk s n) is)
 
 pub returns-in-None-clause-unread : goal.returns-in-None-clause-unread
-returns-in-None-clause-unread g c = λ s n is. absurd (c.in-None.ensures s n is)
+returns-in-None-clause-unread g c = λ s n is.
+    let none = rw c.in-None.is at c.in-Ok.ensures in
+    absurd (none (form.Bulk s n) is)
 
-pub returns-in-Some-clause-ran : goal.returns-in-Some-clause-ran
-returns-in-Some-clause-ran g c = λ no. absurd (no c.in-Some.seed c.in-Some.count c.in-Some.ensures)
+pub returns-in-None-clause-exact : goal.returns-in-None-clause-exact
+returns-in-None-clause-exact g c = λ text lines e told run script.
+    let none = rw c.in-None.is at c.in-Ok.ensures in
+    absurd (none form.Run run)
 
-pub returns-in-Some-clause-bulk : goal.returns-in-Some-clause-bulk
-returns-in-Some-clause-bulk g c = λ s n is.
-    let one = one_bulk c.args.words.now c.in-Some.seed c.in-Some.count s n c.in-Some.ensures is in
-    bulk_same _ _ c.in-Some.seed c.in-Some.count s n c.bulk.result one.0 one.1 (c.bulk.ensures.ran (g.S.Source.left c.args.source.now))
+pub returns-in-None-clause-usage : goal.returns-in-None-clause-usage
+returns-in-None-clause-usage g c = λ no other.
+    let none = rw c.in-None.is at c.in-Ok.ensures in
+    usage _ _ (IsForm c.args.words.now) c.end-in-None.result (form_said _ _ (false ≡ true) (IsForm c.args.words.now) c.end-in-None.result no_true (λ run. absurd (none form.Run run)) c.end-in-None.ensures.ran) no
 
-pub returns-in-Some-clause-usage : goal.returns-in-Some-clause-usage
-returns-in-Some-clause-usage g c = λ no other. absurd (other c.in-Some.seed c.in-Some.count c.in-Some.ensures)
+pub returns-in-None-clause-form : goal.returns-in-None-clause-form
+returns-in-None-clause-form g c = λ run.
+    let none = rw c.in-None.is at c.in-Ok.ensures in
+    absurd (none form.Run run)
 
-pub returns-in-Some-clause-form : goal.returns-in-Some-clause-form
-returns-in-Some-clause-form g c = λ form. absurd (no_run c.args.words.now form c.in-Some.seed c.in-Some.count c.in-Some.ensures)
+-- memory was refused
 
-pub returns-in-Some-clause-exact : goal.returns-in-Some-clause-exact
-returns-in-Some-clause-exact g c = λ text lines e told form script. absurd (no_run c.args.words.now form c.in-Some.seed c.in-Some.count c.in-Some.ensures)
+pub returns-in-Err-clause-ran : goal.returns-in-Err-clause-ran
+returns-in-Err-clause-ran g c = λ no. inr (record { status_is = c.status.ensures; stands = refl })
+
+pub returns-in-Err-clause-bulk : goal.returns-in-Err-clause-bulk
+returns-in-Err-clause-bulk g c = λ s n is. inr (record { status_is = c.status.ensures; stands = refl })

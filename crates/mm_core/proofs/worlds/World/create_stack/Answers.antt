@@ -1,31 +1,42 @@
-use Rattle.std.proofs.Common.{sym, subst}
 use Rattle.mm_types.specs.declared.events.Event.TheVariants as event
-use Rattle.mm_world.specs.Contents.{Tables}
-use Rattle.mm_tables.specs.Fits.{bytes_of}
-use Rattle.mm_tables.specs.References.{IsTidy}
-use Rattle.mm_world.proofs.Reconstruct.{tables_back}
-use Rattle.mm_core.proofs.Lines.{if-err, if-both}
-use Rattle.mm_core.proofs.Noted.{line-noted, line-broken, if-errs}
+use Rattle.mm_world.specs.World.{filled}
+use Rattle.mm_world.specs.Stack.{stack}
+use Rattle.mm_core.specs.Shown.{world}
+use Rattle.mm_core.specs.Promise.{DecidesBy, scene_of, scene}
+use Rattle.mm_core.proofs.Promised.{at-ok, at-err, decides, breaks}
 use Rattle.mm_core.proofs.worlds.World.create_stack.Goals as goal
 
-pub returns-clause-idle : goal.returns-clause-idle
-returns-clause-idle g c = if-err c.stack_line-result.result c.stack_line-result.ensures.err (λ i. (i.paging, i.files, i.blocks))
-
-pub returns-clause-lives : goal.returns-clause-lives
-returns-clause-lives g c = subst (λ (t : Tables). IsTidy t) (sym (tables_back (bytes_of (g.G.Pages.contents c.stack_line-result.new.g)) c.stack_line-result.new.t)) c.sound-2.ensures.tidy
-
-pub returns-clause-paged : goal.returns-clause-paged
-returns-clause-paged g c = λ paging.
+pub returns-clause-decided : goal.returns-clause-decided
+returns-clause-decided g c =
     let d = c.stack_line-result in
     let w = c.args.self.now in
-    if-both d.result d.ensures.ok d.ensures.marked (λ a h m.
-    line-noted g.G.Pages.unpaged (event.Stack c.args.tid c.args.pid c.args.reserve c.args.commit) c.args.line w.tables (g.G.Pages.contents w.pages) (g.G.Pages.store w.pages) (g.G.Pages.behind w.pages) a d.new.t (g.G.Pages.contents d.new.g) (g.G.Pages.store d.new.g) (g.G.Pages.behind d.new.g)
-    paging c.requires.next (w.fits c.requires.ready) h.keeps c.sound.ensures.stands c.sound-3.ensures.stands m)
+    let p = g.G.Pages in
+    at-ok (λ a. DecidesBy (stack filled (world w) c.args.stacks.now c.args.tid.0 c.args.pid.0 c.args.reserve c.args.commit) p.unpaged (scene w) (event.Stack c.args.tid c.args.pid c.args.reserve c.args.commit) a (scene_of d.new.t (p.contents d.new.g) (p.store d.new.g) (p.behind d.new.g))) d.result (λ a q.
+    decides p.unpaged c.args.line w.tables (p.contents w.pages) (p.store w.pages) (p.behind w.pages)
+    d.new.t (p.contents d.new.g) (p.store d.new.g) (p.behind d.new.g)
+    (event.Stack c.args.tid c.args.pid c.args.reserve c.args.commit) a (w.fits c.requires.ready)
+    (record {
+      next = c.requires.next;
+      stands = c.sound.ensures.stands;
+      stands_after = c.sound-3.ensures.stands;
+      tidy = c.sound-2.ensures.tidy;
+      within = c.sound-2.ensures.within;
+    })
+    (rw q at d.ensures.ok) tt (λ paging. tt) (rw q at d.ensures.marked))
 
-pub returns-clause-broken : goal.returns-clause-broken
-returns-clause-broken g c = λ paging.
+pub returns-clause-broke : goal.returns-clause-broke
+returns-clause-broke g c =
     let d = c.stack_line-result in
     let w = c.args.self.now in
-    if-errs d.result d.ensures.err d.ensures.halted (λ i m.
-    line-broken g.G.Pages.unpaged c.args.line (g.G.Pages.contents w.pages) (g.G.Pages.contents d.new.g) (g.G.Pages.store w.pages) (g.G.Pages.store d.new.g) (g.G.Pages.behind w.pages) (g.G.Pages.behind d.new.g)
-    paging c.requires.next i.contents c.sound.ensures.stands c.sound-3.ensures.stands m)
+    let p = g.G.Pages in
+    at-err d.result (λ x q.
+    breaks p.unpaged c.args.line w.tables (p.contents w.pages) (p.store w.pages) (p.behind w.pages)
+    d.new.t (p.contents d.new.g) (p.store d.new.g) (p.behind d.new.g)
+    (record {
+      next = c.requires.next;
+      stands = c.sound.ensures.stands;
+      stands_after = c.sound-3.ensures.stands;
+      tidy = c.sound-2.ensures.tidy;
+      within = c.sound-2.ensures.within;
+    })
+    (rw q at d.ensures.err) (rw q at d.ensures.halted))

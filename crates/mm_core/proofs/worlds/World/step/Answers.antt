@@ -1,34 +1,38 @@
-use Rattle.std.proofs.Common.{sym, subst}
-use Rattle.mm_world.specs.Contents.{Tables}
-use Rattle.mm_tables.specs.Fits.{bytes_of}
-use Rattle.mm_tables.specs.References.{IsTidy}
-use Rattle.mm_world.proofs.Reconstruct.{tables_back}
-use Rattle.mm_core.proofs.Lines.{if-ok, if-err, if-both, step-leaves}
-use Rattle.mm_core.proofs.Noted.{line-noted, line-broken, if-errs}
+use Rattle.mm_core.specs.Promise.{DecidesStep, scene_of, scene}
+use Rattle.mm_core.proofs.Promised.{at-ok, at-err, decides, breaks}
 use Rattle.mm_core.proofs.worlds.World.step.Goals as goal
 
-pub returns-clause-idle : goal.returns-clause-idle
-returns-clause-idle g c = if-err c.decide-result.result c.decide-result.ensures.err (λ i. (i.paging, i.files, i.blocks))
-
-pub returns-clause-leaves : goal.returns-clause-leaves
-returns-clause-leaves g c =
-    if-ok c.decide-result.result c.decide-result.ensures.ok (λ a h. step-leaves _ _ _ _ _ a _ h.stepped)
-
-pub returns-clause-lives : goal.returns-clause-lives
-returns-clause-lives g c = subst (λ (t : Tables). IsTidy t) (sym (tables_back (bytes_of (g.G.Pages.contents c.decide-result.new.g)) c.decide-result.new.t)) c.sound-2.ensures.tidy
-
-pub returns-clause-paged : goal.returns-clause-paged
-returns-clause-paged g c = λ paging.
+pub returns-clause-decided : goal.returns-clause-decided
+returns-clause-decided g c =
     let d = c.decide-result in
     let w = c.args.self.now in
-    if-both d.result d.ensures.ok d.ensures.marked (λ a h m.
-    line-noted g.G.Pages.unpaged c.args.event.now c.args.line w.tables (g.G.Pages.contents w.pages) (g.G.Pages.store w.pages) (g.G.Pages.behind w.pages) a d.new.t (g.G.Pages.contents d.new.g) (g.G.Pages.store d.new.g) (g.G.Pages.behind d.new.g)
-    paging c.requires.next (w.fits c.requires.ready) h.keeps c.sound.ensures.stands c.sound-3.ensures.stands m)
+    let p = g.G.Pages in
+    at-ok (λ a. DecidesStep p.unpaged (scene w) c.args.event.now a (scene_of d.new.t (p.contents d.new.g) (p.store d.new.g) (p.behind d.new.g))) d.result (λ a q.
+    decides p.unpaged c.args.line w.tables (p.contents w.pages) (p.store w.pages) (p.behind w.pages)
+    d.new.t (p.contents d.new.g) (p.store d.new.g) (p.behind d.new.g)
+    c.args.event.now a (w.fits c.requires.ready)
+    (record {
+      next = c.requires.next;
+      stands = c.sound.ensures.stands;
+      stands_after = c.sound-3.ensures.stands;
+      tidy = c.sound-2.ensures.tidy;
+      within = c.sound-2.ensures.within;
+    })
+    (rw q at d.ensures.ok) (rw q at d.ensures.waits) (λ paging. rw q at (d.ensures.beside paging)) (rw q at d.ensures.marked))
 
-pub returns-clause-broken : goal.returns-clause-broken
-returns-clause-broken g c = λ paging.
+pub returns-clause-broke : goal.returns-clause-broke
+returns-clause-broke g c =
     let d = c.decide-result in
     let w = c.args.self.now in
-    if-errs d.result d.ensures.err d.ensures.halted (λ i m.
-    line-broken g.G.Pages.unpaged c.args.line (g.G.Pages.contents w.pages) (g.G.Pages.contents d.new.g) (g.G.Pages.store w.pages) (g.G.Pages.store d.new.g) (g.G.Pages.behind w.pages) (g.G.Pages.behind d.new.g)
-    paging c.requires.next i.contents c.sound.ensures.stands c.sound-3.ensures.stands m)
+    let p = g.G.Pages in
+    at-err d.result (λ x q.
+    breaks p.unpaged c.args.line w.tables (p.contents w.pages) (p.store w.pages) (p.behind w.pages)
+    d.new.t (p.contents d.new.g) (p.store d.new.g) (p.behind d.new.g)
+    (record {
+      next = c.requires.next;
+      stands = c.sound.ensures.stands;
+      stands_after = c.sound-3.ensures.stands;
+      tidy = c.sound-2.ensures.tidy;
+      within = c.sound-2.ensures.within;
+    })
+    (rw q at d.ensures.err) (rw q at d.ensures.halted))

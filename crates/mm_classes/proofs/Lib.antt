@@ -1,0 +1,9 @@
+pub mod Marked
+pub mod Digits
+pub mod Fits
+pub mod Counted
+pub mod Codes
+pub mod Tells
+pub mod Plain
+pub mod Again
+pub mod Back

@@ -1,0 +1,5 @@
+use Rattle.mm_classes.proofs.Plain.{plain_data}
+use Rattle.mm_classes.proofs.laws.data_is_plain.Goals as goal
+
+pub returns : goal.returns
+returns c = plain_data

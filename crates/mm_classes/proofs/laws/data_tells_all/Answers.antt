@@ -1,0 +1,5 @@
+use Rattle.mm_classes.proofs.Back.{data_back}
+use Rattle.mm_classes.proofs.laws.data_tells_all.Goals as goal
+
+pub returns : goal.returns
+returns c = data_back

@@ -1,0 +1,10 @@
+pub mod Marks
+pub mod Marking
+pub mod Classes
+pub mod Words
+pub mod Fitting
+pub mod Encoding
+pub mod Data
+pub mod Counting
+pub mod Laws
+pub mod Worked

@@ -1,0 +1,159 @@
+-- What a line's function ensures of tables and store is the promise of a world over them.
+use Rattle.std.proofs.Common.{◌≡◌, ◌≤◌, ◌+◌, ℕ, Bool, true, false, Option, List, [], refl, sym, subst, inl, arith}
+use Rattle.std.specs.Prelude.{Result, Ok, Err, IfOk, OnErr}
+use Rattle.mm_types.specs.declared.answers.Answer.{Answer}
+use Rattle.mm_types.specs.declared.events.Event.{Event}
+use Rattle.mm_types.specs.declared.events.Event.TheVariants as event
+use Rattle.mm_types.specs.declared.moves.Move.{Move}
+use Rattle.mm_types.specs.declared.numbers.Key.{Key}
+use Rattle.mm_life.proofs.Noting.{grew_nothing}
+use Rattle.mm_world.specs.World.{Page}
+use Rattle.mm_world.specs.Charge.{charge, limit}
+use Rattle.mm_world.specs.Contents.{Tables, world_with}
+use Rattle.mm_world.specs.Report.{Report}
+use Rattle.mm_world.proofs.Reconstruct.{tables_back}
+use Rattle.mm_pages.specs.Behind.{Behind}
+use Rattle.mm_pages.specs.Standing.{StandsIn}
+use Rattle.mm_pages.specs.Store.{StoreOf}
+use Rattle.mm_paging.specs.Lines.{Line, Noted}
+use Rattle.mm_tables.specs.Fits.{Fits, bytes_of}
+use Rattle.mm_tables.specs.References.{IsTidy}
+use Rattle.mm_core.specs.Deciding.{DecidedAs, Idle}
+use Rattle.mm_core.specs.Forgetting.{EndsWaits}
+use Rattle.mm_core.specs.Noting.{MarkedIn, HaltedIn}
+use Rattle.mm_core.specs.Promise.{Scene, Sound, Notes, Decides, Breaks, scene_of}
+use Rattle.mm_core.specs.Serving.{AskedBeside}
+use Rattle.mm_core.proofs.Charged.{charge-with}
+use Rattle.mm_core.proofs.Noted.{line-noted, line-broken}
+use Rattle.mm_core.proofs.Readiness.{idle_in}
+
+-- ---- the moves of a line, over a store that pages
+
+-- what was noted, if that is told of this store
+abbrev NotedIn : Bool → Scene → Event → Answer → Scene → Type 0
+NotedIn u s e a z = u ≡ false → Noted s.world s.report s.behind s.paging s.files e a z.world z.report z.behind z.paging z.files
+
+pub record Piece (u : Bool) (s : Scene) (e : Event) (a : Answer) (z : Scene) : Type 0 where
+  pub moves : List Move
+  pub notes : u ≡ false → Notes s.behind moves z.behind
+  pub line : u ≡ false → Line s.world s.report s.behind s.paging s.files e a moves z.world z.report z.behind z.paging z.files
+
+no_way : true ≡ false → ⊥
+no_way e = cc
+
+piece_in : (u : Bool) (s : Scene) (e : Event) (a : Answer) (z : Scene) → NotedIn u s e a z → Piece u s e a z
+piece_in true s e a z h = record { moves = []; notes = λ paging. absurd (no_way paging); line = λ paging. absurd (no_way paging) }
+piece_in false s e a z h =
+    let n = h refl in
+    record {
+      moves = n.piece;
+      notes = λ paging. record { in_range = n.in_range; grew = n.grew; replays = n.replays };
+      line = λ paging. n.line;
+    }
+
+-- ---- a line
+
+-- what threads keep stands in the tables
+waits_with : (t : Tables) (bytes : Key → Page) (e : Event) (a : Answer) (after : Report) → EndsWaits t e a after → EndsWaits (world_with t bytes) e a after
+waits_with t bytes (event.Exit pid) a after h = h
+waits_with t bytes (event.Resume tid) a after h = h
+waits_with t bytes _ a after h = tt
+
+module _ (u : Bool) (n : ℕ) (t : Tables) (old : Key → Option Page) (s : StoreOf) (b : Behind) (after : Tables) (new : Key → Option Page) (z : StoreOf) (c : Behind) where
+  abbrev before : Scene
+  before = scene_of t old s b
+
+  abbrev behind : Scene
+  behind = scene_of after new z c
+
+  -- what tables and store keep at all times
+  pub record Standing : Type 0 where
+    pub next : n ≡ s.line + 1
+    pub stands : StandsIn u old s b
+    pub stands_after : StandsIn u new z c
+    pub tidy : IsTidy after
+    pub within : charge after ≤ limit after
+
+  sound : Standing → Sound u before behind
+  sound h = record {
+    within = omega (arith, charge-with after (bytes_of new), h.within);
+    lives = subst (λ (t : Tables). IsTidy t) (sym (tables_back (bytes_of new) after)) h.tidy;
+    unwaited_before = λ never tid. idle_in u old s b h.stands never tid;
+    unwaited = λ never tid. idle_in u new z c h.stands_after never tid;
+  }
+
+  pub decides : {Outcome : Type 0} (e : Event) (a : Answer) → Fits t old s → Standing → DecidedAs Outcome u e n t old s a after new z → EndsWaits t e a z.report → (u ≡ false → AskedBeside t.blocks_used e a s.paging_device z.paging_device s.file_device z.file_device) → MarkedIn u e n t old s b a after new z c → Decides Outcome u before e a behind
+  decides e a fits h d waits beside marked =
+      let p = piece_in u before e a behind (λ paging. line-noted u e n t old s b a after new z c paging h.next fits d.keeps h.stands h.stands_after marked) in
+      record {
+        outcome = d.stepped;
+        moves = p.moves;
+        notes = p.notes;
+        told = record {
+          sound = sound h;
+          asked_paging = d.devices.asked_paging;
+          asked_files = d.devices.asked_files;
+          beside = beside;
+          named = d.devices.named;
+          few_paging = d.keeps.fits.named_paging;
+          few_files = d.keeps.fits.named_file;
+          failed = d.devices.failed;
+          paging_later = d.devices.paging_later;
+          files_later = d.devices.files_later;
+          flushed = d.flushed;
+          waits = waits_with t (bytes_of old) e a z.report waits;
+          line = p.line;
+        };
+      }
+
+  pub breaks : Standing → Idle t old s after new z → HaltedIn u n b c → Breaks u before behind
+  breaks h i halted = record {
+    sound = sound h;
+    world = λ j. world_with (i.tables j) (bytes_of (i.contents j));
+    paging = i.paging;
+    files = i.files;
+    blocks = i.blocks;
+    broken = λ paging. line-broken u n old new s z b c paging h.next i.contents h.stands h.stands_after halted;
+  }
+
+-- a line that has not begun
+pub unbegun : (u : Bool) (s : Scene) → Sound u s s → Breaks u s s
+unbegun u s h = record {
+  sound = h;
+  world = refl;
+  paging = refl;
+  files = refl;
+  blocks = refl;
+  broken = λ paging. record {
+    piece = [];
+    in_range = tt;
+    grew = grew_nothing s.behind.log;
+    replays = refl;
+    at_most = inl refl;
+  };
+}
+
+-- ---- results
+
+-- what follows where a line was decided
+pub at-ok : {A E : Type 0} (P : A → Type 0) (r : Result A E) → ((a : A) → r ≡ Ok a → P a) → IfOk r P
+at-ok P (Ok a) h = h a refl
+at-ok P (Err x) h = tt
+
+-- and where memory ran out
+pub at-err : {A E : Type 0} {P : Type 0} (r : Result A E) → ((x : E) → r ≡ Err x → P) → OnErr r P
+at-err (Ok a) h = tt
+at-err (Err x) h = h x refl
+
+-- ---- a promise handed on, with other words of the answer and of what is there after it
+
+pub swap : {P Q : Type 0} (u : Bool) (s : Scene) (e : Event) (a : Answer) (z : Scene) → Decides P u s e a z → Q → Decides Q u s e a z
+swap u s e a z d outcome = record { outcome = outcome; moves = d.moves; notes = d.notes; told = d.told }
+
+pub if-decided : {E : Type 0} {P Q : Answer → Type 0} (u : Bool) (s : Scene) (e : Event) (z : Scene) (r : Result Answer E) → IfOk r (λ a. Decides (P a) u s e a z) → ((a : Answer) → P a → Q a) → IfOk r (λ a. Decides (Q a) u s e a z)
+if-decided u s e z (Ok a) d f = swap u s e a z d (f a d.outcome)
+if-decided u s e z (Err x) d f = tt
+
+pub if-decided-with : {E : Type 0} {P Q S : Answer → Type 0} (u : Bool) (s : Scene) (e : Event) (z : Scene) (r : Result Answer E) → IfOk r (λ a. Decides (P a) u s e a z) → IfOk r S → ((a : Answer) → P a → S a → Q a) → IfOk r (λ a. Decides (Q a) u s e a z)
+if-decided-with u s e z (Ok a) d h f = swap u s e a z d (f a d.outcome h)
+if-decided-with u s e z (Err x) d h f = tt

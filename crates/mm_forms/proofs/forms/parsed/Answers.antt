@@ -1,0 +1,14 @@
+use Rattle.std.proofs.Common.{◌∙◌, map, string_bytes}
+use Rattle.mm_forms.specs.Shapes.{words_app}
+use Rattle.mm_forms.proofs.Found.{accepted, refused, simple_some}
+use Rattle.mm_forms.proofs.forms.parsed.Goals as goal
+
+pub returns-in-Ok : goal.returns-in-Ok
+returns-in-Ok c =
+    accepted (words_app c.args.forms.now) (map string_bytes c.args.words.now) c.in_ok-command.command c.in-Ok.matches c.in_ok-command.ensures
+    (simple_some c.args.forms.now c.requires.some) c.in-Ok.ensures.kinds c.in-Ok.ensures.matches
+
+pub returns : goal.returns
+returns c free =
+    refused (words_app c.args.forms.now) (map string_bytes c.args.words.now) c.in-Err.error c.in_ok-command.command c.in_ok-command.ensures
+    (simple_some c.args.forms.now c.requires.some) c.in-Err.ensures.kinds (λ p. c.in_default.not-OutOfMemory (c.kind.ensures ∙ p)) free

@@ -1,0 +1,125 @@
+-- A log that is read line by line.
+use Rattle.std.proofs.Common.{◌≡◌, ℕ, ◌+◌, ◌-◌, ◌<◌, ◌≤◌, false, List, [], ◌∷◌, ◌++◌, length, take, drop, Option, refl, sym, ap, ◌∙◌, subst, arith, add-one, append_assoc, length-append}
+use Rattle.std.specs.Prelude.{Result, Ok, Err, MatchResult}
+use Rattle.mm_types.specs.Spelling.{Text}
+use Rattle.mm_types.specs.Outside.{IsEnd}
+use Rattle.mm_types.proofs.Bytes.{took_then, took_none, append_nil}
+use Rattle.mm_types.specs.declared.moves.Move.{Move}
+use Rattle.mm_life.specs.MoveText.{move_text, spelling_of_move, spelled_moves, IsMove}
+use Rattle.mm_life.specs.Life.{FrameLife}
+use Rattle.mm_life.specs.Legal.{is_legal, IsLegal}
+use Rattle.mm_life.proofs.Replays.{spelled-append, moves-append}
+use Rattle.mm_moves.proofs.Lines.{move_onto-is}
+use Rattle.mm_lines.specs.Lines.{IsLine}
+use Rattle.mm_lines.specs.Looking.{HasLine, IsLong}
+use Rattle.mm_lines.specs.Filling.{Filled, Finds}
+use Rattle.mm_lines.specs.declared.buffers.Found.{Found}
+use Rattle.mm_lines.specs.declared.buffers.Found.TheVariants as found
+use Rattle.mm_log.specs.Verdict.{most_bytes, EndsAt}
+use Rattle.mm_log.specs.Reading.{Lines, Reading, Reads, Stops, Takes}
+use Rattle.mm_log.specs.declared.readers.LogReader.{LogReader}
+use Rattle.mm_log.specs.declared.endings.Ending.{Ending}
+use Rattle.mm_log.specs.declared.endings.Ending.TheVariants as ending
+use Rattle.mm_log.proofs.Stuck.{stuck_line, stuck_long, stuck_end}
+
+-- nothing was read
+pub lines_none : (left : Option Text) → Lines left left [] [] 0
+lines_none left = record { taken = []; took = took_none left; whole = refl; in_range = tt; total_is = refl }
+
+pub longer : (left left' : Option Text) (held held' : Text) → Filled left left' held held' → length held ≤ length held'
+longer left left' held held' f = omega (arith, ap length f.behind, length-append held f.taken)
+
+-- more bytes are held
+pub lines_more : (left mid left' : Option Text) (held held' : Text) (moves : List Move) (total total' : ℕ)
+    → Lines left mid held moves total → Filled mid left' held held' → total' + length held ≡ total + length held' → Lines left left' held' moves total'
+lines_more left mid left' held held' moves total total' r f e = record {
+  taken = r.taken ++ f.taken;
+  took = took_then left mid left' r.taken f.taken r.took f.took;
+  whole = ap (λ xs. xs ++ f.taken) r.whole ∙ append_assoc (spelled_moves moves) held f.taken ∙ ap (λ xs. spelled_moves moves ++ xs) (sym f.behind);
+  in_range = r.in_range;
+  total_is = omega (arith, e, r.total_is, length-append r.taken f.taken, ap length f.behind, length-append held f.taken);
+}
+
+pub lines_here : (left mid left' : Option Text) (held held' : Text) (moves : List Move) (total : ℕ)
+    → Lines left mid held moves total → Filled mid left' held held' → Lines left left' held' moves (total + (length held' - length held))
+lines_here left mid left' held held' moves total r f =
+    lines_more left mid left' held held' moves total (total + (length held' - length held)) r f (omega (arith, longer mid left' held held' f))
+
+-- a line was a move
+line_spelled : (m : Move) (line rest : Text) → move_text m ≡ line → spelling_of_move m ++ rest ≡ line ++ 10 ∷ rest
+line_spelled m line rest e =
+    ap (λ xs. xs ++ rest) (move_onto-is m (10 ∷ [])) ∙ append_assoc (move_text m) (10 ∷ []) rest ∙ ap (λ xs. xs ++ 10 ∷ rest) e
+
+-- the moves so far, and one more
+lines_move : (left left' : Option Text) (held : Text) (len total : ℕ) (m : Move) (ms : List Move) → Lines left left' held ms total → HasLine held len → IsMove m → move_text m ≡ take len held
+    → Lines left left' (drop (len + 1) held) (ms ++ m ∷ []) total
+lines_move left left' held len total m ms a h in_range text =
+    let rest : Text = drop (len + 1) held in
+    let front : held ≡ take len held ++ 10 ∷ rest = h.feed.whole ∙ ap (λ k. take len held ++ 10 ∷ drop k held) (sym (add-one len)) in
+    record {
+      taken = a.taken;
+      took = a.took;
+      whole =
+          a.whole ∙ ap (λ xs. spelled_moves ms ++ xs) (front ∙ sym (line_spelled m (take len held) rest text))
+          ∙ sym (append_assoc (spelled_moves ms) (spelling_of_move m) rest)
+          ∙ ap (λ xs. (spelled_moves ms ++ xs) ++ rest) (sym (append_nil (spelling_of_move m)))
+          ∙ ap (λ xs. xs ++ rest) (sym (spelled-append ms (m ∷ [])));
+      in_range = moves-append ms (m ∷ []) a.in_range (in_range, tt);
+      total_is = a.total_is;
+    }
+
+-- the line in front was taken, or is none
+pub took_line : (left left' : Option Text) (r r' : LogReader) (len : ℕ) (l : FrameLife) (moves : List Move) (result : Result Move Ending)
+    → Lines left left' r.held moves r.bytes → r.lines ≡ length moves → HasLine r.held len → r.bytes ≤ most_bytes → Takes r r' len l result
+    → MatchResult result (λ m. Reads left left' r' moves l m) (λ e. Stops left left' moves l e)
+took_line left left' r r' len l moves (Ok m) lines number h few t = record {
+  reading = record {
+    lines = subst (λ (n : ℕ). Lines left left' r'.held (moves ++ m ∷ []) n) (sym t.bytes)
+        (subst (λ (xs : Text). Lines left left' xs (moves ++ m ∷ []) r.bytes) (sym t.held) (lines_move left left' r.held len r.bytes m moves lines h t.in_range t.text));
+    number = omega (arith, t.lines, number, length-append moves (m ∷ []));
+  };
+  legal = t.legal;
+}
+took_line left left' r r' len l moves (Err e) lines number h few t = record {
+  held = r.held;
+  total = r.bytes;
+  lines = lines;
+  ends = subst (λ (x : Ending). EndsAt x left' moves l r.held r.bytes) (sym t.no) (ap (λ (k : ℕ). k + 1) number, stuck_line l r.held left' len h t.none, few);
+}
+
+-- ---- ends
+
+stops_here : (left left' : Option Text) (held : Text) (moves : List Move) (total : ℕ) (l : FrameLife) (e : Ending) → Lines left left' held moves total → EndsAt e left' moves l held total → Stops left left' moves l e
+stops_here left left' held moves total l e lines ends = record { held = held; total = total; lines = lines; ends = ends }
+
+pub stops_read : (left left' : Option Text) (held : Text) (moves : List Move) (total : ℕ) (l : FrameLife) → Lines left left' held moves total → Stops left left' moves l ending.ReadFault
+stops_read left left' held moves total l lines = stops_here left left' held moves total l ending.ReadFault lines tt
+
+pub stops_full : (left left' : Option Text) (held : Text) (moves : List Move) (total : ℕ) (l : FrameLife) → Lines left left' held moves total → most_bytes < total → Stops left left' moves l ending.TooLong
+stops_full left left' held moves total l lines many = stops_here left left' held moves total l ending.TooLong lines many
+
+-- what was found, where it is known what that is
+pub finds_line : (f : Found) (n : ℕ) (left : Option Text) (held : Text) → f ≡ found.Line n → Finds (Ok f) left held → HasLine held n × (length held < n + 1 + 4096)
+finds_line f n left held e h = subst (λ (x : Found). Finds (Ok x) left held) e h
+
+pub finds_long : (f : Found) (left : Option Text) (held : Text) → f ≡ found.Long → Finds (Ok f) left held → IsLong held
+finds_long f left held e h = (subst (λ (x : Found). Finds (Ok x) left held) e h).0
+
+pub finds_end : (f : Found) (left : Option Text) (held : Text) → f ≡ found.End → Finds (Ok f) left held → IsLine held × IsEnd left
+finds_end f left held e h = subst (λ (x : Found). Finds (Ok x) left held) e h
+
+pub stops_long : (left left' : Option Text) (held : Text) (moves : List Move) (lines total : ℕ) (l : FrameLife) → Lines left left' held moves total → lines ≡ length moves → IsLong held → total ≤ most_bytes
+    → Stops left left' moves l (ending.No (lines + 1))
+stops_long left left' held moves lines total l r number h few =
+    stops_here left left' held moves total l (ending.No (lines + 1)) r (ap (λ (k : ℕ). k + 1) number, stuck_long l held left' h, few)
+
+-- the last line: whole or not
+pub stops_last : (left left' : Option Text) (held : Text) (moves : List Move) (lines total : ℕ) (l : FrameLife) (e : Ending) → Lines left left' held moves total → lines ≡ length moves → total ≤ most_bytes
+    → IsLine held → IsEnd left' → (held ≡ [] → e ≡ ending.Yes) → (0 < length held → e ≡ ending.No (lines + 1)) → Stops left left' moves l e
+stops_last left left' [] moves lines total l e r number few line end whole cut =
+    subst (λ (x : Ending). Stops left left' moves l x) (sym (whole refl)) (stops_here left left' [] moves total l ending.Yes r (refl, end, few))
+stops_last left left' (x ∷ xs) moves lines total l e r number few line end whole cut =
+    subst (λ (y : Ending). Stops left left' moves l y) (sym (cut (omega arith)))
+    (stops_here left left' (x ∷ xs) moves total l (ending.No (lines + 1)) r (ap (λ (k : ℕ). k + 1) number, stuck_end l (x ∷ xs) left' (omega arith) line end, few))
+
+pub ruleset readings = (longer)

@@ -1,0 +1,4 @@
+pub mod Formed
+pub mod Story
+pub mod ReadWhole
+pub mod Opening

@@ -1,0 +1,9 @@
+use Rattle.std.proofs.Common.{◌≡◌, [], drop}
+use Rattle.mm_names.specs.Scripts.{lines_from}
+use Rattle.mm_names.specs.Stages.{unread, with_lines}
+use Rattle.mm_names.proofs.scripts.read_lines.Given as goal
+
+abbrev pub invariant-loop-byte : goal.invariant-loop-byte
+invariant-loop-byte l =
+    with_lines unread (lines_from [] l.text)
+    ≡ with_lines l.script (lines_from l.line.items (drop l.byte-index l.text))

@@ -1,0 +1,81 @@
+-- What a run of the translator does.
+-- docs/WRITTEN.md
+use Rattle.std.specs.Prelude.{◌≡◌, ◌⊎◌, ℕ, ◌≤◌, ◌<◌, List, [], ◌∷◌, ◌++◌, length, Option, Some, None, codes}
+use Rattle.std.specs.List.{AllByRecursion}
+use Rattle.mm_types.specs.Spelling.{Text}
+use Rattle.mm_types.specs.Outside.{Took, IsEnd, Appended}
+use Rattle.mm_types.specs.declared.events.Event.{Event}
+use Rattle.mm_script.specs.Printed.{IsWellFormed}
+use Rattle.mm_names.specs.declared.endings.Ending.{Ending}
+use Rattle.mm_names.specs.declared.endings.Ending.TheVariants as ending
+use Rattle.mm_names.specs.Scripts.{script_of, spelled, IsScript}
+
+-- the most bytes of a written file, and the most lines of a script
+abbrev pub most_bytes : ℕ
+most_bytes = 100000000
+
+abbrev pub most_lines : ℕ
+most_lines = 1000000
+
+-- The source gave this text, to its end.
+pub record WasRead (left left' : Option Text) (text : Text) : Type 0 where
+  pub took : Took left left' text
+  pub at_end : IsEnd left'
+
+-- The file means a script, whose lines were written: the first is a `machine` and no other is, each
+-- is in the grammar, and there are no more than a script may have.
+pub record IsWritten (left left' took took' : Option Text) : Type 0 where
+  pub text : Text
+  pub was_read : WasRead left left' text
+  pub events : List Event
+  pub script : script_of text ≡ Some events
+  pub opens : IsScript events
+  pub formed : AllByRecursion IsWellFormed events
+  pub few : length events ≤ most_lines
+  pub written : Appended took took' (spelled events)
+
+-- A line of the file means nothing that may stand there, or none means an event; nothing was
+-- written.
+pub record IsRefused (left left' took took' : Option Text) : Type 0 where
+  pub text : Text
+  pub was_read : WasRead left left' text
+  pub none : script_of text ≡ None
+  pub nothing : took' ≡ took
+
+-- The file means a script of more lines than a script may have.
+pub record IsManyLines (left left' : Option Text) : Type 0 where
+  pub text : Text
+  pub was_read : WasRead left left' text
+  pub events : List Event
+  pub script : script_of text ≡ Some events
+  pub many : most_lines < length events
+
+-- More bytes than a written file may have were read.
+pub record IsManyBytes (left left' : Option Text) : Type 0 where
+  pub text : Text
+  pub took : Took left left' text
+  pub many : most_bytes < length text
+
+-- a front of something was written, or nothing
+abbrev pub IsTorn : Option Text → Option Text → Type 0
+IsTorn took took' = (front : Text) × Appended took took' front
+
+-- what each ending says
+abbrev pub Came : Ending → (left left' took took' : Option Text) → Type 0
+Came ending.Written left left' took took' = IsWritten left left' took took'
+Came ending.Refused left left' took took' = IsRefused left left' took took'
+Came ending.TooLong left left' took took' =
+    (IsManyBytes left left' ⊎ IsManyLines left left') × (took' ≡ took)
+Came ending.NoMemory left left' took took' = took' ≡ took
+Came ending.ReadFault left left' took took' = took' ≡ took
+Came ending.OutFault left left' took took' = IsTorn took took'
+Came ending.Usage left left' took took' = (left' ≡ left) × (took' ≡ took)
+
+abbrev pub status_of : Ending → ℕ
+status_of ending.Written = 0
+status_of ending.NoMemory = 1
+status_of ending.Usage = 2
+status_of ending.Refused = 3
+status_of ending.ReadFault = 4
+status_of ending.OutFault = 5
+status_of ending.TooLong = 8

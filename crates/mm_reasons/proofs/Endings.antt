@@ -1,0 +1,88 @@
+-- How a run ends whose file was read.
+use Rattle.std.proofs.Common.{◌≡◌, ◌⊎◌, inl, inr, ℕ, ◌≤◌, ◌<◌, true, false, List, [], Option, Some, None, sym, refl, subst, ◌∙◌}
+use Rattle.mm_types.specs.Spelling.{Text}
+use Rattle.mm_types.specs.Outside.{Appended}
+use Rattle.mm_types.specs.declared.events.Event.{Event}
+use Rattle.mm_types.proofs.Bytes.{appended_none}
+use Rattle.mm_io.specs.Io.{Wrote}
+use Rattle.mm_names.specs.declared.endings.Ending.{Ending}
+use Rattle.mm_names.specs.declared.endings.Ending.TheVariants as ending
+use Rattle.mm_names.specs.Scripts.{script_of}
+use Rattle.mm_names.specs.Stages.{ScriptOf, is_whole, Ends}
+use Rattle.mm_names.specs.Runs.{most_lines, WasRead, IsWritten, IsRefused, IsManyBytes, IsManyLines, IsTorn, Came, status_of}
+use Rattle.mm_names.proofs.Opening.{opens}
+use Rattle.mm_reasons.specs.Forms.{Talked, Ran, RanTalk}
+
+-- a script is not both whole and not
+pub never_both : {A : Type 0} (s : ScriptOf) → is_whole s ≡ true → is_whole s ≡ false → A
+never_both s h g = let bad : true ≡ false = sym h ∙ g in cc
+
+pub written_as : (left left' a b : Option Text) (text : Text) (s : ScriptOf) (o : Option (List Event)) → script_of text ≡ o
+    → WasRead left left' text → Ends o s → is_whole s ≡ true → s.lines ≤ most_lines → Wrote a b s.text false
+    → IsWritten left left' a b
+written_as left left' a b text s None is read ends h few w = never_both s h ends
+written_as left left' a b text s (Some es) is read ends h few w = record {
+  text = text;
+  was_read = read;
+  events = es;
+  script = is;
+  opens = opens text es is;
+  formed = ends.1.formed;
+  few = subst (λ (n : ℕ). n ≤ most_lines) ends.1.lines few;
+  written = subst (λ (t : Text). Appended a b t) (w.all refl ∙ ends.1.text) w.written;
+}
+
+pub written : (left left' a b : Option Text) (text : Text) (s : ScriptOf) → WasRead left left' text
+    → Ends (script_of text) s → is_whole s ≡ true → s.lines ≤ most_lines → Wrote a b s.text false
+    → IsWritten left left' a b
+written left left' a b text s read ends h few w =
+    written_as left left' a b text s (script_of text) refl read ends h few w
+
+pub refused_as : (left left' a : Option Text) (text : Text) (s : ScriptOf) (o : Option (List Event)) → script_of text ≡ o
+    → WasRead left left' text → Ends o s → is_whole s ≡ false → IsRefused left left' a a
+refused_as left left' a text s None is read ends h = record { text = text; was_read = read; none = is; nothing = refl }
+refused_as left left' a text s (Some es) is read ends h = never_both s ends.0 h
+
+pub refused : (left left' a : Option Text) (text : Text) (s : ScriptOf) → WasRead left left' text
+    → Ends (script_of text) s → is_whole s ≡ false → IsRefused left left' a a
+refused left left' a text s read ends h = refused_as left left' a text s (script_of text) refl read ends h
+
+pub many_as : (left left' a : Option Text) (text : Text) (s : ScriptOf) (o : Option (List Event)) → script_of text ≡ o
+    → WasRead left left' text → Ends o s → is_whole s ≡ true → most_lines < s.lines
+    → (IsManyBytes left left' ⊎ IsManyLines left left') × (a ≡ a)
+many_as left left' a text s None is read ends h many = never_both s h ends
+many_as left left' a text s (Some es) is read ends h many = (
+  inr (record {
+    text = text;
+    was_read = read;
+    events = es;
+    script = is;
+    many = subst (λ (n : ℕ). most_lines < n) ends.1.lines many;
+  }),
+  refl,
+)
+
+pub many : (left left' a : Option Text) (text : Text) (s : ScriptOf) → WasRead left left' text
+    → Ends (script_of text) s → is_whole s ≡ true → most_lines < s.lines
+    → (IsManyBytes left left' ⊎ IsManyLines left left') × (a ≡ a)
+many left left' a text s read ends h more = many_as left left' a text s (script_of text) refl read ends h more
+
+pub torn : (a b : Option Text) (text : Text) → Wrote a b text true → IsTorn a b
+torn a b text w = (w.front, w.written)
+
+pub torn_none : (a : Option Text) → IsTorn a a
+torn_none a = ([], appended_none a)
+
+pub told : (r e : Ending) (left left' a : Option Text) → (r ≡ e) ⊎ (r ≡ ending.OutFault) → Came e left left' a a
+    → Came r left left' a a
+told r e left left' a (inl h) came = subst (λ (x : Ending). Came x left left' a a) (sym h) came
+told r e left left' a (inr h) came = subst (λ (x : Ending). Came x left left' a a) (sym h) (torn_none a)
+
+pub ran : (e : Ending) (left left' a b : Option Text) (status : ℕ) → status ≡ status_of e → Came e left left' a b
+    → Ran left left' a b status
+ran e left left' a b status is came = record { ending = e; status_is = is; came = came }
+
+pub ran_talk : (e : Ending) (a b : Option Text) (status : ℕ) → status ≡ status_of e → Talked e a b → RanTalk a b status
+ran_talk e a b status is talked = record { ending = e; status_is = is; talked = talked }
+
+pub ruleset endings = (written, refused, many, torn, torn_none, told, ran, ran_talk)

@@ -1,0 +1,54 @@
+-- The forms of the program's words, and what each does.
+-- docs/WRITTEN.md
+use Rattle.std.specs.Prelude.{◌≡◌, ◌≢◌, ℕ, List, [], ◌∷◌, bytes_eq, if◌then◌else◌, Option, Some, None, codes}
+use Rattle.std.specs.List.{AllByRecursion}
+use Rattle.mm_types.specs.Spelling.{Text}
+use Rattle.mm_types.specs.Outside.{Appended}
+use Rattle.mm_types.specs.declared.events.Event.{Event}
+use Rattle.mm_script.specs.Printed.{IsWellFormed}
+use Rattle.mm_names.specs.declared.endings.Ending.{Ending}
+use Rattle.mm_names.specs.declared.endings.Ending.TheVariants as ending
+use Rattle.mm_names.specs.Scripts.{spelled}
+use Rattle.mm_names.specs.Runs.{Came, IsTorn, status_of}
+use Rattle.mm_reasons.specs.declared.forms.Form.{Form}
+use Rattle.mm_reasons.specs.declared.forms.Form.TheVariants as form
+
+abbrev pub form_named : Text → Option Form
+form_named word =
+    if bytes_eq word (codes "lines") then Some form.Lines
+    else if bytes_eq word (codes "talk") then Some form.Talk
+    else None
+
+-- no word, `lines` or `talk`
+abbrev pub form_of : List Text → Option Form
+form_of [] = Some form.Script
+form_of (word ∷ []) = form_named word
+form_of (word ∷ other ∷ words) = None
+
+-- Lines of events were written, each of which is in the grammar.
+pub record Said (took took' : Option Text) : Type 0 where
+  pub events : List Event
+  pub formed : AllByRecursion IsWellFormed events
+  pub written : Appended took took' (spelled events)
+
+-- what a talk says, however it ends
+abbrev pub Talked : Ending → (took took' : Option Text) → Type 0
+Talked ending.OutFault took took' = IsTorn took took'
+Talked _ took took' = Said took took'
+
+-- How a run ends: its status, and what was read and written.
+pub record Ran (left left' took took' : Option Text) (status : ℕ) : Type 0 where
+  pub ending : Ending
+  pub status_is : status ≡ status_of ending
+  pub came : Came ending left left' took took'
+
+pub record RanTalk (took took' : Option Text) (status : ℕ) : Type 0 where
+  pub ending : Ending
+  pub status_is : status ≡ status_of ending
+  pub talked : Talked ending took took'
+
+-- what a run in this form does
+abbrev pub RanAs : Option Form → (left left' took took' : Option Text) → ℕ → Type 0
+RanAs None left left' took took' status = (left' ≡ left) × (took' ≡ took) × (status ≡ 2)
+RanAs (Some form.Talk) left left' took took' status = RanTalk took took' status
+RanAs (Some _) left left' took took' status = Ran left left' took took' status

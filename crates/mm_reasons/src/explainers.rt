@@ -1,0 +1,179 @@
+use crate::reasons::put_reason;
+use crate::texts::{put, put_number};
+use crate::warnings::put_warning;
+use mm_names::{Given, Meaning, may_stand, meant, without_mark};
+use mm_types::{AccessSpec, Event, Name, NoMemory};
+use std::alloc::Global;
+
+/// The most faults that are told of a file, and the most warnings.
+const MOST_TOLD: u32 = 20;
+
+/// Reads a written file again and tells what is wrong with its lines.
+#[derive(Drop)]
+pub(crate) struct Explainer {
+    names: Vec<Given>,
+    begun: bool,
+    /// How many lines were read.
+    number: u32,
+    faults: u32,
+    warnings: u32,
+    /// Whether a line that may not stand here is left out, so that the script has not begun with
+    /// it.
+    leaves_out: bool,
+    out: Vec<u8>,
+}
+
+impl Explainer {
+    /// Nothing was read.
+    pub(crate) fn new(alloc: Global, leaves_out: bool) -> Explainer {
+        Explainer {
+            names: Vec::new(alloc),
+            begun: false,
+            number: 0,
+            faults: 0,
+            warnings: 0,
+            leaves_out,
+            out: Vec::new(alloc),
+        }
+    }
+
+    /// What was told.
+    pub(crate) fn text(&self) -> &[u8] {
+        self.out.as_slice()
+    }
+
+    /// What was told was written.
+    pub(crate) fn clear(&mut self) {
+        self.out.clear();
+        self.faults = 0;
+        self.warnings = 0;
+    }
+
+    /// Whether an event came.
+    pub(crate) fn begun(&self) -> bool {
+        self.begun
+    }
+
+    /// Whether no line was read.
+    pub(crate) fn is_new(&self) -> bool {
+        self.number == 0
+    }
+
+    /// The names that the lines gave.
+    pub(crate) fn names(&self) -> &[Given] {
+        self.names.as_slice()
+    }
+
+    /// `line N`, of the line that was read last.
+    fn put_line(&mut self) -> Result<(), NoMemory> {
+        put(&mut self.out, b"line ")?;
+        put_number(&mut self.out, u64::from(self.number))
+    }
+
+    /// A fault of this reason, unless enough were told.
+    fn fault(&mut self, reason: &[u8]) -> Result<(), NoMemory> {
+        if self.faults >= MOST_TOLD {
+            return Ok(());
+        }
+        self.faults += 1;
+        self.put_line()?;
+        put(&mut self.out, reason)?;
+        put(&mut self.out, b"\n")
+    }
+
+    /// A warning, unless enough were told.
+    fn warn(&mut self, alloc: Global, event: &Event) -> Result<(), NoMemory> {
+        let mut warning: Vec<u8> = Vec::new(alloc);
+        put_warning(&mut warning, event)?;
+        if warning.is_empty() || self.warnings >= MOST_TOLD {
+            return Ok(());
+        }
+        self.warnings += 1;
+        put(&mut self.out, b"warning: ")?;
+        self.put_line()?;
+        put(&mut self.out, b": ")?;
+        put(&mut self.out, warning.as_slice())?;
+        put(&mut self.out, b"\n")
+    }
+
+    /// A line that means an event.
+    fn say(&mut self, alloc: Global, event: &Event) -> Result<(), NoMemory> {
+        if may_stand(self.begun, event) {
+            self.begun = true;
+            return self.warn(alloc, event);
+        }
+        if self.begun {
+            return self.fault(b": a second 'machine'; a script has one, in its first line");
+        }
+        self.begun = !self.leaves_out;
+        self.fault(b": a script begins with 'machine'")
+    }
+
+    /// A line that means nothing.
+    fn refuse(&mut self, alloc: Global, line: &[u8]) -> Result<(), NoMemory> {
+        let mut reason: Vec<u8> = Vec::new(alloc);
+        put_reason(&mut reason, alloc, self.names.as_slice(), line)?;
+        self.fault(reason.as_slice())
+    }
+
+    /// A line of this meaning.
+    fn take(&mut self, alloc: Global, meaning: &Meaning, line: &[u8]) -> Result<(), NoMemory> {
+        match meaning {
+            Meaning::Nothing => Ok(()),
+            Meaning::Gives(given) => {
+                self.names.push(*given)?;
+                Ok(())
+            }
+            Meaning::Says(event) => self.say(alloc, event),
+            Meaning::Wrong => self.refuse(alloc, line),
+        }
+    }
+
+    /// A written line of this meaning, without its line feed.
+    pub(crate) fn explain(
+        &mut self,
+        alloc: Global,
+        meaning: &Meaning,
+        line: &[u8],
+    ) -> Result<(), NoMemory> {
+        self.number = self.number.saturating_add(1);
+        self.take(alloc, meaning, line)
+    }
+
+    /// A written line, without its line feed.
+    fn take_line(&mut self, alloc: Global, line: &[u8]) -> Result<(), NoMemory> {
+        // The check of a meaning that is let go wants the types inside an event named here.
+        let _event: Option<Event> = None;
+        let _name: Option<Name> = None;
+        let _access: Option<AccessSpec> = None;
+        let meaning = meant(alloc, self.names.as_slice(), line)?;
+        self.explain(alloc, &meaning, line)
+    }
+
+    /// The end of a file.
+    fn finish(&mut self) -> Result<(), NoMemory> {
+        if self.begun || self.faults > 0 {
+            return Ok(());
+        }
+        put(&mut self.out, b"line 1: a script begins with 'machine'\n")
+    }
+}
+
+/// What is wrong with a written file.
+pub(crate) fn explained(alloc: Global, text: &[u8]) -> Result<Explainer, NoMemory> {
+    let mut explainer = Explainer::new(alloc, false);
+    let mut line: Vec<u8> = Vec::new(alloc);
+    for byte in without_mark(text) {
+        if *byte == b'\n' {
+            explainer.take_line(alloc, line.as_slice())?;
+            line.clear();
+        } else {
+            line.push(*byte)?;
+        }
+    }
+    if !line.is_empty() {
+        explainer.take_line(alloc, line.as_slice())?;
+    }
+    explainer.finish()?;
+    Ok(explainer)
+}

@@ -1,0 +1,228 @@
+ghost use Rattle.std.specs.Prelude.{◌≡◌, ◌∷◌, ◌++◌, [], IfOk, MatchResult};
+ghost use Rattle.mm_script.specs.Printed.{printed, IsWellFormed};
+ghost use Rattle.mm_names.specs.Meaning.{FormedIn};
+ghost use Rattle.mm_reasons.specs.Forms.{Said, Talked};
+
+use crate::explainers::Explainer;
+use crate::top::write_flushed;
+use mm_io::{Sink, Source};
+use mm_names::{Ending, Meaning, may_stand, meant, without_mark};
+use mm_script::print_event;
+use mm_text::LineBuf;
+use mm_types::{AccessSpec, Event, Failed, Name, NoMemory};
+use std::alloc::Global;
+
+/// The most bytes of a line that are kept: a longer one means nothing.
+const MOST_KEPT: usize = 65_537;
+
+/// The line of an event, with its line feed.
+fn line_of(alloc: Global, event: &Event) -> Result<Vec<u8>, NoMemory>
+    ensures { IfOk result (λ line. line.items ≡ printed event.now ++ 10 ∷ []) }
+{
+    let mut text = LineBuf::new();
+    print_event(event, &mut text);
+    let mut line = Vec::from_slice(alloc, text.as_slice())?;
+    line.push(b'\n')?;
+    Ok(line)
+}
+
+/// Writes the line of an event.
+#[tactic(auto, using(crate::proofs::Sayings::sayings))]
+fn say<O: Sink>(alloc: Global, event: &Event, out: &mut O) -> Result<(), Ending>
+    requires { IsWellFormed event.now }
+    ensures { MatchResult result (λ _. Said (O.taken out.old) (O.taken out.new))
+        (λ e. Talked e (O.taken out.old) (O.taken out.new)) }
+{
+    let line = match line_of(alloc, event) {
+        Ok(line) => line,
+        Err(NoMemory) => return Err(Ending::NoMemory),
+    };
+    match write_flushed(out, line.as_slice()) {
+        Ok(()) => Ok(()),
+        Err(Failed) => Err(Ending::OutFault),
+    }
+}
+
+/// Writes the line of an event, where the meaning is one that may stand here.
+#[tactic(auto, using(crate::proofs::Sayings::sayings))]
+fn say_meaning<O: Sink>(
+    alloc: Global,
+    meaning: &Meaning,
+    begun: bool,
+    out: &mut O,
+) -> Result<(), Ending>
+    requires { FormedIn meaning.now }
+    ensures { MatchResult result (λ _. Said (O.taken out.old) (O.taken out.new))
+        (λ e. Talked e (O.taken out.old) (O.taken out.new)) }
+{
+    match meaning {
+        Meaning::Says(event) => {
+            if may_stand(begun, event) {
+                return say(alloc, event, out);
+            }
+            Ok(())
+        }
+        _ => Ok(()),
+    }
+}
+
+/// Tells what is wrong with a line, or may be.
+fn explain<E: Sink>(
+    alloc: Global,
+    explainer: &mut Explainer,
+    meaning: &Meaning,
+    line: &[u8],
+    err: &mut E,
+) -> Result<(), Ending> {
+    if explainer.explain(alloc, meaning, line).is_err() {
+        return Err(Ending::NoMemory);
+    }
+    if write_flushed(err, explainer.text()).is_err() {
+        return Err(Ending::OutFault);
+    }
+    explainer.clear();
+    Ok(())
+}
+
+/// Takes a line.
+#[tactic(auto, using(crate::proofs::Sayings::sayings))]
+fn take_line<O: Sink, E: Sink>(
+    alloc: Global,
+    explainer: &mut Explainer,
+    line: &[u8],
+    out: &mut O,
+    err: &mut E,
+) -> Result<(), Ending>
+    ensures { MatchResult result (λ _. Said (O.taken out.old) (O.taken out.new))
+        (λ e. Talked e (O.taken out.old) (O.taken out.new)) }
+{
+    // The check of a meaning that is let go wants the types inside an event named here.
+    let _event: Option<Event> = None;
+    let _name: Option<Name> = None;
+    let _access: Option<AccessSpec> = None;
+    let begun = explainer.begun();
+    let meaning = match meant(alloc, explainer.names(), line) {
+        Ok(meaning) => meaning,
+        Err(NoMemory) => return Err(Ending::NoMemory),
+    };
+    say_meaning(alloc, &meaning, begun, out)?;
+    explain(alloc, explainer, &meaning, line, err)
+}
+
+/// The line that has begun, without the mark that may stand in front of the first.
+fn whole_line<'a>(explainer: &Explainer, line: &'a [u8]) -> &'a [u8] {
+    if explainer.is_new() {
+        without_mark(line)
+    } else {
+        line
+    }
+}
+
+/// Takes a byte: of the line that has begun, or its end.
+#[tactic(auto, using(crate::proofs::Sayings::sayings))]
+fn take_byte<O: Sink, E: Sink>(
+    alloc: Global,
+    explainer: &mut Explainer,
+    line: &mut Vec<u8>,
+    byte: u8,
+    out: &mut O,
+    err: &mut E,
+) -> Result<(), Ending>
+    ensures { MatchResult result (λ _. Said (O.taken out.old) (O.taken out.new))
+        (λ e. Talked e (O.taken out.old) (O.taken out.new)) }
+{
+    if byte == b'\n' {
+        let whole = whole_line(explainer, line.as_slice());
+        take_line(alloc, explainer, whole, out, err)?;
+        line.clear();
+        return Ok(());
+    }
+    if line.len() < MOST_KEPT && line.push(byte).is_err() {
+        return Err(Ending::NoMemory);
+    }
+    Ok(())
+}
+
+/// Takes some bytes.
+#[tactic(auto, using(crate::proofs::Sayings::sayings))]
+fn take_bytes<O: Sink, E: Sink>(
+    alloc: Global,
+    explainer: &mut Explainer,
+    line: &mut Vec<u8>,
+    bytes: &[u8],
+    out: &mut O,
+    err: &mut E,
+) -> Result<(), Ending>
+    ensures { MatchResult result (λ _. Said (O.taken out.old) (O.taken out.new))
+        (λ e. Talked e (O.taken out.old) (O.taken out.new)) }
+{
+    for byte in bytes {
+        match take_byte(alloc, explainer, line, *byte, out, err) {
+            Ok(()) => {}
+            Err(ending) => return Err(ending),
+        }
+    }
+    Ok(())
+}
+
+/// Takes what a source gives, to its end.
+#[tactic(auto, using(crate::proofs::Sayings::sayings))]
+fn listen<S: Source, O: Sink, E: Sink>(
+    alloc: Global,
+    explainer: &mut Explainer,
+    line: &mut Vec<u8>,
+    source: &mut S,
+    out: &mut O,
+    err: &mut E,
+) -> Result<(), Ending>
+    ensures { MatchResult result (λ _. Said (O.taken out.old) (O.taken out.new))
+        (λ e. Talked e (O.taken out.old) (O.taken out.new)) }
+{
+    let mut buf = [0u8; 4096];
+    for _turn in 0..u64::MAX {
+        let count = match source.read(&mut buf) {
+            Ok(count) => count,
+            Err(Failed) => return Err(Ending::ReadFault),
+        };
+        if count == 0 {
+            return Ok(());
+        }
+        match take_bytes(alloc, explainer, line, &buf[..count], out, err) {
+            Ok(()) => {}
+            Err(ending) => return Err(ending),
+        }
+    }
+    Err(Ending::TooLong)
+}
+
+/// Takes what a source gives, and a last line without its end.
+#[tactic(auto, using(crate::proofs::Sayings::sayings))]
+fn hear<S: Source, O: Sink, E: Sink>(
+    alloc: Global,
+    source: &mut S,
+    out: &mut O,
+    err: &mut E,
+) -> Result<(), Ending>
+    ensures { MatchResult result (λ _. Said (O.taken out.old) (O.taken out.new))
+        (λ e. Talked e (O.taken out.old) (O.taken out.new)) }
+{
+    let mut explainer = Explainer::new(alloc, true);
+    let mut line: Vec<u8> = Vec::new(alloc);
+    listen(alloc, &mut explainer, &mut line, source, out, err)?;
+    take_byte(alloc, &mut explainer, &mut line, b'\n', out, err)
+}
+
+/// Takes each line as it comes: its event's line is written at once, what is wrong with it is told.
+pub(crate) fn talk<S: Source, O: Sink, E: Sink>(
+    alloc: Global,
+    source: &mut S,
+    out: &mut O,
+    err: &mut E,
+) -> Ending
+    ensures { Talked result (O.taken out.old) (O.taken out.new) }
+{
+    match hear(alloc, source, out, err) {
+        Ok(()) => Ending::Written,
+        Err(ending) => ending,
+    }
+}

@@ -1,0 +1,180 @@
+ghost use Rattle.std.specs.Prelude.{◌≡◌, ◌⊎◌, ◌≤◌, Option, true, map, string_bytes, is_err};
+ghost use Rattle.mm_types.specs.Spelling.{Text};
+ghost use Rattle.mm_types.specs.Outside.{HasCause};
+ghost use Rattle.mm_io.specs.Io.{Wrote};
+ghost use Rattle.mm_names.specs.Scripts.{script_of};
+ghost use Rattle.mm_names.specs.Stages.{is_whole, Ends};
+ghost use Rattle.mm_names.specs.Runs.{WasRead, Came, most_lines, status_of};
+ghost use Rattle.mm_reasons.specs.Forms.{form_of, RanAs};
+
+use crate::explainers::explained;
+use crate::forms::{Form, form_of};
+use crate::talks::talk;
+use crate::texts::{put, put_number};
+use mm_io::{Sink, Source, write_all};
+use mm_names::{Ending, Script, read_all, translated};
+use mm_types::{Failed, NoMemory};
+use std::alloc::Global;
+
+/// The most lines of a script.
+const MOST_LINES: usize = 1_000_000;
+
+/// What is told where the words are no form.
+const USAGE: &[u8] = b"usage: mmnames < WRITTEN > SCRIPT | mmnames lines | mmnames talk\n";
+
+/// Writes a text and flushes it. Where the flush fails all of the text was taken.
+pub(crate) fn write_flushed<O: Sink>(out: &mut O, text: &[u8]) -> Result<(), Failed>
+    ensures wrote { Wrote (O.taken out.old) (O.taken out.new) text.now (is_err result) }
+    ensures cause { HasCause (O.faults out.old) (O.faults out.new) result }
+{
+    write_all(out, text)?;
+    out.flush()
+}
+
+/// Tells a text, and ends so.
+fn tell<E: Sink>(err: &mut E, text: &[u8], ending: Ending) -> Ending
+    ensures { (result ≡ ending) ⊎ (result ≡ Ending.OutFault) }
+{
+    if text.is_empty() {
+        return ending;
+    }
+    match write_flushed(err, text) {
+        Ok(()) => ending,
+        Err(Failed) => Ending::OutFault,
+    }
+}
+
+/// From which written line each line of the script comes.
+fn line_map(alloc: Global, origins: &[u32]) -> Result<Vec<u8>, NoMemory> {
+    let mut text: Vec<u8> = Vec::new(alloc);
+    let mut number = 0u64;
+    for origin in origins {
+        number = number.saturating_add(1);
+        put(&mut text, b"# ")?;
+        put_number(&mut text, number)?;
+        put(&mut text, b": line ")?;
+        put_number(&mut text, u64::from(*origin))?;
+        put(&mut text, b"\n")?;
+    }
+    Ok(text)
+}
+
+/// What is told beside a script: the warnings, and where it is asked the map of its lines.
+fn notes(alloc: Global, text: &[u8], script: &Script, form: Form) -> Result<Vec<u8>, NoMemory> {
+    let explainer = explained(alloc, text)?;
+    let mut notes: Vec<u8> = Vec::new(alloc);
+    put(&mut notes, explainer.text())?;
+    if form == Form::Lines && script.is_whole() {
+        let map = line_map(alloc, script.origins())?;
+        put(&mut notes, map.as_slice())?;
+    }
+    Ok(notes)
+}
+
+#[tactic(auto, using(crate::proofs::Endings::endings))]
+/// Writes a script's lines.
+fn put_script<O: Sink>(script: &Script, out: &mut O) -> Ending
+    ensures { (left left' : Option Text) (text : Text) → WasRead left left' text
+        → Ends (script_of text) script.now → is_whole script.now ≡ true
+        → script.now.lines ≤ most_lines
+        → Came result left left' (O.taken out.old) (O.taken out.new) }
+{
+    match write_flushed(out, script.text()) {
+        Ok(()) => Ending::Written,
+        Err(Failed) => Ending::OutFault,
+    }
+}
+
+#[tactic(auto, using(crate::proofs::Endings::endings))]
+/// Ends a run whose file was read: the script is written, or it is told why not.
+fn finish<O: Sink, E: Sink>(script: &Script, notes: &[u8], out: &mut O, err: &mut E) -> Ending
+    ensures { (left left' : Option Text) (text : Text) → WasRead left left' text
+        → Ends (script_of text) script.now
+        → Came result left left' (O.taken out.old) (O.taken out.new) }
+{
+    if !script.is_whole() {
+        return tell(err, notes, Ending::Refused);
+    }
+    if script.origins().len() > MOST_LINES {
+        return tell(
+            err,
+            b"the script has more than 1000000 lines\n",
+            Ending::TooLong,
+        );
+    }
+    if tell(err, notes, Ending::Written) == Ending::OutFault {
+        return Ending::OutFault;
+    }
+    put_script(script, out)
+}
+
+#[tactic(auto, using(crate::proofs::Endings::endings))]
+/// Translates a file.
+fn translate<S: Source, O: Sink, E: Sink>(
+    alloc: Global,
+    form: Form,
+    source: &mut S,
+    out: &mut O,
+    err: &mut E,
+) -> Ending
+    ensures { Came result (S.left source.old) (S.left source.new)
+        (O.taken out.old) (O.taken out.new) }
+{
+    let text = match read_all(alloc, source) {
+        Ok(text) => text,
+        Err(ending) => return ending,
+    };
+    let script = match translated(alloc, text.as_slice()) {
+        Ok(script) => script,
+        Err(NoMemory) => return Ending::NoMemory,
+    };
+    let notes = match notes(alloc, text.as_slice(), &script, form) {
+        Ok(notes) => notes,
+        Err(NoMemory) => return Ending::NoMemory,
+    };
+    finish(&script, notes.as_slice(), out, err)
+}
+
+/// The status of an ending.
+fn status_of(ending: Ending) -> u8
+    ensures { result ≡ status_of ending }
+{
+    match ending {
+        Ending::Written => 0,
+        Ending::NoMemory => 1,
+        Ending::Usage => 2,
+        Ending::Refused => 3,
+        Ending::ReadFault => 4,
+        Ending::OutFault => 5,
+        Ending::TooLong => 8,
+    }
+}
+
+#[tactic(auto, using(crate::proofs::Endings::endings))]
+/// Reads a written file from the source and writes the script that it means to `out`; what is wrong
+/// with it, and what else is told, goes to `err`. No words translate the whole file, or nothing
+/// where a line of it means nothing; `lines` tells besides from which line each comes; `talk` takes
+/// each line as it comes, and leaves out those that mean nothing. The status is 0, 1 where memory
+/// was refused, 2 where the words are no form, 3 where a line means nothing that may stand there, 4
+/// and 5 where the source and a sink failed, 8 where the file has more than 100,000,000 bytes or
+/// the script more than 1,000,000 lines.
+pub fn run_names<S: Source, O: Sink, E: Sink>(
+    alloc: Global,
+    words: &[String],
+    source: &mut S,
+    out: &mut O,
+    err: &mut E,
+) -> u8
+    ensures { RanAs (form_of (map string_bytes words.now)) (S.left source.old) (S.left source.new)
+        (O.taken out.old) (O.taken out.new) result }
+{
+    match form_of(words) {
+        None => {
+            let _ = write_flushed(err, USAGE);
+            2
+        }
+        Some(Form::Talk) => status_of(talk(alloc, source, out, err)),
+        Some(Form::Script) => status_of(translate(alloc, Form::Script, source, out, err)),
+        Some(Form::Lines) => status_of(translate(alloc, Form::Lines, source, out, err)),
+    }
+}

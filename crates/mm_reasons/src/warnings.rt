@@ -1,0 +1,115 @@
+use crate::texts::{put, put_hex};
+use mm_types::{Event, NoMemory};
+
+/// Why `mmsim` would answer an error to a protection, if it would.
+fn put_protection(out: &mut Vec<u8>, prot: u32) -> Result<(), NoMemory> {
+    if prot == 0x101 {
+        return put(out, b"PAGE_NOACCESS does not go with PAGE_GUARD");
+    }
+    match prot & 0xFFFF_FEFF {
+        0x01 | 0x02 | 0x04 | 0x08 | 0x10 | 0x20 | 0x40 | 0x80 => Ok(()),
+        _ => {
+            put_hex(out, prot)?;
+            put(
+                out,
+                b" is no protection: one of PAGE_NOACCESS to PAGE_EXECUTE_WRITECOPY, or with PAGE_GUARD",
+            )
+        }
+    }
+}
+
+/// Why it would answer an error to an allocation, if it would.
+fn put_allocation(out: &mut Vec<u8>, size: u32, form: u32, prot: u32) -> Result<(), NoMemory> {
+    if size == 0 {
+        return put(out, b"a size of 0");
+    }
+    match form {
+        0x1000 | 0x2000 | 0x3000 | 0x20_2000 | 0x20_3000 => put_protection(out, prot),
+        _ => {
+            put_hex(out, form)?;
+            put(
+                out,
+                b" is no type: MEM_COMMIT, MEM_RESERVE or both; MEM_WRITE_WATCH with MEM_RESERVE",
+            )
+        }
+    }
+}
+
+/// Why it would answer an error to a release, if it would.
+fn put_release(out: &mut Vec<u8>, size: u32, form: u32) -> Result<(), NoMemory> {
+    match form {
+        0x4000 => Ok(()),
+        0x8000 => {
+            if size == 0 {
+                Ok(())
+            } else {
+                put(out, b"MEM_RELEASE goes with a size of 0")
+            }
+        }
+        _ => {
+            put_hex(out, form)?;
+            put(out, b" is no type: MEM_DECOMMIT or MEM_RELEASE")
+        }
+    }
+}
+
+/// Why it would answer an error to the flags of a section, if it would.
+fn put_flags(out: &mut Vec<u8>, flags: u32) -> Result<(), NoMemory> {
+    match flags {
+        0x02 | 0x04 | 0x08 => Ok(()),
+        0x400_0002 | 0x400_0004 | 0x400_0008 => Ok(()),
+        0x800_0002 | 0x800_0004 | 0x800_0008 => Ok(()),
+        _ => {
+            put_hex(out, flags)?;
+            put(
+                out,
+                b" are no flags: PAGE_READONLY, PAGE_READWRITE or PAGE_WRITECOPY, or with SEC_COMMIT or SEC_RESERVE",
+            )
+        }
+    }
+}
+
+/// Why it would answer an error to a view, if it would.
+fn put_view(out: &mut Vec<u8>, access: u32, offset: u32, addr: u32) -> Result<(), NoMemory> {
+    match access {
+        1 | 2 | 4 | 6 | 0xF_001F => {}
+        _ => {
+            put_hex(out, access)?;
+            return put(
+                out,
+                b" is no access: FILE_MAP_COPY, FILE_MAP_READ, FILE_MAP_WRITE or FILE_MAP_ALL_ACCESS",
+            );
+        }
+    }
+    if offset % 0x1_0000 != 0 || addr % 0x1_0000 != 0 {
+        return put(
+            out,
+            b"the offset and the address of a view are multiples of 64K",
+        );
+    }
+    Ok(())
+}
+
+/// Why `mmsim` would answer an error to an event whatever came before; nothing where it may take
+/// it.
+pub(crate) fn put_warning(out: &mut Vec<u8>, event: &Event) -> Result<(), NoMemory> {
+    match event {
+        Event::Alloc {
+            size,
+            form,
+            prot,
+            ..
+        } => put_allocation(out, *size, *form, *prot),
+        Event::Free { size, form, .. } => put_release(out, *size, *form),
+        Event::Protect { prot, .. } => put_protection(out, *prot),
+        Event::Create { flags, .. } => put_flags(out, *flags),
+        Event::CreateFile { flags, .. } => put_flags(out, *flags),
+        Event::Map {
+            access,
+            offset,
+            addr,
+            ..
+        } => put_view(out, *access, *offset, *addr),
+        _ => Ok(()),
+    }
+}

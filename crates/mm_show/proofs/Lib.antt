@@ -1,0 +1,5 @@
+pub mod Worded
+pub mod Classed
+pub mod Paged
+pub mod Summed
+pub mod Exactness

@@ -1,0 +1,16 @@
+use Rattle.std.proofs.Common.{◌++◌, Option, ap, ◌∙◌}
+use Rattle.mm_moves.specs.Standing.{life}
+use Rattle.mm_classes.specs.Marking.{marks_of}
+use Rattle.mm_show.specs.Classing.{class_list}
+use Rattle.mm_show.specs.Counted.{of_class}
+use Rattle.mm_show.specs.declared.classifiers.Classed.{Classed}
+use Rattle.mm_show.proofs.Summed.{sum_taken}
+use Rattle.mm_show.proofs.sums.SumTeller.take_move.Goals as goal
+
+pub returns-clause-sums : goal.returns-clause-sums
+returns-clause-sums c =
+    let t = c.args.self.now in
+    let u = c.next.new.self in
+    sum_taken t.classes c.count_classed.new.classes t.kinds c.count_kind.new.kinds (marks_of t.classifier.marks) (marks_of u.marks) t.classifier.pending u.pending (life c.args.life.now) c.args.m.now
+    (λ cs k. c.count_classed.ensures.counts cs k ∙ ap (λ (o : Option Classed). of_class t.classes (class_list o ++ cs) k) c.in_ok-before.ensures.before)
+    c.count_kind.ensures.counts c.in_ok-before.ensures.marks c.in_ok-before.ensures.pending

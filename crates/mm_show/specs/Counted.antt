@@ -1,0 +1,21 @@
+-- Numbers of classes and of kinds of lines, some counted and some to come.
+-- Profile, "What a log shows".
+use Rattle.std.specs.Prelude.{ℕ, ◌+◌, ◌^◌, ◌<◌, ◌≤◌, List, Option, count_by, slice_index}
+use Rattle.mm_types.specs.declared.moves.Move.{Move}
+use Rattle.mm_classes.specs.Counting.{number_of}
+use Rattle.mm_classes.specs.Words.{code_of}
+use Rattle.mm_classes.specs.declared.classes.Class.{Class}
+use Rattle.mm_show.specs.Sums.{is_kind}
+
+-- the numbers by code
+abbrev pub of_class : List ℕ → List (Option Class) → Class → ℕ
+of_class counts cs c = slice_index counts (code_of c) + number_of c cs
+
+abbrev pub of_kind : List ℕ → List Move → ℕ → ℕ
+of_kind counts ms k = slice_index counts k + count_by (is_kind k) ms
+
+-- no number is greater than this
+pub record AreFew (classes kinds : List ℕ) (counted : ℕ) : Type 0 where
+  pub classes_few : (k : ℕ) → slice_index classes k ≤ counted
+  pub kinds_few : (k : ℕ) → slice_index kinds k ≤ counted
+  pub few : counted < 2 ^ 63

@@ -1,0 +1,10 @@
+pub mod Words
+pub mod Classing
+pub mod Data
+pub mod PageRest
+pub mod Sums
+pub mod Counted
+pub mod SumRest
+pub mod Forms
+pub mod Showing
+pub mod Texts

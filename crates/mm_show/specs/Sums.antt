@@ -1,0 +1,77 @@
+-- How many moves are of each class, and how many lines of each kind.
+-- Profile, "What a log shows".
+use Rattle.std.specs.Prelude.{slice_index, ℕ, Bool, false, ◌==◌, if◌then◌else◌, List, [], ◌∷◌, ◌++◌, flat_map}
+use Rattle.std.specs.Prelude.{count_by, codes}
+use Rattle.mm_types.specs.Spelling.{Text, decimal}
+use Rattle.mm_types.specs.declared.moves.Move.{Move}
+use Rattle.mm_types.specs.declared.moves.Move.TheVariants as move
+use Rattle.mm_classes.specs.Classes.{classes}
+use Rattle.mm_classes.specs.Counting.{number_of}
+use Rattle.mm_classes.specs.Encoding.{kind_code}
+use Rattle.mm_classes.specs.Words.{code_of}
+use Rattle.mm_classes.specs.declared.classes.Class.{Class}
+use Rattle.mm_show.specs.Words.{all_classes}
+use Rattle.mm_show.specs.declared.sums.KindName.{KindName}
+use Rattle.mm_show.specs.declared.sums.KindName.TheVariants as kind
+
+-- how many there are of something, where there is one
+abbrev pub sum_row : Text → ℕ → Text
+sum_row name n = if n == 0 then [] else name ++ 32 ∷ (decimal n ++ 10 ∷ [])
+
+-- the line begins with this move, and is of the kind of this code
+abbrev pub is_kind : ℕ → Move → Bool
+is_kind code (move.At n k) = kind_code k == code
+is_kind code _ = false
+
+abbrev pub class_row : (Class → ℕ) → Class → Text
+class_row count c = sum_row (code_of c ∷ []) (count c)
+
+abbrev pub class_sums : (Class → ℕ) → Text
+class_sums count = flat_map (class_row count) all_classes
+
+abbrev pub kind_text : KindName → Text
+kind_text kind.Machine = codes "at machine"
+kind_text kind.Process = codes "at process"
+kind_text kind.Grow = codes "at grow"
+kind_text kind.Access = codes "at access"
+kind_text kind.Thread = codes "at thread"
+kind_text kind.Trim = codes "at trim"
+kind_text kind.Unbind = codes "at unbind"
+kind_text kind.Writer = codes "at writer"
+kind_text kind.Zeroer = codes "at zeroer"
+kind_text kind.Io = codes "at io"
+kind_text kind.Call = codes "at call"
+
+-- the code of the kind in the page's data
+abbrev pub kind_letter : KindName → ℕ
+kind_letter kind.Machine = 0x4D
+kind_letter kind.Process = 0x50
+kind_letter kind.Grow = 0x4E
+kind_letter kind.Access = 0x61
+kind_letter kind.Thread = 0x74
+kind_letter kind.Trim = 0x72
+kind_letter kind.Unbind = 0x75
+kind_letter kind.Writer = 0x77
+kind_letter kind.Zeroer = 0x7A
+kind_letter kind.Io = 0x69
+kind_letter kind.Call = 0x63
+
+-- the kinds, in the order in which they are told
+abbrev pub all_kinds : List KindName
+all_kinds =
+    kind.Machine ∷ kind.Process ∷ kind.Grow ∷ kind.Access ∷ kind.Thread ∷ kind.Trim ∷ kind.Unbind ∷
+    kind.Writer ∷ kind.Zeroer ∷ kind.Io ∷ kind.Call ∷ []
+
+abbrev pub kind_row : (ℕ → ℕ) → KindName → Text
+kind_row count k = sum_row (kind_text k) (count (kind_letter k))
+
+abbrev pub kind_sums : (ℕ → ℕ) → Text
+kind_sums count = flat_map (kind_row count) all_kinds
+
+-- numbers that are kept by code
+abbrev pub number_in : List ℕ → Class → ℕ
+number_in counts c = slice_index counts (code_of c)
+
+abbrev pub sums_text : List Move → Text
+sums_text moves =
+    class_sums (λ c. number_of c (classes moves)) ++ kind_sums (λ k. count_by (is_kind k) moves)

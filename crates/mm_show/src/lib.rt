@@ -1,0 +1,14 @@
+//! What a log of moves shows, as a page for a browser and as texts for the terminal.
+#![tactic(auto)]
+
+mod classifiers;
+mod data;
+mod forms;
+mod pages;
+mod sums;
+mod top;
+mod words;
+
+pub use forms::{Files, Form};
+pub use pages::PageTexts;
+pub use top::run_show;

@@ -1,0 +1,4 @@
+pub mod Tellings
+pub mod Divided
+pub mod Readings
+pub mod FileReads

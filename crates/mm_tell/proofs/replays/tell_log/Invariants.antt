@@ -1,0 +1,14 @@
+use Rattle.std.proofs.Common.{◌≡◌, ◌≤◌}
+use Rattle.mm_moves.specs.Standing.{life}
+use Rattle.mm_log.specs.Reading.{IsReady}
+use Rattle.mm_tell.specs.Telling.{Tells}
+use Rattle.mm_tell.proofs.replays.tell_log.Given as goal
+
+abbrev pub invariant-loop-n : goal.invariant-loop-n
+invariant-loop-n g l = record {
+  tells : Tells (g.S.Source.left l.fn.source) (g.S.Source.left l.source) l.script l.reader (g.T.Teller.rest l.fn.teller) l.fn.text.items (g.T.Teller.rest l.teller) (life l.life) l.text.items;
+  ready : IsReady l.reader;
+  lines : l.reader.lines ≡ l.n;
+  counted : g.T.Teller.counted l.teller ≤ l.n;
+  later : g.S.Source.faults l.fn.source ≤ g.S.Source.faults l.source;
+}

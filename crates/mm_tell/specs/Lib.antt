@@ -1,0 +1,7 @@
+pub mod Lines
+pub mod Shown
+pub mod Fitting
+pub mod Files
+pub mod Telling
+pub mod Answering
+pub mod Exact

@@ -1,0 +1,64 @@
+-- A log that is told, move by move.
+-- Profile, "What a log shows".
+use Rattle.std.specs.Prelude.{◌≡◌, ℕ, Bool, true, false, List, [], ◌∷◌, ◌++◌, Option}
+use Rattle.mm_types.specs.Spelling.{Text}
+use Rattle.mm_types.specs.declared.moves.Move.{Move}
+use Rattle.mm_types.specs.declared.moves.Move.TheVariants as move
+use Rattle.mm_types.specs.declared.moves.LineKind.{LineKind}
+use Rattle.mm_life.specs.Life.{FrameLife, unstarted}
+use Rattle.mm_life.specs.Legal.{IsLegal}
+use Rattle.mm_life.specs.Replay.{Replays}
+use Rattle.mm_log.specs.Reading.{Lines, Reading, Stops}
+use Rattle.mm_log.specs.declared.readers.LogReader.{LogReader}
+use Rattle.mm_log.specs.declared.endings.Ending.TheVariants as ending
+use Rattle.mm_tell.specs.Fitting.{fits, AreFit}
+use Rattle.mm_tell.specs.declared.closings.Closing.{Closing}
+use Rattle.mm_tell.specs.declared.closings.Closing.TheVariants as closing
+
+-- the text that is still to come, as a teller has it: whether the log ends well, the state, and the
+-- moves that follow
+abbrev pub RestOf : Type 0
+RestOf = Bool → FrameLife → List Move → Text
+
+-- From the first state on these moves were told, and this text came of it.
+abbrev pub Told : RestOf → Text → List Move → RestOf → FrameLife → Text → Type 0
+Told rest text moves rest' l text' =
+    (whole : Bool) (ms : List Move) → text' ++ rest' whole l ms ≡ text
+    ++ rest whole unstarted (moves ++ ms)
+
+-- the moves so far were read and made, fit the script, and were told
+pub record Tells (left left' : Option Text) (script : Option (List Text)) (r : LogReader)
+    (rest : RestOf) (text : Text) (rest' : RestOf) (l : FrameLife) (text' : Text) : Type 0 where
+  pub moves : List Move
+  pub reading : Reading left left' r moves
+  pub replays : Replays moves unstarted l
+  pub fit : AreFit script moves
+  pub told : Told rest text moves rest' l text'
+
+-- the next line is a legal move that does not fit the script
+pub record Misfits (left left' : Option Text) (script : Option (List Text)) (moves : List Move)
+    (l : FrameLife) (n : ℕ) : Type 0 where
+  pub kind : LineKind
+  pub held : Text
+  pub total : ℕ
+  pub lines : Lines left left' held (moves ++ move.At n kind ∷ []) total
+  pub legal : IsLegal (move.At n kind) l
+  pub misfit : fits script (move.At n kind) ≡ false
+
+abbrev pub ClosesAt : Closing → Option Text → Option Text → Option (List Text) → List Move
+    → FrameLife → Type 0
+ClosesAt (closing.Ended e) left left' script moves l = Stops left left' moves l e
+ClosesAt (closing.Misfit n) left left' script moves l = Misfits left left' script moves l n
+
+-- and that came to an end
+pub record Closes (left left' : Option Text) (script : Option (List Text)) (rest : RestOf)
+    (text : Text) (c : Closing) (rest' : RestOf) (l : FrameLife) (text' : Text) : Type 0 where
+  pub moves : List Move
+  pub replays : Replays moves unstarted l
+  pub fit : AreFit script moves
+  pub told : Told rest text moves rest' l text'
+  pub at : ClosesAt c left left' script moves l
+
+abbrev pub is_refused : Closing → Bool
+is_refused (closing.Ended ending.NoMemory) = true
+is_refused _ = false

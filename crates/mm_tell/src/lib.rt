@@ -1,0 +1,18 @@
+//! A log that is told move by move, with the script and the answers that stand beside it.
+#![tactic(auto)]
+
+mod answers;
+mod closings;
+mod files;
+mod fitting;
+mod lines;
+mod replays;
+mod shown;
+mod tellers;
+
+pub use answers::{Answer, answered};
+pub use closings::Closing;
+pub use files::{FileFault, named_lines};
+pub use lines::Lines;
+pub use shown::put_file;
+pub use tellers::Teller;

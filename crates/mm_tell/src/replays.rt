@@ -1,0 +1,105 @@
+ghost use Rattle.std.specs.Prelude.{◌≡◌, ◌+◌, ◌<◌, ◌≤◌, ◌^◌, ◌++◌, ◌∷◌, ℕ, Bool, false, List};
+ghost use Rattle.std.specs.Prelude.{Option, MatchResult, OnOk, Err};
+ghost use Rattle.mm_types.specs.declared.moves.Move.{Move};
+ghost use Rattle.mm_types.specs.Outside.{Rose};
+ghost use Rattle.mm_life.specs.Life.{unstarted};
+ghost use Rattle.mm_moves.specs.Standing.{life as life_of};
+ghost use Rattle.mm_log.specs.declared.endings.Ending.{Ending};
+ghost use Rattle.mm_log.specs.Reading.{IsReady};
+ghost use Rattle.mm_life.specs.Legal.{IsLegal};
+ghost use Rattle.mm_life.specs.Effect.{after_move};
+ghost use Rattle.mm_tell.specs.Telling.{RestOf, Tells, Closes, is_refused};
+
+use crate::closings::Closing;
+use crate::fitting::misfit;
+use crate::lines::Lines;
+use crate::tellers::Teller;
+use mm_io::Source;
+use mm_log::{Ending, LogReader, MOST_LINES};
+use mm_moves::Life;
+use mm_types::{Move, NoMemory};
+
+/// Tells a move that is legal in this state, and makes it.
+fn take<T: Teller>(
+    life: &mut Life,
+    m: &Move,
+    teller: &mut T,
+    text: &mut Vec<u8>,
+) -> Result<(), NoMemory>
+    requires legal { IsLegal m.now (life_of life.old) }
+    requires few { T.counted teller.old + 1 < 2 ^ 63 }
+    ensures told { OnOk result ((whole : Bool) (ms : List Move) → text.new.items
+        ++ T.rest teller.new whole (life_of life.new) ms
+        ≡ text.old.items ++ T.rest teller.old whole (life_of life.old) (m.now ∷ ms)) }
+    ensures after { OnOk result (life_of life.new ≡ after_move (life_of life.old) m.now) }
+    ensures counted { T.counted teller.new ≤ T.counted teller.old + 1 }
+{
+    teller.take(life, m, text)?;
+    life.make(m)
+}
+
+/// Reads the next move, tells it and makes it.
+fn next<S: Source, T: Teller>(
+    life: &mut Life,
+    reader: &mut LogReader,
+    script: &Option<Lines>,
+    source: &mut S,
+    teller: &mut T,
+    text: &mut Vec<u8>,
+) -> Result<(), Closing>
+    requires ready { IsReady reader.old }
+    requires few { T.counted teller.old + 1 < 2 ^ 63 }
+    ensures told { (left : Option (List ℕ)) (rest : RestOf) (first : List ℕ)
+        → Tells left (S.left source.old) script.now reader.old rest first (T.rest teller.old) (life_of life.old) text.old.items
+        → MatchResult result
+        (λ u. Tells left (S.left source.new) script.now reader.new rest first (T.rest teller.new) (life_of life.new) text.new.items)
+        (λ c. is_refused c ≡ false
+        → Closes left (S.left source.new) script.now rest first c (T.rest teller.new) (life_of life.new) text.new.items) }
+    ensures ready { OnOk result (IsReady reader.new × (reader.new.lines ≡ reader.old.lines + 1)) }
+    ensures counted { T.counted teller.new ≤ T.counted teller.old + 1 }
+    ensures later { S.faults source.old ≤ S.faults source.new }
+    ensures blame { result ≡ Err (Closing.Ended Ending.ReadFault)
+        → Rose (S.faults source.old) (S.faults source.new) }
+{
+    let m = match reader.next_move(life, source) {
+        Ok(m) => m,
+        Err(e) => return Err(Closing::Ended(e)),
+    };
+    match misfit(script, &m) {
+        Some(line) => return Err(Closing::Misfit(line)),
+        None => {}
+    }
+    match take(life, &m, teller, text) {
+        Ok(()) => Ok(()),
+        Err(NoMemory) => Err(Closing::Ended(Ending::NoMemory)),
+    }
+}
+
+#[tactic(auto, using(crate::proofs::Tellings::tellings))]
+/// Tells a log from its first line to its end, or to the first line that is none of a legal move,
+/// or that the script does not fit.
+pub(crate) fn tell_log<S: Source, T: Teller>(
+    life: &mut Life,
+    script: &Option<Lines>,
+    source: &mut S,
+    teller: &mut T,
+    text: &mut Vec<u8>,
+) -> Closing
+    requires life { life_of life.old ≡ unstarted }
+    requires counted { T.counted teller.old ≡ 0 }
+    ensures closes { is_refused result ≡ false
+        → Closes (S.left source.old) (S.left source.new) script.now
+        (T.rest teller.old) text.old.items result (T.rest teller.new) (life_of life.new) text.new.items }
+    ensures later { S.faults source.old ≤ S.faults source.new }
+    ensures blame { result ≡ Closing.Ended Ending.ReadFault
+        → Rose (S.faults source.old) (S.faults source.new) }
+{
+    let mut reader = LogReader::new();
+    for n in 0..MOST_LINES {
+        match next(life, &mut reader, script, source, teller, text) {
+            Ok(()) => {}
+            Err(closing) => return closing,
+        }
+    }
+    Closing::Ended(Ending::TooLong)
+}
