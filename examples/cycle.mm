@@ -1,0 +1,15 @@
+machine 8 8 1 0
+process 0 3
+alloc 1 0 0x4000 0x3000 0x04
+write 1 0x10000 10
+write 1 0x11000 11
+write 1 0x12000 12
+write 1 0x13000 13
+read 1 0x10000 1
+read 1 0x11000 1
+read 1 0x12000 1
+read 1 0x13000 1
+read 1 0x10000 1
+read 1 0x11000 1
+read 1 0x12000 1
+read 1 0x13000 1

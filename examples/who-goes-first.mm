@@ -1,0 +1,17 @@
+machine 6 8 1 0
+process 0 8
+process 0 8
+alloc 1 0 0x3000 0x3000 0x04
+alloc 2 0 0x5000 0x3000 0x04
+write 2 0x10000 21
+write 2 0x11000 22
+write 2 0x12000 23
+write 1 0x10000 11
+write 1 0x11000 12
+write 1 0x12000 13
+write 2 0x13000 24
+age 1
+age 2
+age 2
+read 1 0x11000 1
+write 2 0x14000 25
