@@ -33,3 +33,4 @@ pub mod Noted
 pub mod CallForms
 pub mod AccessMarks
 pub mod Promised
+pub mod Memory

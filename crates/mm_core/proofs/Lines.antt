@@ -23,7 +23,7 @@ use Rattle.mm_tables.specs.Fits.{Fits, bytes_of, Called}
 use Rattle.mm_tables.specs.References.{MadeAtMost}
 use Rattle.mm_core.specs.Serving.{IsFailure, Named, Flushed}
 use Rattle.mm_core.specs.Stepping.{Stepped}
-use Rattle.mm_core.specs.Deciding.{Keeps, Begins, DecidedAs, Decided, DecidedBy}
+use Rattle.mm_core.specs.Deciding.{Keeps, Begins, Decided}
 use Rattle.mm_core.proofs.Serving.{Quiet, devices-served, devices-quiet}
 use Rattle.mm_core.proofs.Making.{Makes}
 
@@ -71,10 +71,10 @@ module _ (u : Bool) (e : Event) (n : ℕ) (t : Tables) (old : Key → Option Pag
       record { fits = fits; few = subst (λ (k : ℕ). MadeAtMost k after) (sym (is ∙ next)) few }
 
   -- a line that called no device
-  pub decided-still : (Outcome : Type 0) → n ≡ s.line + 1 → Begins n s m → Quiet m z → Outcome → (IsFailure a → ⊥) → NamedHere → Flushed v z.file_blocks e a → MadeAtMost (s.line + 1) after → Fits after new z → DecidedAs Outcome u e n t old s a after new z
-  decided-still Outcome next b quiet outcome fine named flushed few fits =
+  decided-still : n ≡ s.line + 1 → Begins n s m → Quiet m z → Stepped u w e s.report z.report a v → (IsFailure a → ⊥) → NamedHere → Flushed v z.file_blocks e a → MadeAtMost (s.line + 1) after → Fits after new z → Decided u e n t old s a after new z
+  decided-still next b quiet step fine named flushed few fits =
       record {
-        stepped = outcome;
+        stepped = step;
         devices = devices-quiet u e n s m z a b quiet named fine;
         flushed = flushed;
         keeps = keeps-made next (quiet.line_is ∙ b.line_is) few fits;
@@ -82,24 +82,16 @@ module _ (u : Bool) (e : Event) (n : ℕ) (t : Tables) (old : Key → Option Pag
       }
 
   pub decided-quiet : n ≡ s.line + 1 → Begins n s m → Quiet m z → told w e s.report z.report ≡ None → unpaged w e ≡ done a v → (IsFailure a → ⊥) → NamedHere → Flushed v z.file_blocks e a → MadeAtMost (s.line + 1) after → Fits after new z → Decided u e n t old s a after new z
-  decided-quiet next b quiet none outcome = decided-still (Stepped u w e s.report z.report a v) next b quiet (stepped-plain u w e s.report z.report a v none outcome)
+  decided-quiet next b quiet none outcome = decided-still next b quiet (stepped-plain u w e s.report z.report a v none outcome)
 
   -- one whose call on the world has the outcome of its call on the tables
-  decided-called : (Outcome : Type 0) (q : OutcomeOf (Unit {0})) (o : OutcomeOf Page) → Keeps t old s → n ≡ s.line + 1 → Begins n s m → Quiet m z → AcrossBytes t (bytes_of old) q o → Holds (Makes t) q → (o ≡ done a v → Outcome) → NamedHere → Flushed v z.file_blocks e a → Called q t old a after new → Fits after new z → DecidedAs Outcome u e n t old s a after new z
-  decided-called Outcome q o keeps next b quiet across makes is named flushed called fits =
+  pub decided-call : (q : OutcomeOf (Unit {0})) → Keeps t old s → n ≡ s.line + 1 → Begins n s m → Quiet m z → AcrossBytes t (bytes_of old) q (unpaged w e) → Holds (Makes t) q → told w e s.report z.report ≡ None → NamedHere → Flushed v z.file_blocks e a → Called q t old a after new → Fits after new z → Decided u e n t old s a after new z
+  decided-call q keeps next b quiet across makes none named flushed called fits =
       let answers : q.answer ≡ a = ap (λ (q : OutcomeOf (Unit {0})). q.answer) called.outcome in
       let tables : q.world ≡ after = ap (λ (q : OutcomeOf (Unit {0})). q.world) called.outcome in
-      decided-still Outcome next b quiet (is (called-across q o t old a after new across called))
+      decided-quiet next b quiet none (called-across q (unpaged w e) t old a after new across called)
       (subst (λ (a : Answer). IsFailure a → ⊥) answers makes.it.fine) named flushed
       (subst (λ (t : Tables). MadeAtMost (s.line + 1) t) tables (makes.it.made s.line keeps.few)) fits
-
-  pub decided-call : (q : OutcomeOf (Unit {0})) → Keeps t old s → n ≡ s.line + 1 → Begins n s m → Quiet m z → AcrossBytes t (bytes_of old) q (unpaged w e) → Holds (Makes t) q → told w e s.report z.report ≡ None → NamedHere → Flushed v z.file_blocks e a → Called q t old a after new → Fits after new z → Decided u e n t old s a after new z
-  decided-call q keeps next b quiet across makes none =
-      decided-called (Stepped u w e s.report z.report a v) q (unpaged w e) keeps next b quiet across makes (stepped-plain u w e s.report z.report a v none)
-
-  -- one of what stands beside the world
-  pub decided-beside : (q : OutcomeOf (Unit {0})) (o : OutcomeOf Page) → Keeps t old s → n ≡ s.line + 1 → Begins n s m → Quiet m z → AcrossBytes t (bytes_of old) q o → Holds (Makes t) q → NamedHere → Flushed v z.file_blocks e a → Called q t old a after new → Fits after new z → DecidedBy o u e n t old s a after new z
-  decided-beside q o keeps next b quiet across makes = decided-called (o ≡ done a v) q o keeps next b quiet across makes (λ outcome. outcome)
 
   -- a line of which the store may tell that a device failed
   pub stepped-faulted : (b : Bool) (q : OutcomeOf (Unit {0})) → cond b (done answer.Fault t) q ≡ done a after → told w e s.report z.report ≡ when b answer.Fault → world_told w e answer.Fault ≡ w → (after ≡ t → v ≡ w) → (q ≡ done a after → unpaged w e ≡ done a v) → Stepped u w e s.report z.report a v

@@ -1,5 +1,5 @@
 -- Each line makes at most one of each thing that is numbered, and no call answers that a device failed.
-use Rattle.std.proofs.Common.{◌≡◌, ◌≤◌, ℕ, zero, suc, ◌+◌, ◌-◌, false, Option, Some, None, List, [], ◌∷◌, ◌++◌, refl, sym, ◌∙◌, ap, arith, length, set, map, inl, inr}
+use Rattle.std.proofs.Common.{◌≡◌, ◌≤◌, ℕ, zero, suc, ◌+◌, ◌-◌, Bool, false, Option, Some, None, List, [], ◌∷◌, ◌++◌, refl, sym, ◌∙◌, ap, arith, length, set, map, inl, inr}
 use Rattle.std.proofs.lemmas.List.{length-set, length-append, get_or-set_same, get_or-set_other}
 use Rattle.mm_types.proofs.Cells.{same_or_not}
 use Rattle.mm_types.specs.declared.answers.Answer.{Answer}
@@ -8,8 +8,8 @@ use Rattle.mm_types.specs.declared.views.Kind.{Kind}
 use Rattle.mm_types.specs.declared.views.Kind.TheVariants as kind
 use Rattle.mm_types.specs.Address.{Range, address_of, page_of}
 use Rattle.mm_types.specs.Spelling.{Text}
-use Rattle.mm_world.specs.World.{WorldOf, ProcessOf, RegionOf, AreaOf, SectionOf, FileOf, RowOf, Numbered, numbered}
-use Rattle.mm_world.specs.Find.{Found, process_of, set_process, set_regions, set_area}
+use Rattle.mm_world.specs.World.{WorldOf, ProcessOf, RegionOf, AreaOf, SectionOf, FileOf, StackOf, RowOf, Numbered, numbered}
+use Rattle.mm_world.specs.Find.{Found, process_of, set_process, set_regions, set_area, stack_by, set_stack, end_stacks}
 use Rattle.mm_world.specs.Keys.{Committed, committed_at, set_row, guard_off}
 use Rattle.mm_world.specs.Outcome.{OutcomeOf, done, refused}
 use Rattle.mm_types.specs.Allocation.{commit_type}
@@ -20,7 +20,7 @@ use Rattle.mm_world.specs.Query.{query}
 use Rattle.mm_world.specs.Sections.{create, create_file, open_section, close, handle_or, new_section, settle, settled_sections, settled_areas, with_handle}
 use Rattle.mm_world.specs.Views.{map_view, unmap, flush}
 use Rattle.mm_world.specs.Processes.{new_process, exit, new_file, take_fail, no_regions, kept_of_others}
-use Rattle.mm_world.specs.Stack.{StackOf, stack, made, probe, probe_at, probe_in, probe_of, grown}
+use Rattle.mm_world.specs.Stack.{stack, made, probe, probe_at, probe_in, probe_of, grown}
 use Rattle.mm_tables.specs.References.{MadeAtMost}
 use Rattle.mm_core.specs.Serving.{IsFailure}
 use Rattle.mm_world.proofs.Tables.{Holds, tables}
@@ -131,8 +131,11 @@ module _ {B : Type 0} where
   by_regions_settled : (w : WorldOf B) (pid : ℕ) (p : ProcessOf B) (rs : List (RegionOf B)) (a : Answer) → (IsFailure a → ⊥) → process_of w pid ≡ Some p → Holds (Makes w) (done a (settle (set_regions w pid p rs)))
   by_regions_settled w pid p rs a fine lives = by_settled w (set_regions w pid p rs) pid p _ a fine lives refl (omega arith) refl refl
 
-  by_exit : (w : WorldOf B) (pid : ℕ) (p : ProcessOf B) (a : Answer) → (IsFailure a → ⊥) → process_of w pid ≡ Some p → Holds (Makes w) (done a (settle (set_process (record w { kept = map (kept_of_others pid) w.kept }) pid None)))
-  by_exit w pid p a fine lives = by_settled w (set_process (record w { kept = map (kept_of_others pid) w.kept }) pid None) pid p None a fine lives refl tt refl refl
+  by_released : (w : WorldOf B) (pid : ℕ) (p : ProcessOf B) (rs : List (RegionOf B)) (ends : StackOf → Bool) (a : Answer) → (IsFailure a → ⊥) → process_of w pid ≡ Some p → Holds (Makes w) (done a (end_stacks (set_regions w pid p rs) ends))
+  by_released w pid p rs ends a fine lives = by_set w _ pid p _ a fine lives refl (omega arith) (omega arith) (omega arith)
+
+  by_exit : (w : WorldOf B) (pid : ℕ) (p : ProcessOf B) (ends : StackOf → Bool) (a : Answer) → (IsFailure a → ⊥) → process_of w pid ≡ Some p → Holds (Makes w) (done a (settle (set_process (end_stacks (record w { kept = map (kept_of_others pid) w.kept }) ends) pid None)))
+  by_exit w pid p ends a fine lives = by_settled w (set_process (end_stacks (record w { kept = map (kept_of_others pid) w.kept }) ends) pid None) pid p None a fine lives refl tt refl refl
 
   by_section : (w : WorldOf B) (pid : ℕ) (p : ProcessOf B) (s : SectionOf) → process_of w pid ≡ Some p → Holds (Makes w) (new_section w pid p s)
   by_section w pid p s lives =
@@ -154,7 +157,7 @@ module _ {B : Type 0} where
   in_alloc fill w pid addr size type prot = search (forms, in_commit) depth 14
 
   pub in_free : (w : WorldOf B) (pid addr size type : ℕ) → Holds (Makes w) (free w pid addr size type)
-  in_free w pid addr size type = search forms depth 16
+  in_free w pid addr size type = search (forms, by_released) depth 16
 
   pub in_protect : (w : WorldOf B) (pid addr size prot : ℕ) → Holds (Makes w) (protect w pid addr size prot)
   in_protect w pid addr size prot = search forms depth 18
@@ -245,35 +248,40 @@ module _ {B : Type 0} where
 
   -- ---- stacks
 
-  in_made : (fill : ℕ → B) (w : WorldOf B) (pid : ℕ) (p : ProcessOf B) (r c : ℕ) → process_of w pid ≡ Some p → Holds (Makes w) (made fill w pid p r c)
-  in_made fill w pid p r c lives = search forms depth 14
+  by_stack : (w : WorldOf B) (pid : ℕ) (p : ProcessOf B) (rs : List (RegionOf B)) (tid : ℕ) (s : StackOf) (a : Answer) → (IsFailure a → ⊥) → process_of w pid ≡ Some p → Holds (Makes w) (done a (set_stack (set_regions w pid p rs) tid s))
+  by_stack w pid p rs tid s a fine lives = by_set w _ pid p _ a fine lives refl (omega arith) (omega arith) (omega arith)
 
-  pub in_stack : (fill : ℕ → B) (w : WorldOf B) (stacks : Numbered StackOf) (tid pid reserve commit : ℕ) → Holds (Makes w) (stack fill w stacks tid pid reserve commit)
-  in_stack fill w stacks tid pid reserve commit = search (tables, by_refusal, unchanged, in_made) depth 14
+  in_made : (fill : ℕ → B) (w : WorldOf B) (tid pid : ℕ) (p : ProcessOf B) (r c : ℕ) → process_of w pid ≡ Some p → Holds (Makes w) (made fill w tid pid p r c)
+  in_made fill w tid pid p r c lives = search (tables, by_refusal, by_stack) depth 14
+
+  pub in_stack : (fill : ℕ → B) (w : WorldOf B) (tid pid reserve commit : ℕ) → Holds (Makes w) (stack fill w tid pid reserve commit)
+  in_stack fill w tid pid reserve commit = search (tables, by_refusal, unchanged, in_made) depth 14
 
   by_guard : (w : WorldOf B) (pid : ℕ) (p : ProcessOf B) (c : Committed B) (page : ℕ) (a : Answer) → (IsFailure a → ⊥) → process_of w pid ≡ Some p → Holds (Makes w) (done a (guard_off w pid p c page))
   by_guard w pid p c page a fine lives = by_regions w pid p _ a fine lives
 
-  in_grown : (fill : ℕ → B) (w : WorldOf B) (s : StackOf) (p : ProcessOf B) (c : Committed B) (page : ℕ) → process_of w s.pid ≡ Some p → Holds (Makes w) (grown fill w s (guard_off w s.pid p c page))
-  in_grown fill w s p c page lives =
+  in_grown : (fill : ℕ → B) (w : WorldOf B) (tid : ℕ) (s : StackOf) (p : ProcessOf B) (c : Committed B) (page : ℕ) → process_of w s.pid ≡ Some p → Holds (Makes w) (grown fill (guard_off w s.pid p c page) tid s)
+  in_grown fill w tid s p c page lives =
       record {
         it = record {
-          made = λ n h. (in_alloc fill (guard_off w s.pid p c page) s.pid (address_of (s.guard_page - 1)) 1 commit_type 0x104).it.made n (made-set_row w n s.pid page p c.region (record c.row { guard = false }) lives h);
+          made = λ n h.
+              let m = (in_alloc fill (guard_off w s.pid p c page) s.pid (address_of (s.guard_page - 1)) 1 commit_type 0x104).it.made n (made-set_row w n s.pid page p c.region (record c.row { guard = false }) lives h) in
+              record { sections = m.sections; areas = m.areas; handles = m.handles };
           fine = λ f. f;
         };
       }
 
-  in_probe_at : (fill : ℕ → B) (w : WorldOf B) (p : ProcessOf B) (s : StackOf) (page : ℕ) (c : Option (Committed B)) → process_of w s.pid ≡ Some p → Holds (Makes w) (probe_at fill w p s page c)
-  in_probe_at fill w p s page None lives = unchanged w _ (λ f. f)
-  in_probe_at fill w p s page (Some c) lives = search (tables, unchanged, by_guard, in_grown) depth 14
+  in_probe_at : (fill : ℕ → B) (w : WorldOf B) (tid : ℕ) (p : ProcessOf B) (s : StackOf) (page : ℕ) (c : Option (Committed B)) → process_of w s.pid ≡ Some p → Holds (Makes w) (probe_at fill w tid p s page c)
+  in_probe_at fill w tid p s page None lives = unchanged w _ (λ f. f)
+  in_probe_at fill w tid p s page (Some c) lives = search (tables, unchanged, by_guard, in_grown) depth 14
 
-  in_probe_in : (fill : ℕ → B) (w : WorldOf B) (s : StackOf) (page : ℕ) (p : Option (ProcessOf B)) → process_of w s.pid ≡ p → Holds (Makes w) (probe_in fill w s page p)
-  in_probe_in fill w s page None lives = unchanged w _ (λ f. f)
-  in_probe_in fill w s page (Some p) lives = in_probe_at fill w p s page (committed_at w p.regions page) lives
+  in_probe_in : (fill : ℕ → B) (w : WorldOf B) (tid : ℕ) (s : StackOf) (page : ℕ) (p : Option (ProcessOf B)) → process_of w s.pid ≡ p → Holds (Makes w) (probe_in fill w tid s page p)
+  in_probe_in fill w tid s page None lives = unchanged w _ (λ f. f)
+  in_probe_in fill w tid s page (Some p) lives = in_probe_at fill w tid p s page (committed_at w p.regions page) lives
 
-  in_probe_of : (fill : ℕ → B) (w : WorldOf B) (page : ℕ) (s : Option StackOf) → Holds (Makes w) (probe_of fill w page s)
-  in_probe_of fill w page None = unchanged w _ (λ f. f)
-  in_probe_of fill w page (Some s) = in_probe_in fill w s page (process_of w s.pid) refl
+  in_probe_of : (fill : ℕ → B) (w : WorldOf B) (tid page : ℕ) (s : Option StackOf) → Holds (Makes w) (probe_of fill w tid page s)
+  in_probe_of fill w tid page None = unchanged w _ (λ f. f)
+  in_probe_of fill w tid page (Some s) = in_probe_in fill w tid s page (process_of w s.pid) refl
 
-  pub in_probe : (fill : ℕ → B) (w : WorldOf B) (stacks : Numbered StackOf) (tid addr : ℕ) → Holds (Makes w) (probe fill w stacks tid addr)
-  in_probe fill w stacks tid addr = in_probe_of fill w (page_of addr) (numbered stacks tid)
+  pub in_probe : (fill : ℕ → B) (w : WorldOf B) (tid addr : ℕ) → Holds (Makes w) (probe fill w tid addr)
+  in_probe fill w tid addr = in_probe_of fill w tid (page_of addr) (stack_by w tid)

@@ -18,10 +18,10 @@ use Rattle.mm_pages.specs.Store.{StoreOf}
 use Rattle.mm_paging.specs.Lines.{Line, Noted}
 use Rattle.mm_tables.specs.Fits.{Fits, bytes_of}
 use Rattle.mm_tables.specs.References.{IsTidy}
-use Rattle.mm_core.specs.Deciding.{DecidedAs, Idle}
+use Rattle.mm_core.specs.Deciding.{Decided, Idle}
 use Rattle.mm_core.specs.Forgetting.{EndsWaits}
 use Rattle.mm_core.specs.Noting.{MarkedIn, HaltedIn}
-use Rattle.mm_core.specs.Promise.{Scene, Sound, Notes, Decides, Breaks, scene_of}
+use Rattle.mm_core.specs.Promise.{Scene, Sound, Notes, Decides, DecidesStep, Breaks, scene_of}
 use Rattle.mm_core.specs.Serving.{AskedBeside}
 use Rattle.mm_core.proofs.Charged.{charge-with}
 use Rattle.mm_core.proofs.Noted.{line-noted, line-broken}
@@ -82,7 +82,7 @@ module _ (u : Bool) (n : ℕ) (t : Tables) (old : Key → Option Page) (s : Stor
     unwaited = λ never tid. idle_in u new z c h.stands_after never tid;
   }
 
-  pub decides : {Outcome : Type 0} (e : Event) (a : Answer) → Fits t old s → Standing → DecidedAs Outcome u e n t old s a after new z → EndsWaits t e a z.report → (u ≡ false → AskedBeside t.blocks_used e a s.paging_device z.paging_device s.file_device z.file_device) → MarkedIn u e n t old s b a after new z c → Decides Outcome u before e a behind
+  pub decides : (e : Event) (a : Answer) → Fits t old s → Standing → Decided u e n t old s a after new z → EndsWaits t e a z.report → (u ≡ false → AskedBeside t.blocks_used e a s.paging_device z.paging_device s.file_device z.file_device) → MarkedIn u e n t old s b a after new z c → DecidesStep u before e a behind
   decides e a fits h d waits beside marked =
       let p = piece_in u before e a behind (λ paging. line-noted u e n t old s b a after new z c paging h.next fits d.keeps h.stands h.stands_after marked) in
       record {

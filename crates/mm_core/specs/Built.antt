@@ -1,19 +1,17 @@
--- Which lines are built, and which lines may take memory.
+-- Which lines a world decides, and which lines may take memory.
 -- Profile, "Script".
-use Rattle.std.specs.Prelude.{Bool, true, false, not, ◌==◌}
+use Rattle.std.specs.Prelude.{ℕ, Bool, true, false, ◌==◌}
 use Rattle.mm_types.specs.declared.events.Event.{Event}
 use Rattle.mm_types.specs.declared.events.Event.TheVariants as line
 use Rattle.mm_types.specs.Protection.{base_of, writecopy}
-use Rattle.mm_world.specs.System.{is_watched_type}
+use Rattle.mm_world.specs.World.{WorldOf}
+use Rattle.mm_stack.specs.Growth.{grows}
 
--- Watched regions, their queries and the stacks of threads are built above; the first line makes the world.
+-- The first line makes the world, and written pages are told beside it.
 abbrev pub is_built : Event → Bool
-is_built (line.Alloc pid addr size type prot) = not (is_watched_type type)
 is_built (line.Machine machine) = false
 is_built (line.Watch pid unwrites addr size count) = false
 is_built (line.ResetWatch pid addr size) = false
-is_built (line.Stack tid pid reserve commit) = false
-is_built (line.Probe tid addr) = false
 is_built _ = true
 
 -- a line that makes an access itself, which no thread keeps
@@ -23,17 +21,17 @@ is_access_line (line.Write pid addr bytes) = true
 is_access_line (line.Exec pid addr) = true
 is_access_line _ = false
 
--- a line that may run out of memory; of `protect`, one that asks for marks
-abbrev pub takes_memory : Event → Bool
-takes_memory (line.Process min max) = true
-takes_memory (line.File name pages byte) = true
-takes_memory (line.Alloc pid addr size type prot) = true
-takes_memory (line.Protect pid addr size prot) = base_of prot == writecopy
-takes_memory (line.Create pid size flags name) = true
-takes_memory (line.CreateFile pid file flags name) = true
-takes_memory (line.Open pid name) = true
-takes_memory (line.Map pid handle access offset len addr) = true
-takes_memory (line.Grow n) = true
-takes_memory (line.Stack tid pid reserve commit) = true
-takes_memory (line.Probe tid addr) = true
-takes_memory _ = false
+-- a line that may run out of memory in this world: of `protect`, one that asks for marks, of `probe`, one that makes a stack grow
+abbrev pub takes_memory : {B : Type 0} → (ℕ → B) → WorldOf B → Event → Bool
+takes_memory fill w (line.Process min max) = true
+takes_memory fill w (line.File name pages byte) = true
+takes_memory fill w (line.Alloc pid addr size type prot) = true
+takes_memory fill w (line.Protect pid addr size prot) = base_of prot == writecopy
+takes_memory fill w (line.Create pid size flags name) = true
+takes_memory fill w (line.CreateFile pid file flags name) = true
+takes_memory fill w (line.Open pid name) = true
+takes_memory fill w (line.Map pid handle access offset len addr) = true
+takes_memory fill w (line.Grow n) = true
+takes_memory fill w (line.Stack tid pid reserve commit) = true
+takes_memory fill w (line.Probe tid addr) = grows fill w tid.0 addr
+takes_memory fill w _ = false

@@ -7,7 +7,6 @@ use Rattle.mm_types.specs.declared.moves.LineKind.{LineKind}
 use Rattle.mm_types.specs.declared.moves.LineKind.TheVariants as kind_of
 use Rattle.mm_types.specs.declared.numbers.Key.{Key}
 use Rattle.mm_world.specs.World.{Page}
-use Rattle.mm_world.specs.Outcome.{OutcomeOf}
 use Rattle.mm_world.specs.Contents.{Tables, world_with}
 use Rattle.mm_pages.specs.Store.{StoreOf}
 use Rattle.mm_pages.specs.Reports.{begun}
@@ -45,23 +44,13 @@ pub record Devices (never_fails : Bool) (e : Event) (s z : StoreOf) (a : Answer)
   pub paging_later : s.paging_device.faults ≤ z.paging_device.faults
   pub files_later : s.file_device.faults ≤ z.file_device.faults
 
--- a line was decided, with this said of its answer and of the new world, from tables, bytes and store to those that there are now
-pub record DecidedAs (Outcome : Type 0) (never_fails : Bool) (e : Event) (number : ℕ) (t : Tables) (old : Key → Option Page) (s : StoreOf) (a : Answer) (after : Tables) (new : Key → Option Page) (z : StoreOf) : Type 0 where
-  pub stepped : Outcome
+-- a line was decided, from tables, bytes and store to those that there are now: as its step says
+pub record Decided (never_fails : Bool) (e : Event) (number : ℕ) (t : Tables) (old : Key → Option Page) (s : StoreOf) (a : Answer) (after : Tables) (new : Key → Option Page) (z : StoreOf) : Type 0 where
+  pub stepped : Stepped never_fails (world_with t (bytes_of old)) e s.report z.report a (world_with after (bytes_of new))
   pub devices : Devices never_fails e s z a
   pub flushed : Flushed (world_with after (bytes_of new)) z.file_blocks e a
   pub keeps : Keeps after new z
   pub line_is : z.line ≡ number
-
--- a line of the world alone: as its step says
-abbrev pub Decided : Bool → Event → ℕ → Tables → (Key → Option Page) → StoreOf → Answer → Tables → (Key → Option Page) → StoreOf → Type 0
-Decided never_fails e number t old s a after new z =
-    DecidedAs (Stepped never_fails (world_with t (bytes_of old)) e s.report z.report a (world_with after (bytes_of new))) never_fails e number t old s a after new z
-
--- a line of what stands beside the world: with this outcome
-abbrev pub DecidedBy : OutcomeOf Page → Bool → Event → ℕ → Tables → (Key → Option Page) → StoreOf → Answer → Tables → (Key → Option Page) → StoreOf → Type 0
-DecidedBy o never_fails e number t old s a after new z =
-    DecidedAs (o ≡ record { answer = a; world = world_with after (bytes_of new) }) never_fails e number t old s a after new z
 
 -- a line ran out of memory: the world and the devices are as before
 pub record Idle (t : Tables) (old : Key → Option Page) (s : StoreOf) (after : Tables) (new : Key → Option Page) (z : StoreOf) : Type 0 where

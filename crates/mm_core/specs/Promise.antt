@@ -12,7 +12,6 @@ use Rattle.mm_life.specs.Replay.{Replays}
 use Rattle.mm_world.specs.World.{Page, World}
 use Rattle.mm_world.specs.Charge.{charge, limit}
 use Rattle.mm_world.specs.Contents.{Tables, tables_of, world_with}
-use Rattle.mm_world.specs.Outcome.{OutcomeOf}
 use Rattle.mm_world.specs.Report.{Report}
 use Rattle.mm_blocks.specs.Devices.{DeviceOf}
 use Rattle.mm_pages.specs.Behind.{Behind}
@@ -115,11 +114,6 @@ pub record Decides (Outcome : Type 0) (never_fails : Bool) (s : Scene) (e : Even
 abbrev pub DecidesStep : Bool → Scene → Event → Answer → Scene → Type 0
 DecidesStep never_fails s e a z =
     Decides (Stepped never_fails s.world e s.report z.report a z.world) never_fails s e a z
-
--- with this answer and new world
-abbrev pub DecidesBy : OutcomeOf Page → Bool → Scene → Event → Answer → Scene → Type 0
-DecidesBy o never_fails s e a z =
-    Decides (o ≡ record { answer = a; world = z.world }) never_fails s e a z
 
 -- ---- a line that ran out of memory
 

@@ -1,6 +1,7 @@
 ghost use Rattle.std.specs.Prelude.{◌≡◌, ◌≤◌, ◌+◌, ℕ, true, false, IfOk, OnErr, IsOk};
 ghost use Rattle.mm_types.specs.declared.answers.Wait.TheVariants as wait;
 ghost use Rattle.mm_script.specs.Printed.{IsWellFormed};
+ghost use Rattle.mm_world.specs.Contents.{blank};
 ghost use Rattle.mm_core.specs.Built.{is_access_line, is_built, takes_memory};
 ghost use Rattle.mm_core.specs.Forgetting.{EndsWaits};
 ghost use Rattle.mm_core.specs.Over.{AskedBesideOver, DecidedOver, HaltedOver, IdleOver, KeepsOver, MarkedOver};
@@ -17,13 +18,14 @@ use crate::section_lines::{
     close_line, create_file_line, create_line, file_line, flush_line, map_line, open_line,
     unmap_line,
 };
+use crate::stack_lines::{probe_line, stack_line};
 use crate::thread_lines::{begin_line, resume_line};
 use mm_pages::Pages;
 use mm_tables::Tables;
 use mm_types::{Answer, Event, NoMemory};
 use std::alloc::Global;
 
-/// Decides a line of a form that is built, and makes no access itself.
+/// Decides a line that a world decides, and that makes no access itself.
 #[inline(never)]
 #[tactic(auto, using(crate::proofs::Formed::fits_page))]
 fn decide_other<G: Pages>(
@@ -42,7 +44,7 @@ fn decide_other<G: Pages>(
     requires idle { G.unpaged ≡ true → (tid : ℕ) → (G.store g.old).report.wait tid ≡ wait.None }
     ensures ok { IfOk result (λ a. DecidedOver G.Pages event.now line t.old g.old a t.new g.new) }
     ensures err { OnErr result (IdleOver G.Pages t.old g.old t.new g.new) }
-    ensures no_memory { takes_memory event.now ≡ false → IsOk result }
+    ensures no_memory { takes_memory blank t.old event.now ≡ false → IsOk result }
     ensures waits { IfOk result (λ a. EndsWaits t.old event.now a (G.store g.new).report) }
     ensures marked { IfOk result (λ a. MarkedOver G.Pages event.now line t.old g.old a t.new g.new) }
     ensures halted { OnErr result (HaltedOver G.Pages line g.old g.new) }
@@ -115,11 +117,18 @@ fn decide_other<G: Pages>(
             nth,
             count,
         } => Ok(fail_line(t, g, line, *device, *direction, *nth, *count)),
+        Event::Stack {
+            tid,
+            pid,
+            reserve,
+            commit,
+        } => stack_line(alloc, t, g, line, *tid, *pid, *reserve, *commit),
+        Event::Probe { tid, addr } => probe_line(t, g, line, *tid, *addr),
         _ => unreachable!(),
     }
 }
 
-/// Decides a line of a form that is built. Accesses come first, since they are the commonest.
+/// Decides a line that a world decides. Accesses come first, since they are the commonest.
 pub(crate) fn decide<G: Pages>(
     alloc: Global,
     t: &mut Tables,
@@ -135,7 +144,7 @@ pub(crate) fn decide<G: Pages>(
     requires idle { G.unpaged ≡ true → (tid : ℕ) → (G.store g.old).report.wait tid ≡ wait.None }
     ensures ok { IfOk result (λ a. DecidedOver G.Pages event.now line t.old g.old a t.new g.new) }
     ensures err { OnErr result (IdleOver G.Pages t.old g.old t.new g.new) }
-    ensures no_memory { takes_memory event.now ≡ false → IsOk result }
+    ensures no_memory { takes_memory blank t.old event.now ≡ false → IsOk result }
     ensures waits { IfOk result (λ a. EndsWaits t.old event.now a (G.store g.new).report) }
     ensures marked { IfOk result (λ a. MarkedOver G.Pages event.now line t.old g.old a t.new g.new) }
     ensures halted { OnErr result (HaltedOver G.Pages line g.old g.new) }

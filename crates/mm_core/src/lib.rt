@@ -20,5 +20,5 @@ mod thread_lines;
 mod threads;
 mod worlds;
 
-pub use built::{is_built, is_watched_type};
+pub use built::is_built;
 pub use worlds::World;

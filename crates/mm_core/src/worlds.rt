@@ -1,10 +1,7 @@
 ghost use Rattle.std.specs.Prelude.{◌≡◌, ◌≤◌, ◌+◌, true, false, IfOk, OnOk, OnErr, IsOk};
-ghost use Rattle.mm_types.specs.declared.events.Event.TheVariants as lines;
 ghost use Rattle.mm_world.specs.World.{filled};
-ghost use Rattle.mm_world.specs.Stack.{stack, probe};
 ghost use Rattle.mm_world.specs.Step.{first_world};
 ghost use Rattle.mm_world.specs.Charge.{charge, limit};
-ghost use Rattle.mm_world.specs.System.{stacks_after};
 ghost use Rattle.mm_pages.specs.Conditions.{IsNew};
 ghost use Rattle.mm_script.specs.Printed.{IsWellFormed};
 ghost use Rattle.mm_tables.specs.Fits.{Fits};
@@ -12,11 +9,9 @@ ghost use Rattle.mm_tables.specs.References.{MadeAtMost};
 ghost use Rattle.mm_core.specs.Built.{is_built, takes_memory};
 
 use crate::deciding::decide;
-use crate::stack_lines::{probe_line, stack_line};
 use mm_pages::Pages;
-use mm_stack::Stacks;
 use mm_tables::Tables;
-use mm_types::{Answer, Event, Machine, NoMemory, Pid, Tid};
+use mm_types::{Answer, Event, Machine, NoMemory};
 use std::alloc::Global;
 
 /// A machine's address spaces over a store of their pages.
@@ -33,7 +28,7 @@ pub struct World<G: Pages> {
 }
 
 impl<G: Pages> World<G> {
-    ghost use Rattle.mm_core.specs.Promise.{DecidesStep, DecidesBy, Breaks, scene};
+    ghost use Rattle.mm_core.specs.Promise.{DecidesStep, Breaks, scene};
     ghost use Rattle.mm_core.specs.Shown.{world, line_of, loans};
 
     /// The world after the `machine` line, over a new store of that machine.
@@ -78,12 +73,14 @@ impl<G: Pages> World<G> {
     ///
     /// Each form is the Windows call that `mm_calls` and `mm_views` name at its function, or this
     /// profile's own. `line` is the number of the line in its script, where `machine` is line 1.
+    /// No line is `machine`, `watch` or `resetwatch`: the first is a world's beginning, and written
+    /// pages are told beside it.
     ///
     /// `NoMemory` comes only from `process`, `file`, `alloc`, `create`, `createfile`, `open`,
-    /// `map`, `grow`, and a `protect` that asks for marks. Then the world is as it was, and no
-    /// further line can be decided. A failed access and a `fault` come only where a device's count
-    /// of faults rose in the line, or, of a `resume`, where the read that its thread waited for
-    /// failed before.
+    /// `map`, `grow`, `stack`, a `protect` that asks for marks, and a `probe` that makes a stack
+    /// grow. Then the world is as it was, and no further line can be decided. A failed access and a
+    /// `fault` come only where a device's count of faults rose in the line, or, of a `resume`,
+    /// where the read that its thread waited for failed before.
     ///
     /// What is told of a line that was decided is one record (`Decides`), and of one that ran out
     /// of memory another (`Breaks`). Over a store that pages, the line's piece of the log of moves
@@ -99,7 +96,7 @@ impl<G: Pages> World<G> {
         ensures decided { IfOk result (λ a.
             DecidesStep G.unpaged (scene self.old) event.now a (scene self.new)) }
         ensures broke { OnErr result (Breaks G.unpaged (scene self.old) (scene self.new)) }
-        ensures no_memory { takes_memory event.now ≡ false → IsOk result }
+        ensures no_memory { takes_memory filled (world self.old) event.now ≡ false → IsOk result }
         ensures line { OnOk result (line_of self.new ≡ line) }
         ensures ready { OnOk result (self.new.spent ≡ false) }
         ensures spent { OnErr result (self.new.spent ≡ true) }
@@ -107,93 +104,6 @@ impl<G: Pages> World<G> {
     {
         self.pages.sound();
         let result = decide(alloc, &mut self.tables, &mut self.pages, line, event);
-        self.spent = result.is_err();
-        self.tables.sound();
-        self.pages.sound();
-        result
-    }
-
-    /// Decides a `stack` line, the next one: a thread gets a stack, which grows through its guard
-    /// page (this profile's own). Answer and new world are those of the definitions' `stack` from
-    /// the world and the stacks that there were, and the stacks are those that the line leaves.
-    ///
-    /// What else is told of it is what `step` tells of each line. After `NoMemory` world and stacks
-    /// are as they were, and no further line can be decided.
-    pub fn create_stack(
-        &mut self,
-        alloc: Global,
-        line: u32,
-        stacks: &mut Stacks,
-        tid: Tid,
-        pid: Pid,
-        reserve: u32,
-        commit: u32,
-    ) -> Result<Answer, NoMemory>
-        requires next { line ≡ line_of self.old + 1 }
-        requires few { line ≤ 1000000 }
-        requires ready { self.old.spent ≡ false }
-        ensures decided { IfOk result (λ a.
-            DecidesBy (stack filled (world self.old) stacks.old tid.0 pid.0 reserve commit)
-            G.unpaged (scene self.old) (lines.Stack tid pid reserve commit) a (scene self.new)) }
-        ensures broke { OnErr result (Breaks G.unpaged (scene self.old) (scene self.new)) }
-        ensures stacks { IfOk result (λ a.
-            stacks.new ≡ stacks_after stacks.old (lines.Stack tid pid reserve commit) a) }
-        ensures unmoved { OnErr result (stacks.new ≡ stacks.old) }
-        ensures line { OnOk result (line_of self.new ≡ line) }
-        ensures ready { OnOk result (self.new.spent ≡ false) }
-        ensures spent { OnErr result (self.new.spent ≡ true) }
-        ensures loans { loans self.new ≡ loans self.old }
-    {
-        self.pages.sound();
-        let result = stack_line(
-            alloc,
-            &mut self.tables,
-            &mut self.pages,
-            line,
-            stacks,
-            tid,
-            pid,
-            reserve,
-            commit,
-        );
-        self.spent = result.is_err();
-        self.tables.sound();
-        self.pages.sound();
-        result
-    }
-
-    /// Decides a `probe` line, the next one: the touch that a compiled function makes before it
-    /// uses a page of its stack (this profile's own). Answer and new world are those of the
-    /// definitions' `probe` from the world and the stacks that there were, and the stacks are those
-    /// that the line leaves.
-    ///
-    /// What else is told of it is what `step` tells of each line. After `NoMemory`, which comes
-    /// only where the stack would have grown, world and stacks are as they were, and no further
-    /// line can be decided.
-    pub fn probe_stack(
-        &mut self,
-        line: u32,
-        stacks: &mut Stacks,
-        tid: Tid,
-        addr: u32,
-    ) -> Result<Answer, NoMemory>
-        requires next { line ≡ line_of self.old + 1 }
-        requires few { line ≤ 1000000 }
-        requires ready { self.old.spent ≡ false }
-        ensures decided { IfOk result (λ a.
-            DecidesBy (probe filled (world self.old) stacks.old tid.0 addr)
-            G.unpaged (scene self.old) (lines.Probe tid addr) a (scene self.new)) }
-        ensures broke { OnErr result (Breaks G.unpaged (scene self.old) (scene self.new)) }
-        ensures stacks { IfOk result (λ a.
-            stacks.new ≡ stacks_after stacks.old (lines.Probe tid addr) a) }
-        ensures unmoved { OnErr result (stacks.new ≡ stacks.old) }
-        ensures line { OnOk result (line_of self.new ≡ line) }
-        ensures ready { OnOk result (self.new.spent ≡ false) }
-        ensures spent { OnErr result (self.new.spent ≡ true) }
-        ensures loans { loans self.new ≡ loans self.old }
-    {
-        self.pages.sound();
-        let result = probe_line(&mut self.tables, &mut self.pages, line, stacks, tid, addr);
         self.spent = result.is_err();
         self.tables.sound();
         self.pages.sound();

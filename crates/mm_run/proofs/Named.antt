@@ -11,8 +11,8 @@ use Rattle.mm_types.specs.declared.views.Kind.{Kind}
 use Rattle.mm_types.specs.declared.views.Kind.TheVariants as kind
 use Rattle.mm_types.specs.Address.{Range, address_of, page_of}
 use Rattle.mm_types.specs.Spelling.{Text}
-use Rattle.mm_world.specs.World.{World, ProcessOf, RegionOf, KeptOf, Page, Numbered, numbered, filled}
-use Rattle.mm_world.specs.Find.{Found, process_of}
+use Rattle.mm_world.specs.World.{World, ProcessOf, RegionOf, KeptOf, StackOf, Page, filled}
+use Rattle.mm_world.specs.Find.{Found, process_of, stack_by}
 use Rattle.mm_world.specs.Keys.{Home, Own, InSection, Committed, set_row, set_shared, committed_at, guard_off}
 use Rattle.mm_world.specs.Outcome.{OutcomeOf, done, refused}
 use Rattle.mm_types.specs.Allocation.{commit_type}
@@ -26,7 +26,7 @@ use Rattle.mm_world.specs.Processes.{new_process, exit, new_file, grow, most_fai
 use Rattle.mm_world.specs.Access.{Attempt, ReadOf, WriteOf, Execute, access, access_at, perform, write_to, written, bytes_of, address_in, attempt_in}
 use Rattle.mm_world.specs.Report.{Report}
 use Rattle.mm_world.specs.Step.{unpaged, told, step, stepped, world_told, begin, resume, store_line, kept_by}
-use Rattle.mm_world.specs.Stack.{StackOf, stack, made as stack_made, probe_of, probe_in, probe_at, grown}
+use Rattle.mm_world.specs.Stack.{stack, made as stack_made, probe_of, probe_in, probe_at, grown}
 use Rattle.mm_world.specs.System.{System, plain_line, outcome, system_step}
 use Rattle.mm_world.specs.Watch.{WatchOf, watch, reset_watch}
 use Rattle.mm_world.proofs.Tables.{Holds, tables}
@@ -129,6 +129,29 @@ in_resume : (w : World) (tid : ℕ) (kept : Option KeptOf) → Holds (KeepsCount
 in_resume w tid None = by_any w _ _ refl
 in_resume w tid (Some k) = record { it = record { same = (in_access w k.pid (address_in k.access) (attempt_in k.access)).it.same } }
 
+-- ---- stacks
+
+in_made : (w : World) (tid pid : ℕ) (p : ProcessOf Page) (r c : ℕ) → Holds (KeepsCount w) (stack_made filled w tid pid p r c)
+in_made w tid pid p r c = search counted depth 14
+
+in_stack : (w : World) (tid pid reserve commit : ℕ) → Holds (KeepsCount w) (stack filled w tid pid reserve commit)
+in_stack w tid pid reserve commit = search (counted, in_made) depth 14
+
+in_grown : (w : World) (tid : ℕ) (s : StackOf) (p : ProcessOf Page) (c : Committed Page) (page : ℕ) → Holds (KeepsCount w) (grown filled (guard_off w s.pid p c page) tid s)
+in_grown w tid s p c page = record { it = record { same = (in_alloc (guard_off w s.pid p c page) s.pid (address_of (s.guard_page - 1)) 1 commit_type 0x104).it.same } }
+
+in_probe_at : (w : World) (tid : ℕ) (p : ProcessOf Page) (s : StackOf) (page : ℕ) (c : Option (Committed Page)) → Holds (KeepsCount w) (probe_at filled w tid p s page c)
+in_probe_at w tid p s page None = by_any w w _ refl
+in_probe_at w tid p s page (Some c) = search (counted, in_grown) depth 14
+
+in_probe_in : (w : World) (tid : ℕ) (s : StackOf) (page : ℕ) (p : Option (ProcessOf Page)) → Holds (KeepsCount w) (probe_in filled w tid s page p)
+in_probe_in w tid s page None = by_any w w _ refl
+in_probe_in w tid s page (Some p) = in_probe_at w tid p s page (committed_at w p.regions page)
+
+in_probe_of : (w : World) (tid page : ℕ) (s : Option StackOf) → Holds (KeepsCount w) (probe_of filled w tid page s)
+in_probe_of w tid page None = by_any w w _ refl
+in_probe_of w tid page (Some s) = in_probe_in w tid s page (process_of w s.pid)
+
 -- ---- lines
 
 in_unpaged : (w : World) (e : Event) → is_fail e ≡ false → Holds (KeepsCount w) (unpaged w e)
@@ -163,8 +186,8 @@ in_unpaged w line.Counts q = by_any w _ _ refl
 in_unpaged w (line.Grow n) q = in_grow w n
 in_unpaged w (line.Watch pid unwrite addr size count) q = by_any w _ _ refl
 in_unpaged w (line.ResetWatch pid addr size) q = by_any w _ _ refl
-in_unpaged w (line.Stack tid pid reserve commit) q = by_any w _ _ refl
-in_unpaged w (line.Probe tid addr) q = by_any w _ _ refl
+in_unpaged w (line.Stack tid pid reserve commit) q = in_stack w tid.0 pid.0 reserve commit
+in_unpaged w (line.Probe tid addr) q = in_probe_of w tid.0 (page_of addr) (stack_by w tid.0)
 
 in_told : (w : World) (e : Event) (a : Answer) → Holds (KeepsCount w) (done a (world_told w e a))
 in_told w (line.Begin tid pid what) (answer.Pending why) = by_any w _ _ refl
@@ -230,35 +253,12 @@ in_watch w watches pid addr size count = search counted depth 12
 in_reset_watch : (w : World) (watches : List WatchOf) (pid addr size : ℕ) → Holds (KeepsCount w) (reset_watch w watches pid addr size)
 in_reset_watch w watches pid addr size = search counted depth 12
 
-in_made : (w : World) (pid : ℕ) (p : ProcessOf Page) (r c : ℕ) → Holds (KeepsCount w) (stack_made filled w pid p r c)
-in_made w pid p r c = search counted depth 14
-
-in_stack : (w : World) (stacks : Numbered StackOf) (tid pid reserve commit : ℕ) → Holds (KeepsCount w) (stack filled w stacks tid pid reserve commit)
-in_stack w stacks tid pid reserve commit = search (counted, in_made) depth 14
-
-in_grown : (w : World) (s : StackOf) (p : ProcessOf Page) (c : Committed Page) (page : ℕ) → Holds (KeepsCount w) (grown filled w s (guard_off w s.pid p c page))
-in_grown w s p c page = record { it = record { same = (in_alloc (guard_off w s.pid p c page) s.pid (address_of (s.guard_page - 1)) 1 commit_type 0x104).it.same } }
-
-in_probe_at : (w : World) (p : ProcessOf Page) (s : StackOf) (page : ℕ) (c : Option (Committed Page)) → Holds (KeepsCount w) (probe_at filled w p s page c)
-in_probe_at w p s page None = by_any w w _ refl
-in_probe_at w p s page (Some c) = search (counted, in_grown) depth 14
-
-in_probe_in : (w : World) (s : StackOf) (page : ℕ) (p : Option (ProcessOf Page)) → Holds (KeepsCount w) (probe_in filled w s page p)
-in_probe_in w s page None = by_any w w _ refl
-in_probe_in w s page (Some p) = in_probe_at w p s page (committed_at w p.regions page)
-
-in_probe_of : (w : World) (page : ℕ) (s : Option StackOf) → Holds (KeepsCount w) (probe_of filled w page s)
-in_probe_of w page None = by_any w w _ refl
-in_probe_of w page (Some s) = in_probe_in w s page (process_of w s.pid)
-
 by_beside : (w v : World) (o : OutcomeOf Page) (a : Answer) → Holds (KeepsCount w) o → o ≡ done a v → v.fails_taken ≡ w.fails_taken
 by_beside w v o a k h = ap (λ (o : OutcomeOf Page). o.world.fails_taken) (sym h) ∙ k.it.same
 
 outcome_stays : (s : System) (v : World) (e : Event) (a : Answer) (before after : Report) → (is_fail e ≡ true → a ≢ answer.Ok) → outcome s e before after ≡ done a v → v.fails_taken ≡ s.world.fails_taken
 outcome_stays s v (line.Watch pid unwrites addr size count) a before after ok h = by_beside s.world v _ a (in_watch s.world s.watches pid.0 addr size count) h
 outcome_stays s v (line.ResetWatch pid addr size) a before after ok h = by_beside s.world v _ a (in_reset_watch s.world s.watches pid.0 addr size) h
-outcome_stays s v (line.Stack tid pid reserve commit) a before after ok h = by_beside s.world v _ a (in_stack s.world s.stacks tid.0 pid.0 reserve commit) h
-outcome_stays s v (line.Probe tid addr) a before after ok h = by_beside s.world v _ a (in_probe_of s.world (page_of addr) (numbered s.stacks tid.0)) h
 outcome_stays s v (line.Alloc pid addr size type prot) a before after ok h =
     world_stays s.world v (plain_line (line.Alloc pid addr size type prot)) a before after (λ q. (let no_way : false ≡ true = q in cc)) h
 outcome_stays s v e a before after ok h = world_stays s.world v e a before after ok h

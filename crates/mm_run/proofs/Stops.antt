@@ -20,8 +20,7 @@ use Rattle.mm_run.specs.Steps.{Breaks}
 use Rattle.mm_run.specs.Answered.{DecidedLine, IsNext}
 use Rattle.mm_script.specs.Grammar.{IsLine as IsLineFor}
 use Rattle.mm_run.specs.Texts.{StandsAt}
-use Rattle.mm_core.specs.Built.{takes_memory}
-use Rattle.mm_run.specs.Ends.{Closes, BreaksOff}
+use Rattle.mm_run.specs.Ends.{Closes, BreaksOff, TakesMemory}
 use Rattle.mm_run.specs.Story.{IsMisplaced, Went, Came, Settles, EndsAt, outside, stand}
 use Rattle.mm_run.proofs.Stories.{follows_here}
 
@@ -68,12 +67,12 @@ module _ (held : Text) (len n : ℕ) (h : HasLine held len) (small : n < 1000000
       (refl, small, inl (record { line = take len held; is_line = is_line; whole = refl; place = p; refused = r })) few refl (follows_here w)
 
   pub came_memory : (a t : Option Text) (w end : Stage) (event : Event) → reading n (take len held) ≡ Ok event → IsLineFor (take len held) event
-      → ((is_machine event ≡ true) × Follows w end) ⊎ ((takes_memory event ≡ true) × BreaksOff w end) → Came (outside a t) (outside a t) (stand held n w) ending.NoMemory end
+      → ((is_machine event ≡ true) × Follows w end) ⊎ (TakesMemory w event × BreaksOff w end) → Came (outside a t) (outside a t) (stand held n w) ending.NoMemory end
   came_memory a t w end event says grammar broken =
       came_here a a t held held n w end _ (ended (take len held)) _ (filled_none a held) split (omega arith) width few refl
       (record { line = take len held; event = event; whole = refl; says = record { is_line = is_line; says = says; grammar = grammar }; broken = broken })
 
-  pub came_broken : (a t : Option Text) (s z : Scene) (event : Event) → reading n (take len held) ≡ Ok event → IsLineFor (take len held) event → takes_memory event ≡ true → Breaks s z
+  pub came_broken : (a t : Option Text) (s z : Scene) (event : Event) → reading n (take len held) ≡ Ok event → IsLineFor (take len held) event → TakesMemory (Running s) event → Breaks s z
       → Came (outside a t) (outside a t) (stand held n (Running s)) ending.NoMemory (Running z)
   came_broken a t s z event says grammar takes b =
       came_memory a t (Running s) (Running z) event says grammar (inr (takes, record { before = Running s; follows = follows_here (Running s); breaks = b }))

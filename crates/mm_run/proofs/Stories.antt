@@ -8,13 +8,14 @@ use Rattle.mm_types.proofs.Bytes.{append_nil, took_then, took_none, appended_non
 use Rattle.mm_lines.specs.Lines.{ended, joined}
 use Rattle.mm_lines.specs.Filling.{Filled}
 use Rattle.mm_types.specs.declared.answers.Answer.{Answer}
+use Rattle.mm_types.specs.declared.events.Event.{Event}
 use Rattle.mm_run.specs.declared.endings.Ending.{Ending}
 use Rattle.mm_run.specs.declared.endings.Ending.TheVariants as ending
 use Rattle.mm_run.specs.Scenes.{Scene, Outset, Stage, NotBegun, Running, Follows, with_faults, log_of, life_of}
 use Rattle.mm_run.specs.Answered.{DecidedLine, IsNext, AreAnswered, last_stage, texts_of, answers_of}
 use Rattle.mm_run.specs.Texts.{IsTorn, StandsAt, texts, concat}
 use Rattle.mm_life.specs.Logs.{Log}
-use Rattle.mm_run.specs.Ends.{Closes, Left, IsLogLeft}
+use Rattle.mm_run.specs.Ends.{Closes, Left, IsLogLeft, TakesMemory}
 use Rattle.mm_run.specs.Story.{Went, Came, Comes, Settles, Outside, Stand, outside, stand}
 
 pub joined-append : (xs ys : List Text) → joined (xs ++ ys) ≡ joined xs ++ joined ys
@@ -109,6 +110,13 @@ last_from : (a b : Stage) (ys : List DecidedLine) → Follows a b → Follows (l
 last_from a b [] h = h
 last_from a b (y ∷ ys) h = follows_here (last_stage y.after ys)
 
+takes_with : (k : ℕ) (s : Stage) (event : Event) → TakesMemory (with_faults k s) event → TakesMemory s event
+takes_with k (NotBegun o) event h = h
+takes_with k (Running s) event h = h
+
+takes_from : (a b : Stage) (event : Event) → Follows a b → TakesMemory b event → TakesMemory a event
+takes_from a b event h t = takes_with (log_of b).faults a event (subst (λ (s : Stage). TakesMemory s event) h.same t)
+
 closes_from : (e : Ending) (n : ℕ) (front : Text) (a b end : Stage) → Follows a b → Closes e n front b end → Closes e n front a end
 closes_from ending.NoMemory n front a b end h c = record {
   line = c.line;
@@ -117,7 +125,7 @@ closes_from ending.NoMemory n front a b end h c = record {
   says = c.says;
   broken = elim c.broken [
     | inl m ↦ inl (m.0, follows_then a b end h m.1)
-    | inr m ↦ inr (m.0, record { before = m.1.before; follows = follows_then a b m.1.before h m.1.follows; breaks = m.1.breaks })
+    | inr m ↦ inr (takes_from a b c.event h m.0, record { before = m.1.before; follows = follows_then a b m.1.before h m.1.follows; breaks = m.1.breaks })
   ];
 }
 closes_from ending.MovesFault n front a b end h (inl c) = inl (follows_then a b end h c)

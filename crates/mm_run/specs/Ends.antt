@@ -5,7 +5,7 @@ use Rattle.mm_types.specs.Spelling.{Text}
 use Rattle.mm_types.specs.declared.events.Event.{Event}
 use Rattle.mm_lines.specs.Lines.{ended}
 use Rattle.mm_life.specs.Logs.{Log}
-use Rattle.mm_world.specs.World.{Page}
+use Rattle.mm_world.specs.World.{Page, filled}
 use Rattle.mm_blocks.specs.declared.device_calls.DeviceCall.{DeviceCall}
 use Rattle.mm_blocks.specs.declared.device_calls.NamedCalls.{NamedCalls}
 use Rattle.mm_blocks.specs.Devices.{DeviceOf}
@@ -38,14 +38,19 @@ pub record BreaksOff (last end : Stage) : Type 0 where
   pub follows : Follows last before
   pub breaks : BreaksAt before end
 
--- The line after these ran out of memory: `machine`, whose machine was not made then, or a line of a form that takes memory. Its feed is the
+-- The line may take memory in the world that there is.
+abbrev pub TakesMemory : Stage → Event → Type 0
+TakesMemory (NotBegun o) event = ⊥
+TakesMemory (Running s) event = takes_memory filled s.system.world event ≡ true
+
+-- The line after these ran out of memory: `machine`, whose machine was not made then, or a line that may take memory. Its feed is the
 -- last byte of `front`.
 pub record WantsMemory (n : ℕ) (front : Text) (last end : Stage) : Type 0 where
   pub line : Text
   pub event : Event
   pub whole : front ≡ ended line
   pub says : Says n line event
-  pub broken : ((is_machine event ≡ true) × Follows last end) ⊎ ((takes_memory event ≡ true) × BreaksOff last end)
+  pub broken : ((is_machine event ≡ true) × Follows last end) ⊎ (TakesMemory last event × BreaksOff last end)
 
 -- Nothing happened, but that a line ran out of memory, or could not note all its moves.
 abbrev pub Closes : Ending → ℕ → Text → Stage → Stage → Type 0

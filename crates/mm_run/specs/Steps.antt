@@ -74,7 +74,7 @@ pub record NoneFailed (after : Report) : Type 0 where
   pub calls : failed_calls after ≡ 0
   pub extended : is_failed_extension after.extended ≡ false
 
--- the answer and the world of unpaged address spaces, beside which stacks and watched regions stand
+-- the answer and the world of unpaged address spaces, beside which watched regions stand
 abbrev pub unpaged_outcome : System → Event → OutcomeOf Page
 unpaged_outcome s e = unwrap_or (beside s e) (unpaged s.world (plain_line e))
 

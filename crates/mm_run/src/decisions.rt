@@ -7,13 +7,13 @@ ghost use Rattle.mm_script.specs.Grammar.{IsLine as IsLineFor};
 ghost use Rattle.mm_script.specs.Printed.{IsWellFormed};
 ghost use Rattle.mm_system.specs.Shown.{line_of, loans, behind};
 ghost use Rattle.mm_system.specs.Lines.{is_machine};
-ghost use Rattle.mm_core.specs.Built.{takes_memory};
 ghost use Rattle.mm_run.specs.Reading.{reading};
 ghost use Rattle.mm_run.specs.Scenes.{Scene, Stage, Running, Follows, scene};
 ghost use Rattle.mm_run.specs.Steps.{Moved, Breaks};
 ghost use Rattle.mm_run.specs.Texts.{TornText};
 ghost use Rattle.mm_run.specs.Story.{Went, Came, IsBlamed, EndsAt, outside, stand, counts_with};
 ghost use Rattle.mm_run.specs.Seen.{outside_seen};
+ghost use Rattle.mm_run.specs.Ends.{TakesMemory};
 
 use crate::endings::Ending;
 use crate::readings::later_event;
@@ -87,7 +87,7 @@ pub(crate) fn decide<G: FlushesMoves>(
     requires noted { (behind system.old).log.failed ≡ false }
     ensures decided { IfOk result (λ a. Moved (Running (scene system.old)) event.now a (Running (scene system.new))) }
     ensures breaks { OnErr result (Breaks (scene system.old) (scene system.new)) }
-    ensures takes { OnErr result (takes_memory event.now ≡ true) }
+    ensures takes { OnErr result (TakesMemory (Running (scene system.old)) event.now) }
     ensures blame { OnOk result ((behind system.new).log.failed ≡ true → Rose (behind system.old).log.faults (behind system.new).log.faults) }
     ensures later { (behind system.old).log.faults ≤ (behind system.new).log.faults }
     ensures line { OnOk result (line_of system.new ≡ n) }

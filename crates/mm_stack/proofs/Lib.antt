@@ -1,9 +1,11 @@
 pub mod RowLists
 pub mod Joined
 pub mod RegionSteps
+pub mod StacksKept
 pub mod Making
 pub mod Touching
 pub mod Growths
+pub mod Growable
 pub mod Succeeding
 pub mod Created
 pub mod Growing

@@ -7,12 +7,12 @@ use Rattle.std.proofs.lemmas.List.Sums.{sum_by-append, sum_by-cons, sum_by-inser
 use Rattle.mm_types.specs.declared.answers.Answer.TheVariants as answer
 use Rattle.mm_types.specs.declared.codes.Code.TheVariants as code
 use Rattle.mm_types.specs.Address.{Range, address_of, lowest_gap, are_user_pages, first_user_page, end_of, end_of_user_pages}
-use Rattle.mm_world.specs.World.{WorldOf, RegionOf, RowOf, ProcessOf, Numbered, numbered}
-use Rattle.mm_world.specs.Find.{process_of, ranges_of, add_region, set_regions}
+use Rattle.mm_world.specs.World.{WorldOf, RegionOf, RowOf, ProcessOf, StackOf}
+use Rattle.mm_world.specs.Find.{process_of, ranges_of, add_region, set_regions, stack_by, set_stack}
 use Rattle.mm_world.specs.Charge.{charge, limit, region_charge}
 use Rattle.mm_world.specs.Outcome.{OutcomeOf, done, refused, need, find_or, within_limit}
 use Rattle.mm_world.specs.Rows.{reserved_row, commit}
-use Rattle.mm_world.specs.Stack.{StackOf, stack, made, stack_region, reserve_pages, commit_pages}
+use Rattle.mm_world.specs.Stack.{stack, made, stack_region, reserve_pages, commit_pages}
 use Rattle.mm_world.proofs.Charges.{charge-set_regions}
 use Rattle.mm_world.proofs.LaidOut.{and-true}
 use Rattle.mm_tables.proofs.Lists.{count-replicate}
@@ -43,8 +43,8 @@ module _ {B : Type 0} (fill : ℕ → B) where
         charged_rows (r - (c + 1)) c,
       )
 
-  module _ (w : WorldOf B) (stacks : Numbered StackOf) (tid pid reserve commit : ℕ) where
-    pub at_dead : process_of w pid ≡ None → stack fill w stacks tid pid reserve commit ≡ refused w code.InvalidHandle
+  module _ (w : WorldOf B) (tid pid reserve commit : ℕ) where
+    pub at_dead : process_of w pid ≡ None → stack fill w tid pid reserve commit ≡ refused w code.InvalidHandle
     at_dead e = at_missing w code.InvalidHandle (process_of w pid) _ (ap is_some e)
 
     abbrev pages : ℕ
@@ -55,19 +55,19 @@ module _ {B : Type 0} (fill : ℕ → B) where
 
     module _ (p : ProcessOf B) (lives : process_of w pid ≡ Some p) where
       abbrev rest : OutcomeOf B
-      rest = need w code.InvalidParameter (not (reserve == 0)) (made fill w pid p pages top)
+      rest = need w code.InvalidParameter (not (reserve == 0)) (made fill w tid pid p pages top)
 
-      pub at_busy : is_some (numbered stacks tid) ≡ true → stack fill w stacks tid pid reserve commit ≡ done answer.Busy w
+      pub at_busy : is_some (stack_by w tid) ≡ true → stack fill w tid pid reserve commit ≡ done answer.Busy w
       at_busy e = at_alive w pid p _ lives ∙ ap (λ b. cond b (done answer.Busy w) rest) e
 
-      module _ (free : is_some (numbered stacks tid) ≡ false) where
-        reached : stack fill w stacks tid pid reserve commit ≡ rest
+      module _ (free : is_some (stack_by w tid) ≡ false) where
+        reached : stack fill w tid pid reserve commit ≡ rest
         reached = at_alive w pid p _ lives ∙ ap (λ b. cond b (done answer.Busy w) rest) free
 
-        pub at_few : pages < top + 2 → stack fill w stacks tid pid reserve commit ≡ refused w code.InvalidParameter
+        pub at_few : pages < top + 2 → stack fill w tid pid reserve commit ≡ refused w code.InvalidParameter
         at_few few = reached ∙ by_zero (reserve == 0)
           where
-            by_zero : (b : Bool) → need w code.InvalidParameter (not b) (made fill w pid p pages top) ≡ refused w code.InvalidParameter
+            by_zero : (b : Bool) → need w code.InvalidParameter (not b) (made fill w tid pid p pages top) ≡ refused w code.InvalidParameter
             by_zero true = refl
             by_zero false = at_unmet w code.InvalidParameter (nat_le (top + 2) pages) _ (not_true _ (λ e. absurd (omega (arith, leb-true _ _ e, few))))
 
@@ -82,23 +82,27 @@ module _ {B : Type 0} (fill : ℕ → B) where
           abbrev region : ℕ → RegionOf B
           region base = stack_region fill base pages top
 
-          abbrev whole : ℕ → OutcomeOf B
-          whole base = done (answer.Stack (address_of base) (address_of pages) (address_of (base + pages - (top + 1)))) (set_regions w pid p (add_region (region base) p.regions))
+          -- the stack that a thread gets which begins there
+          abbrev pub gets : ℕ → StackOf
+          gets base = record { pid = pid; base = base; guard_page = base + pages - (top + 1) }
 
-          placed_next : stack fill w stacks tid pid reserve commit ≡ find_or w code.InvalidAddress (lowest_gap (ranges_of p.regions) pages) (λ base. within_limit w (whole base))
+          abbrev pub whole : ℕ → OutcomeOf B
+          whole base = done (answer.Stack (address_of base) (address_of pages) (address_of (base + pages - (top + 1)))) (set_stack (set_regions w pid p (add_region (region base) p.regions)) tid (gets base))
+
+          placed_next : stack fill w tid pid reserve commit ≡ find_or w code.InvalidAddress (lowest_gap (ranges_of p.regions) pages) (λ base. within_limit w (whole base))
           placed_next = reached ∙ at_met w code.InvalidParameter (not (reserve == 0)) _ some ∙ at_met w code.InvalidParameter (nat_le (top + 2) pages) _ (le-leb _ _ enough)
 
-          pub at_no_gap : lowest_gap (ranges_of p.regions) pages ≡ None → stack fill w stacks tid pid reserve commit ≡ refused w code.InvalidAddress
+          pub at_no_gap : lowest_gap (ranges_of p.regions) pages ≡ None → stack fill w tid pid reserve commit ≡ refused w code.InvalidAddress
           at_no_gap e = placed_next ∙ at_missing w code.InvalidAddress (lowest_gap (ranges_of p.regions) pages) _ (ap is_some e)
 
           module _ (base : ℕ) (gap : lowest_gap (ranges_of p.regions) pages ≡ Some base) where
-            in_limit : stack fill w stacks tid pid reserve commit ≡ within_limit w (whole base)
+            in_limit : stack fill w tid pid reserve commit ≡ within_limit w (whole base)
             in_limit = placed_next ∙ at_found w code.InvalidAddress (lowest_gap (ranges_of p.regions) pages) base _ gap
 
-            pub at_past : limit w < charge w + (top + 1) → stack fill w stacks tid pid reserve commit ≡ refused w code.CommitmentLimit
+            pub at_past : limit w < charge w + (top + 1) → stack fill w tid pid reserve commit ≡ refused w code.CommitmentLimit
             at_past past = in_limit ∙ at_limit w (whole base) (omega (arith, past, stack_charge w pid p base pages top lives))
 
-            pub at_made : charge w + (top + 1) ≤ limit w → stack fill w stacks tid pid reserve commit ≡ done (answer.Stack (address_of base) (address_of pages) (address_of (base + pages - (top + 1)))) (set_regions w pid p (add_region (stack_region fill base pages top) p.regions))
+            pub at_made : charge w + (top + 1) ≤ limit w → stack fill w tid pid reserve commit ≡ whole base
             at_made room = in_limit ∙ at_room w (whole base) (omega (arith, room, stack_charge w pid p base pages top lives))
 
 -- ---- what was told of a gap

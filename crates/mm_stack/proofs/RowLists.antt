@@ -1,7 +1,6 @@
 -- Lists of which some last elements are changed.
-use Rattle.std.proofs.Common.{◌≡◌, ◌≤◌, ◌+◌, ℕ, zero, suc, Bool, false, List, [], ◌∷◌, ◌++◌, refl, sym, ◌∙◌, ap, arith, cond, length, replicate, take, drop, map, set, slice_get, Some, count_by, get_or, ◌<◌}
+use Rattle.std.proofs.Common.{◌≡◌, ◌≤◌, ◌+◌, ℕ, zero, suc, Bool, false, List, [], ◌∷◌, ◌++◌, refl, ◌∙◌, ap, arith, cond, length, replicate, take, drop, map, set, slice_get, Some, count_by}
 use Rattle.std.specs.Prelude.{insert}
-use Rattle.std.proofs.lemmas.List.Edits.{map_over_more}
 use Rattle.mm_world.specs.Find.{change_range}
 use Rattle.mm_world.proofs.Charges.{sum_by-split}
 use Rattle.mm_tables.proofs.Lists.{count-replicate}
@@ -48,19 +47,3 @@ module _ {A : Type 0} where
   get-insert xs zero x e = refl
   get-insert [] (suc i) x e = absurd (omega (arith, e))
   get-insert (a ∷ xs) (suc i) x e = get-insert xs i x (omega (arith, e))
-
-  -- an element is put where it is
-  pub set-here : (xs : List A) (i : ℕ) (x d : A) → slice_get xs i ≡ Some x → set xs i x ≡ xs
-  set-here [] i x d e = refl
-  set-here (a ∷ xs) zero x d e = let same : a ≡ x = cc in ap (λ x. x ∷ xs) (sym same)
-  set-here (a ∷ xs) (suc i) x d e = ap (λ xs. a ∷ xs) (set-here xs i x d e)
-
-  -- ---- each element is changed, one by one
-
-  same_read : (xs : List A) (i : ℕ) (d : A) → get_or xs i d ≡ get_or xs i (get_or xs i d)
-  same_read [] i d = refl
-  same_read (x ∷ xs) zero d = refl
-  same_read (x ∷ xs) (suc i) d = same_read xs i d
-
-  pub one_more : (f : A → A) (xs ys : List A) (i : ℕ) (d r : A) → i < length xs → ys ≡ map f (take i xs) ++ drop i xs → r ≡ f (get_or ys i d) → set ys i r ≡ map f (take (i + 1) xs) ++ drop (i + 1) xs
-  one_more f xs ys i d r lt h is = ap (set ys i) is ∙ map_over_more f xs ys i (get_or ys i d) lt h (same_read ys i d)

@@ -10,7 +10,7 @@ use Rattle.mm_types.specs.declared.codes.Code.TheVariants as code
 use Rattle.mm_types.specs.declared.views.Kind.{Kind}
 use Rattle.mm_types.specs.declared.views.Kind.TheVariants as kind
 use Rattle.mm_types.specs.Address.{Range, address_of, range_of, holds_page}
-use Rattle.mm_world.specs.World.{World, Page, ProcessOf, RegionOf, filled, pages_of}
+use Rattle.mm_world.specs.World.{World, StackOf, Page, ProcessOf, RegionOf, filled, pages_of}
 use Rattle.mm_world.specs.Find.{Found, process_of, region_around, set_region, is_private}
 use Rattle.mm_types.specs.Allocation.{commit_type}
 use Rattle.mm_world.specs.Alloc.{alloc, commit_in}
@@ -18,7 +18,7 @@ use Rattle.mm_world.specs.Charge.{charge, limit}
 use Rattle.mm_world.specs.Keys.{Home, Committed, committed_at, home_in, guard_off}
 use Rattle.mm_world.specs.Outcome.{OutcomeOf, done, within_limit}
 use Rattle.mm_world.specs.Rows.{row_at, commit, change_rows}
-use Rattle.mm_world.specs.Stack.{StackOf, is_overflow}
+use Rattle.mm_world.specs.Stack.{is_overflow}
 use Rattle.mm_world.specs.WellFormed.{WellFormed}
 use Rattle.mm_world.proofs.AccessCharge.{charge-guard_off}
 use Rattle.mm_world.proofs.Charges.{charge-set_region}

@@ -1,5 +1,5 @@
 -- What the definition of a `probe` line comes to.
-use Rattle.std.proofs.Common.{◌≡◌, ◌≤◌, ◌*◌, ℕ, Bool, true, false, Option, Some, None, refl, ◌∙◌, ap, subst, cond, not, arith, is_none, ◌&&◌, ◌||◌, option_map, set}
+use Rattle.std.proofs.Common.{◌≡◌, ◌≤◌, ◌*◌, ℕ, Bool, true, false, Option, Some, None, refl, ◌∙◌, ap, subst, cond, not, arith, is_none, ◌&&◌, ◌||◌, option_map}
 use Rattle.std.specs.Prelude.{◌==◌, option_and_then}
 use Rattle.std.specs.Cmp.{unsigned_Decides}
 use Rattle.mm_types.specs.declared.answers.Answer.TheVariants as answer
@@ -8,15 +8,14 @@ use Rattle.mm_types.specs.declared.numbers.Key.{Key}
 use Rattle.mm_types.specs.declared.protections.Access.TheVariants as access_kind
 use Rattle.mm_types.specs.Address.{address_of, page_of, range_of}
 use Rattle.mm_types.specs.Protection.{permits}
-use Rattle.mm_world.specs.World.{Page, WorldOf, ProcessOf, Numbered, numbered}
-use Rattle.mm_world.specs.Find.{process_of}
+use Rattle.mm_world.specs.World.{Page, WorldOf, ProcessOf, StackOf}
+use Rattle.mm_world.specs.Find.{process_of, stack_by}
 use Rattle.mm_world.specs.Keys.{Committed, committed_at, guard_off}
 use Rattle.mm_world.specs.Outcome.{OutcomeOf, done}
 use Rattle.mm_types.specs.Allocation.{commit_type}
 use Rattle.mm_world.specs.Alloc.{alloc, reserve, commit_pages}
 use Rattle.mm_world.specs.Contents.{Tables}
-use Rattle.mm_world.specs.Stack.{StackOf, probe, probe_of, probe_in, probe_at, grown, is_overflow, moved}
-use Rattle.mm_world.proofs.Finding.{numbered_there}
+use Rattle.mm_world.specs.Stack.{probe, probe_of, probe_in, probe_at, grown, is_overflow}
 use Rattle.mm_pages.specs.Store.{StoreOf}
 use Rattle.mm_tables.specs.declared.looks.CommittedRow.{CommittedRow}
 use Rattle.mm_tables.specs.Effects.{Roomier}
@@ -24,23 +23,22 @@ use Rattle.mm_tables.specs.Fits.{Settled, Carries}
 use Rattle.mm_tables.specs.Looks.{committed_row, told_row}
 use Rattle.mm_tables.proofs.EndingFits.{beside_then}
 use Rattle.mm_tables.proofs.Settled.{roomier_beside}
-use Rattle.mm_stack.proofs.RowLists.{set-here}
 use Rattle.mm_world.proofs.Outcomes.{at_alive}
 
-module _ {B : Type 0} (fill : ℕ → B) (w : WorldOf B) (stacks : Numbered StackOf) (tid addr : ℕ) where
-  pub at_nobody : numbered stacks tid ≡ None → probe fill w stacks tid addr ≡ done answer.Nothing w
-  at_nobody e = ap (probe_of fill w (page_of addr)) e
+module _ {B : Type 0} (fill : ℕ → B) (w : WorldOf B) (tid addr : ℕ) where
+  pub at_nobody : stack_by w tid ≡ None → probe fill w tid addr ≡ done answer.Nothing w
+  at_nobody e = ap (probe_of fill w tid (page_of addr)) e
 
-  module _ (s : StackOf) (has : numbered stacks tid ≡ Some s) where
-    pub at_ended : process_of w s.pid ≡ None → probe fill w stacks tid addr ≡ done answer.Nothing w
-    at_ended e = ap (probe_of fill w (page_of addr)) has ∙ ap (probe_in fill w s (page_of addr)) e
+  module _ (s : StackOf) (has : stack_by w tid ≡ Some s) where
+    pub at_ended : process_of w s.pid ≡ None → probe fill w tid addr ≡ done answer.Nothing w
+    at_ended e = ap (probe_of fill w tid (page_of addr)) has ∙ ap (probe_in fill w tid s (page_of addr)) e
 
     module _ (p : ProcessOf B) (lives : process_of w s.pid ≡ Some p) where
-      in_process : probe fill w stacks tid addr ≡ probe_at fill w p s (page_of addr) (committed_at w p.regions (page_of addr))
-      in_process = ap (probe_of fill w (page_of addr)) has ∙ ap (probe_in fill w s (page_of addr)) lives
+      in_process : probe fill w tid addr ≡ probe_at fill w tid p s (page_of addr) (committed_at w p.regions (page_of addr))
+      in_process = ap (probe_of fill w tid (page_of addr)) has ∙ ap (probe_in fill w tid s (page_of addr)) lives
 
-      pub at_bare : committed_at w p.regions (page_of addr) ≡ None → probe fill w stacks tid addr ≡ done (answer.Raised raise.AccessViolation) w
-      at_bare e = in_process ∙ ap (probe_at fill w p s (page_of addr)) e
+      pub at_bare : committed_at w p.regions (page_of addr) ≡ None → probe fill w tid addr ≡ done (answer.Raised raise.AccessViolation) w
+      at_bare e = in_process ∙ ap (probe_at fill w tid p s (page_of addr)) e
 
       module _ (c : Committed B) (there : committed_at w p.regions (page_of addr) ≡ Some c) where
         abbrev pub off : WorldOf B
@@ -51,7 +49,7 @@ module _ {B : Type 0} (fill : ℕ → B) (w : WorldOf B) (stacks : Numbered Stac
         chosen guarded same overflow read =
             cond (guarded && not same) (done (answer.Raised raise.GuardPage) off)
             (cond (guarded && overflow) (done (answer.Raised raise.StackOverflow) off)
-            (cond guarded (grown fill w s off)
+            (cond guarded (grown fill off tid s)
             (cond (not read) (done (answer.Raised raise.AccessViolation) w)
             (done (answer.At (address_of s.guard_page)) w))))
 
@@ -61,22 +59,22 @@ module _ {B : Type 0} (fill : ℕ → B) (w : WorldOf B) (stacks : Numbered Stac
         abbrev pub read : Bool
         read = permits c.row.prot access_kind.Read
 
-        pub reached : probe fill w stacks tid addr ≡ chosen c.row.guard same (is_overflow w p s) read
-        reached = in_process ∙ ap (probe_at fill w p s (page_of addr)) there
+        pub reached : probe fill w tid addr ≡ chosen c.row.guard same (is_overflow w p s) read
+        reached = in_process ∙ ap (probe_at fill w tid p s (page_of addr)) there
 
-        pub at_other : c.row.guard ≡ true → same ≡ false → probe fill w stacks tid addr ≡ done (answer.Raised raise.GuardPage) off
+        pub at_other : c.row.guard ≡ true → same ≡ false → probe fill w tid addr ≡ done (answer.Raised raise.GuardPage) off
         at_other on other = reached ∙ (λ i. chosen (on i) (other i) (is_overflow w p s) read)
 
-        pub at_overflow : c.row.guard ≡ true → same ≡ true → is_overflow w p s ≡ true → probe fill w stacks tid addr ≡ done (answer.Raised raise.StackOverflow) off
+        pub at_overflow : c.row.guard ≡ true → same ≡ true → is_overflow w p s ≡ true → probe fill w tid addr ≡ done (answer.Raised raise.StackOverflow) off
         at_overflow on here full = reached ∙ (λ i. chosen (on i) (here i) (full i) read)
 
-        pub at_growth : c.row.guard ≡ true → same ≡ true → is_overflow w p s ≡ false → probe fill w stacks tid addr ≡ grown fill w s off
+        pub at_growth : c.row.guard ≡ true → same ≡ true → is_overflow w p s ≡ false → probe fill w tid addr ≡ grown fill off tid s
         at_growth on here more = reached ∙ (λ i. chosen (on i) (here i) (more i) read)
 
-        pub at_unreadable : c.row.guard ≡ false → read ≡ false → probe fill w stacks tid addr ≡ done (answer.Raised raise.AccessViolation) w
+        pub at_unreadable : c.row.guard ≡ false → read ≡ false → probe fill w tid addr ≡ done (answer.Raised raise.AccessViolation) w
         at_unreadable plain denied = reached ∙ (λ i. chosen (plain i) same (is_overflow w p s) (denied i))
 
-        pub at_readable : c.row.guard ≡ false → read ≡ true → probe fill w stacks tid addr ≡ done (answer.At (address_of s.guard_page)) w
+        pub at_readable : c.row.guard ≡ false → read ≡ true → probe fill w tid addr ≡ done (answer.At (address_of s.guard_page)) w
         at_readable plain may = reached ∙ (λ i. chosen (plain i) same (is_overflow w p s) (may i))
 
 -- ---- what was told of a page
@@ -130,10 +128,3 @@ alloc_commits fill w pid page p lives some =
     not_zero : (b : Bool) → (address_of page == 0) ≡ b → (address_of page == 0) ≡ false
     not_zero true e = let none : page * 4096 ≡ 0 = (unsigned_Decides (address_of page) 0).0 e in absurd (omega (arith, none, some))
     not_zero false e = e
-
--- a stack that is put where it is
-pub stays : (stacks : Numbered StackOf) (tid : ℕ) (s : StackOf) → numbered stacks tid ≡ Some s → set stacks tid (option_map (moved (address_of s.guard_page)) (numbered stacks tid)) ≡ stacks
-stays stacks tid s has =
-    let page : page_of (address_of s.guard_page) ≡ s.guard_page = omega arith in
-    let one : option_map (moved (address_of s.guard_page)) (numbered stacks tid) ≡ Some s = ap (option_map (moved (address_of s.guard_page))) has ∙ (λ i. Some (record s { guard_page = page i })) in
-    ap (set stacks tid) one ∙ set-here stacks tid (Some s) None (numbered_there stacks tid s has)

@@ -7,21 +7,20 @@ use Rattle.mm_types.specs.declared.codes.Code.TheVariants as code
 use Rattle.mm_types.specs.declared.events.Event.{Event}
 use Rattle.mm_types.specs.declared.events.Event.TheVariants as line
 use Rattle.mm_types.specs.Address.{range_of, page_of, is_user_page}
-use Rattle.mm_world.specs.World.{Page, World, ProcessOf, Numbered}
+use Rattle.mm_world.specs.World.{Page, World, ProcessOf}
 use Rattle.mm_world.specs.Find.{Found, process_of, region_with}
 use Rattle.mm_world.specs.Outcome.{OutcomeOf, done, need, find_or}
 use Rattle.mm_world.specs.Query.{query, page_info}
 use Rattle.mm_world.specs.Report.{Report}
-use Rattle.mm_world.specs.Stack.{StackOf}
-use Rattle.mm_world.specs.System.{System, Done, outcome, system_step, stacks_after, watches_after, is_watched_type}
+use Rattle.mm_world.specs.Step.{step}
+use Rattle.mm_world.specs.System.{System, Done, outcome, system_step, watches_after, is_watched_type}
 use Rattle.mm_world.specs.Watch.{WatchOf, with_watch, watch_around}
 use Rattle.mm_world.specs.Laws.{SystemLeaves}
 use Rattle.mm_world.proofs.LineLeaves.{in_system}
 use Rattle.mm_watch.specs.Told.{HadRegion}
 use Rattle.mm_watch.specs.Watches.{WatchesOf}
 use Rattle.mm_watch.proofs.Lines.{reset_had_region}
-use Rattle.mm_stack.specs.Lines.{is_stack_line}
-use Rattle.mm_system.specs.Lines.{is_beside, world_line, given_outcome, said, told_of_range, unless_gone, written_pages, is_gone, with_room, pages_asked}
+use Rattle.mm_system.specs.Lines.{is_beside, world_line, said, told_of_range, unless_gone, written_pages, is_gone, with_room, pages_asked}
 
 -- ---- what holds of a result that is known to be Ok
 
@@ -73,34 +72,25 @@ module _ (w : World) (watches : List WatchOf) (pid addr size : ℕ) (tell : Watc
 
 -- ---- each line
 
-pub outcome_is : (s : System) (e : Event) (before after : Report) (b : Answer) (v : World) → given_outcome s.world s.stacks e before after ≡ done b v → outcome s e before after ≡ done (said s.watches e b) v
+pub outcome_is : (s : System) (e : Event) (before after : Report) (b : Answer) (v : World) → step s.world (world_line e) before after ≡ done b v → outcome s e before after ≡ done (said s.watches e b) v
 outcome_is s (line.Watch pid unwrites addr size count) before after b v h = from_query s.world s.watches pid.0 addr size (written_pages addr size count) b v h
 outcome_is s (line.ResetWatch pid addr size) before after b v h = from_query s.world s.watches pid.0 addr size (λ a. answer.Ok) b v h
 outcome_is s e before after b v h = h
 
--- no line of watched regions changes a stack
-pub same_stacks : (watches : List WatchOf) (stacks : Numbered StackOf) (e : Event) (b : Answer) → stacks_after stacks e (said watches e b) ≡ stacks_after stacks e b
-same_stacks watches stacks (line.Watch pid unwrites addr size count) b = refl
-same_stacks watches stacks (line.ResetWatch pid addr size) b = refl
-same_stacks watches stacks _ b = refl
-
-module _ (w v : World) (watches new : List WatchOf) (stacks left : Numbered StackOf) (e : Event) (before after : Report) (a b : Answer) (given : given_outcome w stacks e before after ≡ done b v) (is : a ≡ said watches e b) (changed : new ≡ watches_after w watches e a) (ended : left ≡ stacks_after stacks e b) where
+module _ (w v : World) (watches new : List WatchOf) (e : Event) (before after : Report) (a b : Answer) (given : step w (world_line e) before after ≡ done b v) (is : a ≡ said watches e b) (changed : new ≡ watches_after w watches e a) where
   abbrev old_system : System
-  old_system = record { world = w; stacks = stacks; watches = watches }
+  old_system = record { world = w; watches = watches }
 
   abbrev new_system : System
-  new_system = record { world = v; stacks = left; watches = new }
+  new_system = record { world = v; watches = new }
 
   pub answered_so : outcome old_system e before after ≡ done a v
   answered_so = outcome_is old_system e before after b v given ∙ ap (λ (a : Answer). done a v) (sym is)
 
-  pub stacks_are : left ≡ stacks_after stacks e a
-  stacks_are = ended ∙ sym (ap (stacks_after stacks e) is ∙ same_stacks watches stacks e b)
-
   pub step_is : system_step old_system e before after ≡ record { answer = a; system = new_system }
   step_is =
-      ap (λ (o : OutcomeOf Page). let d : Done = record { answer = o.answer; system = record { world = o.world; stacks = stacks_after stacks e o.answer; watches = watches_after w watches e o.answer } } in d) answered_so
-      ∙ (λ i. record { answer = a; system = record { world = v; stacks = sym stacks_are i; watches = sym changed i } })
+      ap (λ (o : OutcomeOf Page). let d : Done = record { answer = o.answer; system = record { world = o.world; watches = watches_after w watches e o.answer } } in d) answered_so
+      ∙ (λ i. record { answer = a; system = record { world = v; watches = sym changed i } })
 
   pub leaves : SystemLeaves old_system e (record { answer = a; system = new_system })
   leaves = subst (λ (d : Done). SystemLeaves old_system e d) step_is (in_system old_system e before after)
@@ -129,11 +119,6 @@ same_answer watches (line.Watch pid unwrites addr size count) b e = cc
 same_answer watches (line.ResetWatch pid addr size) b e = cc
 same_answer watches _ b e = refl
 
-pub no_stack_line : (e : Event) → is_beside e ≡ false → is_stack_line e ≡ false
-no_stack_line (line.Stack tid pid reserve commit) h = h
-no_stack_line (line.Probe tid addr) h = h
-no_stack_line _ h = refl
-
 -- ---- what is known of a line once it was answered
 
 by_room : (b : Bool) (watches : WatchesOf) (n : ℕ) → (cond b (record watches { room = n }) watches).watches ≡ watches.watches
@@ -144,20 +129,18 @@ pub room_only : (watches : WatchesOf) (e : Event) → (with_room watches e).watc
 room_only watches (line.Alloc pid addr size type prot) = by_room (is_watched_type type) watches (pages_asked addr size)
 room_only watches _ = refl
 
-pub record Went (w v : World) (watches new : List WatchOf) (stacks left : Numbered StackOf) (e : Event) (before after : Report) (a b : Answer) : Type 0 where
-  pub given : given_outcome w stacks e before after ≡ done b v
+pub record Went (w v : World) (watches new : List WatchOf) (e : Event) (before after : Report) (a b : Answer) : Type 0 where
+  pub given : step w (world_line e) before after ≡ done b v
   pub is : a ≡ said watches e b
   pub changed : new ≡ watches_after w watches e a
-  pub ended : left ≡ stacks_after stacks e b
 
-pub went : (w v : World) (old mid : WatchesOf) (new : List WatchOf) (stacks left : Numbered StackOf) (e : Event) (before after : Report) (a b : Answer) → given_outcome w stacks e before after ≡ done b v → mid ≡ with_room old e → a ≡ said mid.watches e b → new ≡ watches_after w mid.watches e a → left ≡ stacks_after stacks e b → Went w v old.watches new stacks left e before after a b
-went w v old mid new stacks left e before after a b given room is changed ended =
+pub went : (w v : World) (old mid : WatchesOf) (new : List WatchOf) (e : Event) (before after : Report) (a b : Answer) → step w (world_line e) before after ≡ done b v → mid ≡ with_room old e → a ≡ said mid.watches e b → new ≡ watches_after w mid.watches e a → Went w v old.watches new e before after a b
+went w v old mid new e before after a b given room is changed =
     let same : mid.watches ≡ old.watches = ap (λ (m : WatchesOf). m.watches) room ∙ room_only old e in
     record {
       given = given;
       is = is ∙ ap (λ (ws : List WatchOf). said ws e b) same;
       changed = changed ∙ ap (λ (ws : List WatchOf). watches_after w ws e a) same;
-      ended = ended;
     }
 
 -- what was told of the world's line is told of the system's

@@ -10,14 +10,14 @@ use Rattle.mm_types.specs.declared.views.Kind.{Kind}
 use Rattle.mm_types.specs.declared.views.Kind.TheVariants as kind
 use Rattle.mm_types.specs.Address.{Range, address_of}
 use Rattle.mm_types.specs.Spelling.{Text}
-use Rattle.mm_world.specs.World.{World, WorldOf, ProcessOf, RegionOf, RowOf, AreaOf, SectionOf, KeptOf, Page, Numbered, numbered, pages_of}
-use Rattle.mm_world.specs.Find.{Found, first_where, process_of, set_process, set_regions, set_region, set_area, add_region, is_private}
+use Rattle.mm_world.specs.World.{World, WorldOf, ProcessOf, RegionOf, RowOf, AreaOf, SectionOf, KeptOf, StackOf, Page, Numbered, numbered, pages_of}
+use Rattle.mm_world.specs.Find.{Found, first_where, process_of, set_process, set_regions, set_region, set_area, add_region, set_stack, end_stacks, is_private}
 use Rattle.mm_world.specs.Outcome.{OutcomeOf, done, refused}
 use Rattle.mm_world.specs.Keys.{Home, Own, InSection, Committed, committed_at, guard_off, set_row, set_shared}
 use Rattle.mm_world.specs.Rows.{change_rows}
 use Rattle.mm_world.specs.Alloc.{alloc, commit_in}
 use Rattle.mm_types.specs.Allocation.{release_type}
-use Rattle.mm_world.specs.Free.{free, decommit, private_at}
+use Rattle.mm_world.specs.Free.{free, decommit, private_at, is_stack_at}
 use Rattle.mm_world.specs.Protect.{protect}
 use Rattle.mm_world.specs.Query.{query}
 use Rattle.mm_world.specs.Sections.{create, create_file, open_section, close, handle_or, new_section, next_handle, settle}
@@ -62,6 +62,10 @@ module _ {B : Type 0} (ends : Answer → WatchOf → Bool) where
   pub by_added : (w : WorldOf B) (pid : ℕ) (p : ProcessOf B) (new : RegionOf B) (a : Answer) → process_of w pid ≡ Some p → Holds (KeepsLive w) (done a (set_regions w pid p (add_region new p.regions)))
   by_added w pid p new a lives =
       by_put w pid p (Some (record p { regions = add_region new p.regions })) a lives (λ x e same h. any_insert (is_private_region (watched_range x)) p.regions _ new h)
+
+  -- beside which a thread gets a stack
+  pub by_stack : (w : WorldOf B) (pid : ℕ) (p : ProcessOf B) (new : RegionOf B) (tid : ℕ) (s : StackOf) (a : Answer) → process_of w pid ≡ Some p → Holds (KeepsLive w) (done a (set_stack (set_regions w pid p (add_region new p.regions)) tid s))
+  by_stack w pid p new tid s a lives = record { it = record { kept = (by_added w pid p new a lives).it.kept } }
 
   -- a region with as many pages at the same base stays what it was
   pub region_kept : (range : Range) (r new : RegionOf B) → new.base ≡ r.base → new.kind ≡ r.kind → length new.rows ≡ length r.rows → is_private_region range r ≡ true → is_private_region range new ≡ true
@@ -108,19 +112,20 @@ module _ {B : Type 0} (ends : Answer → WatchOf → Bool) where
       absurd (other (equals r.base x.base both.0))
   other_base x r false e other = refl
 
-  by_released : (w : WorldOf B) (pid : ℕ) (p : ProcessOf B) (addr : ℕ) (r : Found (RegionOf B)) → process_of w pid ≡ Some p → private_at p.regions addr ≡ Some r → ((x : WatchOf) → x.pid ≡ pid → address_of x.base ≡ addr → ends answer.Ok x ≡ true) → Holds (KeepsLive w) (done answer.Ok (set_regions w pid p (remove p.regions r.place)))
+  by_released : (w : WorldOf B) (pid : ℕ) (p : ProcessOf B) (addr : ℕ) (r : Found (RegionOf B)) → process_of w pid ≡ Some p → private_at p.regions addr ≡ Some r → ((x : WatchOf) → x.pid ≡ pid → address_of x.base ≡ addr → ends answer.Ok x ≡ true) → Holds (KeepsLive w) (done answer.Ok (end_stacks (set_regions w pid p (remove p.regions r.place)) (is_stack_at pid addr)))
   by_released w pid p addr r lives found gone =
       let stands = found_stands _ p.regions r found in
       let at : address_of r.thing.base ≡ addr = equals (address_of r.thing.base) addr (parts (is_private r.thing.kind) (address_of r.thing.base == addr) stands.passes).1 in
-      by_put w pid p (Some (record p { regions = remove p.regions r.place })) answer.Ok lives (λ x e same h.
+      let put = by_put w pid p (Some (record p { regions = remove p.regions r.place })) answer.Ok lives (λ x e same h.
       any_remove (is_private_region (watched_range x)) p.regions r.place r.thing stands.there
       (other_base x r.thing _ refl (λ here. let bad : true ≡ false = sym (gone x same (ap address_of (sym here) ∙ at)) ∙ e in cc))
-      h)
+      h) in
+      record { it = record { kept = put.it.kept } }
 
   pub in_free : (w : WorldOf B) (pid addr size type : ℕ) → ((type == release_type) ≡ true → (x : WatchOf) → x.pid ≡ pid → address_of x.base ≡ addr → ends answer.Ok x ≡ true) → Holds (KeepsLive w) (free w pid addr size type)
   in_free w pid addr size type gone = search (tables, by_refusal, released, by_cleared) depth 14
     where
-      released : (p : ProcessOf B) (r : Found (RegionOf B)) → (type == release_type) ≡ true → process_of w pid ≡ Some p → private_at p.regions addr ≡ Some r → Holds (KeepsLive w) (done answer.Ok (set_regions w pid p (remove p.regions r.place)))
+      released : (p : ProcessOf B) (r : Found (RegionOf B)) → (type == release_type) ≡ true → process_of w pid ≡ Some p → private_at p.regions addr ≡ Some r → Holds (KeepsLive w) (done answer.Ok (end_stacks (set_regions w pid p (remove p.regions r.place)) (is_stack_at pid addr)))
       released p r is lives found = by_released w pid p addr r lives found (gone is)
 
   pub in_query : (w : WorldOf B) (pid addr : ℕ) → Holds (KeepsLive w) (query w pid addr)

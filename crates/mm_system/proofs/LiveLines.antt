@@ -18,6 +18,7 @@ use Rattle.mm_world.proofs.Tables.{Holds}
 use Rattle.mm_watch.specs.Told.{line_ends}
 use Rattle.mm_watch.proofs.Apart.{equal}
 use Rattle.mm_system.proofs.LiveCalls.{KeepsLive, by_same, in_alloc, in_free, in_protect, in_query, in_create, in_create_file, in_open, in_close, in_map, in_unmap, in_flush, in_exit, in_new_process, in_new_file, in_take_fail, in_grow, in_access, in_begin, in_resume, in_store_line}
+use Rattle.mm_system.proofs.StackCalls.{in_stack, in_probe}
 
 released : (pid addr type : ℕ) → (type == release_type) ≡ true → (x : WatchOf) → x.pid ≡ pid → address_of x.base ≡ addr → ((type == release_type) && is_watch_at pid addr x) ≡ true
 released pid addr type is x here at = all_three (type == release_type) (x.pid == pid) (address_of x.base == addr) is (equal x.pid pid here) (equal (address_of x.base) addr at)
@@ -54,8 +55,8 @@ in_unpaged w line.Counts = by_same _ w w _ refl
 in_unpaged w (line.Grow n) = in_grow _ w n
 in_unpaged w (line.Watch pid unwrites addr size count) = by_same _ w w _ refl
 in_unpaged w (line.ResetWatch pid addr size) = by_same _ w w _ refl
-in_unpaged w (line.Stack tid pid reserve commit) = by_same _ w w _ refl
-in_unpaged w (line.Probe tid addr) = by_same _ w w _ refl
+in_unpaged w (line.Stack tid pid reserve commit) = in_stack filled _ w tid.0 pid.0 reserve commit
+in_unpaged w (line.Probe tid addr) = in_probe filled _ w tid.0 addr
 
 in_told : (w : World) (e : Event) (a : Answer) → Holds (KeepsLive (line_ends e) w) (done a (world_told w e a))
 in_told w (line.Begin tid pid what) (answer.Pending why) = by_same _ w _ _ refl

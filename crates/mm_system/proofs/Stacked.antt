@@ -1,7 +1,7 @@
 -- Each stack keeps its region: what lines leave of it, and the region that a new one gets.
-use Rattle.std.proofs.Common.{◌≡◌, ◌≤◌, ◌<◌, ℕ, zero, suc, ◌+◌, ◌-◌, Bool, true, false, Option, Some, None, List, [], ◌∷◌, refl, sym, ◌∙◌, ap, subst, cond, arith, length, map, set, replicate, ◌&&◌, ◌||◌, nat_le, nat_lt, option_map}
+use Rattle.std.proofs.Common.{◌≡◌, ◌≤◌, ◌<◌, ℕ, zero, suc, ◌+◌, ◌-◌, Bool, true, false, Option, Some, None, List, [], ◌∷◌, refl, sym, ◌∙◌, ap, subst, cond, arith, length, map, set, replicate, ◌&&◌, ◌||◌, nat_le, nat_lt}
 use Rattle.std.specs.Prelude.{◌==◌}
-use Rattle.std.specs.List.{list_any}
+use Rattle.std.specs.List.{list_any, list_all}
 use Rattle.std.proofs.lemmas.Bool.{leb-true, le-leb, lt-ltb, ltb-true, ltb-false}
 use Rattle.std.proofs.lemmas.List.{length-replicate, get_or-set_same}
 use Rattle.mm_types.specs.declared.answers.Answer.{Answer}
@@ -10,26 +10,30 @@ use Rattle.mm_types.specs.declared.codes.Code.{Code}
 use Rattle.mm_types.specs.declared.events.Event.{Event}
 use Rattle.mm_types.specs.declared.events.Event.TheVariants as line
 use Rattle.mm_types.specs.Address.{Range, holds_page, address_of, page_of}
-use Rattle.mm_world.specs.World.{Page, World, WorldOf, ProcessOf, RegionOf, Numbered, numbered, pages_of, filled}
-use Rattle.mm_world.specs.Find.{process_of, set_regions, add_region, is_private}
-use Rattle.mm_types.specs.Allocation.{release_type}
+use Rattle.mm_types.specs.Allocation.{commit_type, release_type}
+use Rattle.mm_types.specs.Machine.{MachineOf}
+use Rattle.mm_types.proofs.Booleans.{both, parts, or_left, or_right}
+use Rattle.mm_world.specs.World.{Page, World, WorldOf, ProcessOf, RegionOf, StackOf, Numbered, numbered, pages_of, filled}
+use Rattle.mm_world.specs.Find.{process_of, set_regions, add_region, is_private, stack_by, set_stack, unless}
+use Rattle.mm_world.specs.Free.{is_stack_at}
 use Rattle.mm_world.specs.Keys.{Committed, committed_at, guard_off}
 use Rattle.mm_world.specs.Outcome.{OutcomeOf, done, refused}
 use Rattle.mm_world.specs.Report.{Report}
-use Rattle.mm_world.specs.Stack.{StackOf, stack, made, stack_region, probe_at, probe_in, probe_of, grown, is_overflow, without, is_stack_at, is_stack_in, moved}
-use Rattle.mm_world.specs.System.{stacks_after}
+use Rattle.mm_world.specs.Stack.{stack, made, stack_region, probe, probe_at, probe_in, probe_of, grown, is_overflow}
+use Rattle.mm_world.specs.Step.{step, first_world, threads}
 use Rattle.mm_world.specs.Watch.{WatchOf}
 use Rattle.mm_world.proofs.Tables.{Holds, tables}
 use Rattle.mm_world.proofs.Finding.{numbered_inside}
-use Rattle.mm_types.proofs.Booleans.{both, parts, or_left, or_right}
 use Rattle.mm_world.proofs.WellFormed.{stack_length}
 use Rattle.mm_watch.specs.Told.{line_ends}
 use Rattle.mm_watch.proofs.Apart.{equal, equals}
-use Rattle.mm_system.specs.Lines.{world_line, given_outcome}
 use Rattle.mm_system.specs.Live.{is_private_region, is_same_range, holds_private, is_live, is_stack_region, holds_stack, is_stacked, is_place, are_stacked}
 use Rattle.mm_system.proofs.Regions.{any_inserted}
-use Rattle.mm_system.proofs.Reserving.{page_back}
-use Rattle.mm_system.proofs.StackCalls.{grown_keeps, given_live}
+use Rattle.mm_system.proofs.LiveCalls.{by_guard, by_stack}
+use Rattle.mm_system.proofs.LiveLines as lines
+use Rattle.mm_system.proofs.KeptAccesses as kept
+use Rattle.mm_system.proofs.KeptAccesses.{is_stack_line, left_by}
+use Rattle.mm_system.proofs.StackCalls.{grown_keeps}
 
 -- ---- a stack's region, as one that a watched region might have
 
@@ -47,14 +51,6 @@ holds_lower : (first count page lower : ℕ) → first ≤ lower → lower ≤ p
 holds_lower first count page lower low below e =
     let halves = parts (nat_le first page) (nat_lt page (first + count)) e in
     both (nat_le first lower) (nat_lt lower (first + count)) (le-leb first lower low) (lt-ltb lower (first + count) (let h = ltb-true page (first + count) halves.1 in omega (arith, h, below)))
-
--- an answer with an address
-abbrev is_at : Answer → Bool
-is_at (answer.At page) = true
-is_at _ = false
-
-not_at : (a : Answer) (guard : ℕ) → is_at a ≡ false → a ≡ answer.At guard → ⊥
-not_at a guard other e = let bad : true ≡ false = sym (ap is_at e) ∙ other in cc
 
 module _ {B : Type 0} where
   -- a region with so many pages, which has the stack
@@ -145,19 +141,72 @@ module _ {B : Type 0} where
       let halves = parts (nat_lt s.base s.guard_page) (holds_stack s (process_of v s.pid)) e in
       both (nat_lt s.base guard) (holds_stack (lowered s guard) (process_of v s.pid)) (lt-ltb s.base guard low) (held_lower s guard (process_of v s.pid) (omega (arith, low)) below halves.1)
 
-  -- ---- a new stack
+  -- ---- stacks of a world
 
-  pub record Begins (pid : ℕ) (o : OutcomeOf B) : Type 0 where
-    pub begun : (base size guard : ℕ) → o.answer ≡ answer.Stack base size guard → is_stacked o.world (record { pid = pid; base = page_of base; guard_page = page_of guard }) ≡ true
+  abbrev are_placed : WorldOf B → Numbered StackOf → Bool
+  are_placed w stacks = list_all (is_place w) stacks
 
-  begins_none : (w : WorldOf B) (pid : ℕ) (why : Code) → Holds (Begins pid) (refused w why)
-  begins_none w pid why = record { it = record { begun = λ base size guard e. cc } }
+  module _ (w : WorldOf B) where
+    one_of : (stacks : Numbered StackOf) (tid : ℕ) (s : StackOf) → are_placed w stacks ≡ true → numbered stacks tid ≡ Some s → is_stacked w s ≡ true
+    one_of [] tid s e at = cc
+    one_of (x ∷ rest) zero s e at = ap (is_place w) (sym at) ∙ (parts (is_place w x) (are_placed w rest) e).0
+    one_of (x ∷ rest) (suc tid) s e at = one_of rest tid s (parts (is_place w x) (are_placed w rest) e).1 at
 
-  begins_busy : (w : WorldOf B) (pid : ℕ) → Holds (Begins pid) (done answer.Busy w)
-  begins_busy w pid = record { it = record { begun = λ base size guard e. cc } }
+    one_set : (stacks : Numbered StackOf) (tid : ℕ) (s : StackOf) → is_stacked w s ≡ true → are_placed w stacks ≡ true → are_placed w (set stacks tid (Some s)) ≡ true
+    one_set [] tid s h e = e
+    one_set (x ∷ rest) zero s h e = both (is_stacked w s) (are_placed w rest) h (parts (is_place w x) (are_placed w rest) e).1
+    one_set (x ∷ rest) (suc tid) s h e =
+        let halves = parts (is_place w x) (are_placed w rest) e in
+        both (is_place w x) (are_placed w (set rest tid (Some s))) halves.0 (one_set rest tid s h halves.1)
+
+  module _ (w v : WorldOf B) (ends : StackOf → Bool) (keeps : (s : StackOf) → ends s ≡ false → is_stacked w s ≡ true → is_stacked v s ≡ true) where
+    place_left : (s : Option StackOf) → is_place w s ≡ true → is_place v (unless ends s) ≡ true
+    place_left None e = refl
+    place_left (Some s) e = by_end (ends s) refl
+      where
+        by_end : (b : Bool) → ends s ≡ b → is_place v (cond b None (Some s)) ≡ true
+        by_end true is = refl
+        by_end false is = keeps s is e
+
+    all_left : (stacks : Numbered StackOf) → are_placed w stacks ≡ true → are_placed v (map (unless ends) stacks) ≡ true
+    all_left [] e = refl
+    all_left (s ∷ rest) e =
+        let halves = parts (is_place w s) (are_placed w rest) e in
+        both (is_place v (unless ends s)) (are_placed v (map (unless ends) rest)) (place_left s halves.0) (all_left rest halves.1)
+
+  module _ (w v : WorldOf B) (keeps : (s : StackOf) → is_stacked w s ≡ true → is_stacked v s ≡ true) where
+    place_kept : (s : Option StackOf) → is_place w s ≡ true → is_place v s ≡ true
+    place_kept None e = refl
+    place_kept (Some s) e = keeps s e
+
+    all_kept : (stacks : Numbered StackOf) → are_placed w stacks ≡ true → are_placed v stacks ≡ true
+    all_kept [] e = refl
+    all_kept (s ∷ rest) e =
+        let halves = parts (is_place w s) (are_placed w rest) e in
+        both (is_place v s) (are_placed v rest) (place_kept s halves.0) (all_kept rest halves.1)
+
+  -- ---- calls of stacks
+
+  pub record KeepsStacked (w : WorldOf B) (o : OutcomeOf B) : Type 0 where
+    pub stacked : are_stacked w ≡ true → are_stacked o.world ≡ true
+
+  stacks_same : (w : WorldOf B) (a : Answer) → Holds (KeepsStacked w) (done a w)
+  stacks_same w a = record { it = record { stacked = λ e. e } }
+
+  stacks_refused : (w : WorldOf B) (why : Code) → Holds (KeepsStacked w) (refused w why)
+  stacks_refused w why = stacks_same w _
+
+  stacks_guard : (w : WorldOf B) (pid : ℕ) (p : ProcessOf B) (page : ℕ) (c : Committed B) (a : Answer) → process_of w pid ≡ Some p → committed_at w p.regions page ≡ Some c → Holds (KeepsStacked w) (done a (guard_off w pid p c page))
+  stacks_guard w pid p page c a lives committed =
+      let v = guard_off w pid p c page in
+      record {
+        it = record {
+          stacked = λ e. all_kept w v (λ s. stays w v s (λ n h. (by_guard (λ a x. false) w pid p page c a lives committed).it.kept (watch_of s n) refl h)) w.stacks e;
+        };
+      }
 
   module _ (fill : ℕ → B) where
-    module _ (w : WorldOf B) (pid : ℕ) (p : ProcessOf B) (r c base : ℕ) (lives : process_of w pid ≡ Some p) (fits : nat_le (c + 2) r ≡ true) where
+    module _ (w : WorldOf B) (tid pid : ℕ) (p : ProcessOf B) (r c base : ℕ) (lives : process_of w pid ≡ Some p) (fits : nat_le (c + 2) r ≡ true) where
       abbrev guard : ℕ
       guard = base + r - (c + 1)
 
@@ -165,7 +214,7 @@ module _ {B : Type 0} where
       new = record { pid = pid; base = base; guard_page = guard }
 
       abbrev v : WorldOf B
-      v = set_regions w pid p (add_region (stack_region fill base r c) p.regions)
+      v = set_stack (set_regions w pid p (add_region (stack_region fill base r c) p.regions)) tid new
 
       new_region : is_stack_region new (stack_region fill base r c) ≡ true
       new_region =
@@ -181,183 +230,117 @@ module _ {B : Type 0} where
           (ap (λ (o : Option (ProcessOf B)). holds_stack new o) (get_or-set_same w.processes pid (Some (record p { regions = add_region (stack_region fill base r c) p.regions })) None (numbered_inside w.processes pid p lives))
           ∙ any_inserted (is_stack_region new) p.regions _ (stack_region fill base r c) new_region)
 
-      by_new : Holds (Begins pid) (done (answer.Stack (address_of base) (address_of r) (address_of guard)) v)
-      by_new = record {
+      stacks_new : (a : Answer) → Holds (KeepsStacked w) (done a v)
+      stacks_new a = record {
         it = record {
-          begun = λ b size g e.
-              let same_base : address_of base ≡ b = cc in
-              let same_guard : address_of guard ≡ g = cc in
-              ap (λ (n : ℕ). is_stacked v (record { pid = pid; base = page_of n; guard_page = page_of g })) (sym same_base)
-              ∙ ap (λ (n : ℕ). is_stacked v (record { pid = pid; base = page_of (address_of base); guard_page = page_of n })) (sym same_guard)
-              ∙ (λ i. is_stacked v (record { pid = pid; base = page_back base i; guard_page = page_back guard i }))
-              ∙ new_stacked;
+          stacked = λ e.
+              one_set v w.stacks tid new new_stacked
+              (all_kept w v (λ s. stays w v s (λ n h. (by_stack (λ a x. false) w pid p (stack_region fill base r c) tid new a lives).it.kept (watch_of s n) refl h)) w.stacks e);
         };
       }
 
-    begins_made : (w : WorldOf B) (pid : ℕ) (p : ProcessOf B) (r c : ℕ) → process_of w pid ≡ Some p → Holds (Begins pid) (made fill w pid p r c)
-    begins_made w pid p r c lives = search (tables, begins_none, by_new) depth 14
+    stacks_made : (w : WorldOf B) (tid pid : ℕ) (p : ProcessOf B) (r c : ℕ) → process_of w pid ≡ Some p → Holds (KeepsStacked w) (made fill w tid pid p r c)
+    stacks_made w tid pid p r c lives = search (tables, stacks_refused, stacks_new) depth 14
 
-    pub in_stack : (w : WorldOf B) (stacks : Numbered StackOf) (tid pid reserve commit : ℕ) → Holds (Begins pid) (stack fill w stacks tid pid reserve commit)
-    in_stack w stacks tid pid reserve commit = search (tables, begins_none, begins_busy, begins_made) depth 14
+    in_stack : (w : WorldOf B) (tid pid reserve commit : ℕ) → Holds (KeepsStacked w) (stack fill w tid pid reserve commit)
+    in_stack w tid pid reserve commit = search (tables, stacks_refused, stacks_same, stacks_made) depth 14
 
-    -- ---- a probe
+-- ---- a probe
 
-    pub record Moves (s : Option StackOf) (o : OutcomeOf B) : Type 0 where
-      pub stands : (guard : ℕ) → o.answer ≡ answer.At guard → is_place o.world (option_map (moved guard) s) ≡ true
-
-    module _ (w : WorldOf B) (s : StackOf) (stacked : is_stacked w s ≡ true) where
-      moves_none : (a : Answer) (v : WorldOf B) → is_at a ≡ false → Holds (Moves (Some s)) (done a v)
-      moves_none a v other = record { it = record { stands = λ guard e. absurd (not_at a guard other e) } }
-
-      moves_same : Holds (Moves (Some s)) (done (answer.At (address_of s.guard_page)) w)
-      moves_same = record {
-        it = record {
-          stands = λ guard e.
-              let same : address_of s.guard_page ≡ guard = cc in
-              ap (λ (n : ℕ). is_stacked w (moved n s)) (sym same) ∙ ap (λ (n : ℕ). is_stacked w (lowered s n)) (page_back s.guard_page) ∙ stacked;
-        };
-      }
-
-      below_guard : (next : ℕ) → (next == s.base) ≡ false → next ≡ s.guard_page - 1 → (s.base < next) × (next ≤ s.guard_page)
-      below_guard next other is =
-          let halves = parts (nat_lt s.base s.guard_page) (holds_stack s (process_of w s.pid)) stacked in
-          let above = ltb-true s.base s.guard_page halves.0 in
-          let apart : next ≡ s.base → ⊥ = λ e. (let bad : true ≡ false = sym (equal next s.base e) ∙ other in cc) in
-          let least : s.base ≤ next = omega (arith, above, is) in
-          (by_less (nat_lt s.base next) refl least apart, omega (arith, is))
-        where
-          by_less : (b : Bool) → nat_lt s.base next ≡ b → s.base ≤ next → (next ≡ s.base → ⊥) → s.base < next
-          by_less true e least apart = ltb-true s.base next e
-          by_less false e least apart = let h = ltb-false s.base next e in let same : next ≡ s.base = omega (arith, h, least) in absurd (apart same)
-
-      not_low : (a b c : Bool) → a ≡ true → (a && (b || c)) ≡ false → b ≡ false
-      not_low true true c e f = cc
-      not_low true false c e f = refl
-      not_low false b c e f = cc
-
-      moves_grown : (p : ProcessOf B) (c : Committed B) (page : ℕ) → process_of w s.pid ≡ Some p → committed_at w p.regions page ≡ Some c → c.row.guard ≡ true → (c.row.guard && is_overflow w p s) ≡ false → Holds (Moves (Some s)) (grown fill w s (guard_off w s.pid p c page))
-      moves_grown p c page lives committed on fine =
-          let next = s.guard_page - 1 in
-          let v = (grown fill w s (guard_off w s.pid p c page)).world in
-          let low = below_guard next (not_low c.row.guard (next == s.base) _ on fine) refl in
-          record {
-            it = record {
-              stands = λ guard e.
-                  let same : address_of next ≡ guard = cc in
-                  ap (λ (n : ℕ). is_stacked v (moved n s)) (sym same) ∙ ap (λ (n : ℕ). is_stacked v (lowered s n)) (page_back next)
-                  ∙ lower_stacked v s next low.0 low.1 (stays w v s (λ n h. grown_keeps fill (λ a x. false) w s p c page lives committed (watch_of s n) h) stacked);
-            };
-          }
-
-      in_probe_at : (p : ProcessOf B) (page : ℕ) (c : Option (Committed B)) → process_of w s.pid ≡ Some p → committed_at w p.regions page ≡ c → Holds (Moves (Some s)) (probe_at fill w p s page c)
-      in_probe_at p page None lives committed = moves_none _ w refl
-      in_probe_at p page (Some c) lives committed = search (tables, moves_same, moves_none, moves_grown) depth 14
-
-      in_probe_in : (page : ℕ) (p : Option (ProcessOf B)) → process_of w s.pid ≡ p → Holds (Moves (Some s)) (probe_in fill w s page p)
-      in_probe_in page None lives = moves_none _ w refl
-      in_probe_in page (Some p) lives = in_probe_at p page (committed_at w p.regions page) lives refl
-
-    in_probe_of : (w : WorldOf B) (page : ℕ) (s : Option StackOf) → is_place w s ≡ true → Holds (Moves s) (probe_of fill w page s)
-    in_probe_of w page None stacked = record { it = record { stands = λ guard e. refl } }
-    in_probe_of w page (Some s) stacked = in_probe_in w s stacked page (process_of w s.pid) refl
-
--- ---- lists of stacks
-
-module _ (w : World) where
-  one_of : (stacks : Numbered StackOf) (tid : ℕ) → are_stacked w stacks ≡ true → is_place w (numbered stacks tid) ≡ true
-  one_of [] tid e = refl
-  one_of (s ∷ rest) zero e = (parts (is_place w s) (are_stacked w rest) e).0
-  one_of (s ∷ rest) (suc tid) e = one_of rest tid (parts (is_place w s) (are_stacked w rest) e).1
-
-  one_set : (stacks : Numbered StackOf) (tid : ℕ) (s : Option StackOf) → is_place w s ≡ true → are_stacked w stacks ≡ true → are_stacked w (set stacks tid s) ≡ true
-  one_set [] tid s h e = e
-  one_set (x ∷ rest) zero s h e = both (is_place w s) (are_stacked w rest) h (parts (is_place w x) (are_stacked w rest) e).1
-  one_set (x ∷ rest) (suc tid) s h e =
-      let halves = parts (is_place w x) (are_stacked w rest) e in
-      both (is_place w x) (are_stacked w (set rest tid s)) halves.0 (one_set rest tid s h halves.1)
-
-module _ (w v : World) where
-  place_kept : (s : Option StackOf) → ((s : StackOf) → is_stacked w s ≡ true → is_stacked v s ≡ true) → is_place w s ≡ true → is_place v s ≡ true
-  place_kept None keeps e = refl
-  place_kept (Some s) keeps e = keeps s e
-
-  all_kept : (stacks : Numbered StackOf) → ((s : StackOf) → is_stacked w s ≡ true → is_stacked v s ≡ true) → are_stacked w stacks ≡ true → are_stacked v stacks ≡ true
-  all_kept [] keeps e = refl
-  all_kept (s ∷ rest) keeps e =
-      let halves = parts (is_place w s) (are_stacked w rest) e in
-      both (is_place v s) (are_stacked v rest) (place_kept s keeps halves.0) (all_kept rest keeps halves.1)
-
-  place_left : (ends : StackOf → Bool) (s : Option StackOf) → ((s : StackOf) → ends s ≡ false → is_stacked w s ≡ true → is_stacked v s ≡ true) → is_place w s ≡ true → is_place v (without ends s) ≡ true
-  place_left ends None keeps e = refl
-  place_left ends (Some s) keeps e = by_end (ends s) refl
+module _ (w : World) (tid : ℕ) (s : StackOf) (has : stack_by w tid ≡ Some s) where
+  below_guard : (next : ℕ) → is_stacked w s ≡ true → (next == s.base) ≡ false → next ≡ s.guard_page - 1 → (s.base < next) × (next ≤ s.guard_page)
+  below_guard next stacked other is =
+      let halves = parts (nat_lt s.base s.guard_page) (holds_stack s (process_of w s.pid)) stacked in
+      let above = ltb-true s.base s.guard_page halves.0 in
+      let apart : next ≡ s.base → ⊥ = λ e. (let bad : true ≡ false = sym (equal next s.base e) ∙ other in cc) in
+      let least : s.base ≤ next = omega (arith, above, is) in
+      (by_less (nat_lt s.base next) refl least apart, omega (arith, is))
     where
-      by_end : (b : Bool) → ends s ≡ b → is_place v (cond b None (Some s)) ≡ true
-      by_end true is = refl
-      by_end false is = keeps s is e
+      by_less : (b : Bool) → nat_lt s.base next ≡ b → s.base ≤ next → (next ≡ s.base → ⊥) → s.base < next
+      by_less true e least apart = ltb-true s.base next e
+      by_less false e least apart = let h = ltb-false s.base next e in let same : next ≡ s.base = omega (arith, h, least) in absurd (apart same)
 
-  all_left : (ends : StackOf → Bool) (stacks : Numbered StackOf) → ((s : StackOf) → ends s ≡ false → is_stacked w s ≡ true → is_stacked v s ≡ true) → are_stacked w stacks ≡ true → are_stacked v (map (without ends) stacks) ≡ true
-  all_left ends [] keeps e = refl
-  all_left ends (s ∷ rest) keeps e =
-      let halves = parts (is_place w s) (are_stacked w rest) e in
-      both (is_place v (without ends s)) (are_stacked v (map (without ends) rest)) (place_left ends s keeps halves.0) (all_left ends rest keeps halves.1)
+  not_low : (a b c : Bool) → a ≡ true → (a && (b || c)) ≡ false → b ≡ false
+  not_low true true c e f = cc
+  not_low true false c e f = refl
+  not_low false b c e f = cc
+
+  stacks_grown : (p : ProcessOf Page) (c : Committed Page) (page : ℕ) → process_of w s.pid ≡ Some p → committed_at w p.regions page ≡ Some c → c.row.guard ≡ true → (c.row.guard && is_overflow w p s) ≡ false → Holds (KeepsStacked w) (grown filled (guard_off w s.pid p c page) tid s)
+  stacks_grown p c page lives committed on fine =
+      let next = s.guard_page - 1 in
+      let m = guard_off w s.pid p c page in
+      let v = (grown filled m tid s).world in
+      let keeps : (x : StackOf) → is_stacked w x ≡ true → is_stacked v x ≡ true = λ x. stays w v x (λ n h. grown_keeps filled (λ a x. false) w tid s p c page lives committed (watch_of x n) h) in
+      record {
+        it = record {
+          stacked = λ e.
+              let mine = one_of w w.stacks tid s e has in
+              let low = below_guard next mine (not_low c.row.guard (next == s.base) _ on fine) refl in
+              ap (λ (stacks : Numbered StackOf). are_placed v (set stacks tid (Some (lowered s next)))) (kept.in_alloc m s.pid (address_of next) 1 commit_type 0x104).it.stacks
+              ∙ one_set v w.stacks tid (lowered s next) (lower_stacked v s next low.0 low.1 (keeps s mine)) (all_kept w v keeps w.stacks e);
+        };
+      }
+
+  stacks_probe_at : (p : ProcessOf Page) (page : ℕ) (c : Option (Committed Page)) → process_of w s.pid ≡ Some p → committed_at w p.regions page ≡ c → Holds (KeepsStacked w) (probe_at filled w tid p s page c)
+  stacks_probe_at p page None lives committed = stacks_same w _
+  stacks_probe_at p page (Some c) lives committed = search (tables, stacks_same, stacks_guard, stacks_grown) depth 14
+
+  stacks_probe_in : (page : ℕ) (p : Option (ProcessOf Page)) → process_of w s.pid ≡ p → Holds (KeepsStacked w) (probe_in filled w tid s page p)
+  stacks_probe_in page None lives = stacks_same w _
+  stacks_probe_in page (Some p) lives = stacks_probe_at p page (committed_at w p.regions page) lives refl
+
+stacks_probe_of : (w : World) (tid page : ℕ) (s : Option StackOf) → stack_by w tid ≡ s → Holds (KeepsStacked w) (probe_of filled w tid page s)
+stacks_probe_of w tid page None has = stacks_same w _
+stacks_probe_of w tid page (Some s) has = stacks_probe_in w tid s has page (process_of w s.pid) refl
+
+in_probe : (w : World) (tid addr : ℕ) → Holds (KeepsStacked w) (probe filled w tid addr)
+in_probe w tid addr = stacks_probe_of w tid (page_of addr) (stack_by w tid) refl
 
 -- ---- a line
 
 -- the line ends the stack
 abbrev ends_stack : Event → Answer → StackOf → Bool
 ends_stack (line.Free pid addr size type) answer.Ok s = (type == release_type) && is_stack_at pid.0 addr s
-ends_stack (line.Exit pid) answer.Ok s = is_stack_in pid.0 s
+ends_stack (line.Exit pid) answer.Ok s = s.pid == pid.0
 ends_stack _ _ s = false
 
-same_end : (e : Event) (b : Answer) (s : StackOf) (n : ℕ) → line_ends (world_line e) b (watch_of s n) ≡ ends_stack e b s
-same_end (line.Watch pid unwrites addr size count) b s n = refl
-same_end (line.ResetWatch pid addr size) b s n = refl
-same_end (line.Alloc pid addr size type prot) b s n = refl
+same_end : (e : Event) (a : Answer) (s : StackOf) (n : ℕ) → line_ends e a (watch_of s n) ≡ ends_stack e a s
 same_end (line.Free pid addr size type) answer.Ok s n = refl
 same_end (line.Exit pid) answer.Ok s n = refl
 same_end _ _ s n = refl
 
--- what a line of stacks leaves in its thread's place
-abbrev Placed : World → Numbered StackOf → Event → Answer → Type 0
-Placed v stacks (line.Stack tid pid reserve commit) (answer.Stack base size guard) = is_stacked v (record { pid = pid.0; base = page_of base; guard_page = page_of guard }) ≡ true
-Placed v stacks (line.Probe tid addr) (answer.At guard) = is_place v (option_map (moved guard) (numbered stacks tid.0)) ≡ true
-Placed v stacks _ _ = Unit {0}
-
-module _ (w v : World) (stacks : Numbered StackOf) (stacked : are_stacked w stacks ≡ true) where
-  stacked_after : (e : Event) (b : Answer) → ((s : StackOf) → ends_stack e b s ≡ false → is_stacked w s ≡ true → is_stacked v s ≡ true) → Placed v stacks e b → are_stacked v (stacks_after stacks e b) ≡ true
-  stacked_after (line.Stack tid pid reserve commit) (answer.Stack base size guard) keeps placed =
-      one_set v stacks tid.0 (Some (record { pid = pid.0; base = page_of base; guard_page = page_of guard })) placed (all_kept w v stacks (λ s. keeps s refl) stacked)
-  stacked_after (line.Probe tid addr) (answer.At guard) keeps placed =
-      one_set v stacks tid.0 (option_map (moved guard) (numbered stacks tid.0)) placed (all_kept w v stacks (λ s. keeps s refl) stacked)
-  stacked_after (line.Free pid addr size type) answer.Ok keeps placed = by_type (type == release_type) keeps
+module _ (w v : World) where
+  left_stacked : (e : Event) (a : Answer) → ((s : StackOf) → ends_stack e a s ≡ false → is_stacked w s ≡ true → is_stacked v s ≡ true) → (stacks : Numbered StackOf) → are_placed w stacks ≡ true → are_placed v (left_by e a stacks) ≡ true
+  left_stacked (line.Free pid addr size type) answer.Ok keeps stacks h = by_type (type == release_type) keeps
     where
-      by_type : (b : Bool) → ((s : StackOf) → (b && is_stack_at pid.0 addr s) ≡ false → is_stacked w s ≡ true → is_stacked v s ≡ true) → are_stacked v (cond b (map (without (is_stack_at pid.0 addr)) stacks) stacks) ≡ true
-      by_type true keeps = all_left w v (is_stack_at pid.0 addr) stacks keeps stacked
-      by_type false keeps = all_kept w v stacks (λ s. keeps s refl) stacked
-  stacked_after (line.Exit pid) answer.Ok keeps placed = all_left w v (is_stack_in pid.0) stacks keeps stacked
-  stacked_after _ _ keeps placed = all_kept w v stacks (λ s. keeps s refl) stacked
+      by_type : (b : Bool) → ((s : StackOf) → (b && is_stack_at pid.0 addr s) ≡ false → is_stacked w s ≡ true → is_stacked v s ≡ true) → are_placed v (cond b (map (unless (is_stack_at pid.0 addr)) stacks) stacks) ≡ true
+      by_type true keeps = all_left w v (is_stack_at pid.0 addr) keeps stacks h
+      by_type false keeps = all_kept w v (λ s. keeps s refl) stacks h
+  left_stacked (line.Exit pid) answer.Ok keeps stacks h = all_left w v (λ s. s.pid == pid.0) keeps stacks h
+  left_stacked _ _ keeps stacks h = all_kept w v (λ s. keeps s refl) stacks h
 
-  placed_so : (e : Event) (before after : Report) (b : Answer) → given_outcome w stacks e before after ≡ done b v → Placed v stacks e b
-  placed_so (line.Stack tid pid reserve commit) before after (answer.Stack base size guard) h =
-      ap (λ (o : OutcomeOf Page). is_stacked o.world (record { pid = pid.0; base = page_of base; guard_page = page_of guard })) (sym h)
-      ∙ (in_stack filled w stacks tid.0 pid.0 reserve commit).it.begun base size guard (ap (λ (o : OutcomeOf Page). o.answer) h)
-  placed_so (line.Probe tid addr) before after (answer.At guard) h =
-      ap (λ (o : OutcomeOf Page). is_place o.world (option_map (moved guard) (numbered stacks tid.0))) (sym h)
-      ∙ (in_probe_of filled w (page_of addr) (numbered stacks tid.0) (one_of w stacks tid.0 stacked)).it.stands guard (ap (λ (o : OutcomeOf Page). o.answer) h)
-  placed_so _ before after _ h = tt
+module _ (w : World) (e : Event) (before after : Report) where
+  abbrev o : OutcomeOf Page
+  o = step w e before after
 
-  stack_kept : (e : Event) (before after : Report) (b : Answer) → given_outcome w stacks e before after ≡ done b v → (s : StackOf) → ends_stack e b s ≡ false → is_stacked w s ≡ true → is_stacked v s ≡ true
-  stack_kept e before after b h s lasts =
-      stays w v s (λ n l.
-      ap (λ (o : OutcomeOf Page). is_live o.world (watch_of s n)) (sym h)
-      ∙ (given_live w stacks e before after).it.kept (watch_of s n) (ap (λ (o : OutcomeOf Page). line_ends (world_line e) o.answer (watch_of s n)) h ∙ same_end e b s n ∙ lasts) l)
+  stack_kept : (s : StackOf) → ends_stack e o.answer s ≡ false → is_stacked w s ≡ true → is_stacked o.world s ≡ true
+  stack_kept s lasts = stays w o.world s (λ n h. (lines.in_step w e before after).it.kept (watch_of s n) (same_end e o.answer s n ∙ lasts) h)
 
-pub stays_stacked : (w v : World) (stacks : Numbered StackOf) (e : Event) (before after : Report) (b : Answer) → given_outcome w stacks e before after ≡ done b v → (left : Numbered StackOf) → left ≡ stacks_after stacks e b → are_stacked w stacks ≡ true → are_stacked v left ≡ true
-stays_stacked w v stacks e before after b h left ended stacked =
-    ap (are_stacked v) ended ∙ stacked_after w v stacks stacked e b (stack_kept w v stacks stacked e before after b h) (placed_so w v stacks stacked e before after b h)
+  other_line : is_stack_line e ≡ false → are_stacked w ≡ true → are_stacked o.world ≡ true
+  other_line other h =
+      ap (are_placed o.world) ((kept.in_step w e before after).stacks other)
+      ∙ left_stacked w o.world e o.answer stack_kept w.stacks h
+
+pub stays_stacked : (w : World) (e : Event) (before after : Report) → are_stacked w ≡ true → are_stacked (step w e before after).world ≡ true
+stays_stacked w (line.Stack tid pid reserve commit) before after h = (in_stack filled w tid.0 pid.0 reserve commit).it.stacked h
+stays_stacked w (line.Probe tid addr) before after h = (in_probe w tid.0 addr).it.stacked h
+stays_stacked w e before after h = other_line w e before after refl h
 
 -- ---- no stack
 
-pub none_stacked : (w : World) (n : ℕ) → are_stacked w (replicate n None) ≡ true
-none_stacked w zero = refl
-none_stacked w (suc n) = none_stacked w n
+none_placed : (w : World) (n : ℕ) → list_all (is_place w) (replicate n None) ≡ true
+none_placed w zero = refl
+none_placed w (suc n) = none_placed w n
+
+pub first_stacked : (m : MachineOf) → are_stacked {B = Page} (first_world m) ≡ true
+first_stacked m = none_placed (first_world m) threads

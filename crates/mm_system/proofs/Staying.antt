@@ -11,14 +11,13 @@ use Rattle.mm_types.specs.declared.events.Event.{Event}
 use Rattle.mm_types.specs.declared.events.Event.TheVariants as line
 use Rattle.mm_types.specs.declared.numbers.Place.{Place}
 use Rattle.mm_types.specs.Address.{Range, page_of, pages_for, granule_range_of, range_of, lies_within}
-use Rattle.mm_world.specs.World.{Page, World, KeptOf, Numbered, filled}
+use Rattle.mm_world.specs.World.{Page, World, KeptOf, filled}
 use Rattle.mm_world.specs.Find.{process_of}
 use Rattle.mm_world.specs.Alloc.{alloc, is_reserving}
 use Rattle.mm_types.specs.Allocation.{release_type}
 use Rattle.mm_world.specs.Outcome.{OutcomeOf, done}
 use Rattle.mm_world.specs.Report.{Report}
-use Rattle.mm_world.specs.Stack.{StackOf}
-use Rattle.mm_world.specs.Step.{kept_by}
+use Rattle.mm_world.specs.Step.{step, kept_by}
 use Rattle.mm_world.specs.System.{watches_after, is_watched_type, reserved_range, written_by, written_by_kept}
 use Rattle.mm_world.specs.Watch.{WatchOf, watched_range, begun, mark_written, set_written, one_page, unwrite, keep_watches, is_watch_at, is_watch_in}
 use Rattle.mm_types.proofs.Booleans.{both, parts, or_right}
@@ -26,11 +25,12 @@ use Rattle.mm_world.proofs.RowsFit.{length-change_range}
 use Rattle.mm_watch.specs.Told.{line_ends}
 use Rattle.mm_watch.specs.Watches.{WatchesOf}
 use Rattle.mm_watch.proofs.Apart.{equals}
-use Rattle.mm_system.specs.Lines.{world_line, given_outcome, said, CanWatch, HasRoom, with_room, pages_asked}
+use Rattle.mm_system.specs.Lines.{world_line, said, CanWatch, HasRoom, with_room, pages_asked}
 use Rattle.mm_system.specs.Live.{holds_private, is_live, are_live}
 use Rattle.mm_system.specs.Writes.{writes_of, writes_after}
 use Rattle.mm_system.proofs.Reserving.{Makes, makes_apart, in_alloc}
-use Rattle.mm_system.proofs.StackCalls.{given_live, given_writes}
+use Rattle.mm_system.proofs.LiveLines as lines
+use Rattle.mm_system.proofs.KeptAccesses as kept
 
 -- ---- lists
 
@@ -158,10 +158,10 @@ makes w v pid addr size type prot base h watched =
     subst (λ (o : OutcomeOf Page). Makes w o.world pid (reserved_range addr size base)) h
     ((in_alloc filled w pid addr size t prot).it.made base (ap (λ (o : OutcomeOf Page). o.answer) h) (reserving type addr (is_watched_type type) refl watched))
 
-made_so : (w v : World) (watches : List WatchOf) (stacks : Numbered StackOf) (e : Event) (before after : Report) (b : Answer) → given_outcome w stacks e before after ≡ done b v → Made v e (said watches e b)
-made_so w v watches stacks (line.Alloc pid addr size type prot) before after (answer.At base) h = λ watched. (makes w v pid.0 addr size type prot base h watched).made
-made_so w v watches stacks (line.Alloc pid addr size type prot) before after _ h = tt
-made_so w v watches stacks _ before after b h = tt
+made_so : (w v : World) (watches : List WatchOf) (e : Event) (before after : Report) (b : Answer) → step w (world_line e) before after ≡ done b v → Made v e (said watches e b)
+made_so w v watches (line.Alloc pid addr size type prot) before after (answer.At base) h = λ watched. (makes w v pid.0 addr size type prot base h watched).made
+made_so w v watches (line.Alloc pid addr size type prot) before after _ h = tt
+made_so w v watches _ before after b h = tt
 
 same_count : (addr size base : ℕ) → (reserved_range addr size 0).count ≡ (reserved_range addr size base).count
 same_count addr size base = by_address (addr == 0) (record { first = page_of 0; count = pages_for size }) (record { first = page_of base; count = pages_for size }) (granule_range_of addr size) refl
@@ -170,31 +170,31 @@ same_count addr size base = by_address (addr == 0) (record { first = page_of 0; 
     by_address true p q r e = e
     by_address false p q r e = refl
 
-pub can_watch : (watches : WatchesOf) (w v : World) (stacks : Numbered StackOf) (e : Event) (before after : Report) (b : Answer) → given_outcome w stacks e before after ≡ done b v → are_live w watches.watches ≡ true → CanWatch (with_room watches e) e b
-can_watch watches w v stacks (line.Alloc pid addr size type prot) before after (answer.At base) h live = λ watched.
+pub can_watch : (watches : WatchesOf) (w v : World) (e : Event) (before after : Report) (b : Answer) → step w (world_line e) before after ≡ done b v → are_live w watches.watches ≡ true → CanWatch (with_room watches e) e b
+can_watch watches w v (line.Alloc pid addr size type prot) before after (answer.At base) h live = λ watched.
     let m = makes w v pid.0 addr size type prot base h watched in
     let range = reserved_range addr size base in
     subst (λ (b : Bool). HasRoom (cond b (record watches { room = pages_asked addr size }) watches) pid.0 range) (sym watched)
     (record { some = m.some; user = m.user; room = same_count addr size base; apart = makes_apart w v pid.0 range watches.watches m live })
-can_watch watches w v stacks (line.Alloc pid addr size type prot) before after _ h live = tt
-can_watch watches w v stacks _ before after b h live = tt
+can_watch watches w v (line.Alloc pid addr size type prot) before after _ h live = tt
+can_watch watches w v _ before after b h live = tt
 
 -- ---- the invariants after a line
 
-module _ (w v : World) (watches : List WatchOf) (stacks : Numbered StackOf) (e : Event) (before after : Report) (a b : Answer) (given : given_outcome w stacks e before after ≡ done b v) (is : a ≡ said watches e b) where
+module _ (w v : World) (watches : List WatchOf) (e : Event) (before after : Report) (a b : Answer) (given : step w (world_line e) before after ≡ done b v) (is : a ≡ said watches e b) where
   pub stays_live : (new : List WatchOf) → new ≡ watches_after w watches e a → are_live w watches ≡ true → are_live v new ≡ true
   stays_live new changed h =
       ap (are_live v) (changed ∙ ap (watches_after w watches e) is)
       ∙ live_after w v watches h e (said watches e b)
       (λ x e' l.
       ap (λ (o : OutcomeOf Page). is_live o.world x) (sym given)
-      ∙ (given_live w stacks e before after).it.kept x (ap (λ (o : OutcomeOf Page). line_ends (world_line e) o.answer x) given ∙ same_ends watches e b x ∙ e') l)
-      (made_so w v watches stacks e before after b given)
+      ∙ (lines.in_step w (world_line e) before after).it.kept x (ap (λ (o : OutcomeOf Page). line_ends (world_line e) o.answer x) given ∙ same_ends watches e b x ∙ e') l)
+      (made_so w v watches e before after b given)
 
   pub stays_kept : (old new : List (Option Place)) → new ≡ writes_after old e a → old ≡ writes_of w → new ≡ writes_of v
   stays_kept old new changed h =
       changed ∙ ap (λ (ws : List (Option Place)). writes_after ws e a) h ∙ ap (writes_after (writes_of w) e) is
       ∙ sym (same_writes watches (writes_of w) e b)
       ∙ ap (λ (o : OutcomeOf Page). writes_after (writes_of w) (world_line e) o.answer) (sym given)
-      ∙ sym (given_writes w stacks e before after).tells
+      ∙ sym (kept.in_step w (world_line e) before after).tells
       ∙ ap (λ (o : OutcomeOf Page). writes_of o.world) given

@@ -8,7 +8,7 @@ use Rattle.mm_types.specs.declared.events.Event.{Event}
 use Rattle.mm_types.specs.declared.events.Event.TheVariants as line
 use Rattle.mm_types.specs.declared.moves.Move.{Move}
 use Rattle.mm_types.specs.Address.{range_of}
-use Rattle.mm_world.specs.World.{Page, World}
+use Rattle.mm_world.specs.World.{Page, World, WorldOf}
 use Rattle.mm_world.specs.Find.{Found}
 use Rattle.mm_world.specs.Report.{Report}
 use Rattle.mm_world.specs.Watch.{WatchOf, watch_around}
@@ -33,11 +33,11 @@ same_grow (line.ResetWatch pid addr size) = refl
 same_grow (line.Alloc pid addr size type prot) = refl
 same_grow _ = refl
 
-pub same_memory : (e : Event) → takes_memory (world_line e) ≡ takes_memory e
-same_memory (line.Watch pid unwrites addr size count) = refl
-same_memory (line.ResetWatch pid addr size) = refl
-same_memory (line.Alloc pid addr size type prot) = refl
-same_memory _ = refl
+pub same_memory : {B : Type 0} (fill : ℕ → B) (w : WorldOf B) (e : Event) → takes_memory fill w (world_line e) ≡ takes_memory fill w e
+same_memory fill w (line.Watch pid unwrites addr size count) = refl
+same_memory fill w (line.ResetWatch pid addr size) = refl
+same_memory fill w (line.Alloc pid addr size type prot) = refl
+same_memory fill w _ = refl
 
 module _ (watches : List WatchOf) (e : Event) (b : Answer) where
   pub named : (u : Bool) (paging paging' files files' : DeviceOf) → Named u (world_line e) b paging paging' files files' → Named u e (said watches e b) paging paging' files files'

@@ -7,11 +7,6 @@ use Rattle.mm_types.specs.declared.codes.Code.TheVariants as code
 use Rattle.mm_types.specs.declared.events.Event.{Event}
 use Rattle.mm_types.specs.declared.events.Event.TheVariants as line
 use Rattle.mm_types.specs.Address.{Range, range_of, address_of, end_of_user_pages}
-use Rattle.mm_world.specs.World.{World, Page, Numbered, filled}
-use Rattle.mm_world.specs.Outcome.{OutcomeOf}
-use Rattle.mm_world.specs.Report.{Report}
-use Rattle.mm_world.specs.Stack.{StackOf, stack, probe}
-use Rattle.mm_world.specs.Step.{step}
 use Rattle.mm_world.specs.System.{is_watched_type, plain_line, reserved_range}
 use Rattle.mm_world.specs.Watch.{WatchOf, watch_around, written_in}
 use Rattle.mm_watch.specs.Watches.{WatchesOf, is_unwatched}
@@ -32,15 +27,7 @@ abbrev pub is_beside : Event → Bool
 is_beside (line.Watch pid unwrites addr size count) = true
 is_beside (line.ResetWatch pid addr size) = true
 is_beside (line.Alloc pid addr size type prot) = is_watched_type type
-is_beside (line.Stack tid pid reserve commit) = true
-is_beside (line.Probe tid addr) = true
 is_beside _ = false
-
--- what the world answers to a line, and what becomes of it
-abbrev pub given_outcome : World → Numbered StackOf → Event → Report → Report → OutcomeOf Page
-given_outcome w stacks (line.Stack tid pid reserve commit) before after = stack filled w stacks tid.0 pid.0 reserve commit
-given_outcome w stacks (line.Probe tid addr) before after = probe filled w stacks tid.0 addr
-given_outcome w stacks e before after = step w (world_line e) before after
 
 -- ERROR_INVALID_HANDLE
 abbrev pub is_gone : Answer → Bool

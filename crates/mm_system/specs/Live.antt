@@ -3,9 +3,8 @@
 use Rattle.std.specs.Prelude.{Bool, true, false, ◌&&◌, ◌==◌, nat_lt, List, Option, Some, None}
 use Rattle.std.specs.List.{list_any, list_all}
 use Rattle.mm_types.specs.Address.{Range, holds_page}
-use Rattle.mm_world.specs.World.{Numbered, RegionOf, ProcessOf, WorldOf, pages_of}
+use Rattle.mm_world.specs.World.{RegionOf, ProcessOf, StackOf, WorldOf, pages_of}
 use Rattle.mm_world.specs.Find.{process_of, is_private}
-use Rattle.mm_world.specs.Stack.{StackOf}
 use Rattle.mm_world.specs.Watch.{WatchOf, watched_range}
 
 abbrev pub is_same_range : Range → Range → Bool
@@ -45,5 +44,5 @@ module _ {B : Type 0} where
   is_place w None = true
   is_place w (Some s) = is_stacked w s
 
-  abbrev pub are_stacked : WorldOf B → Numbered StackOf → Bool
-  are_stacked w stacks = list_all (is_place w) stacks
+  abbrev pub are_stacked : WorldOf B → Bool
+  are_stacked w = list_all (is_place w) w.stacks

@@ -4,37 +4,14 @@ use Rattle.std.specs.Prelude.{◌≡◌, ◌≢◌, Bool, true, false}
 use Rattle.mm_types.specs.declared.answers.Answer.{Answer}
 use Rattle.mm_types.specs.declared.answers.Answer.TheVariants as answer
 use Rattle.mm_types.specs.declared.events.Event.{Event}
-use Rattle.mm_world.specs.World.{Numbered}
 use Rattle.mm_world.specs.Report.{Report}
-use Rattle.mm_world.specs.Stack.{StackOf}
 use Rattle.mm_world.specs.Step.{unpaged}
-use Rattle.mm_world.specs.System.{System, system_step, stacks_after, watches_after}
+use Rattle.mm_world.specs.System.{System, system_step, watches_after}
 use Rattle.mm_watch.specs.Told.{HadRegion}
-use Rattle.mm_stack.specs.Lines.{is_stack_line}
 use Rattle.mm_core.specs.Promise.{Scene, Decides}
 use Rattle.mm_core.specs.Stepping.{asks_frames}
-use Rattle.mm_system.specs.Lines.{is_beside, world_line, given_outcome}
+use Rattle.mm_system.specs.Lines.{is_beside}
 use Rattle.mm_system.specs.Writes.{writes_of, writes_after}
-
--- ---- the world and the stacks
-
--- The answer and the new world are those of the line that the world is given, and over a store
--- whose accesses never fail those of unpaged memory; and these stacks are there after it.
-pub record Given (never_fails : Bool) (x y : Scene) (old new : Numbered StackOf) (e : Event)
-    (a : Answer) : Type 0 where
-  pub decided :
-      given_outcome x.world old e x.report y.report ≡ record { answer = a; world = y.world }
-  pub alone : never_fails ≡ true → asks_frames (world_line e) ≡ false → is_stack_line e ≡ false →
-      a ≢ answer.Fault → unpaged x.world (world_line e) ≡ record { answer = a; world = y.world }
-  pub stacks : new ≡ stacks_after old e a
-
--- that line was decided
-abbrev pub Gives :
-    Bool → Scene → Numbered StackOf → Event → Answer → Numbered StackOf → Scene → Type 0
-Gives never_fails x old e a new y =
-    Decides (Given never_fails x y old new e a) never_fails x (world_line e) a y
-
--- ---- the system
 
 -- The answer and the new system are those of the definitions' step, by the reports before and
 -- after, and over a store whose accesses never fail those of unpaged memory, of a line that goes by

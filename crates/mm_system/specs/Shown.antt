@@ -2,8 +2,7 @@
 -- Profile, "A run".
 use Rattle.std.specs.Prelude.{ℕ, List}
 use Rattle.mm_types.specs.Outside.{Loans}
-use Rattle.mm_world.specs.World.{Page, World, Numbered}
-use Rattle.mm_world.specs.Stack.{StackOf}
+use Rattle.mm_world.specs.World.{Page, World}
 use Rattle.mm_world.specs.System.{System}
 use Rattle.mm_world.specs.Watch.{WatchOf}
 use Rattle.mm_world.specs.Report.{Report}
@@ -20,12 +19,8 @@ module _ {G : Type 0} {g : PagesGhosts G} where
   abbrev pub watches : Kept G g → List WatchOf
   watches s = s.watch.watches
 
-  -- of each thread
-  abbrev pub stacks : Kept G g → Numbered StackOf
-  stacks s = s.stacks
-
   abbrev pub system : Kept G g → System
-  system s = record { world = core.world s.world; stacks = s.stacks; watches = s.watch.watches }
+  system s = record { world = core.world s.world; watches = s.watch.watches }
 
   abbrev pub report : Kept G g → Report
   report s = core.report s.world

@@ -31,9 +31,9 @@ pub fn watched_regions_stay_live()
     ensures { (s : System) (e : Event) (before after : Report) → are_live s.world s.watches ≡ true → are_live (system_step s e before after).system.world (system_step s e before after).system.watches ≡ true }
 {}
 
-/// Each stack has a private region of a process that lives, with its base and its guard page, after each line.
+/// Each stack has a private region of a process that lives, with its base and its guard page, after each line of a world.
 pub fn stacks_stay_private_regions()
-    ensures { (s : System) (e : Event) (before after : Report) → are_stacked s.world s.stacks ≡ true → are_stacked (system_step s e before after).system.world (system_step s e before after).system.stacks ≡ true }
+    ensures { (w : World) (e : Event) (before after : Report) → are_stacked w ≡ true → are_stacked (step w e before after).world ≡ true }
 {}
 
 /// The writes that threads keep change as lines and their answers tell.

@@ -1,4 +1,4 @@
-//! A world over any store of pages, with the watched regions and the stacks of threads beside it.
+//! A world over any store of pages, with the watched regions beside it.
 //!
 //! The world decides what addresses hold; what is told of written pages is decided here, from the lines and their answers.
 #![tactic(auto)]
@@ -7,7 +7,6 @@ mod built;
 mod flushing;
 mod kept_writes;
 mod laws;
-mod lines;
 mod systems;
 mod watching;
 

@@ -1,4 +1,5 @@
 ghost use Rattle.std.specs.Prelude.{◌≡◌, ◌≤◌, ◌+◌, true, false, IfOk, OnOk, OnErr, IsOk};
+ghost use Rattle.mm_world.specs.World.{filled};
 ghost use Rattle.mm_world.specs.System.{first_system};
 ghost use Rattle.mm_world.specs.Charge.{charge, limit};
 ghost use Rattle.mm_world.specs.Contents.{tables_of};
@@ -12,18 +13,16 @@ ghost use Rattle.mm_system.specs.Lines.{is_machine};
 ghost use Rattle.mm_system.specs.Live.{are_live, are_stacked};
 ghost use Rattle.mm_system.specs.Writes.{writes_of};
 
+use crate::built::{either, other_line};
 use crate::kept_writes::KeptWrites;
-use crate::lines::decide;
 use crate::watching::{follow, take_room};
 use mm_core::World;
 use mm_pages::Pages;
-use mm_stack::Stacks;
 use mm_types::{Answer, Event, Machine, NoMemory};
 use mm_watch::Watch;
 use std::alloc::Global;
 
-/// A machine's address spaces over a store of their pages, with the watched regions and the stacks
-/// of threads beside them.
+/// A machine's address spaces over a store of their pages, with the watched regions beside them.
 ///
 /// After `NoMemory` it is spent: nothing is to be asked of it but its charge and its store.
 #[derive(Drop)]
@@ -31,12 +30,11 @@ pub struct System<G: Pages> {
     /// The world that the lines change.
     pub world: World<G>,
     watch: Watch,
-    stacks: Stacks,
     writes: KeptWrites,
     spent: bool,
     ghost ready: { spent ≡ false → world.spent ≡ false },
     ghost live: { are_live (world_of world) watch.watches ≡ true },
-    ghost stacked: { are_stacked (world_of world) stacks ≡ true },
+    ghost stacked: { are_stacked (world_of world) ≡ true },
     ghost kept: { writes ≡ writes_of (world_of world) },
     ghost tidy: { ∥ IsTidy (tables_of (world_of world)) ∥₁ },
 }
@@ -44,7 +42,7 @@ pub struct System<G: Pages> {
 impl<G: Pages> System<G> {
     ghost use Rattle.mm_core.specs.Promise.{Breaks, scene};
     ghost use Rattle.mm_system.specs.Promise.{DecidesSystem};
-    ghost use Rattle.mm_system.specs.Shown.{world, watches, stacks, system, line_of, loans};
+    ghost use Rattle.mm_system.specs.Shown.{world, watches, system, line_of, loans};
 
     /// The system after the `machine` line, over a new store of that machine.
     pub fn new(alloc: Global, machine: Machine, pages: G) -> System<G>
@@ -56,7 +54,6 @@ impl<G: Pages> System<G> {
         System {
             world: World::new(alloc, machine, pages),
             watch: Watch::new(alloc),
-            stacks: Stacks::new(),
             writes: KeptWrites::new(),
             spent: false,
         }
@@ -69,7 +66,6 @@ impl<G: Pages> System<G> {
         let System {
             world,
             watch: _,
-            stacks: _,
             writes: _,
             spent: _,
         } = self;
@@ -91,7 +87,7 @@ impl<G: Pages> System<G> {
     pub fn sound(&self)
         ensures apart { AreApart (watches self.now) }
         ensures live { are_live (world self.now) (watches self.now) ≡ true }
-        ensures stacked { are_stacked (world self.now) (stacks self.now) ≡ true }
+        ensures stacked { are_stacked (world self.now) ≡ true }
     {
         self.watch.regions_lie_apart();
     }
@@ -101,17 +97,18 @@ impl<G: Pages> System<G> {
     /// then is the step's.
     ///
     /// `watch` is GetWriteWatch, `resetwatch` is ResetWriteWatch, and an `alloc` of the types
-    /// 0x202000 and 0x203000 has MEM_WRITE_WATCH; `stack` and `probe` are this profile's own. Each
-    /// other line is decided by the world, as is what such an `alloc` does to it. `line` is the
-    /// number of the line in its script, where `machine` is line 1, which is no line for this call.
+    /// 0x202000 and 0x203000 has MEM_WRITE_WATCH. Each other line is decided by the world, as is
+    /// what such an `alloc` does to it. `line` is the number of the line in its script, where
+    /// `machine` is line 1, which is no line for this call.
     ///
-    /// `NoMemory` comes only from the lines from which it comes of a world, and from `stack` and
-    /// `probe`. Then the system is as it was, and no further line can be decided. An `alloc` of a
-    /// watched region takes the room for its written pages first, so that such a line may run out
-    /// of memory before a check that would refuse it. `watch` and `resetwatch` take no memory.
+    /// `NoMemory` comes only from the lines from which it comes of a world. Then the system is as
+    /// it was, and no further line can be decided. An `alloc` of a watched region takes the room
+    /// for its written pages first, so that such a line may run out of memory before a check that
+    /// would refuse it. `watch` and `resetwatch` take no memory.
     ///
     /// What is told of a line is what the world's step tells of it, with the outcome of the system
     /// in place of the world's.
+    #[tactic(auto, using(crate::proofs::Alone::built_alone))]
     pub fn step(&mut self, alloc: Global, line: u32, event: &Event) -> Result<Answer, NoMemory>
         requires well_formed { IsWellFormed event.now }
         requires later { is_machine event.now ≡ false }
@@ -124,7 +121,7 @@ impl<G: Pages> System<G> {
         ensures broke { OnErr result
             (Breaks G.unpaged (scene self.old.world) (scene self.new.world)) }
         ensures err { OnErr result (system self.new ≡ system self.old) }
-        ensures no_memory { takes_memory event.now ≡ false → IsOk result }
+        ensures no_memory { takes_memory filled (world self.old) event.now ≡ false → IsOk result }
         ensures line { OnOk result (line_of self.new ≡ line) }
         ensures ready { OnOk result (self.new.spent ≡ false) }
         ensures spent { OnErr result (self.new.spent ≡ true) }
@@ -137,7 +134,8 @@ impl<G: Pages> System<G> {
             self.spent = true;
             return Err(why);
         }
-        let mut decided = decide(&mut self.world, &mut self.stacks, alloc, line, event);
+        let other = other_line(event);
+        let mut decided = self.world.step(alloc, line, either(&other, event));
         match &mut decided {
             Ok(answer) => {
                 follow(&mut self.watch, &self.writes, event, answer);

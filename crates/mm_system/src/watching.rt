@@ -2,7 +2,7 @@ ghost use Rattle.std.specs.Prelude.{◌≡◌, ◌≤◌, ℕ, true, false, List
 ghost use Rattle.mm_types.specs.declared.events.Event.TheVariants as line;
 ghost use Rattle.mm_types.specs.declared.answers.Answer.TheVariants as answer;
 ghost use Rattle.mm_script.specs.Printed.{IsWellFormed};
-ghost use Rattle.mm_world.specs.World.{World};
+ghost use Rattle.mm_world.specs.World.{World, filled};
 ghost use Rattle.mm_world.specs.Step.{kept_by};
 ghost use Rattle.mm_world.specs.System.{reserved_range, watches_after};
 ghost use Rattle.mm_world.specs.Watch.{keep_watches, is_watch_at};
@@ -10,8 +10,8 @@ ghost use Rattle.mm_system.specs.Writes.{writes_of, write_of};
 ghost use Rattle.mm_system.specs.Lines.{said, told_of_range, written_pages, CanWatch, is_gone, pages_asked, with_room, asks_written};
 ghost use Rattle.mm_core.specs.Built.{takes_memory};
 
+use crate::built::is_watched_type;
 use crate::kept_writes::KeptWrites;
-use mm_core::is_watched_type;
 use mm_spaces::PageRange;
 use mm_types::{
     AccessSpec, AllocFlags, Answer, Code, Event, GRANULE_PAGES, GRANULE_SIZE, NoMemory, PAGE_SIZE,
@@ -46,7 +46,7 @@ fn first_reserved(addr: u32, size: u32, base: u32) -> Vpn
 pub(crate) fn take_room(watch: &mut Watch, event: &Event) -> Result<(), NoMemory>
     ensures ok { OnOk result (watch.new ≡ with_room watch.old event.now) }
     ensures err { OnErr result (watch.new ≡ watch.old) }
-    ensures no_memory { takes_memory event.now ≡ false → IsOk result }
+    ensures no_memory { (w : World) → takes_memory filled w event.now ≡ false → IsOk result }
 {
     match event {
         Event::Alloc {

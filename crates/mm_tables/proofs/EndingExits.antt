@@ -20,8 +20,8 @@ use Rattle.mm_types.proofs.Booleans.{both, not_true}
 use Rattle.mm_types.proofs.Cells.{get_within}
 use Rattle.mm_types.proofs.Options.{none_of, some_found, same_found, some_map}
 use Rattle.std.proofs.lemmas.List.Edits.{length-remove}
-use Rattle.mm_world.specs.World.{RegionOf, ProcessOf, pages_of, Page, Numbered, SectionOf, numbered}
-use Rattle.mm_world.specs.Find.{process_of, Found, first_where, one_later, set_regions, region_around, is_private, set_process, section_of}
+use Rattle.mm_world.specs.World.{RegionOf, ProcessOf, pages_of, Page, Numbered, SectionOf, StackOf, numbered}
+use Rattle.mm_world.specs.Find.{process_of, Found, first_where, one_later, set_regions, region_around, is_private, set_process, section_of, end_stacks}
 use Rattle.mm_world.specs.Contents.{Tables}
 use Rattle.mm_world.specs.WellFormed.{IsSpace, LaidOut, WellFormed}
 use Rattle.mm_world.specs.Charge.{charge, region_charge}
@@ -51,6 +51,7 @@ use Rattle.mm_tables.specs.Sound.{IsKept}
 use Rattle.mm_tables.specs.Fits.{Fits, Settled, beside, paging_count}
 use Rattle.mm_tables.proofs.EndingFits.{regions_of, Loses, same_loses, process_same, at_each, less_then, beside_then}
 use Rattle.mm_tables.proofs.OneProcess.{regions_in, paging-set_process}
+use Rattle.mm_tables.proofs.StackTables.{sound_with}
 use Rattle.mm_tables.proofs.Keeping.{others_all, keepers_less, kept_after}
 use Rattle.mm_tables.proofs.Regional.{release_stands}
 use Rattle.mm_tables.proofs.EndingSettles.{handles_put, views_put, holds_count, views_count, settle_same, tidy_settled, ends_same}
@@ -352,11 +353,14 @@ module _ (t : Tables) (pid : ℕ) (p : ProcessOf (Unit {0})) (lives : process_of
 
   sound_none : IsTidy t → WellFormed t → WellFormed (set_process t pid None)
   sound_none tidy sound =
+      let ends : StackOf → Bool = λ s. s.pid == pid in
+      let ended : WellFormed (settle (set_process (end_stacks (record t { kept = map (kept_of_others pid) t.kept }) ends) pid None)) =
       subst (λ (w : Tables). WellFormed w)
-      (ap (λ (o : Option (ProcessOf (Unit {0}))). (find_or t code.InvalidHandle o (λ p. done answer.Ok (settle (set_process (record t { kept = map (kept_of_others pid) t.kept }) pid None)))).world) lives
-      ∙ (λ i. settle (set_process (record t { kept = others_all pid t.kept nobody i }) pid None))
-      ∙ settled_none tidy)
-      (exit_keeps t pid sound)
+      (ap (λ (o : Option (ProcessOf (Unit {0}))). (find_or t code.InvalidHandle o (λ p. done answer.Ok (settle (set_process (end_stacks (record t { kept = map (kept_of_others pid) t.kept }) ends) pid None)))).world) lives)
+      (exit_keeps t pid sound) in
+      subst (λ (w : Tables). WellFormed w)
+      ((λ i. settle (set_process (record t { kept = others_all pid t.kept nobody i }) pid None)) ∙ settled_none tidy)
+      (sound_with _ t.stacks ended)
 
   kept_none : (entries : Numbered CountedSection) (commit : CommitOf) → IsKept t entries commit → IsKept (set_process t pid None) entries commit
   kept_none entries commit kept =

@@ -17,7 +17,7 @@ use Rattle.mm_types.proofs.Cells.{same_or_not, get_within}
 use Rattle.mm_types.proofs.Booleans.{not_true, and_true}
 use Rattle.mm_types.proofs.Lists.{some_get}
 use Rattle.mm_types.proofs.Options.{some_map}
-use Rattle.mm_world.specs.World.{Page, ProcessOf, RegionOf, AreaOf, SectionOf, Numbered, numbered, FileOf, KeptOf}
+use Rattle.mm_world.specs.World.{Page, ProcessOf, RegionOf, AreaOf, SectionOf, Numbered, numbered, FileOf, KeptOf, StackOf}
 use Rattle.mm_world.specs.Find.{process_of, section_of, set_process, area_at, no_area}
 use Rattle.mm_world.specs.Charge.{charge, area_charge}
 use Rattle.mm_world.specs.Sections.{holds, views, is_view_of, settle, settled_section}
@@ -301,8 +301,8 @@ pub record Standing (t : Tables) (items : List (Option Process)) (entries : Numb
   pub sections : sections_of entries ≡ t.sections
   pub areas_are : areas ≡ t.areas
 
-pub standing : (m : MachineOf) (items : List (Option Process)) (entries : Numbered CountedSection) (areas : List (AreaOf (Unit {0}))) (files : List FileOf) (used fails : ℕ) (accesses : Numbered KeptOf) (commit : CommitOf) (t : Tables) → tables_with m (shown_processes items) entries areas files used fails accesses ≡ t → IsKept (tables_with m (shown_processes items) entries areas files used fails accesses) entries commit → Standing t items entries areas commit
-standing m items entries areas files used fails accesses commit t view kept =
+pub standing : (m : MachineOf) (items : List (Option Process)) (entries : Numbered CountedSection) (areas : List (AreaOf (Unit {0}))) (files : List FileOf) (used fails : ℕ) (accesses : Numbered KeptOf) (stacks : Numbered StackOf) (commit : CommitOf) (t : Tables) → tables_with m (shown_processes items) entries areas files used fails accesses stacks ≡ t → IsKept (tables_with m (shown_processes items) entries areas files used fails accesses stacks) entries commit → Standing t items entries areas commit
+standing m items entries areas files used fails accesses stacks commit t view kept =
     record {
       kept = subst (λ (t : Tables). IsKept t entries commit) view kept;
       processes = ap (λ (t : Tables). t.processes) view;
@@ -312,7 +312,7 @@ standing m items entries areas files used fails accesses commit t view kept =
 
 -- the tables as they are kept, with this at the place of a process, this directory and these areas
 abbrev pub kept_with : Inside → ℕ → Option Process → DirectoryOf → List (AreaOf (Unit {0})) → Tables
-kept_with i pid y dir areas = tables_with i.machine (shown_processes (set i.processes.items (pid - 1) y)) dir.entries areas dir.files i.blocks_used i.fails_taken (shown_accesses i.kept)
+kept_with i pid y dir areas = tables_with i.machine (shown_processes (set i.processes.items (pid - 1) y)) dir.entries areas dir.files i.blocks_used i.fails_taken (shown_accesses i.kept) i.stacks
 
 -- one reference less in them, before the area of a section that ended is looked at
 pub record Step (i : Inside) (t : Tables) (pid : ℕ) (q : ProcessOf (Unit {0})) (y : Option Process) (dir : DirectoryOf) (result : Option Area) (commit : CommitOf) (c0 c1 : Key → Option Page) (s0 s1 : StoreOf) : Type 0 where

@@ -2,6 +2,7 @@ pub mod Regions
 pub mod Rows
 pub mod PageByPage
 pub mod KeptAccesses
+pub mod StackTables
 pub mod Turning
 pub mod OneProcess
 pub mod Carried

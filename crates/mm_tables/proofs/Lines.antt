@@ -46,7 +46,7 @@ none_next t pid e = none_at_end t.processes pid e
 
 -- the tables as they are kept, with these processes
 abbrev pub shown_as : Inside → List (Option (ProcessOf (Unit {0}))) → Tables
-shown_as i ps = tables_with i.machine ps i.directory.entries i.areas.items i.directory.files i.blocks_used i.fails_taken (shown_accesses i.kept)
+shown_as i ps = tables_with i.machine ps i.directory.entries i.areas.items i.directory.files i.blocks_used i.fails_taken (shown_accesses i.kept) i.stacks
 
 abbrev pub more : Tables → Tables
 more t = record t { processes = t.processes ++ Some no_regions ∷ [] }

@@ -40,7 +40,7 @@ use Rattle.mm_tables.proofs.SectionTidy.{with_section, with_areas, with_handle_c
 -- ---- the tables as they are kept, and with these parts
 
 abbrev pub now : Inside → List (Option (ProcessOf (Unit {0}))) → Numbered CountedSection → List (AreaOf (Unit {0})) → List FileOf → ℕ → Tables
-now i ps es areas files used = tables_with i.machine ps es areas files used i.fails_taken (shown_accesses i.kept)
+now i ps es areas files used = tables_with i.machine ps es areas files used i.fails_taken (shown_accesses i.kept) i.stacks
 
 abbrev pub as_kept : Inside → Tables
 as_kept i = now i (shown_processes i.processes.items) i.directory.entries i.areas.items i.directory.files i.blocks_used

@@ -5,7 +5,7 @@ use Rattle.std.proofs.lemmas.List.{get_or_default, map-set, set-get_or}
 use Rattle.mm_types.specs.Address.{Range}
 use Rattle.mm_types.specs.Machine.{MachineOf}
 use Rattle.mm_types.proofs.Options.{some_found, same_found, some_map}
-use Rattle.mm_world.specs.World.{ProcessOf, RegionOf, RowOf, AreaOf, FileOf, Numbered, numbered, KeptOf}
+use Rattle.mm_world.specs.World.{ProcessOf, RegionOf, RowOf, AreaOf, FileOf, Numbered, numbered, KeptOf, StackOf}
 use Rattle.mm_world.specs.Find.{Found, process_of, region_around, set_region, set_regions}
 use Rattle.mm_world.specs.Rows.{change_rows}
 use Rattle.mm_world.specs.Contents.{Tables}
@@ -55,7 +55,7 @@ pub record Standing (t : Tables) (pid : ℕ) (items : List (Option Process)) (o 
   pub some : 1 ≤ pid
   pub few : pid ≤ length items
 
-module _ (m : MachineOf) (items : List (Option Process)) (entries : Numbered CountedSection) (areas : List (AreaOf (Unit {0}))) (files : List FileOf) (blocks fails : ℕ) (accesses : Numbered KeptOf) (t : Tables) (view : tables_with m (shown_processes items) entries areas files blocks fails accesses ≡ t) where
+module _ (m : MachineOf) (items : List (Option Process)) (entries : Numbered CountedSection) (areas : List (AreaOf (Unit {0}))) (files : List FileOf) (blocks fails : ℕ) (accesses : Numbered KeptOf) (stacks : Numbered StackOf) (t : Tables) (view : tables_with m (shown_processes items) entries areas files blocks fails accesses stacks ≡ t) where
   pub standing : (pid : ℕ) (o : Option Process) → is_some (process_of t pid) ≡ true → o ≡ get_or items (pid - 1) o → Standing t pid items o
   standing pid o alive found =
       let here : numbered (shown_processes items) pid ≡ process_of t pid = ap (λ (t : Tables). process_of t pid) view in
@@ -64,19 +64,19 @@ module _ (m : MachineOf) (items : List (Option Process)) (entries : Numbered Cou
       let x = some_found o (sym (some_map shown_process o) ∙ ap is_some (sym at ∙ here) ∙ alive) in
       record { process = x.0; is = x.1; lives = sym here ∙ at ∙ ap (option_map shown_process) x.1; some = w.0; few = w.1 }
 
-  pub new_tables : (pid : ℕ) (o new : Option Process) (p : ProcessOf (Unit {0})) (ss : List (RegionOf (Unit {0}))) → Standing t pid items o → Became o new ss → process_of t pid ≡ Some p → tables_with m (shown_processes (set items (pid - 1) new)) entries areas files blocks fails accesses ≡ set_regions t pid p ss
+  pub new_tables : (pid : ℕ) (o new : Option Process) (p : ProcessOf (Unit {0})) (ss : List (RegionOf (Unit {0}))) → Standing t pid items o → Became o new ss → process_of t pid ≡ Some p → tables_with m (shown_processes (set items (pid - 1) new)) entries areas files blocks fails accesses stacks ≡ set_regions t pid p ss
   new_tables pid o new p ss h b lives =
       let process : b.process ≡ h.process = same_found o b.process h.process b.was h.is in
       let shown : shown_process b.process ≡ p = ap shown_process process ∙ process_is t pid (shown_process h.process) p h.lives lives in
       let now : option_map shown_process new ≡ Some (record p { regions = ss }) = b.now ∙ ap (λ (q : ProcessOf (Unit {0})). Some (record q { regions = ss })) shown in
-      ap (λ ps. tables_with m ps entries areas files blocks fails accesses) (shown_set items pid new h.some ∙ ap (set (shown_processes items) pid) now)
+      ap (λ ps. tables_with m ps entries areas files blocks fails accesses stacks) (shown_set items pid new h.some ∙ ap (set (shown_processes items) pid) now)
       ∙ ap (λ (t : Tables). set_regions t pid p ss) view
 
 -- ---- The tables as they are kept, with a process that lives in them, after a step on it
 
 -- these tables with other processes
 abbrev pub shown_with : Inside → List (Option Process) → Tables
-shown_with i items = tables_with i.machine (shown_processes items) i.directory.entries i.areas.items i.directory.files i.blocks_used i.fails_taken (shown_accesses i.kept)
+shown_with i items = tables_with i.machine (shown_processes items) i.directory.entries i.areas.items i.directory.files i.blocks_used i.fails_taken (shown_accesses i.kept) i.stacks
 
 -- what is known of tables that are kept and of what stands at the place of a process that lives
 pub record Held (i : Inside) (t : Tables) (pid : ℕ) (o : Option Process) : Type 0 where
@@ -89,7 +89,7 @@ pub record Held (i : Inside) (t : Tables) (pid : ℕ) (o : Option Process) : Typ
 
 standing_in : (i : Inside) (t : Tables) → shown_with i i.processes.items ≡ t → (pid : ℕ) (o : Option Process) → is_some (process_of t pid) ≡ true → o ≡ get_or i.processes.items (pid - 1) o → Standing t pid i.processes.items o
 standing_in i t view pid o alive found =
-    standing i.machine i.processes.items i.directory.entries i.areas.items i.directory.files i.blocks_used i.fails_taken (shown_accesses i.kept) t view pid o alive found
+    standing i.machine i.processes.items i.directory.entries i.areas.items i.directory.files i.blocks_used i.fails_taken (shown_accesses i.kept) i.stacks t view pid o alive found
 
 pub held_by : (i : Inside) (t : Tables) → shown_with i i.processes.items ≡ t → IsKept (shown_with i i.processes.items) i.directory.entries i.commit → (pid : ℕ) (o : Option Process) → is_some (process_of t pid) ≡ true → o ≡ get_or i.processes.items (pid - 1) o → Held i t pid o
 held_by i t view kept pid o alive found =
@@ -101,7 +101,7 @@ held_by i t view kept pid o alive found =
       same = ap regions_of s.is;
       kept = subst (λ (t : Tables). IsKept t i.directory.entries i.commit) view kept;
       changed = λ new p ss b lives.
-          new_tables i.machine i.processes.items i.directory.entries i.areas.items i.directory.files i.blocks_used i.fails_taken (shown_accesses i.kept) t view pid o new p ss s b lives;
+          new_tables i.machine i.processes.items i.directory.entries i.areas.items i.directory.files i.blocks_used i.fails_taken (shown_accesses i.kept) i.stacks t view pid o new p ss s b lives;
     }
 
 -- the process that stands there is the one that lives

@@ -1,7 +1,7 @@
 -- The tables as they are kept.
 use Rattle.std.specs.Prelude.{◌∷◌, ℕ, ◌==◌, if◌then◌else◌, List, Option, Some, None, map, option_map}
 use Rattle.mm_types.specs.Machine.{MachineOf}
-use Rattle.mm_world.specs.World.{ProcessOf, AreaOf, FileOf, KeptOf, Numbered}
+use Rattle.mm_world.specs.World.{ProcessOf, AreaOf, FileOf, KeptOf, StackOf, Numbered}
 use Rattle.mm_world.specs.Contents.{Tables}
 use Rattle.mm_sections.specs.Directories.{CountedSection, sections_of}
 use Rattle.mm_tables.specs.declared.waiting.Kept.{Kept}
@@ -24,8 +24,8 @@ abbrev pub unless_of : ℕ → Option Kept → Option Kept
 unless_of pid None = None
 unless_of pid (Some k) = if k.pid.0 == pid then None else Some k
 
-abbrev pub tables_with : MachineOf → List (Option (ProcessOf (Unit {0}))) → Numbered CountedSection → List (AreaOf (Unit {0})) → List FileOf → ℕ → ℕ → Numbered KeptOf → Tables
-tables_with machine processes entries areas files blocks_used fails_taken kept =
+abbrev pub tables_with : MachineOf → List (Option (ProcessOf (Unit {0}))) → Numbered CountedSection → List (AreaOf (Unit {0})) → List FileOf → ℕ → ℕ → Numbered KeptOf → Numbered StackOf → Tables
+tables_with machine processes entries areas files blocks_used fails_taken kept stacks =
     record {
       machine = machine;
       processes = processes;
@@ -35,4 +35,5 @@ tables_with machine processes entries areas files blocks_used fails_taken kept =
       blocks_used = blocks_used;
       fails_taken = fails_taken;
       kept = kept;
+      stacks = stacks;
     }

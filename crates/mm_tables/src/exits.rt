@@ -1,4 +1,4 @@
-ghost use Rattle.std.specs.Prelude.{◌≡◌, ◌≤◌, [], ℕ, Bool, true, is_some, map, Some, None, IfSome, option_map, position, slice_get};
+ghost use Rattle.std.specs.Prelude.{◌≡◌, ◌≤◌, ◌==◌, [], ℕ, Bool, true, is_some, map, Some, None, IfSome, option_map, position, slice_get};
 ghost use Rattle.mm_types.specs.declared.moves.LineKind.TheVariants as line_kind;
 ghost use Rattle.mm_types.specs.declared.numbers.Place.{Place};
 ghost use Rattle.mm_pages.specs.Conditions.{AreAmong, place_at};
@@ -6,7 +6,7 @@ ghost use Rattle.mm_pages.specs.Housekeeping.{Turn, Turns, Ends};
 ghost use Rattle.mm_pages.specs.Passing.{PassesIn};
 ghost use Rattle.mm_types.specs.Address.{end_of, end_of_user_pages};
 ghost use Rattle.mm_world.specs.World.{ProcessOf};
-ghost use Rattle.mm_world.specs.Find.{process_of, set_process};
+ghost use Rattle.mm_world.specs.Find.{process_of, set_process, end_stacks};
 ghost use Rattle.mm_world.specs.Processes.{kept_of_others};
 ghost use Rattle.mm_world.specs.Sections.{settle};
 ghost use Rattle.mm_world.specs.WellFormed.{WellFormed};
@@ -132,17 +132,18 @@ impl Tables {
         self.processes[pid.0 as usize - 1] = None;
     }
 
-    /// Ends a living process: its handles are closed in rising order, then its regions unmapped or released from the lowest on.
+    /// Ends a living process: what threads keep of it and its stacks are gone, its handles are closed in rising order, then its regions unmapped or released from the lowest on.
     pub fn end_process<G: Pages>(&mut self, g: &mut G, pid: Pid)
         requires fits { Fits self.old (G.contents g.old) (G.store g.old) }
         requires kind { (G.store g.old).kind ≡ line_kind.Unbind pid }
         requires lives { is_some (process_of self.old pid.0) ≡ true }
-        ensures ended { self.new ≡ settle (set_process (record self.old { kept = map (kept_of_others pid.0) self.old.kept }) pid.0 None) }
+        ensures ended { self.new ≡ settle (set_process (end_stacks (record self.old { kept = map (kept_of_others pid.0) self.old.kept }) (λ s. s.pid == pid.0)) pid.0 None) }
         ensures settled { Settled self.new (G.contents g.old) (G.contents g.new) (G.store g.old) (G.store g.new) }
         ensures passes { (held : Place → Bool) → ((page : ℕ) → held (place_at pid page) ≡ true) → PassesIn G.unpaged (Turns (Ends held 0 end_of_user_pages)) (G.store g.old) (G.store g.new) (G.behind g.old) (G.behind g.new) }
         ensures loans { G.loans g.new ≡ G.loans g.old }
     {
         self.drop_kept(pid);
+        self.end_stacks_in(pid);
         self.close_handles(g, pid);
         self.drop_regions(g, pid);
         self.close_process(g, pid);

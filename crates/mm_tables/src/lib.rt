@@ -16,9 +16,11 @@ mod removals;
 mod sections;
 mod steps;
 mod tables;
+mod thread_stacks;
 mod views;
 mod waiting;
 
 pub use looks::{CommittedRow, HandleSection};
 pub use tables::Tables;
+pub use thread_stacks::ThreadStack;
 pub use waiting::Kept;

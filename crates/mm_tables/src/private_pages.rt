@@ -6,11 +6,11 @@ ghost use Rattle.mm_pages.specs.Housekeeping.{Turn, Turns, Makes, Ends};
 ghost use Rattle.mm_pages.specs.Passing.{PassesIn};
 ghost use Rattle.mm_types.specs.Address.{is_free, end_of_user_pages};
 ghost use Rattle.mm_world.specs.World.{RegionOf, ProcessOf, pages_of};
-ghost use Rattle.mm_world.specs.Find.{Found, process_of, region_around, ranges_of, add_region, set_region, set_regions, is_private};
+ghost use Rattle.mm_world.specs.Find.{Found, process_of, region_around, ranges_of, add_region, set_region, set_regions, end_stacks, is_private};
 ghost use Rattle.mm_world.specs.Alloc.{private_region};
 ghost use Rattle.mm_world.specs.Charge.{charge, limit};
 ghost use Rattle.mm_world.specs.Contents.{blank};
-ghost use Rattle.mm_world.specs.Free.{private_at};
+ghost use Rattle.mm_world.specs.Free.{private_at, is_stack_at};
 ghost use Rattle.mm_world.specs.Rows.{is_protection_among, private_protections, commit, reserved_row, change_rows};
 ghost use Rattle.mm_spaces.specs.Tables.{owned_in};
 ghost use Rattle.mm_tables.specs.Fits.{Fits, Settled, new_pages, is_uncommitted};
@@ -115,8 +115,8 @@ impl Tables {
         self.commit.refund(owned);
     }
 
-    /// Releases the private region of a process that begins at the address and has these pages.
-    pub fn release<G: Pages>(&mut self, g: &mut G, pid: Pid, addr: u32, range: PageRange)
+    /// `release`, before the stack is looked at that may have had the region.
+    fn release_region<G: Pages>(&mut self, g: &mut G, pid: Pid, addr: u32, range: PageRange)
         requires fits { Fits self.old (G.contents g.old) (G.store g.old) }
         requires kind { (G.store g.old).kind ≡ line_kind.Unbind pid }
         requires lives { is_some (process_of self.old pid.0) ≡ true }
@@ -129,5 +129,22 @@ impl Tables {
     {
         let freed = release_pages(&mut self.processes[pid.0 as usize - 1], g, pid, addr, range);
         self.commit.refund(freed);
+    }
+
+    /// Releases the private region of a process that begins at the address and has these pages. Where it was a thread's stack, the thread
+    /// has none any more.
+    pub fn release<G: Pages>(&mut self, g: &mut G, pid: Pid, addr: u32, range: PageRange)
+        requires fits { Fits self.old (G.contents g.old) (G.store g.old) }
+        requires kind { (G.store g.old).kind ≡ line_kind.Unbind pid }
+        requires lives { is_some (process_of self.old pid.0) ≡ true }
+        requires there { (p : ProcessOf (Unit {0})) → process_of self.old pid.0 ≡ Some p → option_map (λ r. pages_of r.thing) (private_at p.regions addr) ≡ Some range }
+        ensures changed { (p : ProcessOf (Unit {0})) (r : Found (RegionOf (Unit {0}))) → process_of self.old pid.0 ≡ Some p → private_at p.regions addr ≡ Some r → self.new ≡ end_stacks (set_regions self.old pid.0 p (remove p.regions r.place)) (is_stack_at pid.0 addr) }
+        ensures settled { Settled self.new (G.contents g.old) (G.contents g.new) (G.store g.old) (G.store g.new) }
+        ensures among { AreAmong (is_uncommitted self.new) 0 end_of_user_pages pid range }
+        ensures passes { (held : Place → Bool) (from to : ℕ) → AreAmong held from to pid range → PassesIn G.unpaged (Turns (Ends held from to)) (G.store g.old) (G.store g.new) (G.behind g.old) (G.behind g.new) }
+        ensures loans { G.loans g.new ≡ G.loans g.old }
+    {
+        self.release_region(g, pid, addr, range);
+        self.end_stack_at(pid, addr);
     }
 }

@@ -5,6 +5,7 @@ ghost use Rattle.mm_world.specs.WellFormed.{WellFormed};
 ghost use Rattle.mm_tables.specs.References.{IsTidy};
 
 use crate::kept_accesses::no_accesses;
+use crate::thread_stacks::Stacks;
 use crate::waiting::Kept;
 use mm_commit::Commit;
 use mm_sections::{Directory, Handles, SectionPages};
@@ -21,7 +22,7 @@ pub(crate) struct Process {
 }
 
 /// What the calls go by: a machine, its processes with their regions and handles, its sections, control areas and files, and the
-/// commit charge, and what each thread keeps. Pages' bytes are not here.
+/// commit charge, and what access and what stack each thread has. Pages' bytes are not here.
 ///
 /// Contracts see it as the tables of a world.
 #[derive(Drop)]
@@ -36,6 +37,8 @@ pub struct Tables {
     pub(crate) commit: Commit,
     // By thread.
     pub(crate) kept: [Option<Kept>; THREADS],
+    // Of each thread.
+    pub(crate) stacks: Stacks,
 }
 
 impl Model for Tables {
@@ -45,9 +48,9 @@ impl Model for Tables {
 
     ghost Value = { Tables };
 
-    ghost view = { λ t. tables_with t.machine (shown_processes t.processes.items) t.directory.entries t.areas.items t.directory.files t.blocks_used t.fails_taken (shown_accesses t.kept) };
+    ghost view = { λ t. tables_with t.machine (shown_processes t.processes.items) t.directory.entries t.areas.items t.directory.files t.blocks_used t.fails_taken (shown_accesses t.kept) t.stacks };
 
-    ghost invariant = { λ t. IsKept (tables_with t.machine (shown_processes t.processes.items) t.directory.entries t.areas.items t.directory.files t.blocks_used t.fails_taken (shown_accesses t.kept)) t.directory.entries t.commit };
+    ghost invariant = { λ t. IsKept (tables_with t.machine (shown_processes t.processes.items) t.directory.entries t.areas.items t.directory.files t.blocks_used t.fails_taken (shown_accesses t.kept) t.stacks) t.directory.entries t.commit };
 }
 
 impl Tables {
@@ -64,6 +67,7 @@ impl Tables {
             fails_taken: 0,
             commit: Commit::new(machine.limit()),
             kept: no_accesses(),
+            stacks: Stacks::new(),
         }
     }
 

@@ -11,7 +11,8 @@ use mm_pages::Pages;
 use mm_tables::Tables;
 use mm_types::{Answer, Code, Pid};
 
-/// `exit` (ExitProcess): the process's handles are closed, its views unmapped, its private regions released.
+/// `exit` (ExitProcess): the process's handles are closed, its views unmapped, its private regions released, and with
+/// them the stacks of threads in it; what threads keep of it is dropped.
 ///
 /// `InvalidHandle` for a process that does not live.
 #[tactic(auto, using(mm_pages::proofs::Passed::turns_same))]

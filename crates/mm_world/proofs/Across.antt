@@ -21,7 +21,7 @@ use Rattle.mm_world.specs.Free.{free}
 use Rattle.mm_world.specs.Protect.{protect}
 use Rattle.mm_world.specs.Sections.{create, create_file, open_section, close}
 use Rattle.mm_world.specs.Query.{query}
-use Rattle.mm_world.specs.Stack.{StackOf, stack}
+use Rattle.mm_world.specs.Stack.{stack}
 use Rattle.mm_world.specs.Views.{map_view, unmap, flush}
 use Rattle.mm_world.specs.Processes.{new_process, exit, take_fail, grow}
 use Rattle.mm_world.specs.Contents.{map_row, map_region, map_process, map_world, Tables, no_bytes, tables_of, tables_outcome, bytes_in, blank, row_with, rows_with, region_with_bytes, process_with, processes_with, pages_with, areas_with, world_with, AcrossBytes}
@@ -289,7 +289,7 @@ module _ (t : Tables) (c : Key → Page) (fits : Spaces t) where
       across_by t c (take_fail t) (take_fail (world_with t c)) fits (ap (λ t. take_fail t) (sym (tables_back c t)) ∙ (sections.in_take_fail no_bytes (world_with t c)).same)
       (kept.in_take_fail (filled 0) (world_with t c)) (spaces.in_take_fail (world_with t c))
 
-  pub stack_across : (stacks : Numbered StackOf) (tid pid reserve commit : ℕ) → AcrossBytes t c (stack blank t stacks tid pid reserve commit) (stack filled (world_with t c) stacks tid pid reserve commit)
-  stack_across stacks tid pid reserve commit =
-      across_by t c (stack blank t stacks tid pid reserve commit) (stack filled (world_with t c) stacks tid pid reserve commit) fits (ap (λ t. stack blank t stacks tid pid reserve commit) (sym (tables_back c t)) ∙ (sections.in_stack no_bytes filled (world_with t c) stacks tid pid reserve commit).same)
-      (kept.in_stack filled (world_with t c) stacks tid pid reserve commit) (lines.in_stack (world_with t c) stacks tid pid reserve commit)
+  pub stack_across : (tid pid reserve commit : ℕ) → AcrossBytes t c (stack blank t tid pid reserve commit) (stack filled (world_with t c) tid pid reserve commit)
+  stack_across tid pid reserve commit =
+      across_by t c (stack blank t tid pid reserve commit) (stack filled (world_with t c) tid pid reserve commit) fits (ap (λ t. stack blank t tid pid reserve commit) (sym (tables_back c t)) ∙ (sections.in_stack no_bytes filled (world_with t c) tid pid reserve commit).same)
+      (kept.in_stack filled (world_with t c) tid pid reserve commit) (lines.in_stack (world_with t c) tid pid reserve commit)

@@ -10,7 +10,7 @@ use Rattle.mm_types.specs.declared.views.Kind.TheVariants as kind
 use Rattle.mm_types.specs.Address.{Range}
 use Rattle.mm_types.specs.Machine.{reserve_of, limit_of}
 use Rattle.mm_types.specs.Spelling.{Text}
-use Rattle.mm_world.specs.World.{WorldOf, ProcessOf, RegionOf, Numbered}
+use Rattle.mm_world.specs.World.{WorldOf, ProcessOf, RegionOf}
 use Rattle.mm_world.specs.Find.{Found, process_of}
 use Rattle.mm_world.specs.Charge.{charge, limit}
 use Rattle.mm_world.specs.Outcome.{OutcomeOf, done, refused, need, find_or, within_limit}
@@ -18,7 +18,7 @@ use Rattle.mm_world.specs.Alloc.{alloc, commit_in}
 use Rattle.mm_world.specs.Protect.{protect}
 use Rattle.mm_world.specs.Sections.{create, handle_or, with_handle}
 use Rattle.mm_world.specs.Views.{map_view}
-use Rattle.mm_world.specs.Stack.{StackOf, stack, made}
+use Rattle.mm_world.specs.Stack.{stack, made}
 use Rattle.mm_world.specs.Laws.{LimitDecides, is_success, is_limit_code, is_limit_refusal, more_slots}
 use Rattle.mm_world.proofs.Charges.{charge-same_regions}
 
@@ -130,8 +130,8 @@ module _ {B : Type 0} where
   pub in_create : (fill : ℕ → B) (w : WorldOf B) (pid size flags : ℕ) (name : Option Text) → LimitDecides w (create fill w pid size flags name) (λ n. create fill (more_slots w n) pid size flags name)
   in_create fill w pid size flags name = search (deciding, in_handle_or) depth 14
 
-  in_made : (fill : ℕ → B) (w : WorldOf B) (pid : ℕ) (p : ProcessOf B) (r c : ℕ) → LimitDecides w (made fill w pid p r c) (λ n. made fill (more_slots w n) pid p r c)
-  in_made fill w pid p r c = search deciding depth 12
+  in_made : (fill : ℕ → B) (w : WorldOf B) (tid pid : ℕ) (p : ProcessOf B) (r c : ℕ) → LimitDecides w (made fill w tid pid p r c) (λ n. made fill (more_slots w n) tid pid p r c)
+  in_made fill w tid pid p r c = search deciding depth 12
 
-  pub in_stack : (fill : ℕ → B) (w : WorldOf B) (stacks : Numbered StackOf) (tid pid reserve commit : ℕ) → LimitDecides w (stack fill w stacks tid pid reserve commit) (λ n. stack fill (more_slots w n) stacks tid pid reserve commit)
-  in_stack fill w stacks tid pid reserve commit = search (deciding, in_made) depth 14
+  pub in_stack : (fill : ℕ → B) (w : WorldOf B) (tid pid reserve commit : ℕ) → LimitDecides w (stack fill w tid pid reserve commit) (λ n. stack fill (more_slots w n) tid pid reserve commit)
+  in_stack fill w tid pid reserve commit = search (deciding, in_made) depth 14

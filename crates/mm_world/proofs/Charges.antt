@@ -12,8 +12,8 @@ use Rattle.mm_types.specs.declared.views.Kind.{Kind}
 use Rattle.mm_types.specs.declared.views.Kind.TheVariants as kind
 use Rattle.mm_types.specs.Address.{Range}
 use Rattle.mm_types.specs.Spelling.{Text}
-use Rattle.mm_world.specs.World.{WorldOf, ProcessOf, RegionOf, RowOf, AreaOf, SectionOf, FileOf, Numbered}
-use Rattle.mm_world.specs.Find.{Found, first_where, change_range, process_of, set_process, set_regions, set_region, no_area}
+use Rattle.mm_world.specs.World.{StackOf, WorldOf, ProcessOf, RegionOf, RowOf, AreaOf, SectionOf, FileOf, Numbered}
+use Rattle.mm_world.specs.Find.{end_stacks, Found, first_where, change_range, process_of, set_process, set_regions, set_region, no_area}
 use Rattle.mm_world.specs.Charge.{charge, limit, is_charged, region_charge, process_charge, area_charge}
 use Rattle.mm_world.specs.Outcome.{OutcomeOf, done, refused, with_process}
 use Rattle.mm_world.specs.Rows.{reserved_row, change_rows}
@@ -150,8 +150,8 @@ module _ {B : Type 0} where
       (omega (arith, charge-set_region w pid p r.place r.thing (change_rows cleared range r.thing) lives (found_stands test p.regions r found).there, decommit_less r.thing range))
       (omega arith)
 
-  by_release : (w : WorldOf B) (pid : ℕ) (p : ProcessOf B) (r : Found (RegionOf B)) (a : Answer) (test : RegionOf B → Bool) → process_of w pid ≡ Some p → first_where test p.regions ≡ Some r → Holds (NoRise w) (done a (set_regions w pid p (remove p.regions r.place)))
-  by_release w pid p r a test lives found =
+  by_release : (w : WorldOf B) (pid : ℕ) (p : ProcessOf B) (r : Found (RegionOf B)) (ends : StackOf → Bool) (a : Answer) (test : RegionOf B → Bool) → process_of w pid ≡ Some p → first_where test p.regions ≡ Some r → Holds (NoRise w) (done a (end_stacks (set_regions w pid p (remove p.regions r.place)) ends))
+  by_release w pid p r ends a test lives found =
       no_rise w _ a (omega (arith, charge-remove_region w pid p r.place r.thing lives (found_stands test p.regions r found).there)) (omega arith)
 
   ruleset rising = (tables, by_refusal, by_same)

@@ -12,9 +12,10 @@ use Rattle.mm_types.specs.declared.views.Kind.{Kind}
 use Rattle.mm_types.specs.declared.views.Kind.TheVariants as kind
 use Rattle.mm_types.specs.Address.{Range}
 use Rattle.mm_types.specs.Spelling.{Text}
-use Rattle.mm_world.specs.World.{World, ProcessOf, RegionOf, KeptOf, Page, filled}
-use Rattle.mm_world.specs.Find.{Found}
-use Rattle.mm_world.specs.Keys.{Committed}
+use Rattle.mm_world.specs.World.{StackOf, World, ProcessOf, RegionOf, KeptOf, Page, filled}
+use Rattle.mm_world.specs.Find.{Found, process_of, stack_by}
+use Rattle.mm_world.specs.Keys.{Committed, committed_at}
+use Rattle.mm_world.specs.Stack.{stack, probe_at, probe_in, probe_of}
 use Rattle.mm_world.specs.Outcome.{OutcomeOf, done, refused}
 use Rattle.mm_world.specs.Alloc.{alloc, commit_in}
 use Rattle.mm_world.specs.Free.{free}
@@ -27,8 +28,8 @@ use Rattle.mm_world.specs.Access.{Attempt, ReadOf, WriteOf, Execute, access, acc
 use Rattle.mm_world.specs.Report.{Report, failed_calls}
 use Rattle.mm_world.specs.Failure.{Need, access_fails, wait_failed, pending}
 use Rattle.mm_world.specs.Step.{unpaged, told, step, stepped, world_after, world_told, is_told, is_ok, begin, resume, store_line, kept_by, failing, waiting, when, resume_told, need_at, is_failed_extension}
-use Rattle.mm_world.specs.System.{System, beside, plain_line, outcome, system_with, system_step, system_after}
 use Rattle.mm_world.specs.Laws.{is_alarm, is_limit_refusal}
+use Rattle.mm_world.specs.System.{System, beside, plain_line, outcome, system_with, system_step, system_after}
 use Rattle.mm_world.proofs.Tables.{Holds, tables}
 
 abbrev Plain : OutcomeOf Page → Type 0
@@ -120,6 +121,21 @@ in_resume : (w : World) (tid : ℕ) (kept : Option KeptOf) → Holds Plain (resu
 in_resume w tid None = record { it = refl }
 in_resume w tid (Some k) = record { it = (in_access w k.pid (address_in k.access) (attempt_in k.access)).it }
 
+in_stack : (w : World) (tid pid reserve commit : ℕ) → Holds Plain (stack filled w tid pid reserve commit)
+in_stack w tid pid reserve commit = search plain depth 16
+
+in_probe_at : (w : World) (tid : ℕ) (p : ProcessOf Page) (s : StackOf) (page : ℕ) (c : Option (Committed Page)) → Holds Plain (probe_at filled w tid p s page c)
+in_probe_at w tid p s page None = record { it = refl }
+in_probe_at w tid p s page (Some c) = search plain depth 14
+
+in_probe_in : (w : World) (tid : ℕ) (s : StackOf) (page : ℕ) (p : Option (ProcessOf Page)) → Holds Plain (probe_in filled w tid s page p)
+in_probe_in w tid s page None = record { it = refl }
+in_probe_in w tid s page (Some p) = in_probe_at w tid p s page (committed_at w p.regions page)
+
+in_probe_of : (w : World) (tid page : ℕ) (s : Option StackOf) → Holds Plain (probe_of filled w tid page s)
+in_probe_of w tid page None = record { it = refl }
+in_probe_of w tid page (Some s) = in_probe_in w tid s page (process_of w s.pid)
+
 pub in_unpaged : (w : World) (e : Event) → Holds Plain (unpaged w e)
 in_unpaged w (line.Machine m) = record { it = refl }
 in_unpaged w (line.Process min max) = in_new_process w
@@ -152,8 +168,8 @@ in_unpaged w line.Counts = record { it = refl }
 in_unpaged w (line.Grow n) = in_grow w n
 in_unpaged w (line.Watch pid unwrites addr size count) = record { it = refl }
 in_unpaged w (line.ResetWatch pid addr size) = record { it = refl }
-in_unpaged w (line.Stack tid pid reserve commit) = record { it = refl }
-in_unpaged w (line.Probe tid addr) = record { it = refl }
+in_unpaged w (line.Stack tid pid reserve commit) = in_stack w tid.0 pid.0 reserve commit
+in_unpaged w (line.Probe tid addr) = in_probe_of w tid.0 _ (stack_by w tid.0)
 
 -- ---- what the store told
 

@@ -14,8 +14,8 @@ use Rattle.mm_types.specs.declared.views.Kind.TheVariants as kind
 use Rattle.mm_types.specs.declared.views.ViewAccess.{ViewAccess}
 use Rattle.mm_types.specs.Address.{Range, meets, granule_range_of, pages_for, page_of, is_granule_address, lowest_gap, first_user_page}
 use Rattle.mm_types.specs.Spelling.{Text}
-use Rattle.mm_world.specs.World.{WorldOf, ProcessOf, RegionOf, RowOf, AreaOf, SectionOf, Numbered, numbered, pages_of}
-use Rattle.mm_world.specs.Find.{Found, first_where, process_of, set_process, set_regions, set_region, set_area, area_at, add_region, ranges_of, placed, shared_page}
+use Rattle.mm_world.specs.World.{StackOf, WorldOf, ProcessOf, RegionOf, RowOf, AreaOf, SectionOf, Numbered, numbered, pages_of}
+use Rattle.mm_world.specs.Find.{end_stacks, set_stack, Found, first_where, process_of, set_process, set_regions, set_region, set_area, area_at, add_region, ranges_of, placed, shared_page}
 use Rattle.mm_world.specs.Outcome.{OutcomeOf, done, refused}
 use Rattle.mm_world.specs.Rows.{row_at, reserved_row, commit, protected, change_rows}
 use Rattle.mm_types.specs.Allocation.{reserve_type}
@@ -26,7 +26,7 @@ use Rattle.mm_world.specs.Query.{query}
 use Rattle.mm_world.specs.Sections.{create, create_file, open_section, close, handle_or, new_section, settle, settled_sections, paging_area, is_reserve}
 use Rattle.mm_world.specs.Views.{map_view, unmap, flush, view_region, first_protection, is_copy}
 use Rattle.mm_world.specs.Processes.{new_process, exit, take_fail, grow, no_regions}
-use Rattle.mm_world.specs.Stack.{StackOf, stack, made, stack_region}
+use Rattle.mm_world.specs.Stack.{stack, made, stack_region}
 use Rattle.mm_world.specs.Keys.{content_of, own_page}
 use Rattle.mm_world.specs.WellFormed.{Spaces}
 use Rattle.mm_world.proofs.Tables.{Holds, tables}
@@ -114,6 +114,13 @@ module _ {B : Type 0} (fresh : B) where
       by_put w pid p (Some (record p { regions = remove p.regions i })) a lives (λ h page.
       record { kept = λ x e. (kept_same fresh (own_page p.regions page)).kept x (own_removed first_user_page page i p.regions x (h pid p lives).laid_out e) })
 
+  -- stacks stand beside the pages
+  pub by_beside : (w v : WorldOf B) (stacks : Numbered StackOf) (a : Answer) → Holds (KeepsPages w) (done a v) → Holds (KeepsPages w) (done a (record v { stacks = stacks }))
+  by_beside w v stacks a h = record { it = record { kept = λ spaces. let k = h.it.kept spaces in record { own = k.own; shared = k.shared } } }
+
+  by_release : (w : WorldOf B) (pid : ℕ) (p : ProcessOf B) (i : ℕ) (ends : StackOf → Bool) (a : Answer) → process_of w pid ≡ Some p → Holds (KeepsPages w) (done a (end_stacks (set_regions w pid p (remove p.regions i)) ends))
+  by_release w pid p i ends a lives = by_beside w (set_regions w pid p (remove p.regions i)) _ a (by_removed w pid p i a lives)
+
   by_handles : (w : WorldOf B) (pid : ℕ) (p : ProcessOf B) (handles : Numbered ℕ) (a : Answer) → process_of w pid ≡ Some p → Holds (KeepsPages w) (done a (set_process w pid (Some (record p { handles = handles }))))
   by_handles w pid p handles a lives = by_put w pid p (Some (record p { handles = handles })) a lives (λ h page. kept_same fresh (own_page p.regions page))
 
@@ -189,7 +196,7 @@ module _ {B : Type 0} (fill : ℕ → B) where
 
 module _ {B : Type 0} (fresh : B) where
   pub in_free : (w : WorldOf B) (pid addr size type : ℕ) → Holds (KeepsPages fresh w) (free w pid addr size type)
-  in_free w pid addr size type = search (tables, by_refusal, by_removed, by_cleared) depth 14
+  in_free w pid addr size type = search (tables, by_refusal, by_release, by_cleared) depth 14
 
   pub in_protect : (w : WorldOf B) (pid addr size prot : ℕ) → Holds (KeepsPages fresh w) (protect w pid addr size prot)
   in_protect w pid addr size prot = search (tables, by_refusal, by_protected) depth 16
@@ -314,16 +321,16 @@ module _ {B : Type 0} (fill : ℕ → B) where
       below (suc n) zero e = let same : reserved_row ≡ row = cc in let is : None ≡ Some x = ap (λ (row : RowOf B). row.own) same ∙ own in cc
       below (suc n) (suc k) e = below n k e
 
-  by_stack : (w : WorldOf B) (pid : ℕ) (p : ProcessOf B) (r c base : ℕ) (a : Answer) → process_of w pid ≡ Some p → nat_le (c + 2) r ≡ true → lowest_gap (ranges_of p.regions) r ≡ Some base → Holds (KeepsPages (fill 0) w) (done a (set_regions w pid p (add_region (stack_region fill base r c) p.regions)))
-  by_stack w pid p r c base a lives fits found =
+  by_stack : (w : WorldOf B) (tid pid : ℕ) (p : ProcessOf B) (s : StackOf) (r c base : ℕ) (a : Answer) → process_of w pid ≡ Some p → nat_le (c + 2) r ≡ true → lowest_gap (ranges_of p.regions) r ≡ Some base → Holds (KeepsPages (fill 0) w) (done a (set_stack (set_regions w pid p (add_region (stack_region fill base r c) p.regions)) tid s))
+  by_stack w tid pid p s r c base a lives fits found =
       let range : Range = record { first = base; count = r } in
       let at = placed_is (ranges_of p.regions) 0 (record { first = 0; count = r }) r range refl (ap (λ g. option_map (λ first. let range : Range = record { first = first; count = r } in range) g) found) in
-      by_added (fill 0) w pid p (stack_region fill base r c) range a lives at.placed
+      by_beside (fill 0) w (set_regions w pid p (add_region (stack_region fill base r c) p.regions)) _ a (by_added (fill 0) w pid p (stack_region fill base r c) range a lives at.placed
       (λ i. record { first = base; count = stack_length fill base r c (leb-true (c + 2) r fits) i })
-      (λ page x row at_row own. stack_row r c (page - base) row x at_row own)
+      (λ page x row at_row own. stack_row r c (page - base) row x at_row own))
 
-  in_made : (w : WorldOf B) (pid : ℕ) (p : ProcessOf B) (r c : ℕ) → process_of w pid ≡ Some p → Holds (KeepsPages (fill 0) w) (made fill w pid p r c)
-  in_made w pid p r c lives = search (tables, by_refusal, by_stack) depth 12
+  in_made : (w : WorldOf B) (tid pid : ℕ) (p : ProcessOf B) (r c : ℕ) → process_of w pid ≡ Some p → Holds (KeepsPages (fill 0) w) (made fill w tid pid p r c)
+  in_made w tid pid p r c lives = search (tables, by_refusal, by_stack) depth 12
 
-  pub in_stack : (w : WorldOf B) (stacks : Numbered StackOf) (tid pid reserve commit : ℕ) → Holds (KeepsPages (fill 0) w) (stack fill w stacks tid pid reserve commit)
-  in_stack w stacks tid pid reserve commit = search (tables, by_refusal, by_same, in_made) depth 12
+  pub in_stack : (w : WorldOf B) (tid pid reserve commit : ℕ) → Holds (KeepsPages (fill 0) w) (stack fill w tid pid reserve commit)
+  in_stack w tid pid reserve commit = search (tables, by_refusal, by_same, in_made) depth 12

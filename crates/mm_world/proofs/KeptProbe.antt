@@ -7,12 +7,12 @@ use Rattle.mm_types.specs.declared.answers.Answer.{Answer}
 use Rattle.mm_types.specs.declared.answers.Answer.TheVariants as answer
 use Rattle.mm_types.specs.declared.numbers.Key.{Key}
 use Rattle.mm_types.specs.Address.{address_of, page_of, holds_page}
-use Rattle.mm_world.specs.World.{Page, World, WorldOf, ProcessOf, RegionOf, RowOf, Numbered, numbered, filled, pages_of}
-use Rattle.mm_world.specs.Find.{process_of, set_process, shared_page}
+use Rattle.mm_world.specs.World.{StackOf, Page, World, WorldOf, ProcessOf, RegionOf, RowOf, filled, pages_of}
+use Rattle.mm_world.specs.Find.{stack_by, process_of, set_process, shared_page}
 use Rattle.mm_world.specs.Keys.{Committed, committed_at, guard_off, own_page}
 use Rattle.mm_world.specs.Outcome.{done}
 use Rattle.mm_types.specs.Allocation.{commit_type}
-use Rattle.mm_world.specs.Stack.{StackOf, probe, probe_at, probe_in, probe_of, grown}
+use Rattle.mm_world.specs.Stack.{probe, probe_at, probe_in, probe_of, grown}
 use Rattle.mm_world.specs.Contents.{Tables, no_bytes, blank, world_with, AcrossBytes}
 use Rattle.mm_world.specs.WellFormed.{Spaces}
 use Rattle.mm_world.proofs.Tables.{Holds, tables}
@@ -79,8 +79,8 @@ module _ {B : Type 0} where
         };
       }
 
-in_grown : (w : World) (s : StackOf) (p : ProcessOf Page) (c : Committed Page) (page : ℕ) → process_of w s.pid ≡ Some p → committed_at w p.regions page ≡ Some c → Holds (KeepsPages (filled 0) w) (grown filled w s (guard_off w s.pid p c page))
-in_grown w s p c page lives committed =
+in_grown : (w : World) (tid : ℕ) (s : StackOf) (p : ProcessOf Page) (c : Committed Page) (page : ℕ) → process_of w s.pid ≡ Some p → committed_at w p.regions page ≡ Some c → Holds (KeepsPages (filled 0) w) (grown filled (guard_off w s.pid p c page) tid s)
+in_grown w tid s p c page lives committed =
     let v = guard_off w s.pid p c page in
     let h = kept.in_alloc filled v s.pid (address_of (s.guard_page - 1)) 1 commit_type 0x104 in
     let before = lines.by_guard w s.pid p c page answer.Ok lives committed in
@@ -89,26 +89,26 @@ in_grown w s p c page lives committed =
         kept = λ spaces.
             let k = h.it.kept (before.it.kept spaces) in
             record {
-              own = λ j at. subst (λ o. Kept (filled 0) o (own_of (process_of (grown filled w s v).world j) at)) (guard_same w s.pid p c page lives committed j at) (k.own j at);
+              own = λ j at. subst (λ o. Kept (filled 0) o (own_of (process_of (grown filled v tid s).world j) at)) (guard_same w s.pid p c page lives committed j at) (k.own j at);
               shared = k.shared;
             };
       };
     }
 
-in_probe_at : (w : World) (p : ProcessOf Page) (s : StackOf) (page : ℕ) (c : Option (Committed Page)) → process_of w s.pid ≡ Some p → committed_at w p.regions page ≡ c → Holds (KeepsPages (filled 0) w) (probe_at filled w p s page c)
-in_probe_at w p s page None lives committed = by_same (filled 0) w _
-in_probe_at w p s page (Some c) lives committed = search (tables, by_same, by_guard, in_grown) depth 14
+in_probe_at : (w : World) (tid : ℕ) (p : ProcessOf Page) (s : StackOf) (page : ℕ) (c : Option (Committed Page)) → process_of w s.pid ≡ Some p → committed_at w p.regions page ≡ c → Holds (KeepsPages (filled 0) w) (probe_at filled w tid p s page c)
+in_probe_at w tid p s page None lives committed = by_same (filled 0) w _
+in_probe_at w tid p s page (Some c) lives committed = search (tables, by_same, by_guard, in_grown) depth 14
 
-in_probe_in : (w : World) (s : StackOf) (page : ℕ) (p : Option (ProcessOf Page)) → process_of w s.pid ≡ p → Holds (KeepsPages (filled 0) w) (probe_in filled w s page p)
-in_probe_in w s page None lives = by_same (filled 0) w _
-in_probe_in w s page (Some p) lives = in_probe_at w p s page (committed_at w p.regions page) lives refl
+in_probe_in : (w : World) (tid : ℕ) (s : StackOf) (page : ℕ) (p : Option (ProcessOf Page)) → process_of w s.pid ≡ p → Holds (KeepsPages (filled 0) w) (probe_in filled w tid s page p)
+in_probe_in w tid s page None lives = by_same (filled 0) w _
+in_probe_in w tid s page (Some p) lives = in_probe_at w tid p s page (committed_at w p.regions page) lives refl
 
-in_probe_of : (w : World) (page : ℕ) (s : Option StackOf) → Holds (KeepsPages (filled 0) w) (probe_of filled w page s)
-in_probe_of w page None = by_same (filled 0) w _
-in_probe_of w page (Some s) = in_probe_in w s page (process_of w s.pid) refl
+in_probe_of : (w : World) (tid page : ℕ) (s : Option StackOf) → Holds (KeepsPages (filled 0) w) (probe_of filled w tid page s)
+in_probe_of w tid page None = by_same (filled 0) w _
+in_probe_of w tid page (Some s) = in_probe_in w tid s page (process_of w s.pid) refl
 
-pub probe_across : (t : Tables) (c : Key → Page) → Spaces t → (stacks : Numbered StackOf) (tid addr : ℕ) → AcrossBytes t c (probe blank t stacks tid addr) (probe filled (world_with t c) stacks tid addr)
-probe_across t c fits stacks tid addr =
-    across_by t c (probe blank t stacks tid addr) (probe filled (world_with t c) stacks tid addr) fits
-    (ap (λ t. probe blank t stacks tid addr) (sym (tables_back c t)) ∙ (sections.in_probe no_bytes filled (world_with t c) stacks tid addr).same)
-    (in_probe_of (world_with t c) (page_of addr) (numbered stacks tid)) (lines.in_probe (world_with t c) stacks tid addr)
+pub probe_across : (t : Tables) (c : Key → Page) → Spaces t → (tid addr : ℕ) → AcrossBytes t c (probe blank t tid addr) (probe filled (world_with t c) tid addr)
+probe_across t c fits tid addr =
+    across_by t c (probe blank t tid addr) (probe filled (world_with t c) tid addr) fits
+    (ap (λ t. probe blank t tid addr) (sym (tables_back c t)) ∙ (sections.in_probe no_bytes filled (world_with t c) tid addr).same)
+    (in_probe_of (world_with t c) tid (page_of addr) (stack_by (world_with t c) tid)) (lines.in_probe (world_with t c) tid addr)

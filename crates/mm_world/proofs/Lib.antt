@@ -14,6 +14,7 @@ pub mod RowsFit
 pub mod Spaces
 pub mod WellFormed
 pub mod Numbers
+pub mod References
 pub mod Keeps
 pub mod Disjoint
 pub mod Natural
@@ -24,7 +25,6 @@ pub mod Reconstruct
 pub mod Across
 pub mod AcrossFile
 pub mod KeptProbe
-pub mod References
 pub mod Ranges
 pub mod Outcomes
 pub mod KindsAndKeys

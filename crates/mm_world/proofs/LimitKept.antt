@@ -7,8 +7,8 @@ use Rattle.mm_types.specs.declared.events.Event.{Event}
 use Rattle.mm_types.specs.declared.events.Event.TheVariants as line
 use Rattle.mm_types.specs.Address.{address_of}
 use Rattle.mm_types.specs.Machine.{MachineOf}
-use Rattle.mm_world.specs.World.{World, ProcessOf, KeptOf, Page, Numbered, numbered, filled}
-use Rattle.mm_world.specs.Find.{process_of}
+use Rattle.mm_world.specs.World.{StackOf, World, ProcessOf, KeptOf, Page, filled}
+use Rattle.mm_world.specs.Find.{process_of, stack_by}
 use Rattle.mm_world.specs.Charge.{charge, limit}
 use Rattle.mm_world.specs.Keys.{Committed, committed_at, guard_off}
 use Rattle.mm_world.specs.Outcome.{done}
@@ -16,10 +16,10 @@ use Rattle.mm_types.specs.Allocation.{commit_type}
 use Rattle.mm_world.specs.Access.{Attempt, ReadOf, WriteOf, Execute, access, address_in, attempt_in}
 use Rattle.mm_world.specs.Report.{Report}
 use Rattle.mm_world.specs.Step.{unpaged, told, step, stepped, world_told, begin, resume, kept_by, keep}
-use Rattle.mm_world.specs.Stack.{StackOf, stack, probe_at, probe_in, probe_of, grown, made}
+use Rattle.mm_world.specs.Stack.{stack, probe_at, probe_in, probe_of, grown, made}
+use Rattle.mm_world.specs.Laws.{KeepsLimit, Reached, First, Next}
 use Rattle.mm_world.specs.Watch.{WatchOf, watch, reset_watch}
 use Rattle.mm_world.specs.System.{System, plain_line, outcome}
-use Rattle.mm_world.specs.Laws.{KeepsLimit, Reached, First, Next}
 use Rattle.mm_world.proofs.Tables.{Holds, tables}
 use Rattle.mm_world.proofs.Charges.{from_no_rise, keeping, kept_same, in_free, in_query, in_create_file, in_open, in_close, in_unmap, in_flush, in_exit, in_new_process, in_take_fail, in_grow, in_new_file, in_store_line, keeps_alloc, keeps_protect, keeps_map, keeps_create}
 use Rattle.mm_world.proofs.AccessCharge.{in_access, charge-guard_off}
@@ -35,6 +35,35 @@ in_begin w tid pid what = search (keeping, kept_same, in_plain_access) depth 12
 in_resume : (w : World) (tid : ℕ) (kept : Option KeptOf) → Holds (KeepsLimit w) (resume w tid kept)
 in_resume w tid None = kept_same w _
 in_resume w tid (Some k) = record { it = record { kept = (in_plain_access w k.pid (address_in k.access) (attempt_in k.access)).it.kept } }
+
+-- ---- stacks
+
+in_made : (w : World) (tid pid : ℕ) (p : ProcessOf Page) (r c : ℕ) → Holds (KeepsLimit w) (made filled w tid pid p r c)
+in_made w tid pid p r c = search keeping depth 12
+
+in_stack : (w : World) (tid pid reserve commit : ℕ) → Holds (KeepsLimit w) (stack filled w tid pid reserve commit)
+in_stack w tid pid reserve commit = search (keeping, kept_same, in_made) depth 12
+
+by_guard : (w : World) (pid : ℕ) (p : ProcessOf Page) (c : Committed Page) (page : ℕ) (a : Answer) → process_of w pid ≡ Some p → committed_at w p.regions page ≡ Some c → Holds (KeepsLimit w) (done a (guard_off w pid p c page))
+by_guard w pid p c page a lives committed = record { it = record { kept = λ within. omega (arith, charge-guard_off w pid p c page lives committed) } }
+
+in_grown : (w : World) (tid : ℕ) (s : StackOf) (p : ProcessOf Page) (c : Committed Page) (page : ℕ) → process_of w s.pid ≡ Some p → committed_at w p.regions page ≡ Some c → Holds (KeepsLimit w) (grown filled (guard_off w s.pid p c page) tid s)
+in_grown w tid s p c page lives committed =
+    let v = guard_off w s.pid p c page in
+    let h = keeps_alloc filled v s.pid (address_of (s.guard_page - 1)) 1 commit_type 0x104 in
+    record { it = record { kept = λ within. h.it.kept (omega (arith, charge-guard_off w s.pid p c page lives committed)) } }
+
+in_probe_at : (w : World) (tid : ℕ) (p : ProcessOf Page) (s : StackOf) (page : ℕ) (c : Option (Committed Page)) → process_of w s.pid ≡ Some p → committed_at w p.regions page ≡ c → Holds (KeepsLimit w) (probe_at filled w tid p s page c)
+in_probe_at w tid p s page None lives committed = kept_same w _
+in_probe_at w tid p s page (Some c) lives committed = search (tables, kept_same, by_guard, in_grown) depth 14
+
+in_probe_in : (w : World) (tid : ℕ) (s : StackOf) (page : ℕ) (p : Option (ProcessOf Page)) → process_of w s.pid ≡ p → Holds (KeepsLimit w) (probe_in filled w tid s page p)
+in_probe_in w tid s page None lives = kept_same w _
+in_probe_in w tid s page (Some p) lives = in_probe_at w tid p s page (committed_at w p.regions page) lives refl
+
+in_probe_of : (w : World) (tid page : ℕ) (s : Option StackOf) → Holds (KeepsLimit w) (probe_of filled w tid page s)
+in_probe_of w tid page None = kept_same w _
+in_probe_of w tid page (Some s) = in_probe_in w tid s page (process_of w s.pid) refl
 
 in_unpaged : (w : World) (e : Event) → Holds (KeepsLimit w) (unpaged w e)
 in_unpaged w (line.Machine m) = kept_same w _
@@ -68,8 +97,8 @@ in_unpaged w line.Counts = kept_same w _
 in_unpaged w (line.Grow n) = from_no_rise w _ (in_grow w n)
 in_unpaged w (line.Watch pid unwrites addr size count) = kept_same w _
 in_unpaged w (line.ResetWatch pid addr size) = kept_same w _
-in_unpaged w (line.Stack tid pid reserve commit) = kept_same w _
-in_unpaged w (line.Probe tid addr) = kept_same w _
+in_unpaged w (line.Stack tid pid reserve commit) = in_stack w tid.0 pid.0 reserve commit
+in_unpaged w (line.Probe tid addr) = in_probe_of w tid.0 _ (stack_by w tid.0)
 
 by_keep : (w : World) (tid : ℕ) (kept : Option KeptOf) (a : Answer) → Holds (KeepsLimit w) (done a (keep w tid kept))
 by_keep w tid kept a = record { it = record { kept = λ within. within } }
@@ -86,7 +115,7 @@ in_stepped w e (Some a) = in_told w e a
 pub in_step : (w : World) (e : Event) (before after : Report) → Holds (KeepsLimit w) (step w e before after)
 in_step w e before after = in_stepped w e (told w e before after)
 
--- ---- what stands beside the world
+-- ---- watched regions beside the world
 
 in_watch : (w : World) (watches : List WatchOf) (pid addr size count : ℕ) → Holds (KeepsLimit w) (watch w watches pid addr size count)
 in_watch w watches pid addr size count = search (keeping, kept_same) depth 12
@@ -94,38 +123,9 @@ in_watch w watches pid addr size count = search (keeping, kept_same) depth 12
 in_reset_watch : (w : World) (watches : List WatchOf) (pid addr size : ℕ) → Holds (KeepsLimit w) (reset_watch w watches pid addr size)
 in_reset_watch w watches pid addr size = search (keeping, kept_same) depth 12
 
-in_made : (w : World) (pid : ℕ) (p : ProcessOf Page) (r c : ℕ) → Holds (KeepsLimit w) (made filled w pid p r c)
-in_made w pid p r c = search keeping depth 12
-
-in_stack : (w : World) (stacks : Numbered StackOf) (tid pid reserve commit : ℕ) → Holds (KeepsLimit w) (stack filled w stacks tid pid reserve commit)
-in_stack w stacks tid pid reserve commit = search (keeping, kept_same, in_made) depth 12
-
-by_guard : (w : World) (pid : ℕ) (p : ProcessOf Page) (c : Committed Page) (page : ℕ) (a : Answer) → process_of w pid ≡ Some p → committed_at w p.regions page ≡ Some c → Holds (KeepsLimit w) (done a (guard_off w pid p c page))
-by_guard w pid p c page a lives committed = record { it = record { kept = λ within. omega (arith, charge-guard_off w pid p c page lives committed) } }
-
-in_grown : (w : World) (s : StackOf) (p : ProcessOf Page) (c : Committed Page) (page : ℕ) → process_of w s.pid ≡ Some p → committed_at w p.regions page ≡ Some c → Holds (KeepsLimit w) (grown filled w s (guard_off w s.pid p c page))
-in_grown w s p c page lives committed =
-    let v = guard_off w s.pid p c page in
-    let h = keeps_alloc filled v s.pid (address_of (s.guard_page - 1)) 1 commit_type 0x104 in
-    record { it = record { kept = λ within. h.it.kept (omega (arith, charge-guard_off w s.pid p c page lives committed)) } }
-
-in_probe_at : (w : World) (p : ProcessOf Page) (s : StackOf) (page : ℕ) (c : Option (Committed Page)) → process_of w s.pid ≡ Some p → committed_at w p.regions page ≡ c → Holds (KeepsLimit w) (probe_at filled w p s page c)
-in_probe_at w p s page None lives committed = kept_same w _
-in_probe_at w p s page (Some c) lives committed = search (tables, kept_same, by_guard, in_grown) depth 14
-
-in_probe_in : (w : World) (s : StackOf) (page : ℕ) (p : Option (ProcessOf Page)) → process_of w s.pid ≡ p → Holds (KeepsLimit w) (probe_in filled w s page p)
-in_probe_in w s page None lives = kept_same w _
-in_probe_in w s page (Some p) lives = in_probe_at w p s page (committed_at w p.regions page) lives refl
-
-in_probe_of : (w : World) (page : ℕ) (s : Option StackOf) → Holds (KeepsLimit w) (probe_of filled w page s)
-in_probe_of w page None = kept_same w _
-in_probe_of w page (Some s) = in_probe_in w s page (process_of w s.pid) refl
-
 pub in_system : (s : System) (e : Event) (before after : Report) → Holds (KeepsLimit s.world) (outcome s e before after)
 in_system s (line.Watch pid unwrites addr size count) before after = in_watch s.world s.watches pid.0 addr size count
 in_system s (line.ResetWatch pid addr size) before after = in_reset_watch s.world s.watches pid.0 addr size
-in_system s (line.Stack tid pid reserve commit) before after = in_stack s.world s.stacks tid.0 pid.0 reserve commit
-in_system s (line.Probe tid addr) before after = in_probe_of s.world _ (numbered s.stacks tid.0)
 in_system s e before after = in_step s.world (plain_line e) before after
 
 -- the charge is within the limit in each world that lines reach

@@ -5,20 +5,20 @@ use Rattle.mm_types.specs.declared.answers.Answer.TheVariants as answer
 use Rattle.mm_types.specs.declared.events.AccessSpec.{AccessSpec}
 use Rattle.mm_types.specs.declared.events.Event.{Event}
 use Rattle.mm_types.specs.declared.events.Event.TheVariants as line
-use Rattle.mm_world.specs.World.{World, ProcessOf, KeptOf, Page, Numbered, numbered, filled}
-use Rattle.mm_world.specs.Find.{process_of}
+use Rattle.mm_world.specs.World.{StackOf, World, ProcessOf, KeptOf, Page, filled}
+use Rattle.mm_world.specs.Find.{stack_by, process_of}
 use Rattle.mm_world.specs.Keys.{Committed, committed_at}
 use Rattle.mm_world.specs.Outcome.{OutcomeOf, done}
 use Rattle.mm_world.specs.Access.{ReadOf, WriteOf, Execute, access, address_in, attempt_in}
 use Rattle.mm_world.specs.Report.{Report}
 use Rattle.mm_world.specs.Step.{unpaged, told, step, stepped, world_told, begin, resume, kept_by, keep}
-use Rattle.mm_world.specs.Stack.{StackOf, stack, probe_at, probe_in, probe_of, grown, made}
+use Rattle.mm_world.specs.Stack.{stack, probe_at, probe_in, probe_of, made}
 use Rattle.mm_world.specs.Watch.{WatchOf, watch, reset_watch}
-use Rattle.mm_world.specs.System.{System, plain_line, outcome, system_step, stacks_after, watches_after}
 use Rattle.mm_world.specs.Laws.{Leaves, LineLeaves, SystemLeaves, is_success, is_alarm, is_thread_line}
+use Rattle.mm_world.specs.System.{System, plain_line, outcome, system_step, watches_after}
 use Rattle.mm_world.proofs.Tables.{Holds}
 use Rattle.mm_world.proofs.Determined.{follows}
-use Rattle.mm_world.proofs.Leaving.{left, by_same, by_success, by_guard, in_alloc, in_free, in_protect, in_query, in_create, in_create_file, in_open, in_close, in_map, in_unmap, in_flush, in_exit, in_new_process, in_new_file, in_take_fail, in_grow, in_store_line, in_access}
+use Rattle.mm_world.proofs.Leaving.{left, by_same, by_guard, in_alloc, in_free, in_protect, in_query, in_create, in_create_file, in_open, in_close, in_map, in_unmap, in_flush, in_exit, in_new_process, in_new_file, in_take_fail, in_grow, in_store_line, in_access}
 
 line_leaves : (w : World) (e : Event) (o : OutcomeOf Page) → Holds (Leaves w) o → LineLeaves w e o
 line_leaves w e o h = record { but_kept = o.world; leaves = h.it; all_else = refl; other_lines = λ e. refl }
@@ -35,6 +35,30 @@ in_resume w e tid (Some k) is =
       all_else = refl;
       other_lines = λ n. let bad : true ≡ false = sym is ∙ n in cc;
     }
+
+-- ---- stacks
+
+in_made : (w : World) (tid pid : ℕ) (p : ProcessOf Page) (r c : ℕ) → Holds (Leaves w) (made filled w tid pid p r c)
+in_made w tid pid p r c = search left depth 12
+
+in_stack : (w : World) (tid pid reserve commit : ℕ) → Holds (Leaves w) (stack filled w tid pid reserve commit)
+in_stack w tid pid reserve commit = search (left, in_made) depth 12
+
+on_of : (b c : Bool) → (b && c) ≡ true → b ≡ true
+on_of true c e = refl
+on_of false c e = cc
+
+in_probe_at : (w : World) (tid : ℕ) (p : ProcessOf Page) (s : StackOf) (page : ℕ) (c : Option (Committed Page)) → process_of w s.pid ≡ Some p → committed_at w p.regions page ≡ c → Holds (Leaves w) (probe_at filled w tid p s page c)
+in_probe_at w tid p s page None lives committed = by_same w _ refl
+in_probe_at w tid p s page (Some c) lives committed = search (left, by_guard, on_of) depth 14
+
+in_probe_in : (w : World) (tid : ℕ) (s : StackOf) (page : ℕ) (p : Option (ProcessOf Page)) → process_of w s.pid ≡ p → Holds (Leaves w) (probe_in filled w tid s page p)
+in_probe_in w tid s page None lives = by_same w answer.Nothing refl
+in_probe_in w tid s page (Some p) lives = in_probe_at w tid p s page (committed_at w p.regions page) lives refl
+
+in_probe_of : (w : World) (tid page : ℕ) (s : Option StackOf) → Holds (Leaves w) (probe_of filled w tid page s)
+in_probe_of w tid page None = by_same w answer.Nothing refl
+in_probe_of w tid page (Some s) = in_probe_in w tid s page (process_of w s.pid) refl
 
 in_unpaged : (w : World) (e : Event) → LineLeaves w e (unpaged w e)
 in_unpaged w (line.Machine m) = line_leaves w _ _ (by_same w answer.Nothing refl)
@@ -68,8 +92,8 @@ in_unpaged w line.Counts = line_leaves w _ _ (by_same w answer.Ok refl)
 in_unpaged w (line.Grow n) = line_leaves w _ _ (in_grow w n)
 in_unpaged w (line.Watch pid unwrites addr size count) = line_leaves w _ _ (by_same w answer.Nothing refl)
 in_unpaged w (line.ResetWatch pid addr size) = line_leaves w _ _ (by_same w answer.Nothing refl)
-in_unpaged w (line.Stack tid pid reserve commit) = line_leaves w _ _ (by_same w answer.Nothing refl)
-in_unpaged w (line.Probe tid addr) = line_leaves w _ _ (by_same w answer.Nothing refl)
+in_unpaged w (line.Stack tid pid reserve commit) = line_leaves w _ _ (in_stack w tid.0 pid.0 reserve commit)
+in_unpaged w (line.Probe tid addr) = line_leaves w _ _ (in_probe_of w tid.0 _ (stack_by w tid.0))
 
 keeping : (w : World) (e : Event) (tid : ℕ) (kept : Option KeptOf) (a : Answer) → is_thread_line e ≡ true → is_alarm a ≡ false → LineLeaves w e (done a (keep w tid kept))
 keeping w e tid kept a is calm =
@@ -87,7 +111,7 @@ in_stepped w e (Some a) h = in_told w e a (h a refl)
 pub in_step : (w : World) (e : Event) (before after : Report) → LineLeaves w e (step w e before after)
 in_step w e before after = in_stepped w e (told w e before after) (λ a is. (follows w e before after a is).calm)
 
--- ---- what stands beside the world
+-- ---- watched regions beside the world
 
 in_watch : (w : World) (watches : List WatchOf) (pid addr size count : ℕ) → Holds (Leaves w) (watch w watches pid addr size count)
 in_watch w watches pid addr size count = search left depth 12
@@ -95,48 +119,14 @@ in_watch w watches pid addr size count = search left depth 12
 in_reset_watch : (w : World) (watches : List WatchOf) (pid addr size : ℕ) → Holds (Leaves w) (reset_watch w watches pid addr size)
 in_reset_watch w watches pid addr size = search left depth 12
 
-in_made : (w : World) (pid : ℕ) (p : ProcessOf Page) (r c : ℕ) → Holds (Leaves w) (made filled w pid p r c)
-in_made w pid p r c = search left depth 12
-
-in_stack : (w : World) (stacks : Numbered StackOf) (tid pid reserve commit : ℕ) → Holds (Leaves w) (stack filled w stacks tid pid reserve commit)
-in_stack w stacks tid pid reserve commit = search (left, in_made) depth 12
-
-in_grown : (w : World) (s : StackOf) (v : World) → Holds (Leaves w) (grown filled w s v)
-in_grown w s v = by_success w _ _ refl refl
-
-on_of : (b c : Bool) → (b && c) ≡ true → b ≡ true
-on_of true c e = refl
-on_of false c e = cc
-
-in_probe_at : (w : World) (p : ProcessOf Page) (s : StackOf) (page : ℕ) (c : Option (Committed Page)) → process_of w s.pid ≡ Some p → committed_at w p.regions page ≡ c → Holds (Leaves w) (probe_at filled w p s page c)
-in_probe_at w p s page None lives committed = by_same w _ refl
-in_probe_at w p s page (Some c) lives committed = search (left, by_guard, on_of, in_grown) depth 14
-
-in_probe_in : (w : World) (s : StackOf) (page : ℕ) (p : Option (ProcessOf Page)) → process_of w s.pid ≡ p → Holds (Leaves w) (probe_in filled w s page p)
-in_probe_in w s page None lives = by_same w answer.Nothing refl
-in_probe_in w s page (Some p) lives = in_probe_at w p s page (committed_at w p.regions page) lives refl
-
-in_probe_of : (w : World) (page : ℕ) (s : Option StackOf) → Holds (Leaves w) (probe_of filled w page s)
-in_probe_of w page None = by_same w answer.Nothing refl
-in_probe_of w page (Some s) = in_probe_in w s page (process_of w s.pid) refl
-
 -- a line that what stands beside the world decides, or else one of the world alone
 in_beside : (s : System) (e : Event) (before after : Report) → LineLeaves s.world e (outcome s e before after)
 in_beside s (line.Watch pid unwrites addr size count) before after = line_leaves s.world _ _ (in_watch s.world s.watches pid.0 addr size count)
 in_beside s (line.ResetWatch pid addr size) before after = line_leaves s.world _ _ (in_reset_watch s.world s.watches pid.0 addr size)
-in_beside s (line.Stack tid pid reserve commit) before after = line_leaves s.world _ _ (in_stack s.world s.stacks tid.0 pid.0 reserve commit)
-in_beside s (line.Probe tid addr) before after = line_leaves s.world _ _ (in_probe_of s.world _ (numbered s.stacks tid.0))
 in_beside s (line.Alloc pid addr size type prot) before after =
     let h = in_step s.world (plain_line (line.Alloc pid addr size type prot)) before after in
     record { but_kept = h.but_kept; leaves = h.leaves; all_else = h.all_else; other_lines = λ e. h.other_lines refl }
 in_beside s e before after = in_step s.world e before after
-
-same_stacks : (stacks : Numbered StackOf) (e : Event) (a : Answer) → is_success a ≡ false → stacks_after stacks e a ≡ stacks
-same_stacks stacks (line.Stack tid pid reserve commit) (answer.Stack base size guard) n = cc
-same_stacks stacks (line.Probe tid addr) (answer.At guard) n = cc
-same_stacks stacks (line.Free pid addr size type) answer.Ok n = cc
-same_stacks stacks (line.Exit pid) answer.Ok n = cc
-same_stacks stacks _ _ n = refl
 
 same_watches : (w : World) (watches : List WatchOf) (e : Event) (a : Answer) → is_success a ≡ false → watches_after w watches e a ≡ watches
 same_watches w watches (line.Alloc pid addr size type prot) (answer.At base) n = cc
@@ -153,6 +143,5 @@ pub in_system : (s : System) (e : Event) (before after : Report) → SystemLeave
 in_system s e before after =
     record {
       world = in_beside s e before after;
-      stacks = same_stacks s.stacks e (outcome s e before after).answer;
       watches = same_watches s.world s.watches e (outcome s e before after).answer;
     }

@@ -16,14 +16,14 @@ use Rattle.mm_types.specs.Address.{Range, lies_within, address_of, range_of, gra
 use Rattle.mm_types.specs.Protection.{base_of}
 use Rattle.mm_world.specs.World.{RowOf, RegionOf, ProcessOf, AreaOf, WorldOf, pages_of}
 use Rattle.mm_world.specs.Contents.{map_row, map_region, map_process, map_area, map_world, map_outcome}
-use Rattle.mm_world.specs.Find.{Found, first_where, one_later, change_range, ranges_of, region_around, add_region, process_of, set_process, set_regions, set_region, area_at, set_area, no_area, shared_page, placed, is_private}
+use Rattle.mm_world.specs.Find.{end_stacks, Found, first_where, one_later, change_range, ranges_of, region_around, add_region, process_of, set_process, set_regions, set_region, area_at, set_area, no_area, shared_page, placed, is_private}
 use Rattle.mm_world.specs.Charge.{charge, limit, is_charged, region_charge, process_charge, area_charge}
 use Rattle.mm_world.specs.Outcome.{OutcomeOf, done, need, find_or, with_process, within_limit}
 use Rattle.mm_world.specs.Rows.{is_one_of, protections_of, row_at, accepts, is_committed, is_committed_at, reserved_row, commit, protected, change_rows, every_page}
 use Rattle.mm_types.specs.Allocation.{reserve_type}
 use Rattle.mm_world.specs.Alloc.{alloc, reserve, commit_in, commit_shared, private_region, new_row, are_alloc_parameters, is_reserving}
 use Rattle.mm_types.specs.Allocation.{release_type}
-use Rattle.mm_world.specs.Free.{free, decommit, private_at, private_around, are_free_parameters}
+use Rattle.mm_world.specs.Free.{is_stack_at, free, decommit, private_at, private_around, are_free_parameters}
 use Rattle.mm_world.specs.Protect.{protect, protection_at, protection_of, are_protect_parameters}
 
 module _ {A B : Type 0} (f : A → B) where
@@ -367,7 +367,7 @@ module _ {A B : Type 0} (f : A → B) where
       at_need w code.InvalidParameter (are_free_parameters size type) (are_free_parameters size type) _ _ refl (
       at_if (type == release_type) _ _ _ _
       (at_find w code.InvalidAddress (map_found f) (private_at p.regions addr) (private_at (map (map_region f) p.regions) addr) _ _ (at_private p.regions addr)
-      (λ r found. at_done answer.Ok _ _ (ap (λ rs. set_regions (map_world f w) pid (map_process f p) rs) (sym (map-remove (map_region f) p.regions r.place)) ∙ sym (to_regions w pid p (remove p.regions r.place)))))
+      (λ r found. at_done answer.Ok _ _ (ap (λ v. end_stacks v (is_stack_at pid addr)) (ap (λ rs. set_regions (map_world f w) pid (map_process f p) rs) (sym (map-remove (map_region f) p.regions r.place)) ∙ sym (to_regions w pid p (remove p.regions r.place))))))
       (at_if (size == 0) _ _ _ _
       (at_find w code.InvalidAddress (map_found f) (private_at p.regions addr) (private_at (map (map_region f) p.regions) addr) _ _ (at_private p.regions addr)
       (λ r found. record { same = ap (λ range. decommit (map_world f w) pid (map_process f p) (map_found f r) range) (pages_of-map r.thing) ∙ (at_decommit w pid p r (pages_of r.thing)).same }))

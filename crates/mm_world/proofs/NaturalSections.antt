@@ -15,8 +15,8 @@ use Rattle.mm_types.specs.declared.views.ViewAccess.{ViewAccess}
 use Rattle.mm_types.specs.Address.{Range, lies_within, holds_page, address_of, page_of, range_of, pages_for, end_of_user_pages, is_granule_address, is_user_page, lowest_gap}
 use Rattle.mm_types.specs.Protection.{permits}
 use Rattle.mm_types.specs.Spelling.{Text}
-use Rattle.mm_world.specs.World.{RowOf, RegionOf, ProcessOf, AreaOf, SectionOf, WorldOf, Numbered, numbered, pages_of}
-use Rattle.mm_world.specs.Find.{Found, first_where, ranges_of, region_with, add_region, process_of, set_process, set_regions, set_region, area_at, no_area, shared_page, section_named, placed, is_private}
+use Rattle.mm_world.specs.World.{StackOf, RowOf, RegionOf, ProcessOf, AreaOf, SectionOf, WorldOf, Numbered, pages_of}
+use Rattle.mm_world.specs.Find.{end_stacks, set_stack, stack_by, Found, first_where, ranges_of, region_with, add_region, process_of, set_process, set_regions, set_region, area_at, no_area, shared_page, section_named, placed, is_private}
 use Rattle.mm_world.specs.Charge.{limit}
 use Rattle.mm_world.specs.Outcome.{OutcomeOf, done, need, find_or, within_limit}
 use Rattle.mm_world.specs.Rows.{row_at, is_committed, reserved_row, commit}
@@ -26,7 +26,7 @@ use Rattle.mm_world.specs.Views.{map_view, unmap, flush, view_access, may_view, 
 use Rattle.mm_world.specs.Keys.{Home, Own, InSection, Committed, home_in, committed_in, committed_at, guard_off}
 use Rattle.mm_types.specs.Allocation.{commit_type}
 use Rattle.mm_world.specs.Alloc.{alloc}
-use Rattle.mm_world.specs.Stack.{StackOf, stack, made, stack_region, probe, probe_at, probe_in, probe_of, grown, is_overflow, reserve_pages, commit_pages}
+use Rattle.mm_world.specs.Stack.{stack, made, stack_region, probe, probe_at, probe_in, probe_of, grown, is_overflow, reserve_pages, commit_pages}
 use Rattle.mm_world.specs.Processes.{new_process, exit, new_file, take_fail, tell_charge, grow, no_regions, file_pages, kept_of_others, most_processes, most_fails, most_slots}
 use Rattle.mm_world.specs.Contents.{map_row, map_region, map_process, map_area, map_world}
 use Rattle.mm_world.proofs.Natural.{Agrees, map_found, first-map, map-append, map-remove, map-replicate, pages_of-map, ranges_of-map, same_place, map-add_region, at_process, to_process, to_regions, to_region, map-area_at, map-shared_page, map-row_at, same_committed, same_charge, in_alloc, at_need, at_find, at_found, at_lives, at_if, at_done, at_answer, at_limit}
@@ -255,7 +255,7 @@ module _ {A B : Type 0} (f : A → B) where
   pub in_exit : (w : WorldOf A) (pid : ℕ) → Agrees f (exit w pid) (exit (map_world f w) pid)
   in_exit w pid =
       at_lives f w pid _ _ (λ p lives.
-      let v = record w { kept = map (kept_of_others pid) w.kept } in
+      let v = end_stacks (record w { kept = map (kept_of_others pid) w.kept }) (λ s. s.pid == pid) in
       at_done f answer.Ok _ _ (ap settle (sym (to_process f v pid None)) ∙ to_settled (set_process v pid None)))
 
   pub in_take_fail : (w : WorldOf A) → Agrees f (take_fail w) (take_fail (map_world f w))
@@ -376,71 +376,75 @@ module _ {A B : Type 0} (f : A → B) where
 
     map-stack_region : (base r c : ℕ) → map_region f (stack_region fill base r c) ≡ stack_region stacking base r c
     map-stack_region base r c =
-        ap (λ rows. let region : RegionOf B = record { base = base; alloc_prot = 0x04; kind = kind.Private; rows = rows } in region)
+        ap (λ rows. record (stack_region stacking base r c) { rows = rows })
         (map-append (map_row f) (replicate (r - (c + 1)) reserved_row) (commit (fill 0) 0x104 reserved_row ∷ replicate c (commit (fill 0) 0x04 reserved_row))
         ∙ (λ i. map-replicate (map_row f) (r - (c + 1)) reserved_row i ++ commit (stacking 0) 0x104 reserved_row ∷ map-replicate (map_row f) c (commit (fill 0) 0x04 reserved_row) i))
 
-    in_made : (w : WorldOf A) (pid : ℕ) (p : ProcessOf A) (r c : ℕ) → Agrees f (made fill w pid p r c) (made stacking (map_world f w) pid (map_process f p) r c)
-    in_made w pid p r c =
+    in_made : (w : WorldOf A) (tid pid : ℕ) (p : ProcessOf A) (r c : ℕ) → Agrees f (made fill w tid pid p r c) (made stacking (map_world f w) tid pid (map_process f p) r c)
+    in_made w tid pid p r c =
         at_need f w code.InvalidParameter (nat_le (c + 2) r) (nat_le (c + 2) r) _ _ refl (
         at_found f w code.InvalidAddress (lowest_gap (ranges_of p.regions) r) (lowest_gap (ranges_of (map (map_region f) p.regions)) r) _ _ (ap (λ ranges. lowest_gap ranges r) (ranges_of-map f p.regions)) (λ base found.
+        let s : StackOf = record { pid = pid; base = base; guard_page = base + r - (c + 1) } in
+        let v = set_regions w pid p (add_region (stack_region fill base r c) p.regions) in
+        let u = set_regions (map_world f w) pid (map_process f p) (add_region (stack_region stacking base r c) (map (map_region f) p.regions)) in
         at_limit f w
-        (done (answer.Stack (address_of base) (address_of r) (address_of (base + r - (c + 1)))) (set_regions w pid p (add_region (stack_region fill base r c) p.regions)))
-        (done (answer.Stack (address_of base) (address_of r) (address_of (base + r - (c + 1)))) (set_regions (map_world f w) pid (map_process f p) (add_region (stack_region stacking base r c) (map (map_region f) p.regions))))
-        (at_done f _ _ _ (
+        (done (answer.Stack (address_of base) (address_of r) (address_of (base + r - (c + 1)))) (set_stack v tid s))
+        (done (answer.Stack (address_of base) (address_of r) (address_of (base + r - (c + 1)))) (set_stack u tid s))
+        (at_done f _ _ _ (ap (λ (v : WorldOf B). set_stack v tid s) (
         ap (λ r. set_regions (map_world f w) pid (map_process f p) (add_region r (map (map_region f) p.regions))) (sym (map-stack_region base r c))
         ∙ ap (λ rs. set_regions (map_world f w) pid (map_process f p) rs) (sym (map-add_region f (stack_region fill base r c) p.regions))
-        ∙ sym (to_regions f w pid p (add_region (stack_region fill base r c) p.regions))))))
+        ∙ sym (to_regions f w pid p (add_region (stack_region fill base r c) p.regions)))))))
 
-    pub in_stack : (w : WorldOf A) (stacks : Numbered StackOf) (tid pid reserve commit : ℕ) → Agrees f (stack fill w stacks tid pid reserve commit) (stack stacking (map_world f w) stacks tid pid reserve commit)
-    in_stack w stacks tid pid reserve commit =
+    pub in_stack : (w : WorldOf A) (tid pid reserve commit : ℕ) → Agrees f (stack fill w tid pid reserve commit) (stack stacking (map_world f w) tid pid reserve commit)
+    in_stack w tid pid reserve commit =
         at_lives f w pid _ _ (λ p lives.
-        at_if f (is_some (numbered stacks tid)) _ _ _ _
+        at_if f (is_some (stack_by w tid)) _ _ _ _
         (at_done f answer.Busy _ _ refl)
-        (at_need f w code.InvalidParameter (not (reserve == 0)) (not (reserve == 0)) _ _ refl (in_made w pid p (reserve_pages reserve) (commit_pages commit))))
+        (at_need f w code.InvalidParameter (not (reserve == 0)) (not (reserve == 0)) _ _ refl (in_made w tid pid p (reserve_pages reserve) (commit_pages commit))))
 
-    at_grown : (w : WorldOf A) (s : StackOf) (v : WorldOf A) (u : WorldOf B) → u ≡ map_world f v → Agrees f (grown fill w s v) (grown stacking (map_world f w) s u)
-    at_grown w s v u e =
+    at_grown : (tid : ℕ) (s : StackOf) (v : WorldOf A) (u : WorldOf B) → u ≡ map_world f v → Agrees f (grown fill v tid s) (grown stacking u tid s)
+    at_grown tid s v u e =
         let addr = address_of (s.guard_page - 1) in
+        let next : StackOf = record s { guard_page = s.guard_page - 1 } in
         record {
-          same = ap (λ u. done (answer.At addr) (alloc stacking u s.pid addr 1 commit_type 0x104).world) e
-              ∙ ap (λ (o : OutcomeOf B). done (answer.At addr) o.world) (in_alloc f fill v s.pid addr 1 commit_type 0x104).same;
+          same = ap (λ u. done (answer.At addr) (set_stack (alloc stacking u s.pid addr 1 commit_type 0x104).world tid next)) e
+              ∙ ap (λ (o : OutcomeOf B). done (answer.At addr) (set_stack o.world tid next)) (in_alloc f fill v s.pid addr 1 commit_type 0x104).same;
         }
 
     -- the cases of a probe, with whether the stack overflows
-    abbrev probe_with : {X : Type 0} → (WorldOf X → StackOf → WorldOf X → OutcomeOf X) → Bool → WorldOf X → StackOf → ℕ → RowOf X → WorldOf X → OutcomeOf X
-    probe_with grows overflow w s page row without_guard =
+    abbrev probe_with : {X : Type 0} → (WorldOf X → ℕ → StackOf → OutcomeOf X) → Bool → WorldOf X → ℕ → StackOf → ℕ → RowOf X → WorldOf X → OutcomeOf X
+    probe_with grows overflow w tid s page row without_guard =
         cond (row.guard && not (page == s.guard_page)) (done (answer.Raised raise.GuardPage) without_guard)
         (cond (row.guard && overflow) (done (answer.Raised raise.StackOverflow) without_guard)
-        (cond row.guard (grows w s without_guard)
+        (cond row.guard (grows without_guard tid s)
         (cond (not (permits row.prot access_kind.Read)) (done (answer.Raised raise.AccessViolation) w) (done (answer.At (address_of s.guard_page)) w))))
 
-    at_probe_with : (overflow : Bool) (w : WorldOf A) (s : StackOf) (page : ℕ) (row : RowOf A) (v : WorldOf A) (u : WorldOf B) → u ≡ map_world f v → Agrees f (probe_with (grown fill) overflow w s page row v) (probe_with (grown stacking) overflow (map_world f w) s page (map_row f row) u)
-    at_probe_with overflow w s page row v u e =
+    at_probe_with : (overflow : Bool) (w : WorldOf A) (tid : ℕ) (s : StackOf) (page : ℕ) (row : RowOf A) (v : WorldOf A) (u : WorldOf B) → u ≡ map_world f v → Agrees f (probe_with (grown fill) overflow w tid s page row v) (probe_with (grown stacking) overflow (map_world f w) tid s page (map_row f row) u)
+    at_probe_with overflow w tid s page row v u e =
         at_if f (row.guard && not (page == s.guard_page)) _ _ _ _ (at_done f (answer.Raised raise.GuardPage) v u e)
         (at_if f (row.guard && overflow) _ _ _ _ (at_done f (answer.Raised raise.StackOverflow) v u e)
-        (at_if f row.guard _ _ _ _ (at_grown w s v u e)
+        (at_if f row.guard _ _ _ _ (at_grown tid s v u e)
         (at_if f (not (permits row.prot access_kind.Read)) _ _ _ _ (at_done f (answer.Raised raise.AccessViolation) w (map_world f w) refl) (at_done f (answer.At (address_of s.guard_page)) w (map_world f w) refl))))
 
-    in_probe_at : (w : WorldOf A) (p : ProcessOf A) (s : StackOf) (page : ℕ) (c : Option (Committed A)) → Agrees f (probe_at fill w p s page c) (probe_at stacking (map_world f w) (map_process f p) s page (option_map map_committed c))
-    in_probe_at w p s page None = at_done f (answer.Raised raise.AccessViolation) w (map_world f w) refl
-    in_probe_at w p s page (Some c) =
+    in_probe_at : (w : WorldOf A) (tid : ℕ) (p : ProcessOf A) (s : StackOf) (page : ℕ) (c : Option (Committed A)) → Agrees f (probe_at fill w tid p s page c) (probe_at stacking (map_world f w) tid (map_process f p) s page (option_map map_committed c))
+    in_probe_at w tid p s page None = at_done f (answer.Raised raise.AccessViolation) w (map_world f w) refl
+    in_probe_at w tid p s page (Some c) =
         record {
-          same = ap (λ overflow. probe_with (grown stacking) overflow (map_world f w) s page (map_row f c.row) (guard_off (map_world f w) s.pid (map_process f p) (map_committed c) page)) (same_overflow w p s)
-              ∙ (at_probe_with (is_overflow w p s) w s page c.row (guard_off w s.pid p c page) (guard_off (map_world f w) s.pid (map_process f p) (map_committed c) page) (to_guard_off w s.pid p c page)).same;
+          same = ap (λ overflow. probe_with (grown stacking) overflow (map_world f w) tid s page (map_row f c.row) (guard_off (map_world f w) s.pid (map_process f p) (map_committed c) page)) (same_overflow w p s)
+              ∙ (at_probe_with (is_overflow w p s) w tid s page c.row (guard_off w s.pid p c page) (guard_off (map_world f w) s.pid (map_process f p) (map_committed c) page) (to_guard_off w s.pid p c page)).same;
         }
 
-    in_probe_in : (w : WorldOf A) (s : StackOf) (page : ℕ) (p : Option (ProcessOf A)) → Agrees f (probe_in fill w s page p) (probe_in stacking (map_world f w) s page (option_map (map_process f) p))
-    in_probe_in w s page None = at_done f answer.Nothing w (map_world f w) refl
-    in_probe_in w s page (Some p) =
+    in_probe_in : (w : WorldOf A) (tid : ℕ) (s : StackOf) (page : ℕ) (p : Option (ProcessOf A)) → Agrees f (probe_in fill w tid s page p) (probe_in stacking (map_world f w) tid s page (option_map (map_process f) p))
+    in_probe_in w tid s page None = at_done f answer.Nothing w (map_world f w) refl
+    in_probe_in w tid s page (Some p) =
         record {
-          same = ap (λ c. probe_at stacking (map_world f w) (map_process f p) s page c) (map-committed_at w p.regions page) ∙ (in_probe_at w p s page (committed_at w p.regions page)).same;
+          same = ap (λ c. probe_at stacking (map_world f w) tid (map_process f p) s page c) (map-committed_at w p.regions page) ∙ (in_probe_at w tid p s page (committed_at w p.regions page)).same;
         }
 
-    in_probe_of : (w : WorldOf A) (page : ℕ) (s : Option StackOf) → Agrees f (probe_of fill w page s) (probe_of stacking (map_world f w) page s)
-    in_probe_of w page None = at_done f answer.Nothing w (map_world f w) refl
-    in_probe_of w page (Some s) =
-        record { same = ap (λ p. probe_in stacking (map_world f w) s page p) (at_process f w s.pid) ∙ (in_probe_in w s page (process_of w s.pid)).same }
+    in_probe_of : (w : WorldOf A) (tid page : ℕ) (s : Option StackOf) → Agrees f (probe_of fill w tid page s) (probe_of stacking (map_world f w) tid page s)
+    in_probe_of w tid page None = at_done f answer.Nothing w (map_world f w) refl
+    in_probe_of w tid page (Some s) =
+        record { same = ap (λ p. probe_in stacking (map_world f w) tid s page p) (at_process f w s.pid) ∙ (in_probe_in w tid s page (process_of w s.pid)).same }
 
-    pub in_probe : (w : WorldOf A) (stacks : Numbered StackOf) (tid addr : ℕ) → Agrees f (probe fill w stacks tid addr) (probe stacking (map_world f w) stacks tid addr)
-    in_probe w stacks tid addr = in_probe_of w (page_of addr) (numbered stacks tid)
+    pub in_probe : (w : WorldOf A) (tid addr : ℕ) → Agrees f (probe fill w tid addr) (probe stacking (map_world f w) tid addr)
+    in_probe w tid addr = in_probe_of w tid (page_of addr) (stack_by w tid)

@@ -6,8 +6,8 @@ use Rattle.mm_types.specs.declared.events.AccessSpec.{AccessSpec}
 use Rattle.mm_types.specs.declared.events.Event.{Event}
 use Rattle.mm_types.specs.declared.events.Event.TheVariants as line
 use Rattle.mm_types.specs.Spelling.{Text}
-use Rattle.mm_world.specs.World.{World, numbered, ProcessOf, KeptOf, Page, filled}
-use Rattle.mm_world.specs.Find.{process_of}
+use Rattle.mm_world.specs.World.{StackOf, World, ProcessOf, KeptOf, Page, filled}
+use Rattle.mm_world.specs.Find.{stack_by, process_of}
 use Rattle.mm_world.specs.Keys.{Committed, committed_at}
 use Rattle.mm_world.specs.Outcome.{OutcomeOf, done, refused}
 use Rattle.mm_world.specs.Free.{free}
@@ -18,10 +18,10 @@ use Rattle.mm_world.specs.Processes.{new_process, exit, new_file, take_fail, gro
 use Rattle.mm_world.specs.Access.{Attempt, ReadOf, WriteOf, Execute, access, access_at, perform, address_in, attempt_in}
 use Rattle.mm_world.specs.Report.{Report}
 use Rattle.mm_world.specs.Step.{unpaged, told, stepped, step, begin, resume, store_line, kept_by}
-use Rattle.mm_world.specs.System.{System, outcome, system_step}
 use Rattle.mm_world.specs.Laws.{is_limit_code, is_limit_refusal, is_charging_line}
-use Rattle.mm_world.specs.Stack.{StackOf, probe_at, probe_in, probe_of}
+use Rattle.mm_world.specs.Stack.{probe_at, probe_in, probe_of}
 use Rattle.mm_world.specs.Watch.{WatchOf, watch, reset_watch}
+use Rattle.mm_world.specs.System.{System, outcome, system_step}
 use Rattle.mm_world.proofs.Tables.{Holds, tables}
 use Rattle.mm_world.proofs.Determined.{follows}
 
@@ -98,6 +98,20 @@ in_resume : (w : World) (tid : ℕ) (kept : Option KeptOf) → Holds Granted (re
 in_resume w tid None = record { it = refl }
 in_resume w tid (Some k) = record { it = (in_access w k.pid (address_in k.access) (attempt_in k.access)).it }
 
+-- ---- stacks
+
+in_probe_at : (w : World) (tid : ℕ) (p : ProcessOf Page) (s : StackOf) (page : ℕ) (c : Option (Committed Page)) → Holds Granted (probe_at filled w tid p s page c)
+in_probe_at w tid p s page None = record { it = refl }
+in_probe_at w tid p s page (Some c) = search granted depth 14
+
+in_probe_in : (w : World) (tid : ℕ) (s : StackOf) (page : ℕ) (p : Option (ProcessOf Page)) → Holds Granted (probe_in filled w tid s page p)
+in_probe_in w tid s page None = record { it = refl }
+in_probe_in w tid s page (Some p) = in_probe_at w tid p s page (committed_at w p.regions page)
+
+in_probe_of : (w : World) (tid page : ℕ) (s : Option StackOf) → Holds Granted (probe_of filled w tid page s)
+in_probe_of w tid page None = record { it = refl }
+in_probe_of w tid page (Some s) = in_probe_in w tid s page (process_of w s.pid)
+
 in_unpaged : (w : World) (e : Event) → is_charging_line e ≡ false → Holds Granted (unpaged w e)
 in_unpaged w (line.Machine m) free = record { it = refl }
 in_unpaged w (line.Process min max) free = in_new_process w
@@ -131,7 +145,7 @@ in_unpaged w (line.Grow n) free = in_grow w n
 in_unpaged w (line.Watch pid unwrites addr size count) free = record { it = refl }
 in_unpaged w (line.ResetWatch pid addr size) free = record { it = refl }
 in_unpaged w (line.Stack tid pid reserve commit) free = cc
-in_unpaged w (line.Probe tid addr) free = record { it = refl }
+in_unpaged w (line.Probe tid addr) free = in_probe_of w tid.0 _ (stack_by w tid.0)
 
 in_stepped : (w : World) (e : Event) (t : Option Answer) → is_charging_line e ≡ false → ((a : Answer) → t ≡ Some a → is_limit_refusal a ≡ false) → Holds Granted (stepped w e t)
 in_stepped w e None n h = in_unpaged w e n
@@ -140,7 +154,7 @@ in_stepped w e (Some a) n h = by_done a _ (h a refl)
 in_step : (w : World) (e : Event) (before after : Report) → is_charging_line e ≡ false → Holds Granted (step w e before after)
 in_step w e before after n = in_stepped w e (told w e before after) n (λ a is. (follows w e before after a is).granted)
 
--- ---- what stands beside the world
+-- ---- watched regions beside the world
 
 in_watch : (w : World) (watches : List WatchOf) (pid addr size count : ℕ) → Holds Granted (watch w watches pid addr size count)
 in_watch w watches pid addr size count = search granted depth 12
@@ -148,23 +162,9 @@ in_watch w watches pid addr size count = search granted depth 12
 in_reset_watch : (w : World) (watches : List WatchOf) (pid addr size : ℕ) → Holds Granted (reset_watch w watches pid addr size)
 in_reset_watch w watches pid addr size = search granted depth 12
 
-in_probe_at : (w : World) (p : ProcessOf Page) (s : StackOf) (page : ℕ) (c : Option (Committed Page)) → Holds Granted (probe_at filled w p s page c)
-in_probe_at w p s page None = record { it = refl }
-in_probe_at w p s page (Some c) = search granted depth 14
-
-in_probe_in : (w : World) (s : StackOf) (page : ℕ) (p : Option (ProcessOf Page)) → Holds Granted (probe_in filled w s page p)
-in_probe_in w s page None = record { it = refl }
-in_probe_in w s page (Some p) = in_probe_at w p s page (committed_at w p.regions page)
-
-in_probe_of : (w : World) (page : ℕ) (s : Option StackOf) → Holds Granted (probe_of filled w page s)
-in_probe_of w page None = record { it = refl }
-in_probe_of w page (Some s) = in_probe_in w s page (process_of w s.pid)
-
 in_outcome : (s : System) (e : Event) (before after : Report) → is_charging_line e ≡ false → Holds Granted (outcome s e before after)
 in_outcome s (line.Watch pid unwrites addr size count) before after n = in_watch s.world s.watches pid.0 addr size count
 in_outcome s (line.ResetWatch pid addr size) before after n = in_reset_watch s.world s.watches pid.0 addr size
-in_outcome s (line.Stack tid pid reserve commit) before after n = cc
-in_outcome s (line.Probe tid addr) before after n = in_probe_of s.world _ (numbered s.stacks tid.0)
 in_outcome s (line.Alloc pid addr size type prot) before after n = cc
 in_outcome s e before after n = in_step s.world e before after n
 

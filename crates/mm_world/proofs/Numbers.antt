@@ -13,8 +13,8 @@ use Rattle.mm_types.specs.declared.views.Kind.TheVariants as kind
 use Rattle.mm_types.specs.Address.{Range, address_of}
 use Rattle.mm_types.specs.Machine.{MachineOf}
 use Rattle.mm_types.specs.Spelling.{Text}
-use Rattle.mm_world.specs.World.{World, WorldOf, ProcessOf, RegionOf, AreaOf, SectionOf, FileOf, KeptOf, Page, Numbered, numbered, filled}
-use Rattle.mm_world.specs.Find.{Found, process_of, set_process, set_area}
+use Rattle.mm_world.specs.World.{StackOf, World, WorldOf, ProcessOf, RegionOf, AreaOf, SectionOf, FileOf, KeptOf, Page, Numbered, numbered, filled}
+use Rattle.mm_world.specs.Find.{stack_by, Found, process_of, set_process, set_area}
 use Rattle.mm_world.specs.Keys.{Home, Own, InSection, Committed, committed_at, guard_off, set_row, set_shared}
 use Rattle.mm_world.specs.Outcome.{OutcomeOf, done, refused}
 use Rattle.mm_types.specs.Allocation.{commit_type}
@@ -28,10 +28,10 @@ use Rattle.mm_world.specs.Processes.{new_process, exit, new_file, take_fail, gro
 use Rattle.mm_world.specs.Access.{Attempt, ReadOf, WriteOf, Execute, access, access_at, perform, write_to, written, bytes_of, address_in, attempt_in}
 use Rattle.mm_world.specs.Report.{Report}
 use Rattle.mm_world.specs.Step.{unpaged, told, step, stepped, world_told, begin, resume, store_line, kept_by, keep}
-use Rattle.mm_world.specs.Stack.{StackOf, stack, probe_at, probe_in, probe_of, grown, made}
+use Rattle.mm_world.specs.Stack.{stack, probe_at, probe_in, probe_of, grown, made}
 use Rattle.mm_world.specs.Watch.{WatchOf, watch, reset_watch}
-use Rattle.mm_world.specs.System.{System, plain_line, outcome}
 use Rattle.mm_world.specs.WellFormed.{NumbersFit}
+use Rattle.mm_world.specs.System.{System, plain_line, outcome}
 use Rattle.mm_world.proofs.Tables.{Holds, tables}
 use Rattle.mm_world.proofs.LaidOut.{less}
 
@@ -87,11 +87,15 @@ module _ {B : Type 0} where
   by_paging_section : (w : WorldOf B) (pid : ℕ) (p : ProcessOf B) (s : SectionOf) (areas : List (AreaOf B)) → process_of w pid ≡ Some p → Holds (KeepsNumbers w) (new_section (record w { areas = areas }) pid p s)
   by_paging_section w pid p s areas lives = by_set w _ pid p _ _ lives refl refl refl refl refl
 
-  by_exit : (w : WorldOf B) (pid : ℕ) (p : ProcessOf B) (a : Answer) → process_of w pid ≡ Some p → Holds (KeepsNumbers w) (done a (settle (set_process (record w { kept = map (kept_of_others pid) w.kept }) pid None)))
-  by_exit w pid p a lives =
-      by_set w (settle (set_process (record w { kept = map (kept_of_others pid) w.kept }) pid None)) pid p None a lives refl (length-map w.kept (kept_of_others pid)) refl refl refl
+  by_exit : (w : WorldOf B) (pid : ℕ) (p : ProcessOf B) (stacks : Numbered StackOf) (a : Answer) → process_of w pid ≡ Some p → Holds (KeepsNumbers w) (done a (settle (set_process (record w { kept = map (kept_of_others pid) w.kept; stacks = stacks }) pid None)))
+  by_exit w pid p stacks a lives =
+      by_set w (settle (set_process (record w { kept = map (kept_of_others pid) w.kept; stacks = stacks }) pid None)) pid p None a lives refl (length-map w.kept (kept_of_others pid)) refl refl refl
 
-  ruleset counted = (tables, by_refusal, by_put, by_put_area, by_put_settled)
+  -- stacks are not counted
+  by_put_beside : (w : WorldOf B) (pid : ℕ) (p : ProcessOf B) (q : Option (ProcessOf B)) (stacks : Numbered StackOf) (a : Answer) → process_of w pid ≡ Some p → Holds (KeepsNumbers w) (done a (record (set_process w pid q) { stacks = stacks }))
+  by_put_beside w pid p q stacks a lives = by_set w (record (set_process w pid q) { stacks = stacks }) pid p q a lives refl refl refl refl refl
+
+  ruleset counted = (tables, by_refusal, by_put, by_put_beside, by_put_area, by_put_settled)
 
   in_commit : (fill : ℕ → B) (w : WorldOf B) (pid : ℕ) (p : ProcessOf B) (r : Found (RegionOf B)) (k : Kind) (range : Range) (prot : ℕ) → process_of w pid ≡ Some p → Holds (KeepsNumbers w) (commit_in fill w pid p r k range prot)
   in_commit fill w pid p r kind.Private range prot lives = search counted depth 12
@@ -197,6 +201,10 @@ module _ {B : Type 0} where
         };
       }
 
+  by_keep_stacks : (w : WorldOf B) (stacks : Numbered StackOf) (a : Answer) → Holds (KeepsNumbers w) (done a (record w { stacks = stacks }))
+  by_keep_stacks w stacks a =
+      record { it = record { kept = λ h. record { processes = h.processes; no_process = h.no_process; kept = h.kept; fails = h.fails; blocks = h.blocks; slots = h.slots } } }
+
   by_guard : (w : WorldOf B) (pid : ℕ) (p : ProcessOf B) (c : Committed B) (page : ℕ) (a : Answer) → process_of w pid ≡ Some p → Holds (KeepsNumbers w) (done a (guard_off w pid p c page))
   by_guard w pid p c page a lives = by_put w pid p _ a lives
 
@@ -236,6 +244,32 @@ in_resume w tid (Some k) =
 in_store_line : (w : World) (pid : ℕ) → Holds (KeepsNumbers w) (store_line w pid)
 in_store_line w pid = search (tables, by_refusal, unchanged) depth 12
 
+-- ---- stacks
+
+in_made : (w : World) (tid pid : ℕ) (p : ProcessOf Page) (r c : ℕ) → process_of w pid ≡ Some p → Holds (KeepsNumbers w) (made filled w tid pid p r c)
+in_made w tid pid p r c lives = search (tables, by_refusal, by_put_beside) depth 12
+
+in_stack : (w : World) (tid pid reserve commit : ℕ) → Holds (KeepsNumbers w) (stack filled w tid pid reserve commit)
+in_stack w tid pid reserve commit = search (tables, by_refusal, unchanged, in_made) depth 12
+
+in_grown : (w : World) (tid : ℕ) (s : StackOf) (p : ProcessOf Page) (c : Committed Page) (page : ℕ) → process_of w s.pid ≡ Some p → committed_at w p.regions page ≡ Some c → Holds (KeepsNumbers w) (grown filled (guard_off w s.pid p c page) tid s)
+in_grown w tid s p c page lives committed =
+    let h = by_guard w s.pid p c page answer.Ok lives in
+    let k = in_alloc filled (guard_off w s.pid p c page) s.pid (address_of (s.guard_page - 1)) 1 commit_type 0x104 in
+    record { it = record { kept = λ spaces. (by_keep_stacks _ _ answer.Ok).it.kept (k.it.kept (h.it.kept spaces)) } }
+
+in_probe_at : (w : World) (tid : ℕ) (p : ProcessOf Page) (s : StackOf) (page : ℕ) (c : Option (Committed Page)) → process_of w s.pid ≡ Some p → committed_at w p.regions page ≡ c → Holds (KeepsNumbers w) (probe_at filled w tid p s page c)
+in_probe_at w tid p s page None lives committed = unchanged w _
+in_probe_at w tid p s page (Some c) lives committed = search (tables, unchanged, by_guard, in_grown) depth 14
+
+in_probe_in : (w : World) (tid : ℕ) (s : StackOf) (page : ℕ) (p : Option (ProcessOf Page)) → process_of w s.pid ≡ p → Holds (KeepsNumbers w) (probe_in filled w tid s page p)
+in_probe_in w tid s page None lives = unchanged w _
+in_probe_in w tid s page (Some p) lives = in_probe_at w tid p s page (committed_at w p.regions page) lives refl
+
+in_probe_of : (w : World) (tid page : ℕ) (s : Option StackOf) → Holds (KeepsNumbers w) (probe_of filled w tid page s)
+in_probe_of w tid page None = unchanged w _
+in_probe_of w tid page (Some s) = in_probe_in w tid s page (process_of w s.pid) refl
+
 -- ---- lines
 
 in_unpaged : (w : World) (e : Event) → Holds (KeepsNumbers w) (unpaged w e)
@@ -270,8 +304,8 @@ in_unpaged w line.Counts = unchanged w _
 in_unpaged w (line.Grow n) = in_grow w n
 in_unpaged w (line.Watch pid unwrites addr size count) = unchanged w _
 in_unpaged w (line.ResetWatch pid addr size) = unchanged w _
-in_unpaged w (line.Stack tid pid reserve commit) = unchanged w _
-in_unpaged w (line.Probe tid addr) = unchanged w _
+in_unpaged w (line.Stack tid pid reserve commit) = in_stack w tid.0 pid.0 reserve commit
+in_unpaged w (line.Probe tid addr) = in_probe_of w tid.0 _ (stack_by w tid.0)
 
 in_told : (w : World) (e : Event) (a : Answer) → Holds (KeepsNumbers w) (done a (world_told w e a))
 in_told w (line.Begin tid pid what) (answer.Pending why) = by_keep w tid.0 _ _
@@ -285,7 +319,7 @@ in_stepped w e (Some a) = in_told w e a
 pub in_step : (w : World) (e : Event) (before after : Report) → Holds (KeepsNumbers w) (step w e before after)
 in_step w e before after = in_stepped w e (told w e before after)
 
--- ---- what stands beside the world
+-- ---- watched regions beside the world
 
 in_watch : (w : World) (watches : List WatchOf) (pid addr size count : ℕ) → Holds (KeepsNumbers w) (watch w watches pid addr size count)
 in_watch w watches pid addr size count = search (tables, by_refusal, unchanged) depth 12
@@ -293,33 +327,7 @@ in_watch w watches pid addr size count = search (tables, by_refusal, unchanged) 
 in_reset_watch : (w : World) (watches : List WatchOf) (pid addr size : ℕ) → Holds (KeepsNumbers w) (reset_watch w watches pid addr size)
 in_reset_watch w watches pid addr size = search (tables, by_refusal, unchanged) depth 12
 
-in_made : (w : World) (pid : ℕ) (p : ProcessOf Page) (r c : ℕ) → process_of w pid ≡ Some p → Holds (KeepsNumbers w) (made filled w pid p r c)
-in_made w pid p r c lives = search (tables, by_refusal, by_put) depth 12
-
-in_stack : (w : World) (stacks : Numbered StackOf) (tid pid reserve commit : ℕ) → Holds (KeepsNumbers w) (stack filled w stacks tid pid reserve commit)
-in_stack w stacks tid pid reserve commit = search (tables, by_refusal, unchanged, in_made) depth 12
-
-in_grown : (w : World) (s : StackOf) (p : ProcessOf Page) (c : Committed Page) (page : ℕ) → process_of w s.pid ≡ Some p → committed_at w p.regions page ≡ Some c → Holds (KeepsNumbers w) (grown filled w s (guard_off w s.pid p c page))
-in_grown w s p c page lives committed =
-    let h = by_guard w s.pid p c page answer.Ok lives in
-    let k = in_alloc filled (guard_off w s.pid p c page) s.pid (address_of (s.guard_page - 1)) 1 commit_type 0x104 in
-    record { it = record { kept = λ spaces. k.it.kept (h.it.kept spaces) } }
-
-in_probe_at : (w : World) (p : ProcessOf Page) (s : StackOf) (page : ℕ) (c : Option (Committed Page)) → process_of w s.pid ≡ Some p → committed_at w p.regions page ≡ c → Holds (KeepsNumbers w) (probe_at filled w p s page c)
-in_probe_at w p s page None lives committed = unchanged w _
-in_probe_at w p s page (Some c) lives committed = search (tables, unchanged, by_guard, in_grown) depth 14
-
-in_probe_in : (w : World) (s : StackOf) (page : ℕ) (p : Option (ProcessOf Page)) → process_of w s.pid ≡ p → Holds (KeepsNumbers w) (probe_in filled w s page p)
-in_probe_in w s page None lives = unchanged w _
-in_probe_in w s page (Some p) lives = in_probe_at w p s page (committed_at w p.regions page) lives refl
-
-in_probe_of : (w : World) (page : ℕ) (s : Option StackOf) → Holds (KeepsNumbers w) (probe_of filled w page s)
-in_probe_of w page None = unchanged w _
-in_probe_of w page (Some s) = in_probe_in w s page (process_of w s.pid) refl
-
 pub in_outcome : (s : System) (e : Event) (before after : Report) → Holds (KeepsNumbers s.world) (outcome s e before after)
 in_outcome s (line.Watch pid unwrites addr size count) before after = in_watch s.world s.watches pid.0 addr size count
 in_outcome s (line.ResetWatch pid addr size) before after = in_reset_watch s.world s.watches pid.0 addr size
-in_outcome s (line.Stack tid pid reserve commit) before after = in_stack s.world s.stacks tid.0 pid.0 reserve commit
-in_outcome s (line.Probe tid addr) before after = in_probe_of s.world _ (numbered s.stacks tid.0)
 in_outcome s e before after = in_step s.world (plain_line e) before after

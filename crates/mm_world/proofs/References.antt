@@ -15,8 +15,8 @@ use Rattle.mm_types.specs.declared.views.View.{View}
 use Rattle.mm_types.specs.declared.views.ViewAccess.{ViewAccess}
 use Rattle.mm_types.specs.Address.{Range, page_of, address_of, is_granule_address}
 use Rattle.mm_types.specs.Spelling.{Text}
-use Rattle.mm_world.specs.World.{World, WorldOf, ProcessOf, RegionOf, RowOf, AreaOf, SectionOf, FileOf, KeptOf, Page, Numbered, numbered, filled}
-use Rattle.mm_world.specs.Find.{Found, first_where, process_of, set_process, set_regions, set_region, set_area, area_at, no_area, section_of, section_named, is_named, add_region, ranges_of, placed}
+use Rattle.mm_world.specs.World.{StackOf, World, WorldOf, ProcessOf, RegionOf, RowOf, AreaOf, SectionOf, FileOf, KeptOf, Page, Numbered, numbered, filled}
+use Rattle.mm_world.specs.Find.{set_region, end_stacks, set_stack, stack_by, Found, first_where, process_of, set_process, set_regions, set_region, set_area, area_at, no_area, section_of, section_named, is_named, add_region, ranges_of, placed}
 use Rattle.mm_world.specs.Outcome.{OutcomeOf, done, refused}
 use Rattle.mm_world.specs.Rows.{change_rows}
 use Rattle.mm_world.specs.Alloc.{alloc, commit_in, commit_shared, private_region}
@@ -34,10 +34,10 @@ use Rattle.mm_world.specs.Keys.{Home, Own, InSection, Committed, committed_at, g
 use Rattle.mm_world.specs.Access.{Attempt, ReadOf, WriteOf, Execute, access, access_at, perform, write_to, written, bytes_of, address_in, attempt_in}
 use Rattle.mm_world.specs.Report.{Report}
 use Rattle.mm_world.specs.Step.{unpaged, told, step, stepped, world_told, begin, resume, store_line, kept_by, keep}
-use Rattle.mm_world.specs.Stack.{StackOf, stack, stack_region, probe_at, probe_in, probe_of, grown, made}
+use Rattle.mm_world.specs.Stack.{stack, stack_region, probe_at, probe_in, probe_of, grown, made}
 use Rattle.mm_world.specs.Watch.{WatchOf, watch, reset_watch}
-use Rattle.mm_world.specs.System.{System, plain_line, outcome}
 use Rattle.mm_world.specs.WellFormed.{Each, ViewFits, RegionRefers, ProcessRefers, References}
+use Rattle.mm_world.specs.System.{System, plain_line, outcome}
 use Rattle.mm_world.proofs.Tables.{Holds, tables}
 use Rattle.mm_world.proofs.Finding.{found_stands, numbered_inside, committed_is}
 use Rattle.mm_world.proofs.Each.{each-append, each-insert, each-remove, each-set, each-at}
@@ -179,6 +179,13 @@ module _ {B : Type 0} where
   by_removed : (w : WorldOf B) (pid : ℕ) (p : ProcessOf B) (i : ℕ) (a : Answer) → process_of w pid ≡ Some p → Holds (KeepsReferences w) (done a (set_regions w pid p (remove p.regions i)))
   by_removed w pid p i a lives = by_regions w pid p (remove p.regions i) a lives (λ k. each-remove (RegionRefers w) p.regions i k)
 
+  -- stacks stand beside the regions
+  by_beside : (w v : WorldOf B) (stacks : Numbered StackOf) (a : Answer) → Holds (KeepsReferences w) (done a v) → Holds (KeepsReferences w) (done a (record v { stacks = stacks }))
+  by_beside w v stacks a h = record { it = record { kept = λ r. (by_rest v (record v { stacks = stacks }) a refl refl refl refl).it.kept (h.it.kept r) } }
+
+  by_release : (w : WorldOf B) (pid : ℕ) (p : ProcessOf B) (i : ℕ) (ends : StackOf → Bool) (a : Answer) → process_of w pid ≡ Some p → Holds (KeepsReferences w) (done a (end_stacks (set_regions w pid p (remove p.regions i)) ends))
+  by_release w pid p i ends a lives = by_beside w (set_regions w pid p (remove p.regions i)) _ a (by_removed w pid p i a lives)
+
   same_refers : (w : WorldOf B) (r new : RegionOf B) → new.kind ≡ r.kind → length new.rows ≡ length r.rows → RegionRefers w r → RegionRefers w new
   same_refers w r new kinds rows h v is = subst (λ (n : ℕ). ViewFits w v n) (sym rows) (h v (sym kinds ∙ is))
 
@@ -228,7 +235,7 @@ module _ {B : Type 0} where
   in_alloc fill w pid addr size type prot = search (tables, by_refusal, by_private, in_commit) depth 16
 
   pub in_free : (w : WorldOf B) (pid addr size type : ℕ) → Holds (KeepsReferences w) (free w pid addr size type)
-  in_free w pid addr size type = search (tables, by_refusal, by_removed, by_change) depth 14
+  in_free w pid addr size type = search (tables, by_refusal, by_release, by_change) depth 14
 
   pub in_protect : (w : WorldOf B) (pid addr size prot : ℕ) → Holds (KeepsReferences w) (protect w pid addr size prot)
   in_protect w pid addr size prot = search (tables, by_refusal, by_change) depth 16
@@ -624,6 +631,37 @@ in_resume w tid (Some k) =
 in_store_line : (w : World) (pid : ℕ) → Holds (KeepsReferences w) (store_line w pid)
 in_store_line w pid = search (tables, by_refusal, unchanged) depth 12
 
+-- ---- stacks
+
+by_stack : (w : World) (tid pid : ℕ) (p : ProcessOf Page) (s : StackOf) (r c base : ℕ) (a : Answer) → process_of w pid ≡ Some p → Holds (KeepsReferences w) (done a (set_stack (set_regions w pid p (add_region (stack_region filled base r c) p.regions)) tid s))
+by_stack w tid pid p s r c base a lives =
+    by_beside w (set_regions w pid p (add_region (stack_region filled base r c) p.regions)) _ a (by_regions w pid p (add_region (stack_region filled base r c) p.regions) a lives (λ k. each-insert (RegionRefers w) p.regions _ (stack_region filled base r c) k (λ v is. cc)))
+
+in_made : (w : World) (tid pid : ℕ) (p : ProcessOf Page) (r c : ℕ) → process_of w pid ≡ Some p → Holds (KeepsReferences w) (made filled w tid pid p r c)
+in_made w tid pid p r c lives = search (tables, by_refusal, by_stack) depth 12
+
+in_stack : (w : World) (tid pid reserve commit : ℕ) → Holds (KeepsReferences w) (stack filled w tid pid reserve commit)
+in_stack w tid pid reserve commit = search (tables, by_refusal, unchanged, in_made) depth 12
+
+in_grown : (w : World) (tid : ℕ) (s : StackOf) (p : ProcessOf Page) (c : Committed Page) (page : ℕ) → process_of w s.pid ≡ Some p → committed_at w p.regions page ≡ Some c → Holds (KeepsReferences w) (grown filled (guard_off w s.pid p c page) tid s)
+in_grown w tid s p c page lives committed =
+    let h = by_guard w s.pid p c page answer.Ok lives committed in
+    let k = in_alloc filled (guard_off w s.pid p c page) s.pid (address_of (s.guard_page - 1)) 1 commit_type 0x104 in
+    let v = (alloc filled (guard_off w s.pid p c page) s.pid (address_of (s.guard_page - 1)) 1 commit_type 0x104).world in
+    by_beside w v _ _ (record { it = record { kept = λ spaces. k.it.kept (h.it.kept spaces) } })
+
+in_probe_at : (w : World) (tid : ℕ) (p : ProcessOf Page) (s : StackOf) (page : ℕ) (c : Option (Committed Page)) → process_of w s.pid ≡ Some p → committed_at w p.regions page ≡ c → Holds (KeepsReferences w) (probe_at filled w tid p s page c)
+in_probe_at w tid p s page None lives committed = unchanged w _
+in_probe_at w tid p s page (Some c) lives committed = search (tables, unchanged, by_guard, in_grown) depth 14
+
+in_probe_in : (w : World) (tid : ℕ) (s : StackOf) (page : ℕ) (p : Option (ProcessOf Page)) → process_of w s.pid ≡ p → Holds (KeepsReferences w) (probe_in filled w tid s page p)
+in_probe_in w tid s page None lives = unchanged w _
+in_probe_in w tid s page (Some p) lives = in_probe_at w tid p s page (committed_at w p.regions page) lives refl
+
+in_probe_of : (w : World) (tid page : ℕ) (s : Option StackOf) → Holds (KeepsReferences w) (probe_of filled w tid page s)
+in_probe_of w tid page None = unchanged w _
+in_probe_of w tid page (Some s) = in_probe_in w tid s page (process_of w s.pid) refl
+
 -- ---- lines
 
 in_unpaged : (w : World) (e : Event) → Holds (KeepsReferences w) (unpaged w e)
@@ -658,8 +696,8 @@ in_unpaged w line.Counts = unchanged w _
 in_unpaged w (line.Grow n) = in_grow w n
 in_unpaged w (line.Watch pid unwrites addr size count) = unchanged w _
 in_unpaged w (line.ResetWatch pid addr size) = unchanged w _
-in_unpaged w (line.Stack tid pid reserve commit) = unchanged w _
-in_unpaged w (line.Probe tid addr) = unchanged w _
+in_unpaged w (line.Stack tid pid reserve commit) = in_stack w tid.0 pid.0 reserve commit
+in_unpaged w (line.Probe tid addr) = in_probe_of w tid.0 _ (stack_by w tid.0)
 
 in_told : (w : World) (e : Event) (a : Answer) → Holds (KeepsReferences w) (done a (world_told w e a))
 in_told w (line.Begin tid pid what) (answer.Pending why) = by_keep w tid.0 _ _
@@ -673,7 +711,7 @@ in_stepped w e (Some a) = in_told w e a
 pub in_step : (w : World) (e : Event) (before after : Report) → Holds (KeepsReferences w) (step w e before after)
 in_step w e before after = in_stepped w e (told w e before after)
 
--- ---- what stands beside the world
+-- ---- watched regions beside the world
 
 in_watch : (w : World) (watches : List WatchOf) (pid addr size count : ℕ) → Holds (KeepsReferences w) (watch w watches pid addr size count)
 in_watch w watches pid addr size count = search (tables, by_refusal, unchanged) depth 12
@@ -681,36 +719,7 @@ in_watch w watches pid addr size count = search (tables, by_refusal, unchanged) 
 in_reset_watch : (w : World) (watches : List WatchOf) (pid addr size : ℕ) → Holds (KeepsReferences w) (reset_watch w watches pid addr size)
 in_reset_watch w watches pid addr size = search (tables, by_refusal, unchanged) depth 12
 
-by_stack : (w : World) (pid : ℕ) (p : ProcessOf Page) (r c base : ℕ) (a : Answer) → process_of w pid ≡ Some p → Holds (KeepsReferences w) (done a (set_regions w pid p (add_region (stack_region filled base r c) p.regions)))
-by_stack w pid p r c base a lives = by_regions w pid p (add_region (stack_region filled base r c) p.regions) a lives (λ k. each-insert (RegionRefers w) p.regions _ (stack_region filled base r c) k (λ v is. cc))
-
-in_made : (w : World) (pid : ℕ) (p : ProcessOf Page) (r c : ℕ) → process_of w pid ≡ Some p → Holds (KeepsReferences w) (made filled w pid p r c)
-in_made w pid p r c lives = search (tables, by_refusal, by_stack) depth 12
-
-in_stack : (w : World) (stacks : Numbered StackOf) (tid pid reserve commit : ℕ) → Holds (KeepsReferences w) (stack filled w stacks tid pid reserve commit)
-in_stack w stacks tid pid reserve commit = search (tables, by_refusal, unchanged, in_made) depth 12
-
-in_grown : (w : World) (s : StackOf) (p : ProcessOf Page) (c : Committed Page) (page : ℕ) → process_of w s.pid ≡ Some p → committed_at w p.regions page ≡ Some c → Holds (KeepsReferences w) (grown filled w s (guard_off w s.pid p c page))
-in_grown w s p c page lives committed =
-    let h = by_guard w s.pid p c page answer.Ok lives committed in
-    let k = in_alloc filled (guard_off w s.pid p c page) s.pid (address_of (s.guard_page - 1)) 1 commit_type 0x104 in
-    record { it = record { kept = λ spaces. k.it.kept (h.it.kept spaces) } }
-
-in_probe_at : (w : World) (p : ProcessOf Page) (s : StackOf) (page : ℕ) (c : Option (Committed Page)) → process_of w s.pid ≡ Some p → committed_at w p.regions page ≡ c → Holds (KeepsReferences w) (probe_at filled w p s page c)
-in_probe_at w p s page None lives committed = unchanged w _
-in_probe_at w p s page (Some c) lives committed = search (tables, unchanged, by_guard, in_grown) depth 14
-
-in_probe_in : (w : World) (s : StackOf) (page : ℕ) (p : Option (ProcessOf Page)) → process_of w s.pid ≡ p → Holds (KeepsReferences w) (probe_in filled w s page p)
-in_probe_in w s page None lives = unchanged w _
-in_probe_in w s page (Some p) lives = in_probe_at w p s page (committed_at w p.regions page) lives refl
-
-in_probe_of : (w : World) (page : ℕ) (s : Option StackOf) → Holds (KeepsReferences w) (probe_of filled w page s)
-in_probe_of w page None = unchanged w _
-in_probe_of w page (Some s) = in_probe_in w s page (process_of w s.pid) refl
-
 pub in_outcome : (s : System) (e : Event) (before after : Report) → Holds (KeepsReferences s.world) (outcome s e before after)
 in_outcome s (line.Watch pid unwrites addr size count) before after = in_watch s.world s.watches pid.0 addr size count
 in_outcome s (line.ResetWatch pid addr size) before after = in_reset_watch s.world s.watches pid.0 addr size
-in_outcome s (line.Stack tid pid reserve commit) before after = in_stack s.world s.stacks tid.0 pid.0 reserve commit
-in_outcome s (line.Probe tid addr) before after = in_probe_of s.world _ (numbered s.stacks tid.0)
 in_outcome s e before after = in_step s.world (plain_line e) before after

@@ -15,8 +15,8 @@ use Rattle.mm_types.specs.declared.views.ViewAccess.{ViewAccess}
 use Rattle.mm_types.specs.Address.{Range, end_of, granule_range_of, pages_for, page_of, lies_within, meets, first_user_page, end_of_user_pages, granule_pages, granule_size, is_granule_address, address_of}
 use Rattle.mm_types.specs.Protection.{base_of}
 use Rattle.mm_types.specs.Spelling.{Text}
-use Rattle.mm_world.specs.World.{WorldOf, ProcessOf, RegionOf, RowOf, AreaOf, SectionOf, Numbered, numbered, pages_of}
-use Rattle.mm_world.specs.Find.{Found, first_where, process_of, set_process, set_regions, set_region, set_area, add_region, ranges_of, placed, region_around, is_private}
+use Rattle.mm_world.specs.World.{StackOf, WorldOf, ProcessOf, RegionOf, RowOf, AreaOf, SectionOf, Numbered, numbered, pages_of}
+use Rattle.mm_world.specs.Find.{end_stacks, Found, first_where, process_of, set_process, set_regions, set_region, set_area, add_region, ranges_of, placed, region_around, is_private}
 use Rattle.mm_world.specs.Outcome.{OutcomeOf, done, refused, within_limit}
 use Rattle.mm_world.specs.Rows.{is_one_of, is_protection_among, private_protections, reserved_row, commit, protected, change_rows, every_page, accepts, is_committed_at}
 use Rattle.mm_types.specs.Allocation.{reserve_type}
@@ -198,6 +198,13 @@ module _ {B : Type 0} where
   by_remove : (w : WorldOf B) (pid : ℕ) (p : ProcessOf B) (i : ℕ) (a : Answer) → process_of w pid ≡ Some p → Holds (KeepsSpaces w) (done a (set_regions w pid p (remove p.regions i)))
   by_remove w pid p i a lives = by_regions w pid p (remove p.regions i) a lives (space_remove p.regions i)
 
+  -- stacks stand beside the regions
+  pub by_beside : (w v : WorldOf B) (stacks : Numbered StackOf) (a : Answer) → Holds (KeepsSpaces w) (done a v) → Holds (KeepsSpaces w) (done a (record v { stacks = stacks }))
+  by_beside w v stacks a h = record { it = record { kept = h.it.kept } }
+
+  by_release : (w : WorldOf B) (pid : ℕ) (p : ProcessOf B) (i : ℕ) (ends : StackOf → Bool) (a : Answer) → process_of w pid ≡ Some p → Holds (KeepsSpaces w) (done a (end_stacks (set_regions w pid p (remove p.regions i)) ends))
+  by_release w pid p i ends a lives = by_beside w (set_regions w pid p (remove p.regions i)) _ a (by_remove w pid p i a lives)
+
   by_whole : (w : WorldOf B) (pid : ℕ) (p : ProcessOf B) (addr : ℕ) (r : Found (RegionOf B)) → process_of w pid ≡ Some p → private_at p.regions addr ≡ Some r → Holds (KeepsSpaces w) (decommit w pid p r (pages_of r.thing))
   by_whole w pid p addr r lives found =
       let is = private_is r.thing.kind (and-true (is_private r.thing.kind) (address_of r.thing.base == addr) (found_stands _ p.regions r found).passes).0 in
@@ -210,7 +217,7 @@ module _ {B : Type 0} where
       (λ h. rows_cleared r.thing range (private_is r.thing.kind passes.0) h (begins_before range r.thing passes.1))
 
   pub in_free : (w : WorldOf B) (pid addr size type : ℕ) → Holds (KeepsSpaces w) (free w pid addr size type)
-  in_free w pid addr size type = search (tables, by_refusal, by_remove, by_whole, by_part) depth 14
+  in_free w pid addr size type = search (tables, by_refusal, by_release, by_whole, by_part) depth 14
 
   -- ---- protect and query
 

@@ -11,25 +11,25 @@ use Rattle.mm_types.specs.declared.views.Kind.{Kind}
 use Rattle.mm_types.specs.declared.views.Kind.TheVariants as kind
 use Rattle.mm_types.specs.declared.views.View.{View}
 use Rattle.mm_types.specs.Address.{Range, address_of, page_of, lowest_gap}
-use Rattle.mm_world.specs.World.{World, WorldOf, ProcessOf, RegionOf, RowOf, KeptOf, Page, Numbered, numbered, filled}
-use Rattle.mm_world.specs.Find.{process_of, set_regions, add_region, ranges_of}
+use Rattle.mm_world.specs.World.{StackOf, World, WorldOf, ProcessOf, RegionOf, RowOf, KeptOf, Page, filled}
+use Rattle.mm_world.specs.Find.{set_stack, stack_by, process_of, set_regions, add_region, ranges_of}
 use Rattle.mm_world.specs.Keys.{Home, Own, InSection, Committed, committed_at, set_row, set_shared, guard_off}
 use Rattle.mm_world.specs.Outcome.{done}
 use Rattle.mm_types.specs.Allocation.{commit_type}
 use Rattle.mm_world.specs.Access.{Attempt, ReadOf, WriteOf, Execute, access, access_at, perform, write_to, written, bytes_of, address_in, attempt_in}
 use Rattle.mm_world.specs.Report.{Report}
 use Rattle.mm_world.specs.Step.{unpaged, told, step, stepped, world_told, begin, resume, store_line, kept_by, keep}
-use Rattle.mm_world.specs.Stack.{StackOf, stack, probe, probe_at, probe_in, probe_of, grown, made, stack_region}
-use Rattle.mm_world.specs.Watch.{WatchOf, watch, reset_watch}
-use Rattle.mm_world.specs.System.{System, plain_line, outcome}
+use Rattle.mm_world.specs.Stack.{stack, probe, probe_at, probe_in, probe_of, grown, made, stack_region}
 use Rattle.mm_world.specs.WellFormed.{RowFits, RowsFit, PrivateRowFits, held_protections}
 use Rattle.mm_world.specs.Rows.{is_one_of, reserved_row, commit}
+use Rattle.mm_world.specs.Watch.{WatchOf, watch, reset_watch}
+use Rattle.mm_world.specs.System.{System, plain_line, outcome}
 use Rattle.mm_world.proofs.Tables.{Holds, tables}
 use Rattle.mm_world.proofs.Finding.{found_stands, IsCommitted, committed_is, HomeCases, IsOwn, IsShared, home_cases}
 use Rattle.mm_world.proofs.Each.{each-set, each-at, each-append, each-replicate}
 use Rattle.mm_world.proofs.LaidOut.{placed_is}
 use Rattle.mm_world.proofs.RowsFit.{reserved_fits, commit_fits}
-use Rattle.mm_world.proofs.Spaces.{KeepsSpaces, by_refusal, by_same, by_regions, space_set, space_add, in_alloc, in_free, in_protect, in_query, in_create, in_create_file, in_open, in_close, in_map, in_unmap, in_flush, in_exit, in_new_process, in_new_file, in_take_fail, in_grow}
+use Rattle.mm_world.proofs.Spaces.{KeepsSpaces, by_beside, by_refusal, by_same, by_regions, space_set, space_add, in_alloc, in_free, in_protect, in_query, in_create, in_create_file, in_open, in_close, in_map, in_unmap, in_flush, in_exit, in_new_process, in_new_file, in_take_fail, in_grow}
 
 module _ {B : Type 0} where
   -- ---- one row is changed
@@ -134,6 +134,58 @@ in_resume w tid (Some k) = record { it = record { kept = (in_access w k.pid (add
 in_store_line : (w : World) (pid : ℕ) → Holds (KeepsSpaces w) (store_line w pid)
 in_store_line w pid = search (tables, by_refusal, unchanged) depth 12
 
+-- ---- stacks
+
+module _ {B : Type 0} (fill : ℕ → B) where
+  pub stack_rows : (base r c : ℕ) → RowsFit (stack_region fill base r c)
+  stack_rows base r c =
+      each-append PrivateRowFits (replicate (r - (c + 1)) reserved_row) (commit (fill 0) 0x104 reserved_row ∷ replicate c (commit (fill 0) 0x04 reserved_row))
+      (each-replicate PrivateRowFits (r - (c + 1)) reserved_row reserved_fits)
+      (commit_fits (fill 0) 0x104 reserved_row refl, each-replicate PrivateRowFits c (commit (fill 0) 0x04 reserved_row) (commit_fits (fill 0) 0x04 reserved_row refl))
+
+  pub stack_length : (base r c : ℕ) → c + 2 ≤ r → length (stack_region fill base r c).rows ≡ r
+  stack_length base r c fits =
+      let bottom : List (RowOf B) = replicate (r - (c + 1)) reserved_row in
+      let top : List (RowOf B) = replicate c (commit (fill 0) 0x04 reserved_row) in
+      let below : length bottom ≡ r - (c + 1) = length-replicate (r - (c + 1)) _ in
+      let above : length top ≡ c = length-replicate c _ in
+      omega (arith, length-append bottom (commit (fill 0) 0x104 reserved_row ∷ top), below, above, fits)
+
+by_stack : (w : World) (tid pid : ℕ) (p : ProcessOf Page) (s : StackOf) (r c base : ℕ) (a : Answer) → process_of w pid ≡ Some p → nat_le (c + 2) r ≡ true → lowest_gap (ranges_of p.regions) r ≡ Some base → Holds (KeepsSpaces w) (done a (set_stack (set_regions w pid p (add_region (stack_region filled base r c) p.regions)) tid s))
+by_stack w tid pid p s r c base a lives fits found =
+    let range : Range = record { first = base; count = r } in
+    let at = placed_is (ranges_of p.regions) 0 (record { first = 0; count = r }) r range refl (ap (λ g. option_map (λ first. let range : Range = record { first = first; count = r } in range) g) found) in
+    let enough = leb-true (c + 2) r fits in
+    by_beside w (set_regions w pid p (add_region (stack_region filled base r c) p.regions)) _ a (by_regions w pid p (add_region (stack_region filled base r c) p.regions) a lives
+    (space_add (stack_region filled base r c) p.regions range at.placed refl (stack_length filled base r c enough) (omega (arith, enough)) (stack_rows filled base r c)))
+
+in_made : (w : World) (tid pid : ℕ) (p : ProcessOf Page) (r c : ℕ) → process_of w pid ≡ Some p → Holds (KeepsSpaces w) (made filled w tid pid p r c)
+in_made w tid pid p r c lives = search (tables, by_refusal, by_stack) depth 12
+
+pub in_stack : (w : World) (tid pid reserve commit : ℕ) → Holds (KeepsSpaces w) (stack filled w tid pid reserve commit)
+in_stack w tid pid reserve commit = search (tables, by_refusal, unchanged, in_made) depth 12
+
+in_grown : (w : World) (tid : ℕ) (s : StackOf) (p : ProcessOf Page) (c : Committed Page) (page : ℕ) → process_of w s.pid ≡ Some p → committed_at w p.regions page ≡ Some c → Holds (KeepsSpaces w) (grown filled (guard_off w s.pid p c page) tid s)
+in_grown w tid s p c page lives committed =
+    let h = by_guard w s.pid p c page answer.Ok lives committed in
+    let k = in_alloc filled (guard_off w s.pid p c page) s.pid (address_of (s.guard_page - 1)) 1 commit_type 0x104 in
+    record { it = record { kept = λ spaces. k.it.kept (h.it.kept spaces) } }
+
+in_probe_at : (w : World) (tid : ℕ) (p : ProcessOf Page) (s : StackOf) (page : ℕ) (c : Option (Committed Page)) → process_of w s.pid ≡ Some p → committed_at w p.regions page ≡ c → Holds (KeepsSpaces w) (probe_at filled w tid p s page c)
+in_probe_at w tid p s page None lives committed = unchanged w _
+in_probe_at w tid p s page (Some c) lives committed = search (tables, unchanged, by_guard, in_grown) depth 14
+
+in_probe_in : (w : World) (tid : ℕ) (s : StackOf) (page : ℕ) (p : Option (ProcessOf Page)) → process_of w s.pid ≡ p → Holds (KeepsSpaces w) (probe_in filled w tid s page p)
+in_probe_in w tid s page None lives = unchanged w _
+in_probe_in w tid s page (Some p) lives = in_probe_at w tid p s page (committed_at w p.regions page) lives refl
+
+in_probe_of : (w : World) (tid page : ℕ) (s : Option StackOf) → Holds (KeepsSpaces w) (probe_of filled w tid page s)
+in_probe_of w tid page None = unchanged w _
+in_probe_of w tid page (Some s) = in_probe_in w tid s page (process_of w s.pid) refl
+
+pub in_probe : (w : World) (tid addr : ℕ) → Holds (KeepsSpaces w) (probe filled w tid addr)
+in_probe w tid addr = in_probe_of w tid (page_of addr) (stack_by w tid)
+
 -- ---- lines
 
 in_unpaged : (w : World) (e : Event) → Holds (KeepsSpaces w) (unpaged w e)
@@ -168,8 +220,8 @@ in_unpaged w line.Counts = unchanged w _
 in_unpaged w (line.Grow n) = in_grow w n
 in_unpaged w (line.Watch pid unwrites addr size count) = unchanged w _
 in_unpaged w (line.ResetWatch pid addr size) = unchanged w _
-in_unpaged w (line.Stack tid pid reserve commit) = unchanged w _
-in_unpaged w (line.Probe tid addr) = unchanged w _
+in_unpaged w (line.Stack tid pid reserve commit) = in_stack w tid.0 pid.0 reserve commit
+in_unpaged w (line.Probe tid addr) = in_probe_of w tid.0 _ (stack_by w tid.0)
 
 in_told : (w : World) (e : Event) (a : Answer) → Holds (KeepsSpaces w) (done a (world_told w e a))
 in_told w (line.Begin tid pid what) (answer.Pending why) = by_same w (keep w tid.0 _) _ refl
@@ -183,7 +235,7 @@ in_stepped w e (Some a) = in_told w e a
 pub in_step : (w : World) (e : Event) (before after : Report) → Holds (KeepsSpaces w) (step w e before after)
 in_step w e before after = in_stepped w e (told w e before after)
 
--- ---- what stands beside the world
+-- ---- watched regions beside the world
 
 in_watch : (w : World) (watches : List WatchOf) (pid addr size count : ℕ) → Holds (KeepsSpaces w) (watch w watches pid addr size count)
 in_watch w watches pid addr size count = search (tables, by_refusal, unchanged) depth 12
@@ -191,59 +243,7 @@ in_watch w watches pid addr size count = search (tables, by_refusal, unchanged) 
 in_reset_watch : (w : World) (watches : List WatchOf) (pid addr size : ℕ) → Holds (KeepsSpaces w) (reset_watch w watches pid addr size)
 in_reset_watch w watches pid addr size = search (tables, by_refusal, unchanged) depth 12
 
-module _ {B : Type 0} (fill : ℕ → B) where
-  pub stack_rows : (base r c : ℕ) → RowsFit (stack_region fill base r c)
-  stack_rows base r c =
-      each-append PrivateRowFits (replicate (r - (c + 1)) reserved_row) (commit (fill 0) 0x104 reserved_row ∷ replicate c (commit (fill 0) 0x04 reserved_row))
-      (each-replicate PrivateRowFits (r - (c + 1)) reserved_row reserved_fits)
-      (commit_fits (fill 0) 0x104 reserved_row refl, each-replicate PrivateRowFits c (commit (fill 0) 0x04 reserved_row) (commit_fits (fill 0) 0x04 reserved_row refl))
-
-  pub stack_length : (base r c : ℕ) → c + 2 ≤ r → length (stack_region fill base r c).rows ≡ r
-  stack_length base r c fits =
-      let bottom : List (RowOf B) = replicate (r - (c + 1)) reserved_row in
-      let top : List (RowOf B) = replicate c (commit (fill 0) 0x04 reserved_row) in
-      let below : length bottom ≡ r - (c + 1) = length-replicate (r - (c + 1)) _ in
-      let above : length top ≡ c = length-replicate c _ in
-      omega (arith, length-append bottom (commit (fill 0) 0x104 reserved_row ∷ top), below, above, fits)
-
-by_stack : (w : World) (pid : ℕ) (p : ProcessOf Page) (r c base : ℕ) (a : Answer) → process_of w pid ≡ Some p → nat_le (c + 2) r ≡ true → lowest_gap (ranges_of p.regions) r ≡ Some base → Holds (KeepsSpaces w) (done a (set_regions w pid p (add_region (stack_region filled base r c) p.regions)))
-by_stack w pid p r c base a lives fits found =
-    let range : Range = record { first = base; count = r } in
-    let at = placed_is (ranges_of p.regions) 0 (record { first = 0; count = r }) r range refl (ap (λ g. option_map (λ first. let range : Range = record { first = first; count = r } in range) g) found) in
-    let enough = leb-true (c + 2) r fits in
-    by_regions w pid p (add_region (stack_region filled base r c) p.regions) a lives
-    (space_add (stack_region filled base r c) p.regions range at.placed refl (stack_length filled base r c enough) (omega (arith, enough)) (stack_rows filled base r c))
-
-in_made : (w : World) (pid : ℕ) (p : ProcessOf Page) (r c : ℕ) → process_of w pid ≡ Some p → Holds (KeepsSpaces w) (made filled w pid p r c)
-in_made w pid p r c lives = search (tables, by_refusal, by_stack) depth 12
-
-pub in_stack : (w : World) (stacks : Numbered StackOf) (tid pid reserve commit : ℕ) → Holds (KeepsSpaces w) (stack filled w stacks tid pid reserve commit)
-in_stack w stacks tid pid reserve commit = search (tables, by_refusal, unchanged, in_made) depth 12
-
-in_grown : (w : World) (s : StackOf) (p : ProcessOf Page) (c : Committed Page) (page : ℕ) → process_of w s.pid ≡ Some p → committed_at w p.regions page ≡ Some c → Holds (KeepsSpaces w) (grown filled w s (guard_off w s.pid p c page))
-in_grown w s p c page lives committed =
-    let h = by_guard w s.pid p c page answer.Ok lives committed in
-    let k = in_alloc filled (guard_off w s.pid p c page) s.pid (address_of (s.guard_page - 1)) 1 commit_type 0x104 in
-    record { it = record { kept = λ spaces. k.it.kept (h.it.kept spaces) } }
-
-in_probe_at : (w : World) (p : ProcessOf Page) (s : StackOf) (page : ℕ) (c : Option (Committed Page)) → process_of w s.pid ≡ Some p → committed_at w p.regions page ≡ c → Holds (KeepsSpaces w) (probe_at filled w p s page c)
-in_probe_at w p s page None lives committed = unchanged w _
-in_probe_at w p s page (Some c) lives committed = search (tables, unchanged, by_guard, in_grown) depth 14
-
-in_probe_in : (w : World) (s : StackOf) (page : ℕ) (p : Option (ProcessOf Page)) → process_of w s.pid ≡ p → Holds (KeepsSpaces w) (probe_in filled w s page p)
-in_probe_in w s page None lives = unchanged w _
-in_probe_in w s page (Some p) lives = in_probe_at w p s page (committed_at w p.regions page) lives refl
-
-in_probe_of : (w : World) (page : ℕ) (s : Option StackOf) → Holds (KeepsSpaces w) (probe_of filled w page s)
-in_probe_of w page None = unchanged w _
-in_probe_of w page (Some s) = in_probe_in w s page (process_of w s.pid) refl
-
-pub in_probe : (w : World) (stacks : Numbered StackOf) (tid addr : ℕ) → Holds (KeepsSpaces w) (probe filled w stacks tid addr)
-in_probe w stacks tid addr = in_probe_of w (page_of addr) (numbered stacks tid)
-
 pub in_outcome : (s : System) (e : Event) (before after : Report) → Holds (KeepsSpaces s.world) (outcome s e before after)
 in_outcome s (line.Watch pid unwrites addr size count) before after = in_watch s.world s.watches pid.0 addr size count
 in_outcome s (line.ResetWatch pid addr size) before after = in_reset_watch s.world s.watches pid.0 addr size
-in_outcome s (line.Stack tid pid reserve commit) before after = in_stack s.world s.stacks tid.0 pid.0 reserve commit
-in_outcome s (line.Probe tid addr) before after = in_probe_of s.world _ (numbered s.stacks tid.0)
 in_outcome s e before after = in_step s.world (plain_line e) before after

@@ -31,6 +31,7 @@ module _ {A B : Type 0} (f : A → B) where
         blocks_used = w.blocks_used;
         fails_taken = w.fails_taken;
         kept = w.kept;
+        stacks = w.stacks;
       }
 
   abbrev pub map_outcome : OutcomeOf A → OutcomeOf B
@@ -101,6 +102,7 @@ world_with t bytes =
       blocks_used = t.blocks_used;
       fails_taken = t.fails_taken;
       kept = t.kept;
+      stacks = t.stacks;
     }
 
 -- the bytes after a call: a key that is live before and after keeps its bytes, one that comes to be reads as zero

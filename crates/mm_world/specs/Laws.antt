@@ -71,7 +71,6 @@ pub record LineLeaves (w : World) (e : Event) (o : OutcomeOf Page) : Type 0 wher
 -- the same of a line of the whole system
 pub record SystemLeaves (s : System) (e : Event) (d : Done) : Type 0 where
   pub world : LineLeaves s.world e (done d.answer d.system.world)
-  pub stacks : is_success d.answer ≡ false → d.system.stacks ≡ s.stacks
   pub watches : is_success d.answer ≡ false → d.system.watches ≡ s.watches
 
 -- ---- keys and rows

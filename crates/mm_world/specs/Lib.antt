@@ -16,12 +16,13 @@ pub mod Access
 pub mod Sections
 pub mod Views
 pub mod Processes
+-- stacks
+pub mod Stack
 -- where an answer looks at paging, and one line as a whole
 pub mod Report
 pub mod Failure
 pub mod Step
--- stacks and watched regions beside a world
-pub mod Stack
+-- watched regions beside a world
 pub mod Watch
 pub mod System
 -- what holds of worlds, and words of laws

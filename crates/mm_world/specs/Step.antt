@@ -21,6 +21,7 @@ use Rattle.mm_world.specs.Sections.{create, create_file, open_section, close}
 use Rattle.mm_world.specs.Views.{map_view, unmap, flush}
 use Rattle.mm_world.specs.Processes.{new_process, exit, new_file, take_fail, tell_charge, grow, most_slots}
 use Rattle.mm_world.specs.Access.{Attempt, ReadOf, WriteOf, Execute, access, address_in, attempt_in, is_permitted}
+use Rattle.mm_world.specs.Stack.{stack, probe}
 use Rattle.mm_world.specs.Report.{Report, failed_calls}
 use Rattle.mm_world.specs.Failure.{Need, need_of, access_fails, wait_failed, pending}
 
@@ -39,6 +40,7 @@ first_world m =
       blocks_used = 0;
       fails_taken = 0;
       kept = replicate threads None;
+      stacks = replicate threads None;
     }
 
 -- ---- what a thread keeps
@@ -108,10 +110,10 @@ unpaged w (line.Fail device direction k n) = take_fail w
 unpaged w line.Charge = tell_charge w
 unpaged w line.Counts = done answer.Ok w
 unpaged w (line.Grow n) = grow w n
-unpaged w (line.Watch pid unwrite addr size count) = done answer.Nothing w  -- these four are decided beside the world: System
+unpaged w (line.Watch pid unwrites addr size count) = done answer.Nothing w  -- these two are decided beside the world: System
 unpaged w (line.ResetWatch pid addr size) = done answer.Nothing w
-unpaged w (line.Stack tid pid reserve commit) = done answer.Nothing w
-unpaged w (line.Probe tid addr) = done answer.Nothing w
+unpaged w (line.Stack tid pid reserve commit) = stack filled w tid.0 pid.0 reserve commit
+unpaged w (line.Probe tid addr) = probe filled w tid.0 addr
 
 -- ---- what the store tells in place of it
 

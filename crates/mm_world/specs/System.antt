@@ -1,6 +1,6 @@
--- A world with what stands beside it: the stacks of threads and the watched regions. Each line of a script is decided here.
+-- A world with what stands beside it: the watched regions. Each line of a script is decided here.
 -- Profile, "Watched regions and stacks"; each other line is decided as in Step.
-use Rattle.std.specs.Prelude.{ℕ, ◌-◌, Bool, true, false, ◌==◌, if◌then◌else◌, List, [], ◌∷◌, ◌++◌, map, replicate, Option, Some, None, slice_set, unwrap_or, option_map, ◌+◌}
+use Rattle.std.specs.Prelude.{ℕ, ◌-◌, Bool, true, false, ◌==◌, if◌then◌else◌, List, [], ◌∷◌, ◌++◌, Option, Some, None, unwrap_or, option_map, ◌+◌}
 use Rattle.mm_types.specs.declared.answers.Answer.{Answer}
 use Rattle.mm_types.specs.declared.answers.Answer.TheVariants as answer
 use Rattle.mm_types.specs.declared.events.AccessSpec.{AccessSpec}
@@ -9,25 +9,23 @@ use Rattle.mm_types.specs.declared.events.Event.{Event}
 use Rattle.mm_types.specs.declared.events.Event.TheVariants as line
 use Rattle.mm_types.specs.Address.{Range, page_of, pages_for, range_of, granule_range_of}
 use Rattle.mm_types.specs.Machine.{MachineOf, limit_of}
-use Rattle.mm_world.specs.World.{Page, World, WorldOf, Numbered, numbered, KeptOf, filled}
+use Rattle.mm_world.specs.World.{Page, World, WorldOf, KeptOf}
 use Rattle.mm_world.specs.Outcome.{OutcomeOf}
 use Rattle.mm_world.specs.Rows.{is_one_of}
 use Rattle.mm_types.specs.Allocation.{release_type, reserve_type, reserve_and_commit_type, watch_type}
 use Rattle.mm_world.specs.Report.{Report}
-use Rattle.mm_world.specs.Step.{step, world_after, first_world, threads, kept_by, Reported}
-use Rattle.mm_world.specs.Stack.{StackOf, stack, probe, without, is_stack_at, is_stack_in, moved}
+use Rattle.mm_world.specs.Step.{step, world_after, first_world, kept_by, Reported}
 use Rattle.mm_world.specs.Watch.{WatchOf, watch, reset_watch, begun, mark_written, one_page, unwrite, keep_watches, is_watch_at, is_watch_in}
 
 pub record SystemOf (B : Type 0) : Type 0 where
   pub world : WorldOf B
-  pub stacks : Numbered StackOf  -- of each of the 256 threads
   pub watches : List WatchOf  -- in the order in which the regions were made
 
 abbrev pub System : Type 0
 System = SystemOf Page
 
 abbrev pub first_system : {B : Type 0} → MachineOf → SystemOf B
-first_system m = record { world = first_world m; stacks = replicate threads None; watches = [] }
+first_system m = record { world = first_world m; watches = [] }
 
 -- ---- the answer and the world
 
@@ -45,24 +43,12 @@ plain_line e = e
 abbrev pub beside : System → Event → Option (OutcomeOf Page)
 beside s (line.Watch pid unwrites addr size count) = Some (watch s.world s.watches pid.0 addr size count)
 beside s (line.ResetWatch pid addr size) = Some (reset_watch s.world s.watches pid.0 addr size)
-beside s (line.Stack tid pid reserve commit) = Some (stack filled s.world s.stacks tid.0 pid.0 reserve commit)
-beside s (line.Probe tid addr) = Some (probe filled s.world s.stacks tid.0 addr)
 beside s _ = None
 
 abbrev pub outcome : System → Event → Report → Report → OutcomeOf Page
 outcome s e before after = unwrap_or (beside s e) (step s.world (plain_line e) before after)
 
 -- ---- what stands beside the world after a line, from its answer
-
-abbrev pub stacks_after : Numbered StackOf → Event → Answer → Numbered StackOf
-stacks_after stacks (line.Stack tid pid reserve commit) (answer.Stack base size guard) =
-    slice_set stacks tid.0 (Some (record { pid = pid.0; base = page_of base; guard_page = page_of guard }))
-stacks_after stacks (line.Probe tid addr) (answer.At guard) =
-    slice_set stacks tid.0 (option_map (moved guard) (numbered stacks tid.0))
-stacks_after stacks (line.Free pid addr size type) answer.Ok =
-    if type == release_type then map (without (is_stack_at pid.0 addr)) stacks else stacks
-stacks_after stacks (line.Exit pid) answer.Ok = map (without (is_stack_in pid.0)) stacks
-stacks_after stacks _ _ = stacks
 
 -- the pages of the region that an `alloc` made at this base
 abbrev pub reserved_range : ℕ → ℕ → ℕ → Range
@@ -101,7 +87,7 @@ pub record Done : Type 0 where
 
 abbrev pub system_with : System → World → Event → Answer → System
 system_with s w e a =
-    record { world = w; stacks = stacks_after s.stacks e a; watches = watches_after s.world s.watches e a }
+    record { world = w; watches = watches_after s.world s.watches e a }
 
 -- one line
 abbrev pub system_step : System → Event → Report → Report → Done

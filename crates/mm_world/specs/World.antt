@@ -60,6 +60,12 @@ pub record KeptOf : Type 0 where
   pub pid : ℕ
   pub access : AccessSpec
 
+-- the stack of a thread; `base < guard_page`
+pub record StackOf : Type 0 where
+  pub pid : ℕ
+  pub base : ℕ  -- its lowest page
+  pub guard_page : ℕ
+
 pub record WorldOf (B : Type 0) : Type 0 where
   pub machine : MachineOf  -- slots: those that there are now
   pub processes : Numbered (ProcessOf B)  -- by pid; 0 is none from the start
@@ -69,6 +75,7 @@ pub record WorldOf (B : Type 0) : Type 0 where
   pub blocks_used : ℕ
   pub fails_taken : ℕ
   pub kept : Numbered KeptOf  -- of each of the 256 threads
+  pub stacks : Numbered StackOf  -- of each of them
 
 abbrev pub World : Type 0
 World = WorldOf Page

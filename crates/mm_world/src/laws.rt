@@ -4,7 +4,7 @@ ghost use Rattle.mm_types.specs.declared.numbers.Key.{Key};
 ghost use Rattle.mm_types.specs.Address.{holds_page, are_user_pages, granule_pages};
 ghost use Rattle.mm_types.specs.Machine.{MachineOf, IsMachine};
 ghost use Rattle.mm_types.specs.Spelling.{Text};
-ghost use Rattle.mm_world.specs.World.{World, ProcessOf, RegionOf, Page, Numbered, filled, pages_of};
+ghost use Rattle.mm_world.specs.World.{World, ProcessOf, RegionOf, Page, filled, pages_of};
 ghost use Rattle.mm_world.specs.Find.{process_of};
 ghost use Rattle.mm_world.specs.Charge.{charge, limit};
 ghost use Rattle.mm_world.specs.Keys.{Committed, committed_at, content_of, key_of, private_key};
@@ -19,7 +19,7 @@ ghost use Rattle.mm_world.specs.Views.{map_view, unmap, flush};
 ghost use Rattle.mm_world.specs.Access.{Attempt, access};
 ghost use Rattle.mm_world.specs.Report.{Report};
 ghost use Rattle.mm_world.specs.Step.{step, world_after};
-ghost use Rattle.mm_world.specs.Stack.{StackOf, stack, probe};
+ghost use Rattle.mm_world.specs.Stack.{stack, probe};
 ghost use Rattle.mm_world.specs.System.{System, system_step, system_after};
 ghost use Rattle.mm_world.specs.WellFormed.{WellFormed, Spaces};
 ghost use Rattle.mm_world.specs.Laws.{LineLeaves, SystemLeaves, HasCommittedRow, Reached, LimitDecides, is_charging_line, is_limit_refusal, more_slots};
@@ -53,7 +53,7 @@ pub fn commitment_is_refused_exactly_past_the_limit()
     ensures protect { (w : World) (pid addr size prot : ℕ) → LimitDecides w (protect w pid addr size prot) (λ n. protect (more_slots w n) pid addr size prot) }
     ensures create { (fill : ℕ → Page) (w : World) (pid size flags : ℕ) (name : Option Text) → LimitDecides w (create fill w pid size flags name) (λ n. create fill (more_slots w n) pid size flags name) }
     ensures map { (w : World) (pid handle access offset len addr : ℕ) → LimitDecides w (map_view w pid handle access offset len addr) (λ n. map_view (more_slots w n) pid handle access offset len addr) }
-    ensures stack { (fill : ℕ → Page) (w : World) (stacks : Numbered StackOf) (tid pid reserve commit : ℕ) → LimitDecides w (stack fill w stacks tid pid reserve commit) (λ n. stack fill (more_slots w n) stacks tid pid reserve commit) }
+    ensures stack { (fill : ℕ → Page) (w : World) (tid pid reserve commit : ℕ) → LimitDecides w (stack fill w tid pid reserve commit) (λ n. stack fill (more_slots w n) tid pid reserve commit) }
     ensures others { (s : System) (e : Event) (before after : Report) → is_charging_line e ≡ false → is_limit_refusal (system_step s e before after).answer ≡ false }
 {}
 
@@ -95,8 +95,8 @@ pub fn calls_do_not_look_at_bytes()
     ensures take_fail { (w : World) → take_fail (tables_of w) ≡ tables_outcome (take_fail w) }
     ensures tell_charge { (w : World) → tell_charge (tables_of w) ≡ tables_outcome (tell_charge w) }
     ensures grow { (w : World) (n : ℕ) → grow (tables_of w) n ≡ tables_outcome (grow w n) }
-    ensures stack { (w : World) (stacks : Numbered StackOf) (tid pid reserve commit : ℕ) → stack blank (tables_of w) stacks tid pid reserve commit ≡ tables_outcome (stack filled w stacks tid pid reserve commit) }
-    ensures probe { (w : World) (stacks : Numbered StackOf) (tid addr : ℕ) → probe blank (tables_of w) stacks tid addr ≡ tables_outcome (probe filled w stacks tid addr) }
+    ensures stack { (w : World) (tid pid reserve commit : ℕ) → stack blank (tables_of w) tid pid reserve commit ≡ tables_outcome (stack filled w tid pid reserve commit) }
+    ensures probe { (w : World) (tid addr : ℕ) → probe blank (tables_of w) tid addr ≡ tables_outcome (probe filled w tid addr) }
 {}
 
 /// A world is its tables and the bytes of its keys.
@@ -123,7 +123,7 @@ pub fn calls_keep_bytes()
     ensures exit { (t : Tables) (bytes : Key → Page) → Spaces t → (pid : ℕ) → AcrossBytes t bytes (exit t pid) (exit (world_with t bytes) pid) }
     ensures take_fail { (t : Tables) (bytes : Key → Page) → Spaces t → AcrossBytes t bytes (take_fail t) (take_fail (world_with t bytes)) }
     ensures grow { (t : Tables) (bytes : Key → Page) → Spaces t → (n : ℕ) → AcrossBytes t bytes (grow t n) (grow (world_with t bytes) n) }
-    ensures stack { (t : Tables) (bytes : Key → Page) → Spaces t → (stacks : Numbered StackOf) (tid pid reserve commit : ℕ) → AcrossBytes t bytes (stack blank t stacks tid pid reserve commit) (stack filled (world_with t bytes) stacks tid pid reserve commit) }
+    ensures stack { (t : Tables) (bytes : Key → Page) → Spaces t → (tid pid reserve commit : ℕ) → AcrossBytes t bytes (stack blank t tid pid reserve commit) (stack filled (world_with t bytes) tid pid reserve commit) }
     ensures file { (t : Tables) (bytes : Key → Page) → Spaces t → (name : Text) (pages byte : ℕ) → AcrossFile byte t bytes (new_file blank t name pages byte) (new_file filled (world_with t bytes) name pages byte) }
-    ensures probe { (t : Tables) (bytes : Key → Page) → Spaces t → (stacks : Numbered StackOf) (tid addr : ℕ) → AcrossBytes t bytes (probe blank t stacks tid addr) (probe filled (world_with t bytes) stacks tid addr) }
+    ensures probe { (t : Tables) (bytes : Key → Page) → Spaces t → (tid addr : ℕ) → AcrossBytes t bytes (probe blank t tid addr) (probe filled (world_with t bytes) tid addr) }
 {}

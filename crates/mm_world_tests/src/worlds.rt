@@ -8,7 +8,7 @@ use mm_blocks::{Blocks, Inject, Injected, MemBlocks};
 use mm_core::{World, is_built};
 use mm_pages::Pages;
 use mm_plain::Plain;
-use mm_types::{AllocFlags, Answer, Event, Machine, Name, NoMemory, Pid, Prot};
+use mm_types::{AllocFlags, Answer, Event, Machine, Name, NoMemory, Pid, Prot, Tid};
 use std::alloc::Global;
 use std::process::Abort;
 use std::test::Fail;
@@ -200,7 +200,7 @@ fn bytes_of_files_come_from_the_store(rt: HostRuntime) -> Result<(), Fail> {
 }
 
 #[test]
-fn forms_are_built_or_not(rt: HostRuntime) {
+fn a_world_decides_some_forms(rt: HostRuntime) {
     assert!(rt; is_built(&Event::Charge));
     assert!(rt; is_built(&Event::Counts));
     assert!(rt;
@@ -211,12 +211,9 @@ fn forms_are_built_or_not(rt: HostRuntime) {
         })
     );
     assert!(rt;
-        !is_built(&Event::Alloc {
-            pid: PID,
-            addr: 0,
-            size: 1,
-            form: 0x202000,
-            prot: 0x04
+        is_built(&Event::Probe {
+            tid: Tid(0),
+            addr: PAGE
         })
     );
 }

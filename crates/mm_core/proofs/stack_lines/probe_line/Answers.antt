@@ -2,14 +2,14 @@ use Rattle.std.proofs.Common.{refl, subst, Option}
 use Rattle.mm_types.specs.declared.events.Event.TheVariants as event
 use Rattle.mm_types.specs.declared.moves.LineKind.TheVariants as kind
 use Rattle.mm_types.specs.declared.numbers.Key.{Key}
-use Rattle.mm_world.specs.World.{Page, filled}
+use Rattle.mm_world.specs.World.{Page}
 use Rattle.mm_world.specs.Contents.{blank, world_with}
 use Rattle.mm_world.specs.Stack.{probe}
 use Rattle.mm_world.proofs.KeptProbe.{probe_across}
 use Rattle.mm_tables.specs.Fits.{Called, bytes_of}
 use Rattle.mm_core.proofs.Serving.{quiet-beside}
 use Rattle.mm_core.proofs.Making.{in_probe}
-use Rattle.mm_core.proofs.Lines.{decided-beside, if-ok}
+use Rattle.mm_core.proofs.Lines.{decided-call, if-ok}
 use Rattle.mm_core.proofs.Marking.{marked_makes, each-ok, each-err, halted_makes}
 use Rattle.mm_core.proofs.stack_lines.probe_line.Goals as goal
 
@@ -20,11 +20,11 @@ returns-clause-ok g c =
     let call = c.probe in
     let new = g.G.Pages.contents call.new.g in
     if-ok call.result call.ensures.ok (λ a h.
-    decided-beside g.G.Pages.unpaged (event.Probe c.args.tid c.args.addr) c.args.line t old _ (g.G.Pages.store c.begin.new.g) a call.new.t new (g.G.Pages.store call.new.g)
-    (probe blank t c.args.stacks.now c.args.tid.0 c.args.addr) (probe filled (world_with t (bytes_of old)) c.args.stacks.now c.args.tid.0 c.args.addr)
+    decided-call g.G.Pages.unpaged (event.Probe c.args.tid c.args.addr) c.args.line t old _ (g.G.Pages.store c.begin.new.g) a call.new.t new (g.G.Pages.store call.new.g)
+    (probe blank t c.args.tid.0 c.args.addr)
     c.requires.keeps c.requires.next c.begin.ensures.begins (quiet-beside _ _ call.ensures.beside)
-    (probe_across t (bytes_of old) c.sound.ensures.sound.spaces c.args.stacks.now c.args.tid.0 c.args.addr) (in_probe blank t c.args.stacks.now c.args.tid.0 c.args.addr) tt tt
-    (subst (λ (old : Key → Option Page). Called (probe blank t c.args.stacks.now c.args.tid.0 c.args.addr) t old a call.new.t new) c.begin.ensures.contents h) call.ensures.fits)
+    (probe_across t (bytes_of old) c.sound.ensures.sound.spaces c.args.tid.0 c.args.addr) (in_probe blank t c.args.tid.0 c.args.addr) refl tt tt
+    (subst (λ (old : Key → Option Page). Called (probe blank t c.args.tid.0 c.args.addr) t old a call.new.t new) c.begin.ensures.contents h) call.ensures.fits)
 
 pub returns-clause-marked : goal.returns-clause-marked
 returns-clause-marked g c =

@@ -2,14 +2,14 @@ use Rattle.std.proofs.Common.{refl, subst, Option}
 use Rattle.mm_types.specs.declared.events.Event.TheVariants as event
 use Rattle.mm_types.specs.declared.moves.LineKind.TheVariants as kind
 use Rattle.mm_types.specs.declared.numbers.Key.{Key}
-use Rattle.mm_world.specs.World.{Page, filled}
+use Rattle.mm_world.specs.World.{Page}
 use Rattle.mm_world.specs.Contents.{blank, world_with}
 use Rattle.mm_world.specs.Stack.{stack}
 use Rattle.mm_world.proofs.Across.{stack_across}
 use Rattle.mm_tables.specs.Fits.{Called, bytes_of}
 use Rattle.mm_core.proofs.Serving.{quiet-beside}
 use Rattle.mm_core.proofs.Making.{in_stack}
-use Rattle.mm_core.proofs.Lines.{decided-beside, if-ok}
+use Rattle.mm_core.proofs.Lines.{decided-call, if-ok}
 use Rattle.mm_core.proofs.Marking.{marked_makes, each-ok, each-err, halted_makes}
 use Rattle.mm_core.proofs.stack_lines.stack_line.Goals as goal
 
@@ -17,18 +17,18 @@ pub returns-clause-ok : goal.returns-clause-ok
 returns-clause-ok g c =
     let t = c.args.t.now in
     let old = g.G.Pages.contents c.args.g.now in
-    let call = c.create in
+    let call = c.stack in
     let new = g.G.Pages.contents call.new.g in
     if-ok call.result call.ensures.ok (λ a h.
-    decided-beside g.G.Pages.unpaged (event.Stack c.args.tid c.args.pid c.args.reserve c.args.commit) c.args.line t old _ (g.G.Pages.store c.begin.new.g) a call.new.t new (g.G.Pages.store call.new.g)
-    (stack blank t c.args.stacks.now c.args.tid.0 c.args.pid.0 c.args.reserve c.args.commit) (stack filled (world_with t (bytes_of old)) c.args.stacks.now c.args.tid.0 c.args.pid.0 c.args.reserve c.args.commit)
+    decided-call g.G.Pages.unpaged (event.Stack c.args.tid c.args.pid c.args.reserve c.args.commit) c.args.line t old _ (g.G.Pages.store c.begin.new.g) a call.new.t new (g.G.Pages.store call.new.g)
+    (stack blank t c.args.tid.0 c.args.pid.0 c.args.reserve c.args.commit)
     c.requires.keeps c.requires.next c.begin.ensures.begins (quiet-beside _ _ call.ensures.beside)
-    (stack_across t (bytes_of old) c.sound.ensures.sound.spaces c.args.stacks.now c.args.tid.0 c.args.pid.0 c.args.reserve c.args.commit) (in_stack blank t c.args.stacks.now c.args.tid.0 c.args.pid.0 c.args.reserve c.args.commit) tt tt
-    (subst (λ (old : Key → Option Page). Called (stack blank t c.args.stacks.now c.args.tid.0 c.args.pid.0 c.args.reserve c.args.commit) t old a call.new.t new) c.begin.ensures.contents h) call.ensures.fits)
+    (stack_across t (bytes_of old) c.sound.ensures.sound.spaces c.args.tid.0 c.args.pid.0 c.args.reserve c.args.commit) (in_stack blank t c.args.tid.0 c.args.pid.0 c.args.reserve c.args.commit) refl tt tt
+    (subst (λ (old : Key → Option Page). Called (stack blank t c.args.tid.0 c.args.pid.0 c.args.reserve c.args.commit) t old a call.new.t new) c.begin.ensures.contents h) call.ensures.fits)
 
 pub returns-clause-marked : goal.returns-clause-marked
 returns-clause-marked g c =
-    let call = c.create in
+    let call = c.stack in
     each-ok call.result (λ a.
     marked_makes c.args.line kind.Call (event.Stack c.args.tid c.args.pid c.args.reserve c.args.commit) (world_with c.args.t.now (bytes_of (g.G.Pages.contents c.args.g.now))) a (world_with call.new.t (bytes_of (g.G.Pages.contents call.new.g))) g.G.Pages.unpaged
     (g.G.Pages.store c.args.g.now) (g.G.Pages.store c.begin.new.g) (g.G.Pages.store call.new.g) (g.G.Pages.behind c.args.g.now) (g.G.Pages.behind c.begin.new.g) (g.G.Pages.behind call.new.g)
@@ -36,6 +36,6 @@ returns-clause-marked g c =
 
 pub returns-clause-halted : goal.returns-clause-halted
 returns-clause-halted g c =
-    let call = c.create in
+    let call = c.stack in
     each-err call.result (
     halted_makes c.args.line kind.Call refl g.G.Pages.unpaged (g.G.Pages.store c.args.g.now) (g.G.Pages.store c.begin.new.g) (g.G.Pages.store call.new.g) (g.G.Pages.behind c.args.g.now) (g.G.Pages.behind c.begin.new.g) (g.G.Pages.behind call.new.g) c.begin.ensures.passes call.ensures.passes)

@@ -1,11 +1,13 @@
 use Rattle.std.proofs.Common.{◌≡◌, ◌≤◌, ◌∙◌, refl, sym, inl, inr, true, false, subst}
 use Rattle.std.specs.Prelude.{Bool, Ok, Err, IfOk, OnOk, OnErr}
 use Rattle.mm_types.specs.Outside.{Rose}
+use Rattle.mm_world.specs.World.{filled}
 use Rattle.mm_core.specs.Built.{takes_memory}
 use Rattle.mm_core.specs.Promise.{Told, Breaks as WorldBreaks}
 use Rattle.mm_system.specs.Shown.{system, report, behind}
 use Rattle.mm_run.specs.Scenes.{Running, scene, shown}
 use Rattle.mm_run.specs.Steps.{Moved, Breaks}
+use Rattle.mm_run.specs.Ends.{TakesMemory}
 use Rattle.mm_run.proofs.Deciding.{devices_hold}
 use Rattle.mm_core.proofs.Noted.{stands}
 use Rattle.mm_run.proofs.Unpaged.{unpaged_system, plain_system}
@@ -84,9 +86,9 @@ returns-clause-breaks g c =
 
 pub returns-clause-takes : goal.returns-clause-takes
 returns-clause-takes g c =
-    elim c.step-decided.result as (λ r. c.step-decided.result ≡ r → OnErr r (takes_memory c.args.event.now ≡ true)) [
+    elim c.step-decided.result as (λ r. c.step-decided.result ≡ r → OnErr r (TakesMemory (Running (scene c.args.system.now)) c.args.event.now)) [
       | Ok a ↦ λ q. tt
-      | Err x ↦ λ q. taken (takes_memory c.args.event.now) (rw q at c.step-decided.ensures.no_memory)
+      | Err x ↦ λ q. taken (takes_memory filled (system c.args.system.now).world c.args.event.now) (rw q at c.step-decided.ensures.no_memory)
     ] refl
   where
     taken : (b : Bool) → (b ≡ false → false ≡ true) → b ≡ true

@@ -1,5 +1,8 @@
-use Rattle.mm_stack.proofs.Growths.{above_the_base}
+use Rattle.mm_stack.proofs.Growths.{above_the_base, told}
 use Rattle.mm_stack.proofs.laws.growth_stays_above_the_base_page.Goals as goal
 
-pub returns : goal.returns
-returns c = λ w stacks tid addr guard s has. above_the_base w stacks tid addr s has guard
+pub returns-clause-above : goal.returns-clause-above
+returns-clause-above c = λ w tid addr guard s has. above_the_base w tid addr s has guard
+
+pub returns-clause-told : goal.returns-clause-told
+returns-clause-told c = told

@@ -5,7 +5,7 @@ use Rattle.mm_world.specs.Alloc.{commit_pages}
 use Rattle.mm_world.specs.Contents.{blank}
 use Rattle.mm_world.specs.Find.{process_of}
 use Rattle.mm_world.specs.Keys.{committed_at, guard_off}
-use Rattle.mm_world.specs.Stack.{StackOf}
+use Rattle.mm_world.specs.World.{StackOf}
 use Rattle.mm_tables.proofs.ViewCommitted.{roomier_fits}
 use Rattle.mm_stack.proofs.Growing.{past_first, room_there, grown_is}
 use Rattle.mm_stack.proofs.probing.grow.Goals as goal

@@ -56,7 +56,7 @@ pub returns-clause-grow : goal.returns-clause-grow
 returns-clause-grow c = λ w n. (sections.in_grow no_bytes w n).same
 
 pub returns-clause-stack : goal.returns-clause-stack
-returns-clause-stack c = λ w stacks tid pid reserve commit. (sections.in_stack no_bytes filled w stacks tid pid reserve commit).same
+returns-clause-stack c = λ w tid pid reserve commit. (sections.in_stack no_bytes filled w tid pid reserve commit).same
 
 pub returns-clause-probe : goal.returns-clause-probe
-returns-clause-probe c = λ w stacks tid addr. (sections.in_probe no_bytes filled w stacks tid addr).same
+returns-clause-probe c = λ w tid addr. (sections.in_probe no_bytes filled w tid addr).same

@@ -1,4 +1,6 @@
 use Rattle.mm_core.specs.Promise.{DecidesStep, scene_of, scene}
+use Rattle.mm_tables.specs.Fits.{bytes_of}
+use Rattle.mm_core.proofs.Memory.{is_ok_with}
 use Rattle.mm_core.proofs.Promised.{at-ok, at-err, decides, breaks}
 use Rattle.mm_core.proofs.worlds.World.step.Goals as goal
 
@@ -36,3 +38,8 @@ returns-clause-broke g c =
       within = c.sound-2.ensures.within;
     })
     (rw q at d.ensures.err) (rw q at d.ensures.halted))
+
+pub returns-clause-no_memory : goal.returns-clause-no_memory
+returns-clause-no_memory g c =
+    let w = c.args.self.now in
+    is_ok_with w.tables (bytes_of (g.G.Pages.contents w.pages)) c.args.event.now c.decide-result.result c.decide-result.ensures.no_memory

@@ -1,6 +1,8 @@
 use Rattle.std.proofs.Common.{None, ◌∙◌, ap}
 use Rattle.mm_world.specs.Contents.{Tables}
-use Rattle.mm_world.specs.Find.{set_process}
+use Rattle.std.specs.Prelude.{◌==◌}
+use Rattle.mm_world.specs.Find.{set_process, end_stacks}
+use Rattle.mm_tables.proofs.StackTables.{nobody_beside}
 use Rattle.mm_world.specs.Sections.{settle}
 use Rattle.mm_tables.proofs.EndingFits.{less_then, beside_then, carries_less}
 use Rattle.mm_tables.proofs.EndingExits.{toward_then, toward_nobody, exit_then}
@@ -8,12 +10,12 @@ use Rattle.mm_types.specs.Address.{end_of_user_pages}
 use Rattle.mm_tables.proofs.tables.Tables.end_process.Goals as goal
 
 pub close_process-requires-clause-nobody : goal.close_process-requires-clause-nobody
-close_process-requires-clause-nobody g c = toward_nobody (toward_then c.close_handles.ensures.toward c.drop_regions.ensures.toward) c.drop_kept.ensures.nobody
+close_process-requires-clause-nobody g c = toward_nobody (toward_then c.close_handles.ensures.toward c.drop_regions.ensures.toward) (nobody_beside _ _ (λ s. s.pid == c.args.pid.0) c.args.pid.0 c.end_stacks_in.ensures.ended c.drop_kept.ensures.nobody)
 
 pub returns-clause-ended : goal.returns-clause-ended
 returns-clause-ended g c =
     c.close_process.ensures.ended ∙ (toward_then c.close_handles.ensures.toward c.drop_regions.ensures.toward).same
-    ∙ ap (λ (w : Tables). settle (set_process w c.args.pid.0 None)) c.drop_kept.ensures.dropped
+    ∙ ap (λ (w : Tables). settle (set_process w c.args.pid.0 None)) (c.end_stacks_in.ensures.ended ∙ ap (λ (w : Tables). end_stacks w (λ s. s.pid == c.args.pid.0)) c.drop_kept.ensures.dropped)
 
 pub returns-clause-settled : goal.returns-clause-settled
 returns-clause-settled g c =

@@ -1,47 +1,23 @@
-use Rattle.std.proofs.Common.{◌∙◌, ap, option_map}
-use Rattle.std.specs.Prelude.{remove}
-use Rattle.mm_world.specs.World.{RegionOf, pages_of}
-use Rattle.mm_world.specs.Find.{Found}
-use Rattle.mm_world.specs.Free.{private_at}
-use Rattle.mm_tables.proofs.Standing.{held_by}
-use Rattle.mm_tables.proofs.Uncommitted.{release_end, release_inside, release_bound, release_can, release_freed, release_among, freed_charged, freed_kept, freed_settled, freed_named}
+use Rattle.std.proofs.Common.{◌∙◌, ap, subst, sym}
+use Rattle.mm_types.specs.Address.{end_of_user_pages}
+use Rattle.mm_pages.specs.Conditions.{AreAmong}
+use Rattle.mm_tables.specs.Fits.{is_uncommitted}
+use Rattle.mm_world.specs.Contents.{Tables}
+use Rattle.mm_world.specs.Find.{end_stacks}
+use Rattle.mm_world.specs.Free.{is_stack_at}
 use Rattle.mm_tables.proofs.tables.Tables.release.Goals as goal
-
-pub release_pages-freed-requires : goal.release_pages-freed-requires
-release_pages-freed-requires g c =
-    let h = held_by c.self.inside c.args.self.now c.self.view_is c.self.invariant c.args.pid.0 c.index_mut.result.now c.requires.lives c.index_mut.ensures.value in
-    record {
-      lives = h.there;
-      end = release_end c.args.pid h c.args.addr c.args.range c.requires.there c.requires.fits;
-      there = ap (λ rs. option_map (λ (r : Found (RegionOf (Unit {0}))). pages_of r.thing) (private_at rs c.args.addr)) h.same ∙ c.requires.there h.process h.lives;
-      inside = release_inside c.args.pid h c.args.addr c.args.range c.requires.there c.requires.fits;
-      bound = release_bound c.args.pid h c.args.addr c.args.range c.requires.there c.requires.fits;
-      can = release_can c.args.pid h c.args.addr c.args.range c.requires.there c.requires.fits c.requires.kind;
-    }
-
-pub refund-requires : goal.refund-requires
-refund-requires g c =
-    let h = held_by c.self.inside c.args.self.now c.self.view_is c.self.invariant c.args.pid.0 c.index_mut.result.now c.requires.lives c.index_mut.ensures.value in
-    let f = release_freed c.args.pid h c.args.addr c.args.range c.requires.there c.requires.fits
-    c.release_pages-freed.ensures.owned c.release_pages-freed.ensures.changed c.release_pages-freed.ensures.stored c.release_pages-freed.ensures.counted c.release_pages-freed.ensures.room in
-    freed_charged c.args.pid h f
-
-pub invariant_of-self : goal.invariant_of-self
-invariant_of-self g c =
-    let h = held_by c.self.inside c.args.self.now c.self.view_is c.self.invariant c.args.pid.0 c.index_mut.result.now c.requires.lives c.index_mut.ensures.value in
-    let f = release_freed c.args.pid h c.args.addr c.args.range c.requires.there c.requires.fits
-    c.release_pages-freed.ensures.owned c.release_pages-freed.ensures.changed c.release_pages-freed.ensures.stored c.release_pages-freed.ensures.counted c.release_pages-freed.ensures.room in
-    freed_kept c.args.pid h f c.refund.new.self c.refund.ensures
 
 pub returns : goal.returns
 returns g c =
-    let h = held_by c.self.inside c.args.self.now c.self.view_is c.self.invariant c.args.pid.0 c.index_mut.result.now c.requires.lives c.index_mut.ensures.value in
-    let f = release_freed c.args.pid h c.args.addr c.args.range c.requires.there c.requires.fits
-    c.release_pages-freed.ensures.owned c.release_pages-freed.ensures.changed c.release_pages-freed.ensures.stored c.release_pages-freed.ensures.counted c.release_pages-freed.ensures.room in
+    let h = c.release_region.ensures in
     record {
-      changed = freed_named h c.release_pages-freed.new.process (λ rs. private_at rs c.args.addr) (λ rs r. remove rs r.place) c.release_pages-freed.ensures.changed;
-      settled = freed_settled c.args.pid h f;
-      among = release_among c.args.pid h c.args.addr c.args.range c.requires.there c.requires.fits f c.release_pages-freed.ensures.stored;
-      passes = c.release_pages-freed.ensures.passes;
-      loans = c.release_pages-freed.ensures.loans;
+      changed = λ p r lives at. c.end_stack_at.ensures.ended ∙ ap (λ (t : Tables). end_stacks t (is_stack_at c.args.pid.0 c.args.addr)) (h.changed p r lives at);
+      settled = record {
+        fits = c.end_stack_at.ensures.fits _ _ h.settled.fits;
+        carries = h.settled.carries;
+        rest = h.settled.rest;
+      };
+      among = subst (λ (t : Tables). AreAmong (is_uncommitted t) 0 end_of_user_pages c.args.pid c.args.range) (sym c.end_stack_at.ensures.ended) h.among;
+      passes = h.passes;
+      loans = h.loans;
     }

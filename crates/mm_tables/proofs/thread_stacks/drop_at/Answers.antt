@@ -1,0 +1,8 @@
+use Rattle.std.proofs.Common.{arith}
+use Rattle.mm_world.specs.Free.{is_stack_at}
+use Rattle.mm_world.specs.Find.{unless}
+use Rattle.mm_tables.proofs.StackTables.{one_more}
+use Rattle.mm_tables.proofs.thread_stacks.drop_at.Goals as goal
+
+pub loop-tid-preserved : goal.loop-tid-preserved
+loop-tid-preserved c = one_more (unless (is_stack_at c.args.pid.0 c.args.addr)) c.args.places.now c.loop-tid.places c.loop-tid.tid _ c.unless_at.result (omega (arith, c.told-places)) c.loop-tid.invariant c.unless_at.ensures

@@ -1,0 +1,167 @@
+ghost use Rattle.std.specs.Prelude.{◌≡◌, ◌==◌, ℕ, map, replicate, slice_set, Option, Some, None};
+ghost use Rattle.mm_types.specs.declared.numbers.Key.{Key};
+ghost use Rattle.mm_world.specs.World.{Page, StackOf, numbered};
+ghost use Rattle.mm_world.specs.Find.{unless, stack_by, set_stack, end_stacks};
+ghost use Rattle.mm_world.specs.Free.{is_stack_at};
+ghost use Rattle.mm_world.specs.Step.{threads};
+ghost use Rattle.mm_pages.specs.Store.{StoreOf};
+ghost use Rattle.mm_tables.specs.Fits.{Fits};
+
+use crate::Tables;
+use mm_types::{PAGE_SIZE, Pid, THREADS, Tid};
+use std::marker::Model;
+
+/// The stack of a thread. Its guard page stands above its lowest page, below the end of the user pages.
+#[derive(Clone, Copy, PartialEq, Eq, Debug)]
+pub struct ThreadStack {
+    /// The process in which it lies.
+    pub pid: Pid,
+    /// The number of its lowest page.
+    pub base: u32,
+    /// The number of its guard page.
+    pub guard_page: u32,
+}
+
+impl Model for ThreadStack {
+    ghost use Rattle.std.specs.Prelude.{◌<◌};
+    ghost use Rattle.mm_types.specs.Address.{end_of_user_pages};
+    ghost use Rattle.mm_world.specs.World.{StackOf};
+
+    ghost Value = { StackOf };
+
+    ghost view = { λ s. record { pid = s.pid.0; base = s.base; guard_page = s.guard_page } };
+
+    ghost invariant = { λ s. (s.base < s.guard_page) × (s.guard_page < end_of_user_pages) };
+
+    ghost inverse = { λ s. record { pid = record { 0 = s.pid }; base = s.base; guard_page = s.guard_page } };
+}
+
+/// The stacks of the 256 threads.
+///
+/// Contracts see a list of 256, of each thread its stack or none.
+#[derive(Drop)]
+pub(crate) struct Stacks {
+    places: [Option<ThreadStack>; THREADS],
+}
+
+impl Model for Stacks {
+    ghost use Rattle.mm_world.specs.World.{Numbered, StackOf};
+
+    ghost Value = { Numbered StackOf };
+
+    ghost view = { λ s. s.places };
+}
+
+/// The stack, unless its process is this one and its lowest page has this address.
+fn unless_at(pid: Pid, addr: u32, stack: Option<ThreadStack>) -> Option<ThreadStack>
+    ensures { result ≡ unless (is_stack_at pid.0 addr) stack }
+{
+    let kept = stack?;
+    if kept.pid.0 == pid.0 && kept.base * PAGE_SIZE == addr {
+        None
+    } else {
+        Some(kept)
+    }
+}
+
+/// The stack, unless its process is this one.
+fn unless_in(pid: Pid, stack: Option<ThreadStack>) -> Option<ThreadStack>
+    ensures { result ≡ unless (λ (s : StackOf). s.pid == pid.0) stack }
+{
+    let kept = stack?;
+    if kept.pid.0 == pid.0 {
+        None
+    } else {
+        Some(kept)
+    }
+}
+
+/// No stack is one whose region begins at the address any more.
+fn drop_at(places: &mut [Option<ThreadStack>; THREADS], pid: Pid, addr: u32)
+    ensures { places.new ≡ map (unless (is_stack_at pid.0 addr)) places.old }
+{
+    for tid in 0..THREADS {
+        places[tid] = unless_at(pid, addr, places[tid]);
+    }
+}
+
+/// No stack is one of the process any more.
+fn drop_in(places: &mut [Option<ThreadStack>; THREADS], pid: Pid)
+    ensures { places.new ≡ map (unless (λ (s : StackOf). s.pid == pid.0)) places.old }
+{
+    for tid in 0..THREADS {
+        places[tid] = unless_in(pid, places[tid]);
+    }
+}
+
+impl Stacks {
+    /// No thread has a stack.
+    pub(crate) fn new() -> Stacks
+        ensures { result ≡ replicate threads None }
+    {
+        Stacks {
+            places: [None; THREADS],
+        }
+    }
+
+    /// The stack of the thread. None exactly where it has none.
+    fn of(&self, tid: Tid) -> Option<ThreadStack>
+        ensures { result ≡ numbered self.now tid.0 }
+    {
+        self.places[tid.0 as usize]
+    }
+
+    /// The thread has this stack from now on.
+    fn put(&mut self, tid: Tid, stack: ThreadStack)
+        ensures { self.new ≡ slice_set self.old tid.0 (Some stack) }
+    {
+        self.places[tid.0 as usize] = Some(stack);
+    }
+
+    /// A stack of the process whose region begins at the address ends.
+    fn end_at(&mut self, pid: Pid, addr: u32)
+        ensures { self.new ≡ map (unless (is_stack_at pid.0 addr)) self.old }
+    {
+        drop_at(&mut self.places, pid, addr);
+    }
+
+    /// Each stack of the process ends.
+    fn end_in(&mut self, pid: Pid)
+        ensures { self.new ≡ map (unless (λ (s : StackOf). s.pid == pid.0)) self.old }
+    {
+        drop_in(&mut self.places, pid);
+    }
+}
+
+impl Tables {
+    /// The stack of a thread. None exactly where it has none.
+    pub fn stack_of(&self, tid: Tid) -> Option<ThreadStack>
+        ensures { result ≡ stack_by self.now tid.0 }
+    {
+        self.stacks.of(tid)
+    }
+
+    /// A thread has this stack from now on, in the place of one that it had.
+    pub fn set_stack(&mut self, tid: Tid, stack: ThreadStack)
+        ensures set { self.new ≡ set_stack self.old tid.0 stack }
+        ensures fits { (c : Key → Option Page) (s : StoreOf) → Fits self.old c s → Fits self.new c s }
+    {
+        self.stacks.put(tid, stack);
+    }
+
+    /// The region of the process that begins at the address is gone: where it was a thread's stack, the thread has none.
+    pub(crate) fn end_stack_at(&mut self, pid: Pid, addr: u32)
+        ensures ended { self.new ≡ end_stacks self.old (is_stack_at pid.0 addr) }
+        ensures fits { (c : Key → Option Page) (s : StoreOf) → Fits self.old c s → Fits self.new c s }
+    {
+        self.stacks.end_at(pid, addr);
+    }
+
+    /// No thread has a stack in this process any more.
+    pub(crate) fn end_stacks_in(&mut self, pid: Pid)
+        ensures ended { self.new ≡ end_stacks self.old (λ s. s.pid == pid.0) }
+        ensures fits { (c : Key → Option Page) (s : StoreOf) → Fits self.old c s → Fits self.new c s }
+    {
+        self.stacks.end_in(pid);
+    }
+}
