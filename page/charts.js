@@ -16,6 +16,7 @@ function makeCharts({ data, survey, teller, view }) {
   let width = 0;
   let tracks = [];
   let chosenFrames = null; // the frames that have rows, where not all have
+  let pooled = {};
 
   // ---- the axis
   const seen = () => view.last - view.first + 1;
@@ -148,7 +149,7 @@ function makeCharts({ data, survey, teller, view }) {
     const isChosen = line === view.line;
     const isOk = data.isOk(line);
     let text = teller.line(line);
-    if (!isOk) text += ' \u2192 ' + data.answers[line - 1].replace('0x', '');
+    if (!isOk) text += ' \u2192 ' + data.answer(line).replace('0x', '');
     if (text.length > 38) text = text.slice(0, 37) + '\u2026';
     pen.save();
     pen.translate(middle(line) + (isSteep() ? 3 : 6), bottom - 5);
@@ -274,11 +275,18 @@ function makeCharts({ data, survey, teller, view }) {
     pen.stroke();
     pen.restore();
   }
-  // Each pixel has the paint that most of its frames have for most of its lines.
+  // The picture does not hang on the chosen line, so it is kept from one line to the next.
   function drawPooled(pen, top, high) {
     const ratio = window.devicePixelRatio || 1;
     const wide = Math.round((width - LEFT - right) * ratio);
     const tall = Math.max(1, Math.min(data.frames, Math.round(high * ratio)));
+    const name = [view.paint, view.first, view.last, wide, tall].join(' ');
+    if (pooled.name !== name) pooled = { name, canvas: poolFrames(wide, tall) };
+    pen.imageSmoothingEnabled = false;
+    pen.drawImage(pooled.canvas, LEFT, top, width - LEFT - right, high);
+  }
+  // Each pixel has the paint that most of its frames have for most of its lines.
+  function poolFrames(wide, tall) {
     const tints = PAINTS[view.paint].tints.map(channels);
     const image = new ImageData(wide, tall);
     const weights = new Float32Array(wide * tints.length);
@@ -297,8 +305,7 @@ function makeCharts({ data, survey, teller, view }) {
     canvas.width = wide;
     canvas.height = tall;
     canvas.getContext('2d').putImageData(image, 0, 0);
-    pen.imageSmoothingEnabled = false;
-    pen.drawImage(canvas, LEFT, top, width - LEFT - right, high);
+    return canvas;
   }
   // How long a frame has each paint in each pixel of its row.
   function weigh(frame, weights, wide, paints) {
@@ -373,14 +380,8 @@ function makeCharts({ data, survey, teller, view }) {
     label(pen, top + high / 2, title, now);
   }
   function sizeAt({ changedAt, sizes }, line) {
-    let low = 0;
-    let high = changedAt.length;
-    while (low < high) {
-      const middle = (low + high) >> 1;
-      if (changedAt[middle] <= line) low = middle + 1;
-      else high = middle;
-    }
-    return low ? sizes[low - 1] : 0;
+    const at = lastUpTo(line, NONE, changedAt.length - 1, (which) => changedAt[which]);
+    return at === NONE ? 0 : sizes[at];
   }
   function setTracks() {
     const largest = data.processes.flatMap((process) => process.sizes);
@@ -532,6 +533,7 @@ function makeCharts({ data, survey, teller, view }) {
   }
   function repaint() {
     colours = {};
+    pooled = {};
     draw();
   }
   // The frame whose row is at a height of the chart, if one is.

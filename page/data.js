@@ -207,6 +207,7 @@ function readData() {
     isFileKey,
     pidOf: Int32Array.from(log.places.list, (place) => place[0]),
     hasAges: script.length >= count && answers.length >= count,
+    answer: (line) => answers[line - 1] || '',
     isOk: (line) => !answers[line - 1] || answers[line - 1].startsWith('ok'),
   };
 }

@@ -129,8 +129,8 @@ function attachHands({ data, survey, teller, view, panels, charts }) {
   plot.addEventListener('wheel', turnWheel, { passive: false });
 
   function tipText(line, frame) {
-    const answer = data.answers[line - 1];
-    const said = answer === undefined ? '' : ' \u2192 ' + answer;
+    const answer = data.answer(line);
+    const said = answer && ' \u2192 ' + answer;
     const text = `Line ${line}: ${teller.line(line)}${said}`;
     if (frame !== NONE) return text + `. Frame ${frame}: ` + frameTip(survey.changes.at(frame, line));
     const events = TRACKS.map(({ one, many }, which) => {

@@ -40,8 +40,7 @@ function makePanels({ data, uses, survey, teller, view }) {
     const line = view.line;
     const items = [];
     const state = teller.eachMove(line, (move, told) => items.push(moveItem(move, told)));
-    const answer = data.answers[line - 1];
-    const said = answer === undefined ? '' : answer;
+    const said = data.answer(line);
     const mark = data.isOk(line) ? '<code>' : '<code class="not-ok">';
     const more = items.length - MOST_MOVES;
     element('line').innerHTML = `<h2>Line ${line}</h2><p class="said"><code>${teller.line(line)}</code>` +

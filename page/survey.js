@@ -59,14 +59,7 @@ class Changes {
   }
   // The last change of a frame up to a line.
   at(frame, line) {
-    let low = this.from[frame];
-    let high = this.from[frame + 1] - 1;
-    while (low < high) {
-      const middle = (low + high + 1) >> 1;
-      if (this.line[middle] <= line) low = middle;
-      else high = middle - 1;
-    }
-    return low;
+    return lastUpTo(line, this.from[frame], this.from[frame + 1] - 1, (at) => this.line[at]);
   }
 }
 
@@ -125,7 +118,7 @@ function surveyLine(data, survey, state, trackOf, line) {
   state.counts().forEach((value, which) => { counts[which][line] = value; });
   survey.committed[line] = state.committed;
   survey.slots[line] = state.slots;
-  const answer = (data.answers[line - 1] || '').split(' ');
+  const answer = data.answer(line).split(' ');
   const isCharge = data.script[line - 1] === 'charge' && answer[0] === 'ok';
   if (isCharge) survey.charges.push({ line, pages: Number(answer[1]) });
 }

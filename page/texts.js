@@ -21,7 +21,7 @@ function writeText({ data, survey, teller }, form) {
     ],
     tell: () =>
       lines.flatMap((line) => {
-        const told = (line + '  ' + teller.line(line).padEnd(46) + '  ' + (data.answers[line - 1] || '')).trimEnd();
+        const told = (line + '  ' + teller.line(line).padEnd(46) + '  ' + data.answer(line)).trimEnd();
         const words = [];
         teller.eachMove(line, (move, facts) => words.push('     ' + teller.sentence(move, facts)));
         return [told, ...words];

@@ -10,7 +10,7 @@ function readUses(data) {
   const pending = new Map();
   for (let line = 1; line <= data.count; line++) {
     const words = data.script[line - 1].split(' ');
-    const answer = data.answers[line - 1];
+    const answer = data.answer(line);
     if (['read', 'write', 'exec'].includes(words[0]) && data.isOk(line)) {
       uses.used[line] = placeOf(data, words[1], words[2]);
     } else if (words[0] === 'age' && data.isOk(line)) {
@@ -29,7 +29,7 @@ function placeOf(data, pid, address) {
 }
 function followThread(data, uses, pending, line, words, answer) {
   const thread = Number(words[1]);
-  if (answer === 'busy') return;
+  if (answer === 'busy' || answer === 'error 6') return;
   if (words[0] === 'begin') {
     const pid = Number(words[2]);
     const text = 'process ' + pid + ', ' + words.slice(3).join(' ');

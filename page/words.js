@@ -18,16 +18,7 @@ function makeTeller(data, uses, survey) {
   const kind = (line) => [KINDS[lines[line - 1].kind][0], ...lines[line - 1].values].join(' ');
   const line = (number) => (number <= data.script.length ? data.script[number - 1] : kind(number));
 
-  function lineOf(move) {
-    let low = 1;
-    let high = data.count;
-    while (low < high) {
-      const middle = (low + high + 1) >> 1;
-      if (lines[middle - 1].from <= move) low = middle;
-      else high = middle - 1;
-    }
-    return low;
-  }
+  const lineOf = (move) => lastUpTo(move, 1, data.count, (one) => lines[one - 1].from);
   // The state after a line, from the nearest one before it that is at hand.
   function stateAfter(wanted) {
     const saved = survey.saved.findLast((one) => one.line <= wanted) || survey.saved[0];

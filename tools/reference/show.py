@@ -1,10 +1,11 @@
 #!/usr/bin/env python3
 """What `mmshow` writes, in Python: the reference that its texts are compared with (.ci/show, .ci/page).
 
-    show.py tell [SCRIPT [ANSWERS]] < LOG           a transcript in words
+    show.py tell [SCRIPT [ANSWERS]] < LOG           a transcript in words; --plain before `tell`: without what the script and the
+                                                    answers add to the words, as the page's own text has it
     show.py counts [LINE] < LOG                     lists after each line; use counts after one line
     show.py state LINE < LOG                        every list, frame and working set after one line
-    show.py frame N < LOG, show.py key KEY < LOG    the history of a frame, of a page
+    show.py frame N < LOG, show.py key KEY < LOG    the history of a frame, of a page, `p1.16`, `s0.2` or `1:0x10000`
     show.py faults < LOG                            per process and page; device traffic
     show.py sums < LOG                              how many moves are of each class
     show.py html PAGE [SCRIPT [ANSWERS]] < LOG      the page; PAGE is what `tools/page --whole` prints
@@ -14,7 +15,9 @@ It stands on life.py, an independent replay of a log.
 import sys
 from collections import Counter, OrderedDict
 
-from life import Life, read_key, read_move, spell_key
+import remarks
+from life import Life, read_move, spell_key, spell_move
+from refusals import refusal
 
 # ------------------------------------------------------------------ the classes
 # code: (move, group, words).  The groups are the tracks of the page and the columns of `faults`.
@@ -146,7 +149,11 @@ def class_of(l, marks, before, m, after):
 
 # ------------------------------------------------------------------ a log, read and classified
 class BadLog(Exception):
-    text = ''            # what `tell` had written before the bad line
+    """The log's line that is no spelling of a legal move, and why a move that is spelled is not legal."""
+
+    def __init__(self, line, why=''):
+        super().__init__(line, why)
+        self.line, self.why = line, why
 
 
 class BadScript(Exception):
@@ -172,34 +179,49 @@ def moves_of(data):
         yield m
 
 
+def spelled(data):
+    """The moves of the log, and then None or what is wrong with its next line."""
+    moves = []
+    try:
+        for m in moves_of(data):
+            moves.append(m)
+    except BadLog as bad:
+        return moves, bad
+    return moves, None
+
+
+def check(l, m, line):
+    """Raises BadLog where the move is not legal."""
+    why = refusal(l, m)
+    if why is not None:
+        raise BadLog(line, '%s: %s' % (spell_move(m), why))
+
+
 def walk(data, seen, ended=lambda l: None):
     """Replays; calls seen(l, m, code, facts) after each move, and ended(l) after each line.  `facts` are texts for the words."""
     l, marks = Life(), Marks()
-    it = moves_of(data)
-    before, m = None, next(it, None)
-    n = 0
-    while m is not None:
-        bad = None
-        try:
-            after = next(it, None)
-        except BadLog as e:
-            after, bad = None, e
-        n += 1
-        try:
-            code = class_of(l, marks, before, m, after)
-            facts = facts_before(l, m)
-        except (KeyError, IndexError, TypeError, AttributeError):
-            code = None
+    moves, bad = spelled(data)
+    before = None
+    if moves:
+        check(l, moves[0], 1)
+    for at, m in enumerate(moves):
+        after = moves[at + 1] if at + 1 < len(moves) else None
         if m[0] == 'at' and l.line:
             ended(l)
+        # the class of a move hangs on the next one, where that is legal
+        code, last_code = class_of(l, marks, before, m, after), class_of(l, marks, before, m, None)
+        facts = facts_before(l, m)
         if not l.apply(m):
-            raise BadLog(n)
+            raise AssertionError('%s is legal by refusals.py alone' % spell_move(m))
+        refused = after and refusal(l, after)
         marks.follow(m)
         facts_after(l, m, code, facts)
-        seen(l, m, code, facts)
-        if bad:
-            raise bad
-        before, m = m, after
+        seen(l, m, last_code if refused else code, facts)
+        if after:
+            check(l, after, at + 2)
+        before = m
+    if bad:
+        raise bad
     if l.line:
         ended(l)
     return l
@@ -231,13 +253,14 @@ def facts_before(l, m):
     elif w in ('give', 'read'):
         f, key = m[1], m[2]
     elif w == 'unmap':
-        f, d['p'] = l.valid[m[1]], '%d.%d' % m[1]
-        key, d['i'] = l.rec[f].owner, m[1][0]
+        f, d['place'] = l.valid[m[1]], m[1]
+        key = l.rec[f].owner
+        d['above'] = l.valid_places(m[1][0]) > l.procs[m[1][0]][0]
     elif w != 'at':
         f = m[1]
         key = l.rec[f].owner
         if w == 'map':
-            d['p'], d['i'] = '%d.%d' % m[2], m[2][0]
+            d['place'] = m[2]
     if f is not None:
         r = l.rec[f]
         d['f'], d['was'] = f, state_of(l, f)
@@ -257,8 +280,16 @@ def facts_after(l, m, code, d):
             ' is being written still' if d['is'] == 'being written' else ''
 
 
-def words_of(code, d):
-    return CLASSES[code][2].format(**{'p': '', 'f': '', 'i': '', 'goes': '', 'unslot': '', **d})
+def words_of(code, d, with_addresses=False):
+    facts = {'p': '', 'f': '', 'i': '', 'goes': '', 'unslot': '', **d}
+    if 'place' in d:
+        facts['p'], facts['i'] = spell_place(d['place'], with_addresses), d['place'][0]
+    return CLASSES[code][2].format(**facts)
+
+
+def spell_place(place, with_address):
+    """A place, and the address of its page where it is one of a 32-bit address space."""
+    return '%d.%d' % place + (' (0x%X)' % (place[1] * 4096) if with_address and place[1] < 1 << 20 else '')
 
 
 # ------------------------------------------------------------------ texts
@@ -271,157 +302,166 @@ def texts(names):
     return (out + [None, None])[:2]
 
 
-def do_tell(data, names):
+def do_tell(out, data, names, is_plain):
     script, answers = texts(names)
-    out = []
+    with_names = script is not None and not is_plain
+    ages = remarks.Ages() if with_names and answers is not None else None
+
+    def said_at(n):
+        return answers[n - 1] if answers and n <= len(answers) else ''
+
+    def row(n, asked):
+        told = ('%d  %-46s  %s' % (n, asked, said_at(n))).rstrip(' ')
+        if not with_names:
+            return told
+        answer, numbers = remarks.names_of_answer(asked, said_at(n)), remarks.names_of_line(asked)
+        return told + (answer and ' ' + answer) + (numbers and '  ' + numbers)
+
+    def ended(l):
+        if ages:
+            ages.after(script[l.line - 1], said_at(l.line))
 
     def seen(l, m, code, d):
         if m[0] == 'at':
-            n = m[1]
             fits(script, m)
-            asked = script[n - 1] if script and n <= len(script) else ' '.join(str(x) for x in m[2])
-            said = answers[n - 1] if answers and n <= len(answers) else ''
-            out.append(('%d  %-46s  %s' % (n, asked, said)).rstrip())
-        else:
-            out.append('     ' + words_of(code, d))
-    try:
-        walk(data, seen)
-    except BadLog as e:
-        e.text = ''.join(x + '\n' for x in out)
-        raise
-    return ''.join(x + '\n' for x in out)
+            out.append(row(m[1], script[m[1] - 1] if script else ' '.join(str(x) for x in m[2])))
+            return
+        if ages and m[0] == 'map':
+            ages.use(m[2])
+        why = remarks.why_chosen(code, m[1], ages.of(m[1]), d['above']) if ages and m[0] == 'unmap' else ''
+        out.append('     ' + words_of(code, d, with_names) + why)
+
+    walk(data, seen, ended)
 
 
 HEADS = ('zeroed', 'free', 'standby', 'modified', 'active', 'transition', 'slots', 'requests')
 
 
-def do_counts(data, words):
-    rows, stop = [], int(words[0]) if words else None
-    table = []
-
-    def use(l):
-        names = ('Process private', 'Page-file section', 'Mapped file', 'Deleted, I/O in flight', 'Unused')
-        cols = ('active', 'standby', 'modified', 'transition', 'zeroed', 'free')
-        c = Counter()
-        for f in range(l.frames):
-            o, s = l.rec[f].owner, state_of(l, f)
-            s = 'transition' if s.startswith('being') else s
-            row = 4 if s in ('zeroed', 'free') else 3 if o is None else 0 if o[0] == 'p' else 1 if o in l.page_file else 2
-            c[row, s] += 1
-        t = ['use of page frames after line %d' % l.line,
-             '%-24s' % '' + ''.join('%12s' % x.capitalize() for x in cols + ('total',))]
-        for i, name in enumerate(names):
-            v = [c[i, s] for s in cols]
-            t.append('%-24s' % name + ''.join('%12d' % x for x in v + [sum(v)]))
-        v = [sum(c[i, s] for i in range(5)) for s in cols]
-        t.append('%-24s' % 'Total' + ''.join('%12d' % x for x in v + [sum(v)]))
-        t.append('paging-file slots free %d of %d' % (len(l.free_slots), l.slots))
-        t.append('requests in flight %d, depth %d' % (len(l.requests), l.depth))
-        for pid in sorted(l.procs):
-            t.append('working set of process %d: %d (min %d, max %d)' % ((pid, l.valid_places(pid)) + l.procs[pid]))
-        return t
-
-    def flush(l):
-        if stop is None:
-            rows.append('%7d' % l.line + ''.join('%11d' % x for x in l.counts()))
-        elif stop == l.line:
-            table.extend(use(l))
-
-    walk(data, lambda l, m, code, d: None, flush)
-    if stop is None:
-        return '%7s' % 'line' + ''.join('%11s' % h for h in HEADS) + '\n' + ''.join(r + '\n' for r in rows)
-    return '\n'.join(table or ['no such line']) + '\n'
+def use_rows(l):
+    """The page frames by their use and list, the slots, the requests, the working sets."""
+    names = ('Process private', 'Page-file section', 'Mapped file', 'Deleted, I/O in flight', 'Unused')
+    cols = ('active', 'standby', 'modified', 'transition', 'zeroed', 'free')
+    c = Counter()
+    for f in range(l.frames):
+        o, s = l.rec[f].owner, state_of(l, f)
+        s = 'transition' if s.startswith('being') else s
+        row = 4 if s in ('zeroed', 'free') else 3 if o is None else 0 if o[0] == 'p' else 1 if o in l.page_file else 2
+        c[row, s] += 1
+    t = ['use of page frames after line %d' % l.line,
+         '%-24s' % '' + ''.join('%12s' % x.capitalize() for x in cols + ('total',))]
+    for i, name in enumerate(names):
+        v = [c[i, s] for s in cols]
+        t.append('%-24s' % name + ''.join('%12d' % x for x in v + [sum(v)]))
+    v = [sum(c[i, s] for i in range(5)) for s in cols]
+    t.append('%-24s' % 'Total' + ''.join('%12d' % x for x in v + [sum(v)]))
+    t.append('paging-file slots free %d of %d' % (len(l.free_slots), l.slots))
+    t.append('requests in flight %d, depth %d' % (len(l.requests), l.depth))
+    for pid in sorted(l.procs):
+        t.append('working set of process %d: %d (min %d, max %d)' % ((pid, l.valid_places(pid)) + l.procs[pid]))
+    return t
 
 
-def do_state(data, line):
-    t = []
-
-    def ended(l):
-        if l.line != line:
-            return
-        t.append('after line %d' % line)
-        for name in ('zeroed', 'free', 'standby', 'modified'):
-            t.append(' '.join([name] + [str(f) for f in l.lists[name]]))
-        t.append(' '.join(['requests'] + [str(f) for f in l.requests]))
-        for f in range(l.frames):
-            r = l.rec[f]
-            t.append('frame %d %s, %s, %s, %s, %d places, %s' % (
-                f, state_of(l, f), spell_key(r.owner) if r.owner else 'no page', 'changed' if r.changed else 'not changed',
-                '%s %d' % r.backing if r.backing else 'no copy', r.shares, REQUESTS[r.request]))
-        for pid in sorted(l.procs):
-            pages = sorted(v for p, v in l.valid if p == pid)
-            t.append(' '.join(['process %d min %d max %d pages' % ((pid,) + l.procs[pid])] + [str(v) for v in pages]))
-        t.append('slots %d of %d free' % (len(l.free_slots), l.slots))
-    walk(data, lambda l, m, code, d: None, ended)
-    return '\n'.join(t or ['no such line']) + '\n'
+def frame_row(l, f):
+    r = l.rec[f]
+    return '%s, %s, %s, %s, %d places, %s' % (
+        state_of(l, f), spell_key(r.owner) if r.owner else 'no page', 'changed' if r.changed else 'not changed',
+        '%s %d' % r.backing if r.backing else 'no copy', r.shares, REQUESTS[r.request])
 
 
-def history(data, wanted):
-    out = []
+def state_rows(l):
+    """Every list, every frame, every working set, the slots."""
+    t = ['after line %d' % l.line]
+    t += [' '.join([name] + [str(f) for f in l.lists[name]]) for name in ('zeroed', 'free', 'standby', 'modified')]
+    t.append(' '.join(['requests'] + [str(f) for f in l.requests]))
+    t += ['frame %d %s' % (f, frame_row(l, f)) for f in range(l.frames)]
+    for pid in sorted(l.procs):
+        pages = sorted(v for p, v in l.valid if p == pid)
+        t.append(' '.join(['process %d min %d max %d pages' % ((pid,) + l.procs[pid])] + [str(v) for v in pages]))
+    return t + ['slots %d of %d free' % (len(l.free_slots), l.slots)]
 
+
+def nothing(l, m, code, d):
+    pass
+
+
+def do_counts(out, data):
+    out.append('%7s' % 'line' + ''.join('%11s' % h for h in HEADS))
+    walk(data, nothing, lambda l: out.append('%7d' % l.line + ''.join('%11d' % x for x in l.counts())))
+
+
+def do_line(out, data, line, rows):
+    """The rows of the state after one line."""
+    walk(data, nothing, lambda l: out.extend(rows(l)) if l.line == line else None)
+    if not out:
+        out.append('no such line')
+
+
+def history(out, data, wanted, begun=lambda l: None):
+    """A row for each move that is wanted; begun(l) is called after the first line's `at`.  Returns the state at the end."""
     def seen(l, m, code, d):
-        if wanted(d) and m[0] != 'at':
-            now = state_of(l, d['f']) if 'f' in d else ''
-            out.append('line %-7d %-26s %s' % (l.line, ('%s -> %s' % (d['was'], now)) if 'f' in d else '', words_of(code, d)))
-    end = walk(data, seen)
-    return end, out
+        if m[0] == 'at':
+            if m[1] == 1:
+                begun(l)
+        elif wanted(d):
+            turn = '%s -> %s' % (d['was'], state_of(l, d['f'])) if 'f' in d else ''
+            out.append('line %-7d %-26s %s' % (l.line, turn, words_of(code, d)))
+    return walk(data, seen)
 
 
-def do_frame(data, n):
-    end, out = history(data, lambda d: d.get('f') == n)
+def do_frame(out, data, n):
+    end = history(out, data, lambda d: d.get('f') == n, lambda l: out.append('frame %d' % n) if n < l.frames else None)
     if n >= (end.frames or 0):
-        return 'no such frame\n'
-    r = end.rec[n]
-    out.append('at the end: %s, %s, %s, %s, %d places, %s'
-               % (state_of(end, n), spell_key(r.owner) if r.owner else 'no page', 'changed' if r.changed else 'not changed',
-                  '%s %d' % r.backing if r.backing else 'no copy', r.shares, REQUESTS[r.request]))
-    return 'frame %d\n' % n + '\n'.join(out) + '\n'
+        out.append('no such frame')
+    else:
+        out.append('at the end: ' + frame_row(end, n))
 
 
-def do_key(data, key):
-    end, out = history(data, lambda d: d.get('key') == key)
-    return 'page %s\n' % spell_key(key) + ''.join(x + '\n' for x in out) \
-        + 'at the end: %s\n' % ' '.join(str(x) for x in end.held(key))
+def do_key(out, data, key):
+    out.append('page %s' % spell_key(key))
+    end = history(out, data, lambda d: d.get('key') == key)
+    out.append('at the end: %s' % ' '.join(str(x) for x in end.held(key)))
+
+
+# the columns of `faults`: the groups of the classes, of the soft faults the classes themselves
+SOFT = '1234'
+FAULTS = OrderedDict([('hard', 'hard'), ('1', 'standby'), ('2', 'modified'), ('3', 'writing'), ('4', 'active'), ('zero', 'demand-0'),
+                      ('copy', 'copy'), ('collided', 'collided')])
 
 
 def do_faults(data):
-    pages, procs, io = {}, {}, Counter()
-    cols = ('hard', 'soft', 'zero', 'copy', 'collided')
+    pages, procs, io, moves = {}, {}, Counter(), Counter()
 
     def seen(l, m, code, d):
         if m[0] == 'at':
             return
-        g = CLASSES[code][1]
-        if g in cols:
-            pid = l.kind[1]
-            key = d['key']
-            pages.setdefault((pid, key), Counter())[g] += 1
-            procs.setdefault(pid, Counter())[g] += 1
+        moves[code] += 1
+        column = code if code in SOFT else CLASSES[code][1]
+        if column in FAULTS:
+            pages.setdefault((l.kind[1], d['key']), Counter())[column] += 1
+            procs.setdefault(l.kind[1], Counter())[column] += 1
         if m[0] in ('got', 'bad', 'wrote', 'lost'):
             io['paging file' if d['home'].startswith('slot') else 'files', m[0]] += 1
     walk(data, seen)
-    head = ('%-9s %-14s' % ('process', 'page') + ''.join('%10s' % c for c in
-            ('hard', 'soft', 'demand-0', 'copy', 'collided')) + '  hard of hard+soft\n')
 
     def row(a, b, c):
-        h, s = c['hard'], c['soft']
-        return '%-9s %-14s' % (a, b) + ''.join('%10d' % c[x] for x in cols) + ('  %14d %%' % (100 * h // (h + s)) if h + s else '') + '\n'
-    t = head
+        h, s = c['hard'], sum(c[x] for x in SOFT)
+        return '%-9s %-14s' % (a, b) + ''.join('%10d' % c[x] for x in FAULTS) + ('  %14d %%' % (100 * h // (h + s)) if h + s else '')
+    out = ['%-9s %-14s' % ('process', 'page') + ''.join('%10s' % head for head in FAULTS.values()) + '  hard of hard+soft']
     for pid in sorted(procs):
-        t += row(pid, 'all', procs[pid])
-        for (p, k), c in sorted(pages.items()):
-            if p == pid:
-                t += row(pid, spell_key(k), c)
+        out.append(row(pid, 'all', procs[pid]))
+        out += [row(pid, spell_key(k), c) for (p, k), c in sorted(pages.items()) if p == pid]
     for dev in ('paging file', 'files'):
-        t += '%s: %d read, %d reads failed, %d written, %d writes failed\n' % (
-            (dev,) + tuple(io[dev, w] for w in ('got', 'bad', 'wrote', 'lost')))
-    return t
+        out.append('%s: %d read, %d reads failed, %d written, %d writes failed' % (
+            (dev,) + tuple(io[dev, w] for w in ('got', 'bad', 'wrote', 'lost'))))
+    out.append('as mmlog check counts: zero fills %d, hard %d, soft %d (%d of them first uses of pages that an earlier line read in)' % (
+        sum(moves[x] for x in 'gG'), sum(moves[x] for x in 'hH'), sum(moves[x] for x in 'n' + SOFT), moves['n']))
+    return out
 
 
 def do_sums(data):
     c = Counter()
     walk(data, lambda l, m, code, d: c.update([code if m[0] != 'at' else 'at ' + m[2][0]]))
-    return ''.join('%s %d\n' % (k, c[k]) for k in list(CLASSES) + ['at ' + k for k in KINDS] if c[k])
+    return ['%s %d' % (k, c[k]) for k in list(CLASSES) + ['at ' + k for k in KINDS] if c[k]]
 
 
 # ------------------------------------------------------------------ the page
@@ -496,7 +536,7 @@ def do_html(data, page, names):
                'SCRIPT': safe(script), 'ANSWERS': safe(answers)}
     for name, text in islands.items():
         page = page.replace('@%s@' % name, text)
-    return page
+    return page.removesuffix('\n')
 
 
 def class_table():
@@ -505,36 +545,75 @@ def class_table():
                    for code, (word, group, sentence) in CLASSES.items())
 
 
-def main(argv):
-    data = sys.stdin.buffer.read()
+MOST_LINES = 1000000
+
+
+def read_line(word):
+    """The number of a line, or None."""
+    n = remarks.number(word)
+    return n if n is not None and 1 <= n <= MOST_LINES else None
+
+
+def read_page(word):
+    """A page's key, as `p1.16` or `s0.2`, or by an address as `1:0x10000`; its numbers as a script has them."""
+    by_address = word[:1] not in ('p', 's')
+    first, _, second = word.partition(':') if by_address else word[1:].partition('.')
+    first, second = remarks.number(first), remarks.number(second)
+    if first is None or second is None or (word[:1] != 's' and first > 255):
+        return None
+    return ('p', first, second // 4096) if by_address else (word[0], first, second)
+
+
+def form_of(argv):
+    """What the words ask for, as a function of the text so far, a list of lines, and of the log; None where they are no form."""
+    is_plain = argv[:1] == ['--plain']
+    name, *words = argv[is_plain:] or ['']
+    if any(word.startswith('-') for word in words):
+        return None
+    word = words[0] if len(words) == 1 else ''
+    line, value = read_line(word), remarks.number(word)
+    if name == 'tell' and len(words) <= 2:
+        return lambda out, data: do_tell(out, data, words, is_plain)
+    if is_plain:
+        return None
+    if name == 'counts' and not words:
+        return do_counts
+    if name in ('counts', 'state') and line is not None:
+        return lambda out, data: do_line(out, data, line, use_rows if name == 'counts' else state_rows)
+    if name == 'frame' and value is not None:
+        return lambda out, data: do_frame(out, data, value)
+    if name == 'key' and read_page(word):
+        return lambda out, data: do_key(out, data, read_page(word))
+    if name == 'html' and 1 <= len(words) <= 3:
+        return lambda out, data: out.append(do_html(data, words[0], words[1:]))
+    if name in ('faults', 'sums') and not words:
+        return lambda out, data: out.extend(do_faults(data) if name == 'faults' else do_sums(data))
+    return None
+
+
+USAGE = ('usage: mmshow html [SCRIPT [ANSWERS]] | tell [SCRIPT [ANSWERS]] | counts [LINE] | state LINE | frame N | key KEY'
+         ' | faults | sums\n')
+
+
+def answer(argv, data):
+    """The status and the text of these words and this log."""
+    form, out, last, status = form_of(argv), [], '', 0
+    if not form:
+        return 2, USAGE
     try:
-        if argv[:1] == ['html'] and 2 <= len(argv) <= 4:
-            text = do_html(data, argv[1], argv[2:])
-        elif argv[:1] == ['tell'] and len(argv) <= 3:
-            text = do_tell(data, argv[1:])
-        elif argv[:1] == ['counts'] and len(argv) <= 2:
-            text = do_counts(data, argv[1:])
-        elif argv[:1] == ['state'] and len(argv) == 2:
-            text = do_state(data, int(argv[1]))
-        elif argv[:1] == ['frame'] and len(argv) == 2:
-            text = do_frame(data, int(argv[1]))
-        elif argv[:1] == ['key'] and len(argv) == 2:
-            text = do_key(data, read_key(argv[1].encode()))
-        elif argv == ['faults']:
-            text = do_faults(data)
-        elif argv == ['sums']:
-            text = do_sums(data)
-        else:
-            sys.stdout.write('usage: mmshow html [SCRIPT [ANSWERS]] | tell [SCRIPT [ANSWERS]] | counts [LINE] | state LINE | frame N | key KEY | faults | sums\n')
-            return 2
-    except BadLog as e:
-        sys.stdout.write(e.text + 'no line %d\n' % e.args[0])
-        return 3
-    except BadScript as e:
-        sys.stdout.write('script line %d\n' % e.args[0])
-        return 6
-    sys.stdout.write(text)
-    return 0
+        form(out, data)
+    except BadLog as bad:
+        why = ': ' + bad.why if bad.why and argv[0] != 'html' else ''
+        last, status = 'no line %d%s\n' % (bad.line, why), 3
+    except BadScript as bad:
+        last, status = 'script line %d\n' % bad.args[0], 6
+    return status, ''.join(line + '\n' for line in out) + last
+
+
+def main(argv):
+    status, text = answer(argv, sys.stdin.buffer.read() if form_of(argv) else b'')
+    sys.stdout.buffer.write(text.encode('latin-1'))
+    return status
 
 
 if __name__ == '__main__':

@@ -82,8 +82,8 @@ module _ (a : Asked) (text : Text) (moves : List Move) (l : FrameLife) (left lef
       )
 
   -- it did not come to `no`
-  not_no : (life : FrameLife) (c : CountsOfLog) (line : ℕ) → Came left left' (ending.No line) life c → ⊥
-  not_no life c line came =
+  not_no : (life : FrameLife) (c : CountsOfLog) (line : ℕ) (o : Option Move) → Came left left' (ending.No line o) life c → ⊥
+  not_no life c line o came =
       let r = came.replayed in
       let t = taken_told text left' r.taken (subst (λ (o : Option Text). Took o left' r.taken) told r.took) in
       let stuck : IsStuck life (came.held ++ t.0) = subst (λ (o : Option Text). StuckBefore o life came.held) t.1.0 came.ends.1 in
@@ -103,7 +103,7 @@ module _ (a : Asked) (text : Text) (moves : List Move) (l : FrameLife) (left lef
       let f = from_yes life c came in
       inl (record { zero = h.0; text = subst (λ (t : Text). Appended took took' t) (ap (λ (d : CountsOfLog). yes_text a d life) f.0 ∙ ap (λ (k : FrameLife). yes_text a (counts_of_log moves) k) f.1) h.1 })
   by_ending ending.Yes life c came (inr h) = inr (inr (inr h.0))
-  by_ending (ending.No line) life c came s = absurd (not_no life c line came)
+  by_ending (ending.No line o) life c came s = absurd (not_no life c line o came)
   by_ending ending.TooLong life c came s = absurd (not_long life c came)
   by_ending ending.ReadFault life c came (inl h) = inr (inr (inl h.0))
   by_ending ending.ReadFault life c came (inr h) = inr (inr (inr h.0))
@@ -116,8 +116,8 @@ says_yes a text moves l left left' took took' status told few whole replays ran 
     by_ending a text moves l left left' took took' status told few whole replays ran.ending ran.life ran.counts ran.came ran.shows
 
 module _ (a : Asked) (text rest : Text) (moves : List Move) (l : FrameLife) (left left' took took' : Option Text) (status : ℕ) (told : left ≡ Some text) (few : length text ≤ most_bytes) (in_range : AreMoves moves) (whole : text ≡ spelled_moves moves ++ rest) (replays : Replays moves unstarted l) (stuck : IsStuck l rest) where
-  same_line : (life : FrameLife) (c : CountsOfLog) (line : ℕ) → Came left left' (ending.No line) life c → line ≡ length moves + 1
-  same_line life c line came =
+  same_line : (life : FrameLife) (c : CountsOfLog) (line : ℕ) (o : Option Move) → Came left left' (ending.No line o) life c → line ≡ length moves + 1
+  same_line life c line o came =
       let r = came.replayed in
       let t = taken_told text left' r.taken (subst (λ (o : Option Text). Took o left' r.taken) told r.took) in
       let other : IsStuck life (came.held ++ t.0) = subst (λ (o : Option Text). StuckBefore o life came.held) t.1.0 came.ends.1 in
@@ -144,9 +144,9 @@ module _ (a : Asked) (text rest : Text) (moves : List Move) (l : FrameLife) (lef
 
   no_by_ending : (e : Ending) (life : FrameLife) (c : CountsOfLog) → Came left left' e life c → Shows took took' (text_of a e c life) (status_of e) status → SaysNo (length moves + 1) took took' status ⊎ IsFault status
   no_by_ending ending.Yes life c came s = absurd (not_yes life c came)
-  no_by_ending (ending.No line) life c came (inl h) =
-      inl (record { three = h.0; text = subst (λ (k : ℕ). Appended took took' (text_of a (ending.No k) c life)) (same_line life c line came) h.1 })
-  no_by_ending (ending.No line) life c came (inr h) = inr (inr (inr h.0))
+  no_by_ending (ending.No line o) life c came (inl h) =
+      inl (record { three = h.0; text = subst (λ (k : ℕ). Appended took took' (text_of a (ending.No k o) c life)) (same_line life c line o came) h.1 })
+  no_by_ending (ending.No line o) life c came (inr h) = inr (inr (inr h.0))
   no_by_ending ending.TooLong life c came s = absurd (not_too_long life c came)
   no_by_ending ending.ReadFault life c came (inl h) = inr (inr (inl h.0))
   no_by_ending ending.ReadFault life c came (inr h) = inr (inr (inr h.0))

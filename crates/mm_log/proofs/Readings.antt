@@ -1,5 +1,5 @@
 -- A log that is read line by line.
-use Rattle.std.proofs.Common.{◌≡◌, ℕ, ◌+◌, ◌-◌, ◌<◌, ◌≤◌, false, List, [], ◌∷◌, ◌++◌, length, take, drop, Option, refl, sym, ap, ◌∙◌, subst, arith, add-one, append_assoc, length-append}
+use Rattle.std.proofs.Common.{◌≡◌, ℕ, ◌+◌, ◌-◌, ◌<◌, ◌≤◌, false, List, [], ◌∷◌, ◌++◌, length, take, drop, Option, None, refl, sym, ap, ◌∙◌, subst, arith, add-one, append_assoc, length-append}
 use Rattle.std.specs.Prelude.{Result, Ok, Err, MatchResult}
 use Rattle.mm_types.specs.Spelling.{Text}
 use Rattle.mm_types.specs.Outside.{IsEnd}
@@ -20,7 +20,7 @@ use Rattle.mm_log.specs.Reading.{Lines, Reading, Reads, Stops, Takes}
 use Rattle.mm_log.specs.declared.readers.LogReader.{LogReader}
 use Rattle.mm_log.specs.declared.endings.Ending.{Ending}
 use Rattle.mm_log.specs.declared.endings.Ending.TheVariants as ending
-use Rattle.mm_log.proofs.Stuck.{stuck_line, stuck_long, stuck_end}
+use Rattle.mm_log.proofs.Stuck.{stuck_line, stuck_long, stuck_end, spells_line, spells_long, spells_end}
 
 -- nothing was read
 pub lines_none : (left : Option Text) → Lines left left [] [] 0
@@ -84,7 +84,7 @@ took_line left left' r r' len l moves (Err e) lines number h few t = record {
   held = r.held;
   total = r.bytes;
   lines = lines;
-  ends = subst (λ (x : Ending). EndsAt x left' moves l r.held r.bytes) (sym t.no) (ap (λ (k : ℕ). k + 1) number, stuck_line l r.held left' len h t.none, few);
+  ends = subst (λ (x : Ending). EndsAt x left' moves l r.held r.bytes) (sym t.no) (ap (λ (k : ℕ). k + 1) number, stuck_line l r.held left' len h t.none, few, spells_line l r.held left' len h _ t.spelled);
 }
 
 -- ---- ends
@@ -109,17 +109,17 @@ pub finds_end : (f : Found) (left : Option Text) (held : Text) → f ≡ found.E
 finds_end f left held e h = subst (λ (x : Found). Finds (Ok x) left held) e h
 
 pub stops_long : (left left' : Option Text) (held : Text) (moves : List Move) (lines total : ℕ) (l : FrameLife) → Lines left left' held moves total → lines ≡ length moves → IsLong held → total ≤ most_bytes
-    → Stops left left' moves l (ending.No (lines + 1))
+    → Stops left left' moves l (ending.No (lines + 1) None)
 stops_long left left' held moves lines total l r number h few =
-    stops_here left left' held moves total l (ending.No (lines + 1)) r (ap (λ (k : ℕ). k + 1) number, stuck_long l held left' h, few)
+    stops_here left left' held moves total l (ending.No (lines + 1) None) r (ap (λ (k : ℕ). k + 1) number, stuck_long l held left' h, few, spells_long l held left' h)
 
 -- the last line: whole or not
 pub stops_last : (left left' : Option Text) (held : Text) (moves : List Move) (lines total : ℕ) (l : FrameLife) (e : Ending) → Lines left left' held moves total → lines ≡ length moves → total ≤ most_bytes
-    → IsLine held → IsEnd left' → (held ≡ [] → e ≡ ending.Yes) → (0 < length held → e ≡ ending.No (lines + 1)) → Stops left left' moves l e
+    → IsLine held → IsEnd left' → (held ≡ [] → e ≡ ending.Yes) → (0 < length held → e ≡ ending.No (lines + 1) None) → Stops left left' moves l e
 stops_last left left' [] moves lines total l e r number few line end whole cut =
     subst (λ (x : Ending). Stops left left' moves l x) (sym (whole refl)) (stops_here left left' [] moves total l ending.Yes r (refl, end, few))
 stops_last left left' (x ∷ xs) moves lines total l e r number few line end whole cut =
     subst (λ (y : Ending). Stops left left' moves l y) (sym (cut (omega arith)))
-    (stops_here left left' (x ∷ xs) moves total l (ending.No (lines + 1)) r (ap (λ (k : ℕ). k + 1) number, stuck_end l (x ∷ xs) left' (omega arith) line end, few))
+    (stops_here left left' (x ∷ xs) moves total l (ending.No (lines + 1) None) r (ap (λ (k : ℕ). k + 1) number, stuck_end l (x ∷ xs) left' (omega arith) line end, few, spells_end l (x ∷ xs) left' line end))
 
 pub ruleset readings = (longer)

@@ -40,7 +40,7 @@ yes_text (asked.Where k) c l = held_text (held_at l k)
 
 abbrev pub text_of : Asked → Ending → CountsOfLog → FrameLife → Text
 text_of a ending.Yes c l = yes_text a c l
-text_of a (ending.No line) c l = numbered (codes "no line ") line (10 ∷ [])
+text_of a (ending.No line refused) c l = numbered (codes "no line ") line (10 ∷ [])
 text_of a ending.TooLong c l = codes "too long" ++ (10 ∷ [])
 text_of a ending.ReadFault c l = []
 text_of a ending.NoMemory c l = []
@@ -50,7 +50,7 @@ usage_text = codes "usage: mmlog check | mmlog where KEY" ++ (10 ∷ [])
 
 abbrev pub status_of : Ending → ℕ
 status_of ending.Yes = 0
-status_of (ending.No line) = 3
+status_of (ending.No line refused) = 3
 status_of ending.TooLong = 8
 status_of ending.ReadFault = 4
 status_of ending.NoMemory = 1

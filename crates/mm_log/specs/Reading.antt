@@ -1,6 +1,6 @@
 -- A log that is read line by line.
 -- Profile, "Logs of moves".
-use Rattle.std.specs.Prelude.{◌≡◌, ℕ, ◌+◌, ◌<◌, ◌≤◌, false, List, [], ◌∷◌, ◌++◌, length, take, drop, Option, Result, Ok, Err}
+use Rattle.std.specs.Prelude.{◌≡◌, ℕ, ◌+◌, ◌<◌, ◌≤◌, false, List, [], ◌∷◌, ◌++◌, length, take, drop, Option, Some, None, Result, Ok, Err}
 use Rattle.mm_types.specs.Outside.{Took}
 use Rattle.mm_types.specs.Spelling.{Text}
 use Rattle.mm_types.specs.declared.moves.Move.{Move}
@@ -43,6 +43,16 @@ pub record Stops (left left' : Option Text) (moves : List Move) (l : FrameLife) 
   pub lines : Lines left left' held moves total
   pub ends : EndsAt e left' moves l held total
 
+-- the move that a bad line spells
+abbrev pub refused_of : Ending → Option Move
+refused_of (ending.No line refused) = refused
+refused_of _ = None
+
+-- the line, without its line feed, is this move's, or no move's
+abbrev pub IsSpelling : Option Move → Text → Type 0
+IsSpelling (Some m) line = IsMove m × (move_text m ≡ line)
+IsSpelling None line = (m : Move) → IsMove m → move_text m ≡ line → ⊥
+
 -- the line in front is a move that is legal in this state, and was taken; or it is none, and nothing was
 pub record TakesMove (r r' : LogReader) (len : ℕ) (l : FrameLife) (m : Move) : Type 0 where
   pub in_range : IsMove m
@@ -54,7 +64,8 @@ pub record TakesMove (r r' : LogReader) (len : ℕ) (l : FrameLife) (m : Move) :
 
 pub record TakesNone (r r' : LogReader) (len : ℕ) (l : FrameLife) (e : Ending) : Type 0 where
   pub none : (m : Move) → IsMove m → move_text m ≡ take len r.held → is_legal l m ≡ false
-  pub no : e ≡ ending.No (r.lines + 1)
+  pub spelled : IsSpelling (refused_of e) (take len r.held)
+  pub no : e ≡ ending.No (r.lines + 1) (refused_of e)
 
 abbrev pub Takes : LogReader → LogReader → ℕ → FrameLife → Result Move Ending → Type 0
 Takes r r' len l (Ok m) = TakesMove r r' len l m

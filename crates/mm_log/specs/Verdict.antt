@@ -28,10 +28,20 @@ abbrev pub StuckBefore : Option Text → FrameLife → Text → Type 0
 StuckBefore None l bytes = Unit {0}
 StuckBefore (Some more) l bytes = IsStuck l (bytes ++ more)
 
+-- in front stands the line of this move, or that of none
+abbrev pub Spells : Option Move → Text → Type 0
+Spells (Some m) bytes = IsMove m × ((behind : Text) × (bytes ≡ move_onto m (10 ∷ behind)))
+Spells None bytes = (m : Move) (behind : Text) → IsMove m → bytes ≡ move_onto m (10 ∷ behind) → ⊥
+
+abbrev pub SpellsBefore : Option Text → Option Move → Text → Type 0
+SpellsBefore None refused bytes = Unit {0}
+SpellsBefore (Some more) refused bytes = Spells refused (bytes ++ more)
+
 -- After the moves of whole lines, which lead to this state, stand these bytes; so many were taken in all.
 abbrev pub EndsAt : Ending → Option Text → List Move → FrameLife → Text → ℕ → Type 0
 EndsAt ending.Yes left moves l held total = (held ≡ []) × IsEnd left × (total ≤ most_bytes)
-EndsAt (ending.No line) left moves l held total = (line ≡ length moves + 1) × StuckBefore left l held × (total ≤ most_bytes)
+EndsAt (ending.No line refused) left moves l held total =
+    (line ≡ length moves + 1) × StuckBefore left l held × (total ≤ most_bytes) × SpellsBefore left refused held
 EndsAt ending.TooLong left moves l held total = most_bytes < total
 EndsAt ending.ReadFault left moves l held total = Unit {0}
 EndsAt ending.NoMemory left moves l held total = Unit {0}

@@ -1,4 +1,4 @@
-use mm_types::Key;
+use mm_types::{Key, Move};
 
 /// What is asked of a log.
 #[derive(Clone, Copy)]
@@ -14,8 +14,9 @@ pub enum Asked {
 pub enum Ending {
     /// The log replays.
     Yes,
-    /// In this line stands no move that is legal; lines are counted from 1.
-    No(u64),
+    /// In this line stands no move that is legal; lines are counted from 1. Beside it the move that
+    /// the line spells, where it spells one.
+    No(u64, Option<Move>),
     /// A byte past the last that a log may have was read.
     TooLong,
     /// A read failed.

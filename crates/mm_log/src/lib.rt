@@ -11,4 +11,4 @@ mod top;
 
 pub use endings::Ending;
 pub use readers::{LogReader, MOST_LINES};
-pub use top::{run_log, write_text};
+pub use top::{run_log, write_flushed, write_text};

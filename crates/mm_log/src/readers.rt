@@ -1,4 +1,4 @@
-ghost use Rattle.std.specs.Prelude.{◌≡◌, ◌+◌, ◌<◌, ◌≤◌, [], ℕ, List, Option, MatchResult, IfOk, length, Err};
+ghost use Rattle.std.specs.Prelude.{◌≡◌, ◌+◌, ◌<◌, ◌≤◌, [], ℕ, List, Option, MatchResult, IfOk, length, Err, None};
 ghost use Rattle.mm_life.specs.Legal.{IsLegal};
 ghost use Rattle.mm_types.specs.Outside.{Rose};
 ghost use Rattle.mm_types.specs.declared.moves.Move.{Move};
@@ -67,7 +67,7 @@ impl LogReader {
         }
         match found {
             Found::Line(len) => self.take_line(len, life),
-            Found::Long => Err(Ending::No(self.lines + 1)),
+            Found::Long => Err(Ending::No(self.lines + 1, None)),
             Found::End => Err(last_line(&self.held, self.lines)),
         }
     }
@@ -82,10 +82,10 @@ impl LogReader {
         ensures { Takes self.old self.new len (life_of life.now) result }
     {
         let Some(m) = read_move(&self.held.bytes()[..len]) else {
-            return Err(Ending::No(self.lines + 1));
+            return Err(Ending::No(self.lines + 1, None));
         };
         if !life.is_legal(&m) {
-            return Err(Ending::No(self.lines + 1));
+            return Err(Ending::No(self.lines + 1, Some(m)));
         }
         self.held.skip(len + 1);
         self.lines += 1;
@@ -104,11 +104,11 @@ fn held_len(held: &Held) -> usize
 fn last_line(held: &Held, lines: u64) -> Ending
     requires { lines ≤ most_bytes }
     ensures whole { held.now ≡ [] → result ≡ Ending.Yes }
-    ensures cut { 0 < length held.now → result ≡ Ending.No (lines + 1) }
+    ensures cut { 0 < length held.now → result ≡ Ending.No (lines + 1) None }
 {
     if held.bytes().is_empty() {
         Ending::Yes
     } else {
-        Ending::No(lines + 1)
+        Ending::No(lines + 1, None)
     }
 }

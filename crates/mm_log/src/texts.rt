@@ -95,7 +95,7 @@ pub(crate) fn text_of(asked: Asked, ending: Ending, checker: &Checker) -> LineBu
 {
     match ending {
         Ending::Yes => yes_text(asked, checker),
-        Ending::No(line) => numbered_line(b"no line ", line),
+        Ending::No(line, _) => numbered_line(b"no line ", line),
         Ending::TooLong => words_line(b"too long\n"),
         Ending::ReadFault => LineBuf::new(),
         Ending::NoMemory => LineBuf::new(),
@@ -108,7 +108,7 @@ pub(crate) fn status_of(ending: Ending) -> u8
 {
     match ending {
         Ending::Yes => 0,
-        Ending::No(_) => 3,
+        Ending::No(_, _) => 3,
         Ending::TooLong => 8,
         Ending::ReadFault => 4,
         Ending::NoMemory => 1,

@@ -59,7 +59,7 @@ fn asked(alloc: Global, words: &[String]) -> Result<Option<Asked>, NoMemory>
 }
 
 /// Writes a text and flushes it. Where the flush fails all of the text was taken.
-fn write_flushed<O: Sink>(out: &mut O, text: &[u8]) -> Result<(), Failed>
+pub fn write_flushed<O: Sink>(out: &mut O, text: &[u8]) -> Result<(), Failed>
     ensures wrote { Wrote (O.taken out.old) (O.taken out.new) text.now (is_err result) }
     ensures cause { HasCause (O.faults out.old) (O.faults out.new) result }
 {

@@ -1,7 +1,7 @@
 -- How a run ends whose file was read.
 use Rattle.std.proofs.Common.{◌≡◌, ◌⊎◌, inl, inr, ℕ, ◌≤◌, ◌<◌, true, false, List, [], Option, Some, None, sym, refl, subst, ◌∙◌}
 use Rattle.mm_types.specs.Spelling.{Text}
-use Rattle.mm_types.specs.Outside.{Appended}
+use Rattle.mm_types.specs.Outside.{Appended, Rose}
 use Rattle.mm_types.specs.declared.events.Event.{Event}
 use Rattle.mm_types.proofs.Bytes.{appended_none}
 use Rattle.mm_io.specs.Io.{Wrote}
@@ -11,7 +11,10 @@ use Rattle.mm_names.specs.Scripts.{script_of}
 use Rattle.mm_names.specs.Stages.{ScriptOf, is_whole, Ends}
 use Rattle.mm_names.specs.Runs.{most_lines, WasRead, IsWritten, IsRefused, IsManyBytes, IsManyLines, IsTorn, Came, status_of}
 use Rattle.mm_names.proofs.Opening.{opens}
-use Rattle.mm_reasons.specs.Forms.{Talked, Ran, RanTalk}
+use Rattle.mm_reasons.specs.declared.forms.Form.{Form}
+use Rattle.mm_reasons.specs.declared.forms.Form.TheVariants as form
+use Rattle.mm_reasons.specs.Forms.{Talked, Ran, RanTalk, RanAs}
+use Rattle.mm_reasons.proofs.Sayings.{said_none}
 
 -- a script is not both whole and not
 pub never_both : {A : Type 0} (s : ScriptOf) → is_whole s ≡ true → is_whole s ≡ false → A
@@ -73,10 +76,10 @@ torn a b text w = (w.front, w.written)
 pub torn_none : (a : Option Text) → IsTorn a a
 torn_none a = ([], appended_none a)
 
-pub told : (r e : Ending) (left left' a : Option Text) → (r ≡ e) ⊎ (r ≡ ending.OutFault) → Came e left left' a a
-    → Came r left left' a a
-told r e left left' a (inl h) came = subst (λ (x : Ending). Came x left left' a a) (sym h) came
-told r e left left' a (inr h) came = subst (λ (x : Ending). Came x left left' a a) (sym h) (torn_none a)
+pub told : (r e : Ending) (left left' a : Option Text) (x y : ℕ) → (r ≡ e) ⊎ ((r ≡ ending.OutFault) × Rose x y)
+    → Came e left left' a a → Came r left left' a a
+told r e left left' a x y (inl h) came = subst (λ (z : Ending). Came z left left' a a) (sym h) came
+told r e left left' a x y (inr h) came = subst (λ (z : Ending). Came z left left' a a) (sym h.0) (torn_none a)
 
 pub ran : (e : Ending) (left left' a b : Option Text) (status : ℕ) → status ≡ status_of e → Came e left left' a b
     → Ran left left' a b status
@@ -84,5 +87,12 @@ ran e left left' a b status is came = record { ending = e; status_is = is; came 
 
 pub ran_talk : (e : Ending) (a b : Option Text) (status : ℕ) → status ≡ status_of e → Talked e a b → RanTalk a b status
 ran_talk e a b status is talked = record { ending = e; status_is = is; talked = talked }
+
+-- memory was refused before anything was read or written
+pub out_of_memory : (o : Option Form) (left took : Option Text) → RanAs o left left took took 1
+out_of_memory None left took = (refl, refl, inr refl)
+out_of_memory (Some form.Script) left took = record { ending = ending.NoMemory; status_is = refl; came = refl }
+out_of_memory (Some form.Lines) left took = record { ending = ending.NoMemory; status_is = refl; came = refl }
+out_of_memory (Some form.Talk) left took = record { ending = ending.NoMemory; status_is = refl; talked = said_none took }
 
 pub ruleset endings = (written, refused, many, torn, torn_none, told, ran, ran_talk)

@@ -1,2 +1,4 @@
 pub mod Sayings
 pub mod Endings
+mod FormWords
+pub mod Blames

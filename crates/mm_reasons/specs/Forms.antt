@@ -1,9 +1,9 @@
 -- The forms of the program's words, and what each does.
 -- docs/WRITTEN.md
-use Rattle.std.specs.Prelude.{◌≡◌, ◌≢◌, ℕ, List, [], ◌∷◌, bytes_eq, if◌then◌else◌, Option, Some, None, codes}
+use Rattle.std.specs.Prelude.{◌≡◌, ◌⊎◌, ℕ, List, [], ◌∷◌, bytes_eq, if◌then◌else◌, Option, Some, None, codes}
 use Rattle.std.specs.List.{AllByRecursion}
 use Rattle.mm_types.specs.Spelling.{Text}
-use Rattle.mm_types.specs.Outside.{Appended}
+use Rattle.mm_types.specs.Outside.{Appended, Rose}
 use Rattle.mm_types.specs.declared.events.Event.{Event}
 use Rattle.mm_script.specs.Printed.{IsWellFormed}
 use Rattle.mm_names.specs.declared.endings.Ending.{Ending}
@@ -36,6 +36,18 @@ abbrev pub Talked : Ending → (took took' : Option Text) → Type 0
 Talked ending.OutFault took took' = IsTorn took took'
 Talked _ took took' = Said took took'
 
+-- A write is blamed where the count of faults of one of two sinks rose; no read is.
+abbrev pub WriteBlamed : Ending → (out out' err err' : ℕ) → Type 0
+WriteBlamed ending.OutFault out out' err err' = Rose out out' ⊎ Rose err err'
+WriteBlamed ending.ReadFault out out' err err' = ⊥
+WriteBlamed _ out out' err err' = Unit {0}
+
+-- and a read where that of the source did
+abbrev pub Blamed : Ending → (left left' out out' err err' : ℕ) → Type 0
+Blamed ending.ReadFault left left' out out' err err' = Rose left left'
+Blamed ending.OutFault left left' out out' err err' = Rose out out' ⊎ Rose err err'
+Blamed _ left left' out out' err err' = Unit {0}
+
 -- How a run ends: its status, and what was read and written.
 pub record Ran (left left' took took' : Option Text) (status : ℕ) : Type 0 where
   pub ending : Ending
@@ -47,8 +59,13 @@ pub record RanTalk (took took' : Option Text) (status : ℕ) : Type 0 where
   pub status_is : status ≡ status_of ending
   pub talked : Talked ending took took'
 
+-- words that are no form are told of, or memory was refused; nothing is read or written
+abbrev pub IsNoForm : (left left' took took' : Option Text) → ℕ → Type 0
+IsNoForm left left' took took' status =
+    (left' ≡ left) × (took' ≡ took) × ((status ≡ 2) ⊎ (status ≡ 1))
+
 -- what a run in this form does
 abbrev pub RanAs : Option Form → (left left' took took' : Option Text) → ℕ → Type 0
-RanAs None left left' took took' status = (left' ≡ left) × (took' ≡ took) × (status ≡ 2)
+RanAs None left left' took took' status = IsNoForm left left' took took' status
 RanAs (Some form.Talk) left left' took took' status = RanTalk took took' status
 RanAs (Some _) left left' took took' status = Ran left left' took took' status

@@ -1,5 +1,9 @@
-ghost use Rattle.std.specs.Prelude.{◌≡◌, map, string_bytes};
+ghost use Rattle.std.specs.Prelude.{◌≡◌, IfOk, map, string_bytes};
 ghost use Rattle.mm_reasons.specs.Forms.{form_named, form_of};
+
+use mm_forms::{Form as Named, read_words};
+use mm_types::NoMemory;
+use std::alloc::Global;
 
 /// A form of the program's words.
 #[derive(Clone, Copy, PartialEq, Eq, Debug)]
@@ -25,13 +29,27 @@ fn form_named(word: &[u8]) -> Option<Form>
     None
 }
 
-/// Which form the words are.
-pub(crate) fn form_of(words: &[String]) -> Option<Form>
-    ensures { result ≡ form_of (map string_bytes words.now) }
+/// Which form the words are. An `Err` is memory that was refused.
+pub(crate) fn form_of(alloc: Global, words: &[String]) -> Result<Option<Form>, NoMemory>
+    ensures { IfOk result (λ r. r ≡ form_of (map string_bytes words.now)) }
 {
-    match words {
-        [] => Some(Form::Script),
-        [word] => form_named(word.as_bytes()),
-        _ => None,
+    if words.is_empty() {
+        return Ok(Some(Form::Script));
+    }
+    let forms = [
+        Named {
+            name: "lines",
+            least: 0,
+            most: 0,
+        },
+        Named {
+            name: "talk",
+            least: 0,
+            most: 0,
+        },
+    ];
+    match read_words(alloc, &forms, words)? {
+        Some(said) => Ok(form_named(said.name.as_bytes())),
+        None => Ok(None),
     }
 }

@@ -1,7 +1,7 @@
-ghost use Rattle.std.specs.Prelude.{◌≡◌, ◌∷◌, ◌++◌, [], IfOk, MatchResult};
+ghost use Rattle.std.specs.Prelude.{◌≡◌, ◌≤◌, ℕ, ◌∷◌, ◌++◌, [], IfOk, IfErr, MatchResult};
 ghost use Rattle.mm_script.specs.Printed.{printed, IsWellFormed};
 ghost use Rattle.mm_names.specs.Meaning.{FormedIn};
-ghost use Rattle.mm_reasons.specs.Forms.{Said, Talked};
+ghost use Rattle.mm_reasons.specs.Forms.{Said, Talked, WriteBlamed, Blamed};
 
 use crate::explainers::Explainer;
 use crate::top::write_flushed;
@@ -27,11 +27,14 @@ fn line_of(alloc: Global, event: &Event) -> Result<Vec<u8>, NoMemory>
 }
 
 /// Writes the line of an event.
-#[tactic(auto, using(crate::proofs::Sayings::sayings))]
+#[tactic(auto, using(crate::proofs::Sayings::sayings, crate::proofs::Blames::blames))]
 fn say<O: Sink>(alloc: Global, event: &Event, out: &mut O) -> Result<(), Ending>
     requires { IsWellFormed event.now }
-    ensures { MatchResult result (λ _. Said (O.taken out.old) (O.taken out.new))
+    ensures said { MatchResult result (λ _. Said (O.taken out.old) (O.taken out.new))
         (λ e. Talked e (O.taken out.old) (O.taken out.new)) }
+    ensures later { O.faults out.old ≤ O.faults out.new }
+    ensures blame { IfErr result (λ e. (n : ℕ)
+        → WriteBlamed e (O.faults out.old) (O.faults out.new) n n) }
 {
     let line = match line_of(alloc, event) {
         Ok(line) => line,
@@ -44,7 +47,7 @@ fn say<O: Sink>(alloc: Global, event: &Event, out: &mut O) -> Result<(), Ending>
 }
 
 /// Writes the line of an event, where the meaning is one that may stand here.
-#[tactic(auto, using(crate::proofs::Sayings::sayings))]
+#[tactic(auto, using(crate::proofs::Sayings::sayings, crate::proofs::Blames::blames))]
 fn say_meaning<O: Sink>(
     alloc: Global,
     meaning: &Meaning,
@@ -52,8 +55,11 @@ fn say_meaning<O: Sink>(
     out: &mut O,
 ) -> Result<(), Ending>
     requires { FormedIn meaning.now }
-    ensures { MatchResult result (λ _. Said (O.taken out.old) (O.taken out.new))
+    ensures said { MatchResult result (λ _. Said (O.taken out.old) (O.taken out.new))
         (λ e. Talked e (O.taken out.old) (O.taken out.new)) }
+    ensures later { O.faults out.old ≤ O.faults out.new }
+    ensures blame { IfErr result (λ e. (n : ℕ)
+        → WriteBlamed e (O.faults out.old) (O.faults out.new) n n) }
 {
     match meaning {
         Meaning::Says(event) => {
@@ -67,13 +73,18 @@ fn say_meaning<O: Sink>(
 }
 
 /// Tells what is wrong with a line, or may be.
+#[tactic(auto, using(crate::proofs::Blames::blames))]
 fn explain<E: Sink>(
     alloc: Global,
     explainer: &mut Explainer,
     meaning: &Meaning,
     line: &[u8],
     err: &mut E,
-) -> Result<(), Ending> {
+) -> Result<(), Ending>
+    ensures err_later { E.faults err.old ≤ E.faults err.new }
+    ensures blame { IfErr result (λ e. (n : ℕ)
+        → WriteBlamed e n n (E.faults err.old) (E.faults err.new)) }
+{
     if explainer.explain(alloc, meaning, line).is_err() {
         return Err(Ending::NoMemory);
     }
@@ -85,7 +96,7 @@ fn explain<E: Sink>(
 }
 
 /// Takes a line.
-#[tactic(auto, using(crate::proofs::Sayings::sayings))]
+#[tactic(auto, using(crate::proofs::Sayings::sayings, crate::proofs::Blames::blames))]
 fn take_line<O: Sink, E: Sink>(
     alloc: Global,
     explainer: &mut Explainer,
@@ -93,8 +104,12 @@ fn take_line<O: Sink, E: Sink>(
     out: &mut O,
     err: &mut E,
 ) -> Result<(), Ending>
-    ensures { MatchResult result (λ _. Said (O.taken out.old) (O.taken out.new))
+    ensures said { MatchResult result (λ _. Said (O.taken out.old) (O.taken out.new))
         (λ e. Talked e (O.taken out.old) (O.taken out.new)) }
+    ensures later { O.faults out.old ≤ O.faults out.new }
+    ensures err_later { E.faults err.old ≤ E.faults err.new }
+    ensures blame { IfErr result (λ e. WriteBlamed e (O.faults out.old) (O.faults out.new)
+        (E.faults err.old) (E.faults err.new)) }
 {
     // The check of a meaning that is let go wants the types inside an event named here.
     let _event: Option<Event> = None;
@@ -119,7 +134,7 @@ fn whole_line<'a>(explainer: &Explainer, line: &'a [u8]) -> &'a [u8] {
 }
 
 /// Takes a byte: of the line that has begun, or its end.
-#[tactic(auto, using(crate::proofs::Sayings::sayings))]
+#[tactic(auto, using(crate::proofs::Sayings::sayings, crate::proofs::Blames::blames))]
 fn take_byte<O: Sink, E: Sink>(
     alloc: Global,
     explainer: &mut Explainer,
@@ -128,8 +143,12 @@ fn take_byte<O: Sink, E: Sink>(
     out: &mut O,
     err: &mut E,
 ) -> Result<(), Ending>
-    ensures { MatchResult result (λ _. Said (O.taken out.old) (O.taken out.new))
+    ensures said { MatchResult result (λ _. Said (O.taken out.old) (O.taken out.new))
         (λ e. Talked e (O.taken out.old) (O.taken out.new)) }
+    ensures later { O.faults out.old ≤ O.faults out.new }
+    ensures err_later { E.faults err.old ≤ E.faults err.new }
+    ensures blame { IfErr result (λ e. WriteBlamed e (O.faults out.old) (O.faults out.new)
+        (E.faults err.old) (E.faults err.new)) }
 {
     if byte == b'\n' {
         let whole = whole_line(explainer, line.as_slice());
@@ -144,7 +163,7 @@ fn take_byte<O: Sink, E: Sink>(
 }
 
 /// Takes some bytes.
-#[tactic(auto, using(crate::proofs::Sayings::sayings))]
+#[tactic(auto, using(crate::proofs::Sayings::sayings, crate::proofs::Blames::blames))]
 fn take_bytes<O: Sink, E: Sink>(
     alloc: Global,
     explainer: &mut Explainer,
@@ -153,8 +172,12 @@ fn take_bytes<O: Sink, E: Sink>(
     out: &mut O,
     err: &mut E,
 ) -> Result<(), Ending>
-    ensures { MatchResult result (λ _. Said (O.taken out.old) (O.taken out.new))
+    ensures said { MatchResult result (λ _. Said (O.taken out.old) (O.taken out.new))
         (λ e. Talked e (O.taken out.old) (O.taken out.new)) }
+    ensures later { O.faults out.old ≤ O.faults out.new }
+    ensures err_later { E.faults err.old ≤ E.faults err.new }
+    ensures blame { IfErr result (λ e. WriteBlamed e (O.faults out.old) (O.faults out.new)
+        (E.faults err.old) (E.faults err.new)) }
 {
     for byte in bytes {
         match take_byte(alloc, explainer, line, *byte, out, err) {
@@ -166,7 +189,7 @@ fn take_bytes<O: Sink, E: Sink>(
 }
 
 /// Takes what a source gives, to its end.
-#[tactic(auto, using(crate::proofs::Sayings::sayings))]
+#[tactic(auto, using(crate::proofs::Sayings::sayings, crate::proofs::Blames::blames))]
 fn listen<S: Source, O: Sink, E: Sink>(
     alloc: Global,
     explainer: &mut Explainer,
@@ -175,8 +198,12 @@ fn listen<S: Source, O: Sink, E: Sink>(
     out: &mut O,
     err: &mut E,
 ) -> Result<(), Ending>
-    ensures { MatchResult result (λ _. Said (O.taken out.old) (O.taken out.new))
+    ensures said { MatchResult result (λ _. Said (O.taken out.old) (O.taken out.new))
         (λ e. Talked e (O.taken out.old) (O.taken out.new)) }
+    ensures later { O.faults out.old ≤ O.faults out.new }
+    ensures err_later { E.faults err.old ≤ E.faults err.new }
+    ensures blame { IfErr result (λ e. Blamed e (S.faults source.old) (S.faults source.new)
+        (O.faults out.old) (O.faults out.new) (E.faults err.old) (E.faults err.new)) }
 {
     let mut buf = [0u8; 4096];
     for _turn in 0..u64::MAX {
@@ -196,15 +223,17 @@ fn listen<S: Source, O: Sink, E: Sink>(
 }
 
 /// Takes what a source gives, and a last line without its end.
-#[tactic(auto, using(crate::proofs::Sayings::sayings))]
+#[tactic(auto, using(crate::proofs::Sayings::sayings, crate::proofs::Blames::blames))]
 fn hear<S: Source, O: Sink, E: Sink>(
     alloc: Global,
     source: &mut S,
     out: &mut O,
     err: &mut E,
 ) -> Result<(), Ending>
-    ensures { MatchResult result (λ _. Said (O.taken out.old) (O.taken out.new))
+    ensures said { MatchResult result (λ _. Said (O.taken out.old) (O.taken out.new))
         (λ e. Talked e (O.taken out.old) (O.taken out.new)) }
+    ensures blame { IfErr result (λ e. Blamed e (S.faults source.old) (S.faults source.new)
+        (O.faults out.old) (O.faults out.new) (E.faults err.old) (E.faults err.new)) }
 {
     let mut explainer = Explainer::new(alloc, true);
     let mut line: Vec<u8> = Vec::new(alloc);
@@ -213,13 +242,16 @@ fn hear<S: Source, O: Sink, E: Sink>(
 }
 
 /// Takes each line as it comes: its event's line is written at once, what is wrong with it is told.
+#[tactic(auto, using(crate::proofs::Blames::blames))]
 pub(crate) fn talk<S: Source, O: Sink, E: Sink>(
     alloc: Global,
     source: &mut S,
     out: &mut O,
     err: &mut E,
 ) -> Ending
-    ensures { Talked result (O.taken out.old) (O.taken out.new) }
+    ensures talked { Talked result (O.taken out.old) (O.taken out.new) }
+    ensures blame { Blamed result (S.faults source.old) (S.faults source.new)
+        (O.faults out.old) (O.faults out.new) (E.faults err.old) (E.faults err.new) }
 {
     match hear(alloc, source, out, err) {
         Ok(()) => Ending::Written,

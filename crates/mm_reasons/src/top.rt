@@ -1,11 +1,11 @@
 ghost use Rattle.std.specs.Prelude.{◌≡◌, ◌⊎◌, ◌≤◌, Option, true, map, string_bytes, is_err};
 ghost use Rattle.mm_types.specs.Spelling.{Text};
-ghost use Rattle.mm_types.specs.Outside.{HasCause};
+ghost use Rattle.mm_types.specs.Outside.{HasCause, Rose};
 ghost use Rattle.mm_io.specs.Io.{Wrote};
 ghost use Rattle.mm_names.specs.Scripts.{script_of};
 ghost use Rattle.mm_names.specs.Stages.{is_whole, Ends};
 ghost use Rattle.mm_names.specs.Runs.{WasRead, Came, most_lines, status_of};
-ghost use Rattle.mm_reasons.specs.Forms.{form_of, RanAs};
+ghost use Rattle.mm_reasons.specs.Forms.{form_of, RanAs, WriteBlamed, Blamed};
 
 use crate::explainers::explained;
 use crate::forms::{Form, form_of};
@@ -33,7 +33,8 @@ pub(crate) fn write_flushed<O: Sink>(out: &mut O, text: &[u8]) -> Result<(), Fai
 
 /// Tells a text, and ends so.
 fn tell<E: Sink>(err: &mut E, text: &[u8], ending: Ending) -> Ending
-    ensures { (result ≡ ending) ⊎ (result ≡ Ending.OutFault) }
+    ensures { (result ≡ ending)
+        ⊎ ((result ≡ Ending.OutFault) × Rose (E.faults err.old) (E.faults err.new)) }
 {
     if text.is_empty() {
         return ending;
@@ -74,10 +75,12 @@ fn notes(alloc: Global, text: &[u8], script: &Script, form: Form) -> Result<Vec<
 #[tactic(auto, using(crate::proofs::Endings::endings))]
 /// Writes a script's lines.
 fn put_script<O: Sink>(script: &Script, out: &mut O) -> Ending
-    ensures { (left left' : Option Text) (text : Text) → WasRead left left' text
+    ensures came { (left left' : Option Text) (text : Text) → WasRead left left' text
         → Ends (script_of text) script.now → is_whole script.now ≡ true
         → script.now.lines ≤ most_lines
         → Came result left left' (O.taken out.old) (O.taken out.new) }
+    ensures blame { (result ≡ Ending.Written)
+        ⊎ ((result ≡ Ending.OutFault) × Rose (O.faults out.old) (O.faults out.new)) }
 {
     match write_flushed(out, script.text()) {
         Ok(()) => Ending::Written,
@@ -85,12 +88,14 @@ fn put_script<O: Sink>(script: &Script, out: &mut O) -> Ending
     }
 }
 
-#[tactic(auto, using(crate::proofs::Endings::endings))]
+#[tactic(auto, using(crate::proofs::Endings::endings, crate::proofs::Blames::blames))]
 /// Ends a run whose file was read: the script is written, or it is told why not.
 fn finish<O: Sink, E: Sink>(script: &Script, notes: &[u8], out: &mut O, err: &mut E) -> Ending
-    ensures { (left left' : Option Text) (text : Text) → WasRead left left' text
+    ensures came { (left left' : Option Text) (text : Text) → WasRead left left' text
         → Ends (script_of text) script.now
         → Came result left left' (O.taken out.old) (O.taken out.new) }
+    ensures blame { WriteBlamed result (O.faults out.old) (O.faults out.new)
+        (E.faults err.old) (E.faults err.new) }
 {
     if !script.is_whole() {
         return tell(err, notes, Ending::Refused);
@@ -108,7 +113,7 @@ fn finish<O: Sink, E: Sink>(script: &Script, notes: &[u8], out: &mut O, err: &mu
     put_script(script, out)
 }
 
-#[tactic(auto, using(crate::proofs::Endings::endings))]
+#[tactic(auto, using(crate::proofs::Endings::endings, crate::proofs::Blames::blames))]
 /// Translates a file.
 fn translate<S: Source, O: Sink, E: Sink>(
     alloc: Global,
@@ -117,12 +122,17 @@ fn translate<S: Source, O: Sink, E: Sink>(
     out: &mut O,
     err: &mut E,
 ) -> Ending
-    ensures { Came result (S.left source.old) (S.left source.new)
+    ensures came { Came result (S.left source.old) (S.left source.new)
         (O.taken out.old) (O.taken out.new) }
+    ensures blame { Blamed result (S.faults source.old) (S.faults source.new)
+        (O.faults out.old) (O.faults out.new) (E.faults err.old) (E.faults err.new) }
 {
+    // reading writes to no sink
     let text = match read_all(alloc, source) {
         Ok(text) => text,
-        Err(ending) => return ending,
+        Err(Ending::ReadFault) => return Ending::ReadFault,
+        Err(Ending::TooLong) => return Ending::TooLong,
+        Err(_) => return Ending::NoMemory,
     };
     let script = match translated(alloc, text.as_slice()) {
         Ok(script) => script,
@@ -150,7 +160,7 @@ fn status_of(ending: Ending) -> u8
     }
 }
 
-#[tactic(auto, using(crate::proofs::Endings::endings))]
+#[tactic(auto, using(crate::proofs::Endings::endings, crate::proofs::Blames::blames))]
 /// Reads a written file from the source and writes the script that it means to `out`; what is wrong
 /// with it, and what else is told, goes to `err`. No words translate the whole file, or nothing
 /// where a line of it means nothing; `lines` tells besides from which line each comes; `talk` takes
@@ -165,16 +175,22 @@ pub fn run_names<S: Source, O: Sink, E: Sink>(
     out: &mut O,
     err: &mut E,
 ) -> u8
-    ensures { RanAs (form_of (map string_bytes words.now)) (S.left source.old) (S.left source.new)
+    ensures ran { RanAs (form_of (map string_bytes words.now)) (S.left source.old) (S.left source.new)
         (O.taken out.old) (O.taken out.new) result }
+
+    // A fault is blamed only where its count rose.
+    ensures read_fault { result ≡ 4 → Rose (S.faults source.old) (S.faults source.new) }
+    ensures out_fault { result ≡ 5 → Rose (O.faults out.old) (O.faults out.new)
+        ⊎ Rose (E.faults err.old) (E.faults err.new) }
 {
-    match form_of(words) {
-        None => {
+    match form_of(alloc, words) {
+        Err(NoMemory) => 1,
+        Ok(None) => {
             let _ = write_flushed(err, USAGE);
             2
         }
-        Some(Form::Talk) => status_of(talk(alloc, source, out, err)),
-        Some(Form::Script) => status_of(translate(alloc, Form::Script, source, out, err)),
-        Some(Form::Lines) => status_of(translate(alloc, Form::Lines, source, out, err)),
+        Ok(Some(Form::Talk)) => status_of(talk(alloc, source, out, err)),
+        Ok(Some(Form::Script)) => status_of(translate(alloc, Form::Script, source, out, err)),
+        Ok(Some(Form::Lines)) => status_of(translate(alloc, Form::Lines, source, out, err)),
     }
 }

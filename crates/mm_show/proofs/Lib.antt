@@ -1,5 +1,6 @@
 pub mod Worded
-pub mod Classed
+pub mod FormWords
+pub mod Behind
 pub mod Paged
 pub mod Summed
 pub mod Exactness

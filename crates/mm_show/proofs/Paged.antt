@@ -6,13 +6,31 @@ use Rattle.mm_life.specs.Life.{FrameLife, unstarted}
 use Rattle.mm_life.specs.Effect.{after_move}
 use Rattle.mm_classes.specs.Marks.{MarksOf, no_marks, marks_after}
 use Rattle.mm_classes.specs.Marking.{marks_of}
-use Rattle.mm_classes.specs.Data.{log_data, mark_before, last_mark}
-use Rattle.mm_show.specs.Classing.{pending, class_then, move_of}
+use Rattle.mm_classes.specs.Classes.{class_of, next_of}
+use Rattle.mm_classes.specs.declared.classes.Class.{Class}
+use Rattle.mm_classes.specs.Encoding.{move_data}
+use Rattle.mm_classes.specs.Data.{log_data, data_from, mark_before, last_mark}
+use Rattle.mm_tell.specs.Classing.{pending, class_then, move_of}
 use Rattle.mm_show.specs.Data.{classed_data, data_rest}
 use Rattle.mm_show.specs.PageRest.{page_rest}
-use Rattle.mm_show.specs.declared.classifiers.Pending.{Pending}
+use Rattle.mm_tell.specs.declared.classifiers.Pending.{Pending}
 use Rattle.mm_show.specs.declared.data.PageTeller.{PageTeller}
-use Rattle.mm_show.proofs.Classed.{data_taken}
+use Rattle.mm_tell.proofs.ClassKnown.{class_known}
+
+-- the data that comes
+module _ (l : FrameLife) (v : MarksOf) (p : Option Pending) (m : Move) where
+  data_taken : (known behind : Text) (ms : List Move)
+      → ((known ++ classed_data (class_then p (Some m))) ++ mark_before l m) ++ (data_rest (marks_after v m) (Some (pending l v (move_of p) m)) (after_move l m) ms ++ behind)
+      ≡ known ++ (data_rest v p l (m ∷ ms) ++ behind)
+  data_taken known behind ms =
+      let a : Text = classed_data (class_then p (Some m)) in
+      let b : Text = mark_before l m in
+      let d : Text = data_from (after_move l m) (marks_after v m) (Some m) ms in
+      let y : Text = move_data (class_of l v (move_of p) m (next_of ms)) m ++ d in
+      ap (λ (c : Option Class). ((known ++ a) ++ b) ++ ((move_data c m ++ d) ++ behind)) (class_known l v (move_of p) m (next_of ms))
+      ∙ append_assoc (known ++ a) b (y ++ behind)
+      ∙ append_assoc known a (b ++ (y ++ behind))
+      ∙ ap (λ xs. known ++ xs) (sym (append_assoc a (b ++ y) behind ∙ ap (λ xs. a ++ xs) (append_assoc b y behind)))
 
 data_moved : (known known' behind : Text) (l : FrameLife) (v v' : MarksOf) (p p' : Option Pending) (m : Move) → known' ≡ (known ++ classed_data (class_then p (Some m))) ++ mark_before l m
     → v' ≡ marks_after v m → p' ≡ Some (pending l v (move_of p) m) → (ms : List Move)

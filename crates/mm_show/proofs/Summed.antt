@@ -15,12 +15,12 @@ use Rattle.mm_classes.specs.Counting.{is_class, number_of}
 use Rattle.mm_classes.specs.Encoding.{kind_code}
 use Rattle.mm_classes.specs.Words.{code_of}
 use Rattle.mm_classes.specs.declared.classes.Class.{Class}
-use Rattle.mm_show.specs.Classing.{pending, class_then, move_of, class_list}
+use Rattle.mm_tell.specs.Classing.{pending, class_then, move_of, class_list, classes_rest}
 use Rattle.mm_show.specs.Sums.{is_kind, class_sums, kind_sums, sums_text, number_in}
-use Rattle.mm_show.specs.SumRest.{classes_rest, sums_left}
+use Rattle.mm_show.specs.SumRest.{sums_left}
 use Rattle.mm_show.specs.Counted.{of_class, of_kind, AreFew}
-use Rattle.mm_show.specs.declared.classifiers.Pending.{Pending}
-use Rattle.mm_show.proofs.Classed.{classes_taken}
+use Rattle.mm_tell.specs.declared.classifiers.Pending.{Pending}
+use Rattle.mm_tell.proofs.ClassKnown.{classes_taken}
 
 bumped : (xs : List ℕ) (i k : ℕ) → i < length xs → get_or (set xs i (get_or xs i 0 + 1)) k 0 ≡ cond (i == k) 1 0 + get_or xs k 0
 bumped xs i k h = pick (i == k) refl

@@ -8,9 +8,9 @@ use Rattle.mm_classes.specs.Marks.{MarksOf}
 use Rattle.mm_classes.specs.Classes.{next_of}
 use Rattle.mm_classes.specs.Data.{data_from}
 use Rattle.mm_classes.specs.Encoding.{move_data}
-use Rattle.mm_show.specs.Classing.{class_then, move_of}
-use Rattle.mm_show.specs.declared.classifiers.Pending.{Pending}
-use Rattle.mm_show.specs.declared.classifiers.Classed.{Classed}
+use Rattle.mm_tell.specs.Classing.{class_then, move_of}
+use Rattle.mm_tell.specs.declared.classifiers.Pending.{Pending}
+use Rattle.mm_tell.specs.declared.classifiers.Classed.{Classed}
 
 abbrev pub classed_data : Option Classed → Text
 classed_data None = []

@@ -1,8 +1,16 @@
 -- What is asked of a log.
 -- Profile, "What a log shows".
-use Rattle.std.specs.Prelude.{ℕ, Bool, true, false, ◌&&◌, ◌==◌, bytes_eq, if◌then◌else◌, List, []}
-use Rattle.std.specs.Prelude.{length, Option, Some, None, option_map, slice_index_or, codes}
+use Rattle.std.specs.Prelude.{ℕ, Bool, true, false, ◌==◌, bytes_eq, if◌then◌else◌, List, [], ◌∷◌}
+use Rattle.std.specs.Prelude.{length, Option, Some, None, codes, option_map, slice_index_or}
+use Rattle.std.specs.Prelude.{◌&&◌, nat_le}
+use Rattle.std.specs.Prelude.{◌+◌, ◌/◌, nat_lt, drop}
+use Rattle.std.specs.Prelude.{option_and_then}
+use Rattle.std.specs.List.{list_any}
 use Rattle.mm_types.specs.Spelling.{Text}
+use Rattle.mm_types.specs.declared.numbers.Key.{Key}
+use Rattle.mm_types.specs.declared.numbers.Key.TheVariants.{Private, Shared}
+use Rattle.mm_text.specs.Field.{number_of}
+use Rattle.mm_forms.specs.Forms.{is_dashed}
 use Rattle.mm_show.specs.declared.forms.Form.{Form}
 use Rattle.mm_show.specs.declared.forms.Form.TheVariants as form
 use Rattle.mm_show.specs.declared.forms.Files.{Files}
@@ -12,27 +20,104 @@ use Rattle.mm_show.specs.declared.forms.Files.TheVariants as files
 abbrev pub word_at : List Text → ℕ → Text
 word_at words place = slice_index_or words place []
 
--- the files that so many words name, the form's own among them
+-- ---- numbers and keys
+
+-- a line's number, 1 to 1,000,000
+abbrev pub line_among : ℕ → Option ℕ
+line_among n = if nat_le 1 n && nat_le n 1000000 then Some n else None
+
+abbrev pub line_of : Text → Option ℕ
+line_of word = option_and_then line_among (number_of word)
+
+-- a process's number, below 256
+abbrev pub pid_among : ℕ → Option ℕ
+pid_among n = if nat_lt n 256 then Some n else None
+
+abbrev pub pid_of : Text → Option ℕ
+pid_of word = option_and_then pid_among (number_of word)
+
+-- what stands before the first of such bytes, and behind it
+abbrev pub before : ℕ → Text → Text
+before byte [] = []
+before byte (c ∷ cs) = if c == byte then [] else c ∷ before byte cs
+
+abbrev pub behind : ℕ → Text → Text
+behind byte word = drop (length (before byte word) + 1) word
+
+abbrev pub private_key : Option ℕ → Option ℕ → Option Key
+private_key None page = None
+private_key (Some pid) None = None
+private_key (Some pid) (Some page) = Some (Private (record { 0 = pid }) (record { 0 = page }))
+
+abbrev pub shared_key : Option ℕ → Option ℕ → Option Key
+shared_key None index = None
+shared_key (Some area) None = None
+shared_key (Some area) (Some index) = Some (Shared (record { 0 = area }) index)
+
+-- the page that holds an address
+abbrev pub page_at : Text → Option ℕ
+page_at word = option_map (λ address. address / 4096) (number_of word)
+
+-- `p1.16`, `s0.2`, or a process and an address, `1:0x11000`
+abbrev pub key_of : Text → Option Key
+key_of [] = None
+key_of (c ∷ cs) =
+    if c == 112 then private_key (pid_of (before 46 cs)) (number_of (behind 46 cs))
+    else if c == 115 then shared_key (number_of (before 46 cs)) (number_of (behind 46 cs))
+    else private_key (pid_of (before 58 (c ∷ cs))) (page_at (behind 58 (c ∷ cs)))
+
+-- ---- forms
+
+-- the files that so many values name
 abbrev pub files_beside : ℕ → Option Files
 files_beside count =
-    if count == 1 then Some files.None
-    else if count == 2 then Some files.Script
-    else if count == 3 then Some files.Both
+    if count == 0 then Some files.None
+    else if count == 1 then Some files.Script
+    else if count == 2 then Some files.Both
     else None
 
-abbrev pub form_named : Text → ℕ → Option Form
-form_named first count =
-    if bytes_eq first (codes "sums") && (count == 1) then Some form.Sums
-    else if bytes_eq first (codes "html") then option_map form.Html (files_beside count)
+-- a form without values
+abbrev pub alone : Form → ℕ → Option Form
+alone f count = if count == 0 then Some f else None
+
+-- a form with one value that was read
+abbrev pub with_one : {A : Type 0} → (A → Form) → Option A → ℕ → Option Form
+with_one make read count = if count == 1 then option_map make read else None
+
+-- `counts` with no value or one
+abbrev pub counts_with : Option ℕ → ℕ → Option Form
+counts_with line count =
+    if count == 0 then Some form.Counts else with_one form.CountsAt line count
+
+-- the form of this name with these values
+abbrev pub form_in : Text → List Text → Option Form
+form_in name values =
+    let first : Text = word_at values 0 in
+    let count : ℕ = length values in
+    if bytes_eq name (codes "html") then option_map form.Html (files_beside count)
+    else if bytes_eq name (codes "tell") then option_map form.Tell (files_beside count)
+    else if bytes_eq name (codes "counts") then counts_with (line_of first) count
+    else if bytes_eq name (codes "state") then with_one form.StateAt (line_of first) count
+    else if bytes_eq name (codes "frame") then with_one form.FrameAt (number_of first) count
+    else if bytes_eq name (codes "key") then with_one form.KeyAt (key_of first) count
+    else if bytes_eq name (codes "faults") then alone form.Faults count
+    else if bytes_eq name (codes "sums") then alone form.Sums count
     else None
 
--- `sums`, or `html` and the names of at most two files
+abbrev pub form_among : List Text → Option Form
+form_among [] = None
+form_among (name ∷ values) = form_in name values
+
+-- the form that the words are; none of them begins with `-`
 abbrev pub form_of : List Text → Option Form
-form_of words = form_named (word_at words 0) (length words)
+form_of words = if list_any is_dashed words then None else form_among words
+
+-- ---- files
 
 abbrev pub files_of : Form → Files
-files_of form.Sums = files.None
 files_of (form.Html named) = named
+files_of (form.Tell named) = named
+files_of _ = files.None
 
 -- the first and the second of the files are named
 abbrev pub has_script : Files → Bool

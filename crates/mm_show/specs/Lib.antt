@@ -1,5 +1,4 @@
 pub mod Words
-pub mod Classing
 pub mod Data
 pub mod PageRest
 pub mod Sums

@@ -6,10 +6,18 @@ use Rattle.mm_types.specs.Spelling.{Text}
 use Rattle.mm_types.specs.Outside.{Rose}
 use Rattle.mm_types.specs.declared.moves.Move.{Move}
 use Rattle.mm_classes.specs.Data.{log_data}
+use Rattle.mm_log.specs.Verdict.{Shows, IsRefused}
 use Rattle.mm_tell.specs.Lines.{lines_of}
 use Rattle.mm_tell.specs.Files.{total_of}
 use Rattle.mm_tell.specs.Shown.{shown_file}
-use Rattle.mm_tell.specs.Answering.{Said, Answers}
+use Rattle.mm_tell.specs.Answering.{Said, Why, no_why}
+use Rattle.mm_sentences.specs.Refusals.{why_text}
+use Rattle.mm_uses.specs.Counts.{counts_rows}
+use Rattle.mm_uses.specs.Uses.{use_rows}
+use Rattle.mm_uses.specs.States.{state_rows}
+use Rattle.mm_faults.specs.Rows.{fault_rows}
+use Rattle.mm_histories.specs.Histories.{frame_history, key_history}
+use Rattle.mm_transcripts.specs.Transcripts.{transcript}
 use Rattle.mm_show.specs.Words.{class_rows}
 use Rattle.mm_show.specs.Sums.{sums_text}
 use Rattle.mm_show.specs.declared.forms.Form.{Form}
@@ -35,14 +43,30 @@ behind_text p script answers =
 abbrev pub page_text : PageOf → Option (List Text) → Option (List Text) → List Move → Text
 page_text p script answers moves = front_text p ++ (log_data moves ++ behind_text p script answers)
 
-abbrev pub form_text : Form → PageOf → Option (List Text) → Option (List Text) → List Move → Text
-form_text form.Sums p script answers moves = sums_text moves
-form_text (form.Html named) p script answers moves = page_text p script answers moves
-
 -- nothing of a log that does not end well
+abbrev pub page_said : PageOf → Option (List Text) → Option (List Text) → Said
+page_said p script answers true moves = page_text p script answers moves
+page_said p script answers false moves = []
+
+abbrev pub sums_said : Said
+sums_said true moves = sums_text moves
+sums_said false moves = []
+
 abbrev pub form_said : Form → PageOf → Option (List Text) → Option (List Text) → Said
-form_said f p script answers true moves = form_text f p script answers moves
-form_said f p script answers false moves = []
+form_said (form.Html named) p script answers = page_said p script answers
+form_said (form.Tell named) p script answers = transcript script answers
+form_said form.Counts p script answers = counts_rows
+form_said (form.CountsAt line) p script answers = use_rows line
+form_said (form.StateAt line) p script answers = state_rows line
+form_said (form.FrameAt n) p script answers = frame_history n
+form_said (form.KeyAt key) p script answers = key_history key
+form_said form.Faults p script answers = fault_rows
+form_said form.Sums p script answers = sums_said
+
+-- behind the number of a bad line: a page says nothing
+abbrev pub form_why : Form → Why
+form_why (form.Html named) = no_why
+form_why _ = why_text
 
 -- ---- files
 
@@ -60,15 +84,12 @@ FileFailed faults true old new = (old ≡ None) ⊎ Rose (total_of faults old) (
 abbrev pub unread_text : Text → Text
 unread_text name = codes "cannot read " ++ (name ++ 10 ∷ [])
 
--- the file of this name was not read; or memory was refused
-abbrev pub IsUnread : Text → Text → ℕ → Type 0
-IsUnread name text status =
-    ((status ≡ 4) × (text ≡ unread_text name)) ⊎ ((status ≡ 1) × (text ≡ []))
-
--- the answer to a form; or a file was not read
-abbrev pub Answered : Option Text → Option Text → Option (List Text) → Said → Text → ℕ → Type 0
-Answered left left' script said text status =
-    Answers left left' script said text status ⊎ (status ≡ 4)
+-- the file of this name was not read, and this is said; or memory was refused for that
+abbrev pub IsUnread : Text → Option Text → Option Text → ℕ → Type 0
+IsUnread name took took' result =
+    Shows took took' (unread_text name) 4 result ⊎ IsRefused took took' result
 
 abbrev pub usage_text : Text
-usage_text = codes "usage: mmshow html [SCRIPT [ANSWERS]] | sums" ++ 10 ∷ []
+usage_text =
+    codes "usage: mmshow html [SCRIPT [ANSWERS]] | tell [SCRIPT [ANSWERS]] "
+    ++ (codes "| counts [LINE] | state LINE | frame N | key KEY | faults | sums" ++ 10 ∷ [])

@@ -6,17 +6,11 @@ use Rattle.mm_types.specs.declared.moves.Move.{Move}
 use Rattle.mm_life.specs.Life.{FrameLife}
 use Rattle.mm_classes.specs.Marks.{MarksOf}
 use Rattle.mm_classes.specs.Marking.{marks_of}
-use Rattle.mm_classes.specs.Classes.{next_of, classes_from}
-use Rattle.mm_classes.specs.declared.classes.Class.{Class}
-use Rattle.mm_show.specs.Classing.{class_then, move_of, class_list}
+use Rattle.mm_tell.specs.Classing.{classes_rest}
 use Rattle.mm_show.specs.Counted.{of_class, of_kind}
 use Rattle.mm_show.specs.Sums.{class_sums, kind_sums}
-use Rattle.mm_show.specs.declared.classifiers.Pending.{Pending}
+use Rattle.mm_tell.specs.declared.classifiers.Pending.{Pending}
 use Rattle.mm_show.specs.declared.sums.SumTeller.{SumTeller}
-
--- the classes that are still to come
-abbrev pub classes_rest : MarksOf → Option Pending → FrameLife → List Move → List (Option Class)
-classes_rest v p l ms = class_list (class_then p (next_of ms)) ++ classes_from l v (move_of p) ms
 
 -- these numbers, and those of the moves that come; nothing where the log does not end well
 abbrev pub sums_left : List ℕ → List ℕ → MarksOf → Option Pending → Bool → FrameLife → List Move

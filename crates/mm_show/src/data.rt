@@ -8,23 +8,27 @@ ghost use Rattle.mm_classes.specs.Marking.{marks_of};
 ghost use Rattle.mm_life.specs.Effect.{after_move};
 ghost use Rattle.mm_show.specs.Data.{classed_data};
 
-use crate::classifiers::{Classed, Classifier};
 use mm_classes::{put_mark, put_move};
 use mm_moves::Life;
-use mm_tell::Teller;
+use mm_tell::{Classed, Classifier, Teller};
 use mm_text::LineBuf;
 use mm_types::{Move, NoMemory};
 use std::alloc::Global;
 
-/// Writes a move with its class, as the page's data has it.
+/// Writes a move with its class, as the page's data has it. What was in the room for a line is
+/// lost.
 #[tactic(auto, using(mm_moves::proofs::Onto::onto))]
-fn put_classed(classed: Option<Classed>, text: &mut Vec<u8>) -> Result<(), NoMemory>
+fn put_classed(
+    classed: Option<Classed>,
+    line: &mut LineBuf,
+    text: &mut Vec<u8>,
+) -> Result<(), NoMemory>
     ensures { OnOk result (text.new.items ≡ text.old.items ++ classed_data classed) }
 {
     match classed {
         Some(c) => {
-            let mut line = LineBuf::new();
-            put_move(&mut line, c.class, &c.m);
+            line.clear();
+            put_move(line, c.class, &c.m);
             text.extend_from_slice(line.as_slice())?;
             Ok(())
         }
@@ -53,7 +57,8 @@ fn is_marked(line: u32) -> bool
 /// Writes the mark, if any, of the line that ends.
 fn put_line_mark(life: &Life, text: &mut Vec<u8>) -> Result<(), NoMemory>
     ensures { OnOk result (text.new.items ≡ text.old.items
-        ++ (if is_marked (life_of life.now).line then mark_data (counts_of (life_of life.now)) else [])) }
+        ++ (if is_marked (life_of life.now).line then mark_data (counts_of (life_of life.now)) else
+        [])) }
 {
     if is_marked(life.line()) {
         put_counts(life, text)
@@ -90,6 +95,8 @@ fn put_end(life: &Life, text: &mut Vec<u8>) -> Result<(), NoMemory>
 #[derive(Drop)]
 pub(crate) struct PageTeller {
     classifier: Classifier,
+    /// Room for a line, which is not made anew for each move.
+    line: LineBuf,
     front: Vec<u8>,
     written: Vec<u8>,
     behind: Vec<u8>,
@@ -105,6 +112,7 @@ impl PageTeller {
     {
         PageTeller {
             classifier: Classifier::new(alloc),
+            line: LineBuf::new(),
             front,
             written: Vec::new(alloc),
             behind,
@@ -118,7 +126,7 @@ impl PageTeller {
             ≡ page_rest self.old whole (life_of life.now) (m.now ∷ ms)) }
     {
         let before = self.classifier.next(life, m)?;
-        put_classed(before, &mut self.written)?;
+        put_classed(before, &mut self.line, &mut self.written)?;
         put_mark_before(life, m, &mut self.written)?;
         Ok(())
     }
@@ -128,7 +136,7 @@ impl PageTeller {
         ensures { OnOk result (text.new.items ≡ text.old.items
             ++ page_rest self.old true (life_of life.now) []) }
     {
-        put_classed(self.classifier.last(), &mut self.written)?;
+        put_classed(self.classifier.last(), &mut self.line, &mut self.written)?;
         put_end(life, &mut self.written)?;
         text.extend_from_slice(self.front.as_slice())?;
         text.extend_from_slice(self.written.as_slice())?;
@@ -139,8 +147,11 @@ impl PageTeller {
 
 impl Teller for PageTeller {
     ghost use Rattle.mm_show.specs.PageRest.{page_rest};
+    ghost use Rattle.mm_tell.specs.Answering.{no_why};
 
     ghost rest = { page_rest };
+
+    ghost why = { no_why };
 
     ghost counted = { λ t. 0 };
 
@@ -154,5 +165,9 @@ impl Teller for PageTeller {
         } else {
             Ok(())
         }
+    }
+
+    fn tell_why(&self, _life: &Life, _m: &Move, _text: &mut Vec<u8>) -> Result<(), NoMemory> {
+        Ok(())
     }
 }

@@ -1,14 +1,38 @@
-ghost use Rattle.std.specs.Prelude.{◌≡◌, map, option_map, string_bytes};
+ghost use Rattle.std.specs.Prelude.{◌≡◌, map, option_map, string_bytes, IfOk};
+ghost use Rattle.mm_text.specs.Field.{number_of};
+ghost use Rattle.mm_forms.specs.Forms.{texts};
 ghost use Rattle.mm_show.specs.declared.forms.Form.TheVariants as form;
-ghost use Rattle.mm_show.specs.Forms.{word_at, files_beside, form_named, form_of};
+ghost use Rattle.mm_show.specs.Forms.{word_at, files_beside, alone, form_in, form_of};
+ghost use Rattle.mm_show.specs.Forms.{with_one, counts_with, line_of};
+ghost use Rattle.mm_show.specs.Forms.{key_of};
+
+use crate::keys::{key, line};
+use mm_forms::read_words;
+use mm_text::number;
+use mm_types::{Key, NoMemory};
+use std::alloc::Global;
 
 /// What is shown of a log.
 #[derive(Clone, Copy, PartialEq, Eq, Debug)]
 pub enum Form {
-    /// How many moves are of each class, and how many lines of each kind.
-    Sums,
     /// One page for a browser, with so many files beside the log.
     Html(Files),
+    /// The lines, and in words what each did, with so many files beside the log.
+    Tell(Files),
+    /// A row of counts after each line.
+    Counts,
+    /// What the page frames are used for after a line, 1 to 1,000,000.
+    CountsAt(u32),
+    /// All that stands after a line, 1 to 1,000,000.
+    StateAt(u32),
+    /// What became of a page frame.
+    FrameAt(u32),
+    /// What became of a page.
+    KeyAt(Key),
+    /// The faults by process and page.
+    Faults,
+    /// How many moves are of each class, and how many lines of each kind.
+    Sums,
 }
 
 /// Which files are named beside the log.
@@ -31,15 +55,25 @@ pub(crate) fn word_at(words: &[String], place: usize) -> &[u8]
     }
 }
 
-/// The files that so many words name, the form's own among them.
+/// The first of a form's values; the empty text where there is none.
+fn value<'a>(values: &[&'a str]) -> &'a [u8]
+    ensures { result.now ≡ word_at (texts values.now) 0 }
+{
+    match values.get(0) {
+        Some(value) => value.as_bytes(),
+        None => &[],
+    }
+}
+
+/// The files that so many values name.
 fn files_beside(count: usize) -> Option<Files>
     ensures { result ≡ files_beside count }
 {
-    if count == 1 {
+    if count == 0 {
         Some(Files::None)
-    } else if count == 2 {
+    } else if count == 1 {
         Some(Files::Script)
-    } else if count == 3 {
+    } else if count == 2 {
         Some(Files::Both)
     } else {
         None
@@ -55,23 +89,126 @@ fn html_form(count: usize) -> Option<Form>
     }
 }
 
-/// The form of so many words, of which this is the first.
-fn form_named(first: &[u8], count: usize) -> Option<Form>
-    ensures { result ≡ form_named first.now count }
+fn tell_form(count: usize) -> Option<Form>
+    ensures { result ≡ option_map form.Tell (files_beside count) }
 {
-    if first == b"sums".as_slice() && count == 1 {
-        Some(Form::Sums)
-    } else if first == b"html".as_slice() {
+    match files_beside(count) {
+        Some(files) => Some(Form::Tell(files)),
+        None => None,
+    }
+}
+
+fn alone(form: Form, count: usize) -> Option<Form>
+    ensures { result ≡ alone form count }
+{
+    if count == 0 { Some(form) } else { None }
+}
+
+fn counts_form(first: &[u8], count: usize) -> Option<Form>
+    ensures { result ≡ counts_with (line_of first.now) count }
+{
+    if count == 0 {
+        return Some(Form::Counts);
+    }
+    if count != 1 {
+        return None;
+    }
+    match line(first) {
+        Some(line) => Some(Form::CountsAt(line)),
+        None => None,
+    }
+}
+
+fn state_form(first: &[u8], count: usize) -> Option<Form>
+    ensures { result ≡ with_one form.StateAt (line_of first.now) count }
+{
+    if count != 1 {
+        return None;
+    }
+    match line(first) {
+        Some(line) => Some(Form::StateAt(line)),
+        None => None,
+    }
+}
+
+fn frame_form(first: &[u8], count: usize) -> Option<Form>
+    ensures { result ≡ with_one form.FrameAt (number_of first.now) count }
+{
+    if count != 1 {
+        return None;
+    }
+    match number(first) {
+        Some(frame) => Some(Form::FrameAt(frame)),
+        None => None,
+    }
+}
+
+fn key_form(first: &[u8], count: usize) -> Option<Form>
+    ensures { result ≡ with_one form.KeyAt (key_of first.now) count }
+{
+    if count != 1 {
+        return None;
+    }
+    match key(first) {
+        Some(key) => Some(Form::KeyAt(key)),
+        None => None,
+    }
+}
+
+/// The form of this name with these values.
+#[tactic(auto, using(crate::proofs::Worded::worded))]
+fn form_in(name: &[u8], values: &[&str]) -> Option<Form>
+    ensures { result ≡ form_in name.now (texts values.now) }
+{
+    let first = value(values);
+    let count = values.len();
+    if name == b"html".as_slice() {
         html_form(count)
+    } else if name == b"tell".as_slice() {
+        tell_form(count)
+    } else if name == b"counts".as_slice() {
+        counts_form(first, count)
+    } else if name == b"state".as_slice() {
+        state_form(first, count)
+    } else if name == b"frame".as_slice() {
+        frame_form(first, count)
+    } else if name == b"key".as_slice() {
+        key_form(first, count)
+    } else if name == b"faults".as_slice() {
+        alone(Form::Faults, count)
+    } else if name == b"sums".as_slice() {
+        alone(Form::Sums, count)
     } else {
         None
     }
 }
 
-/// What the words ask, where they are a form.
-#[tactic(auto, using(crate::proofs::Worded::worded))]
-pub(crate) fn asked(words: &[String]) -> Option<Form>
-    ensures { result ≡ form_of (map string_bytes words.now) }
+/// A name, and between how many values may stand behind it.
+fn words_form(name: &'static str, least: usize, most: usize) -> mm_forms::Form<'static>
+    ensures name { result.name.now ≡ name.entry.now }
+    ensures least { result.least ≡ least }
+    ensures most { result.most ≡ most }
 {
-    form_named(word_at(words, 0), words.len())
+    mm_forms::Form { name, least, most }
+}
+
+/// What the words ask, where they are a form. An `Err` is memory that was refused.
+pub(crate) fn asked(alloc: Global, words: &[String]) -> Result<Option<Form>, NoMemory>
+    ensures { IfOk result (λ r. r ≡ form_of (map string_bytes words.now)) }
+{
+    let forms = [
+        words_form("html", 0, 2),
+        words_form("tell", 0, 2),
+        words_form("counts", 0, 1),
+        words_form("state", 1, 1),
+        words_form("frame", 1, 1),
+        words_form("key", 1, 1),
+        words_form("faults", 0, 0),
+        words_form("sums", 0, 0),
+    ];
+    let said = match read_words(alloc, &forms, words)? {
+        Some(said) => said,
+        None => return Ok(None),
+    };
+    Ok(form_in(said.name.as_bytes(), said.values.as_slice()))
 }

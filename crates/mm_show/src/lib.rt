@@ -1,9 +1,9 @@
 //! What a log of moves shows, as a page for a browser and as texts for the terminal.
 #![tactic(auto)]
 
-mod classifiers;
 mod data;
 mod forms;
+mod keys;
 mod pages;
 mod sums;
 mod top;

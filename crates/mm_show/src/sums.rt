@@ -1,21 +1,23 @@
 ghost use Rattle.std.specs.Prelude.{◌≡◌, ◌≤◌, ◌<◌, ◌+◌, ◌^◌, ◌++◌, ◌∷◌, [], ℕ, Bool, List, Option};
-ghost use Rattle.std.specs.Prelude.{OnOk, true, flat_map, replicate, slice_index, slice_set, length};
+ghost use Rattle.std.specs.Prelude.{OnOk, true, flat_map, replicate, slice_index, slice_set};
+ghost use Rattle.std.specs.Prelude.{length};
 ghost use Rattle.mm_types.specs.declared.moves.Move.{Move};
 ghost use Rattle.mm_life.specs.Life.{unstarted};
 ghost use Rattle.mm_life.specs.Effect.{after_move};
 ghost use Rattle.mm_moves.specs.Standing.{life as life_of};
 ghost use Rattle.mm_classes.specs.Encoding.{kind_code};
 ghost use Rattle.mm_classes.specs.declared.classes.Class.{Class};
-ghost use Rattle.mm_show.specs.Classing.{class_list};
-ghost use Rattle.mm_show.specs.Sums.{sum_row, class_row, kind_row, class_sums, kind_sums, kind_text, kind_letter};
+ghost use Rattle.mm_tell.specs.Classing.{class_list};
+ghost use Rattle.mm_show.specs.Sums.{sum_row, class_row, kind_row, class_sums, kind_sums};
+ghost use Rattle.mm_show.specs.Sums.{kind_text, kind_letter};
 ghost use Rattle.mm_show.specs.Sums.{sums_text, number_in};
 ghost use Rattle.mm_show.specs.Counted.{of_class, of_kind, AreFew};
 
-use crate::classifiers::{Classed, Classifier};
 use crate::words::CLASSES;
 use mm_classes::{Class, code};
 use mm_moves::Life;
-use mm_tell::Teller;
+use mm_sentences::put_why;
+use mm_tell::{Classed, Classifier, Teller};
 use mm_text::{LineBuf, put_decimal};
 use mm_types::{LineKind, Move, NoMemory};
 use std::alloc::Global;
@@ -278,8 +280,11 @@ impl SumTeller {
 
 impl Teller for SumTeller {
     ghost use Rattle.mm_show.specs.SumRest.{sum_rest};
+    ghost use Rattle.mm_sentences.specs.Refusals.{why_text};
 
     ghost rest = { sum_rest };
+
+    ghost why = { why_text };
 
     ghost counted = { λ t. t.counted };
 
@@ -293,5 +298,9 @@ impl Teller for SumTeller {
         } else {
             Ok(())
         }
+    }
+
+    fn tell_why(&self, life: &Life, m: &Move, text: &mut Vec<u8>) -> Result<(), NoMemory> {
+        put_why(life, m, text)
     }
 }

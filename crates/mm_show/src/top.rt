@@ -1,39 +1,35 @@
-ghost use Rattle.std.specs.Prelude.{◌≡◌, ◌≢◌, ◌≤◌, ◌⊎◌, ◌++◌, ◌∷◌, [], ℕ, List, Option, OnOk, true};
+ghost use Rattle.std.specs.Prelude.{◌≡◌, ◌≤◌, ◌⊎◌, ◌++◌, ◌∷◌, [], ℕ, List, Option, OnOk, true};
 ghost use Rattle.std.specs.Prelude.{Some, map, option_map, string_bytes, None};
 ghost use Rattle.mm_types.specs.Outside.{Rose};
-ghost use Rattle.mm_log.specs.Verdict.{Shows};
+ghost use Rattle.mm_log.specs.Exact.{IsFault};
+ghost use Rattle.mm_log.specs.Verdict.{Shows, IsRefused};
 ghost use Rattle.mm_tell.specs.Answering.{Answers};
 ghost use Rattle.mm_tell.specs.Exact.{SaysExactly};
 ghost use Rattle.mm_tell.specs.Files.{total_of};
 ghost use Rattle.mm_show.specs.declared.forms.Form.{Form};
 ghost use Rattle.mm_show.specs.Forms.{form_of, word_at, files_of, has_script, has_answers};
-ghost use Rattle.mm_show.specs.Showing.{form_said, FileIs, FileFailed, unread_text};
-ghost use Rattle.mm_show.specs.Showing.{IsUnread, Answered, usage_text};
+ghost use Rattle.mm_show.specs.Showing.{form_said, form_why, FileIs, FileFailed, unread_text};
+ghost use Rattle.mm_show.specs.Showing.{IsUnread, usage_text};
 ghost use Rattle.mm_show.specs.Texts.{page_of};
 
 use crate::forms::{Files, Form, asked, word_at};
 use crate::pages::{PageTexts, page_teller};
 use crate::sums::SumTeller;
+use mm_faults::FaultTeller;
+use mm_histories::HistoryTeller;
 use mm_io::{Sink, Source};
 use mm_log::write_text;
-use mm_tell::{Answer, FileFault, Lines, answered, named_lines};
+use mm_tell::{FileFault, Lines, answered, named_lines};
+use mm_transcripts::TranscriptTeller;
 use mm_types::NoMemory;
+use mm_uses::{CountsTeller, StateTeller, UseTeller};
 use std::alloc::Global;
-
-fn no_memory(alloc: Global) -> Answer
-    ensures status { result.status ≡ 1 }
-    ensures text { result.text.items ≡ [] }
-{
-    Answer {
-        text: Vec::new(alloc),
-        status: 1,
-    }
-}
 
 /// Writes some words, a name and a line feed.
 #[tactic(auto, using(mm_moves::proofs::Onto::onto))]
 fn put_named(words: &[u8], name: &[u8], text: &mut Vec<u8>) -> Result<(), NoMemory>
-    ensures { OnOk result (text.new.items ≡ text.old.items ++ (words.now ++ (name.now ++ 10 ∷ []))) }
+    ensures { OnOk result (text.new.items ≡ text.old.items ++ (words.now ++ (name.now
+        ++ 10 ∷ []))) }
 {
     text.extend_from_slice(words)?;
     text.extend_from_slice(name)?;
@@ -41,44 +37,85 @@ fn put_named(words: &[u8], name: &[u8], text: &mut Vec<u8>) -> Result<(), NoMemo
     Ok(())
 }
 
+/// What is written where the words are no form.
+const USAGE: &[u8] = b"usage: mmshow html [SCRIPT [ANSWERS]] | tell [SCRIPT [ANSWERS]] \
+    | counts [LINE] | state LINE | frame N | key KEY | faults | sums\n";
+
+/// The status where memory was refused.
+const NO_MEMORY: u8 = 1;
+
 fn put_unread(name: &[u8], text: &mut Vec<u8>) -> Result<(), NoMemory>
     ensures { OnOk result (text.new.items ≡ text.old.items ++ unread_text name.now) }
 {
     put_named(b"cannot read ", name, text)
 }
 
-/// The answer where a file was not read: its name.
-fn unread(alloc: Global, name: &[u8]) -> Answer
-    ensures { IsUnread name.now result.text.items result.status }
+/// Writes the name of a file that was not read. Answers the status.
+fn unread<O: Sink>(alloc: Global, name: &[u8], out: &mut O) -> u8
+    ensures says { IsUnread name.now (O.taken out.old) (O.taken out.new) result }
+    ensures later { O.faults out.old ≤ O.faults out.new }
+    ensures out_fault { result ≡ 5 → Rose (O.faults out.old) (O.faults out.new) }
 {
     let mut text = Vec::new(alloc);
     match put_unread(name, &mut text) {
-        Ok(()) => Answer { text, status: 4 },
-        Err(NoMemory) => no_memory(alloc),
+        Ok(()) => write_text(out, text.as_slice(), 4),
+        Err(NoMemory) => NO_MEMORY,
     }
 }
 
-/// What a form says of a log, where the files beside it were read.
-#[tactic(auto, using(crate::proofs::Exactness::statuses))]
-fn shown<S: Source>(
+/// Shows a log, where the files beside it were read.
+fn shown<S: Source, O: Sink>(
     alloc: Global,
     form: Form,
     script: &Option<Lines>,
     answers: &Option<Lines>,
     page: &PageTexts<'_>,
     log: &mut S,
-) -> Answer
-    ensures answers { Answers (S.left log.old) (S.left log.new) script.now (form_said form (page_of page.now) script.now answers.now) result.text.items result.status }
-    ensures other { result.status ≢ 5 }
-    ensures later { S.faults log.old ≤ S.faults log.new }
-    ensures blame { result.status ≡ 4 → Rose (S.faults log.old) (S.faults log.new) }
+    out: &mut O,
+) -> u8
+    ensures answers { Answers (S.left log.old) (S.left log.new) (O.taken out.old) (O.taken out.new)
+        script.now (form_said form (page_of page.now) script.now answers.now) (form_why form)
+        result }
+    ensures later { (S.faults log.old ≤ S.faults log.new) × (O.faults out.old ≤ O.faults out.new) }
+    ensures read_fault { result ≡ 4 → Rose (S.faults log.old) (S.faults log.new) }
+    ensures out_fault { result ≡ 5 → Rose (O.faults out.old) (O.faults out.new) }
 {
     match form {
-        Form::Sums => answered(alloc, script, log, &mut SumTeller::new(alloc)),
         Form::Html(_) => match page_teller(alloc, page, script, answers) {
-            Ok(mut teller) => answered(alloc, script, log, &mut teller),
-            Err(NoMemory) => no_memory(alloc),
+            Ok(mut teller) => answered(alloc, script, log, &mut teller, out),
+            Err(NoMemory) => NO_MEMORY,
         },
+        Form::Tell(_) => {
+            let mut teller = TranscriptTeller::new(alloc, script, answers);
+            answered(alloc, script, log, &mut teller, out)
+        }
+        Form::Counts => answered(alloc, script, log, &mut CountsTeller::new(), out),
+        Form::CountsAt(line) => {
+            answered(alloc, script, log, &mut UseTeller::new(alloc, line), out)
+        }
+        Form::StateAt(line) => {
+            answered(alloc, script, log, &mut StateTeller::new(alloc, line), out)
+        }
+        Form::FrameAt(frame) => {
+            answered(
+                alloc,
+                script,
+                log,
+                &mut HistoryTeller::of_frame(alloc, frame),
+                out,
+            )
+        }
+        Form::KeyAt(key) => {
+            answered(
+                alloc,
+                script,
+                log,
+                &mut HistoryTeller::of_key(alloc, key),
+                out,
+            )
+        }
+        Form::Faults => answered(alloc, script, log, &mut FaultTeller::new(alloc), out),
+        Form::Sums => answered(alloc, script, log, &mut SumTeller::new(alloc), out),
     }
 }
 
@@ -86,8 +123,9 @@ fn files_of(form: Form) -> Files
     ensures { result ≡ files_of form }
 {
     match form {
-        Form::Sums => Files::None,
         Form::Html(files) => files,
+        Form::Tell(files) => files,
+        _ => Files::None,
     }
 }
 
@@ -111,9 +149,8 @@ fn has_answers(files: Files) -> bool
     }
 }
 
-/// What a form says of a log.
-#[tactic(auto, using(crate::proofs::Exactness::statuses))]
-fn answer_form<S: Source, F: Source>(
+/// Shows a log by a form, with the files that it names.
+fn show_form<S: Source, F: Source, O: Sink>(
     alloc: Global,
     form: Form,
     words: &[String],
@@ -121,40 +158,46 @@ fn answer_form<S: Source, F: Source>(
     script: &mut Option<F>,
     answers: &mut Option<F>,
     page: &PageTexts<'_>,
-) -> Answer
+    out: &mut O,
+) -> u8
     ensures exact { (s a : Option (List (List ℕ)))
         → FileIs (has_script (files_of form)) (option_map F.left script.old) s
         → FileIs (has_answers (files_of form)) (option_map F.left answers.old) a
-        → Answered (S.left log.old) (S.left log.new) s (form_said form (page_of page.now) s a) result.text.items result.status }
+        → Answers (S.left log.old) (S.left log.new) (O.taken out.old) (O.taken out.new) s
+        (form_said form (page_of page.now) s a) (form_why form) result }
     ensures no_script { has_script (files_of form) ≡ true → script.old ≡ None
-        → IsUnread (word_at (map string_bytes words.now) 1) result.text.items result.status }
-    ensures other { result.status ≢ 5 }
-    ensures log_later { S.faults log.old ≤ S.faults log.new }
-    ensures script_later { total_of F.faults script.old ≤ total_of F.faults script.new }
-    ensures answers_later { total_of F.faults answers.old ≤ total_of F.faults answers.new }
-    ensures blame { result.status ≡ 4 → Rose (S.faults log.old) (S.faults log.new)
+        → IsUnread (word_at (map string_bytes words.now) 1) (O.taken out.old) (O.taken out.new)
+        result }
+    ensures no_answers { (s : Option (List (List ℕ)))
+        → FileIs (has_script (files_of form)) (option_map F.left script.old) s
+        → has_answers (files_of form) ≡ true → answers.old ≡ None
+        → IsUnread (word_at (map string_bytes words.now) 2) (O.taken out.old) (O.taken out.new)
+        result ⊎ IsFault result }
+    ensures later { (S.faults log.old ≤ S.faults log.new) × (O.faults out.old ≤ O.faults out.new) }
+    ensures read_fault { result ≡ 4 → Rose (S.faults log.old) (S.faults log.new)
         ⊎ (FileFailed F.faults (has_script (files_of form)) script.old script.new
         ⊎ FileFailed F.faults (has_answers (files_of form)) answers.old answers.new) }
+    ensures out_fault { result ≡ 5 → Rose (O.faults out.old) (O.faults out.new) }
 {
     let files = files_of(form);
     let script = match named_lines(alloc, has_script(files), script) {
         Ok(lines) => lines,
-        Err(FileFault::Failed) => return unread(alloc, word_at(words, 1)),
-        Err(FileFault::NoMemory) => return no_memory(alloc),
+        Err(FileFault::Failed) => return unread(alloc, word_at(words, 1), out),
+        Err(FileFault::NoMemory) => return NO_MEMORY,
     };
     let answers = match named_lines(alloc, has_answers(files), answers) {
         Ok(lines) => lines,
-        Err(FileFault::Failed) => return unread(alloc, word_at(words, 2)),
-        Err(FileFault::NoMemory) => return no_memory(alloc),
+        Err(FileFault::Failed) => return unread(alloc, word_at(words, 2), out),
+        Err(FileFault::NoMemory) => return NO_MEMORY,
     };
-    shown(alloc, form, &script, &answers, page, log)
+    shown(alloc, form, &script, &answers, page, log, out)
 }
 
-/// Shows the log that the source gives, writes the text to `out` and flushes it. The words are
-/// `sums`, or `html` and the names of a script and of its answers, as far as there are any;
-/// `script` and `answers` are those files, none where a file could not be opened. The status is 0
-/// where the log replays and fits the script, 1 where memory was refused, 2 where the words are no
-/// form, 3 where a line is no legal move, 4 where the log or a file failed, 5 where the sink
+/// Shows the log that the source gives, writes the text to `out` and flushes it. The words are the
+/// name of a form and its values. Where these name a script and its answers, `script` and `answers`
+/// are those files, none where a file could not be opened; other forms read neither. The status is
+/// 0 where the log replays and fits the script, 1 where memory was refused, 2 where the words are
+/// no form, 3 where a line is no legal move, 4 where the log or a file failed, 5 where the sink
 /// failed, 6 where the script does not fit, 8 where the log has more than 1,000,000,000,000 bytes.
 pub fn run_show<S: Source, F: Source, O: Sink>(
     alloc: Global,
@@ -169,13 +212,22 @@ pub fn run_show<S: Source, F: Source, O: Sink>(
         → form_of (map string_bytes words.now) ≡ Some f
         → FileIs (has_script (files_of f)) (option_map F.left script.old) s
         → FileIs (has_answers (files_of f)) (option_map F.left answers.old) a
-        → SaysExactly s (form_said f (page_of page.now) s a) (S.left log.old) (O.taken out.old) (O.taken out.new) result }
+        → SaysExactly s (form_said f (page_of page.now) s a) (form_why f) (S.left log.old)
+        (O.taken out.old) (O.taken out.new) result }
     ensures no_script { (f : Form) → form_of (map string_bytes words.now) ≡ Some f
         → has_script (files_of f) ≡ true → script.old ≡ None
-        → Shows (O.taken out.old) (O.taken out.new) (unread_text (word_at (map string_bytes words.now) 1)) 4 result
-        ⊎ Shows (O.taken out.old) (O.taken out.new) [] 1 result }
+        → IsUnread (word_at (map string_bytes words.now) 1) (O.taken out.old) (O.taken out.new)
+        result }
+    ensures no_answers { (f : Form) (s : Option (List (List ℕ)))
+        → form_of (map string_bytes words.now) ≡ Some f
+        → FileIs (has_script (files_of f)) (option_map F.left script.old) s
+        → has_answers (files_of f) ≡ true → answers.old ≡ None
+        → IsUnread (word_at (map string_bytes words.now) 2) (O.taken out.old) (O.taken out.new)
+        result
+        ⊎ IsFault result }
     ensures usage { form_of (map string_bytes words.now) ≡ None
-        → Shows (O.taken out.old) (O.taken out.new) usage_text 2 result }
+        → Shows (O.taken out.old) (O.taken out.new) usage_text 2 result
+        ⊎ IsRefused (O.taken out.old) (O.taken out.new) result }
     ensures unread { form_of (map string_bytes words.now) ≡ None → S.left log.new ≡ S.left log.old }
     ensures read_fault { (f : Form) → form_of (map string_bytes words.now) ≡ Some f → result ≡ 4
         → Rose (S.faults log.old) (S.faults log.new)
@@ -184,11 +236,9 @@ pub fn run_show<S: Source, F: Source, O: Sink>(
     ensures out_fault { result ≡ 5 → Rose (O.faults out.old) (O.faults out.new) }
     ensures later { (S.faults log.old ≤ S.faults log.new) × (O.faults out.old ≤ O.faults out.new) }
 {
-    match asked(words) {
-        Some(form) => {
-            let answer = answer_form(alloc, form, words, log, script, answers, page);
-            write_text(out, answer.text.as_slice(), answer.status)
-        }
-        None => write_text(out, b"usage: mmshow html [SCRIPT [ANSWERS]] | sums\n", 2),
+    match asked(alloc, words) {
+        Ok(Some(form)) => show_form(alloc, form, words, log, script, answers, page, out),
+        Ok(None) => write_text(out, USAGE, 2),
+        Err(NoMemory) => NO_MEMORY,
     }
 }

@@ -1,4 +1,5 @@
 pub mod Tellings
+pub mod ClassKnown
 pub mod Divided
 pub mod Readings
 pub mod FileReads

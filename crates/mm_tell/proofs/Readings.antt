@@ -10,9 +10,9 @@ use Rattle.mm_life.specs.Life.{FrameLife, unstarted}
 use Rattle.mm_life.specs.Effect.{after_move}
 use Rattle.mm_life.specs.Legal.{IsLegal}
 use Rattle.mm_life.specs.Replay.{Replays}
-use Rattle.mm_life.proofs.Replays.{replays_then}
+use Rattle.mm_life.proofs.Replays.{replays_then, replays_one}
 use Rattle.mm_moves.proofs.Lines.{one_move}
-use Rattle.mm_log.specs.Verdict.{most_bytes, IsStuck, StuckBefore, Shows}
+use Rattle.mm_log.specs.Verdict.{most_bytes, IsStuck, StuckBefore, Spells, SpellsBefore}
 use Rattle.mm_log.specs.Exact.{IsFault}
 use Rattle.mm_log.specs.Reading.{Lines, Stops}
 use Rattle.mm_log.proofs.Exactly.{Ended, in_front, no_more, one_reading, taken_told, end_told}
@@ -20,7 +20,7 @@ use Rattle.mm_log.specs.declared.endings.Ending.{Ending}
 use Rattle.mm_log.specs.declared.endings.Ending.TheVariants as ending
 use Rattle.mm_tell.specs.Fitting.{fits, AreFit}
 use Rattle.mm_tell.specs.Telling.{ClosesAt, Misfits}
-use Rattle.mm_tell.specs.Answering.{Said, ends_well, close_words, closing_text, closing_status, HasTold, Answers}
+use Rattle.mm_tell.specs.Answering.{Said, Why, ends_well, close_words, closing_text, closing_status, HasTold, Answers}
 use Rattle.mm_tell.specs.Exact.{Says, IsWhole, IsCut, IsMisfitAt, SaysExactly}
 use Rattle.mm_tell.specs.declared.closings.Closing.{Closing}
 use Rattle.mm_tell.specs.declared.closings.Closing.TheVariants as closing
@@ -74,6 +74,13 @@ lines_told left left' held ms total text r told =
     let t = taken_told text left' r.taken (subst (λ (o : Option Text). Took o left' r.taken) told r.took) in
     (t.0, (t.1.0, t.1.1 ∙ ap (λ xs. xs ++ t.0) r.whole ∙ append_assoc (spelled_moves ms) held t.0, omega (arith, r.total_is, ap length t.1.1, length-append r.taken t.0)))
 
+-- bytes begin with the line of one move
+same_spelled : (a b : Text) (o p : Option Move) → a ≡ b → Spells o a → Spells p b → o ≡ p
+same_spelled a b None None e s t = refl
+same_spelled a b None (Some n) e s t = absurd (s n t.1.0 t.0 (e ∙ t.1.1))
+same_spelled a b (Some m) None e s t = absurd (t m s.1.0 s.0 (sym e ∙ s.1.1))
+same_spelled a b (Some m) (Some n) e s t = ap Some (one_move m n s.1.0 t.1.0 s.0 t.0 (sym s.1.1 ∙ e ∙ t.1.1)).0
+
 -- memory was refused, or a read failed
 abbrev Broke : Closing → Type 0
 Broke c = (closing_status c ≡ 1) ⊎ (closing_status c ≡ 4)
@@ -87,7 +94,7 @@ module _ (script : Option (List Text)) (left left' : Option Text) (ms : List Mov
       let same : spelled_moves moves ++ [] ≡ spelled_moves ms ++ [] =
       append_nil (spelled_moves moves) ∙ sym w.spelled.text ∙ t.1.1 ∙ ap (λ xs. spelled_moves ms ++ (xs ++ t.0)) stop.ends.0 ∙ ap (λ xs. spelled_moves ms ++ xs) end in
       inl (refl, sym (one_reading moves ms [] [] unstarted w.life l w.spelled.in_range stop.lines.in_range w.replays replays (inl refl) (inl refl) same).0)
-  whole_at (closing.Ended (ending.No n)) stop moves w =
+  whole_at (closing.Ended (ending.No n o)) stop moves w =
       let t = lines_told left left' stop.held ms stop.total w.text stop.lines w.told in
       let stuck : IsStuck l (stop.held ++ t.0) = subst (λ (o : Option Text). StuckBefore o l stop.held) t.1.0 stop.ends.1 in
       let same : spelled_moves moves ++ [] ≡ spelled_moves ms ++ (stop.held ++ t.0) = append_nil (spelled_moves moves) ∙ sym w.spelled.text ∙ t.1.1 in
@@ -98,6 +105,7 @@ module _ (script : Option (List Text)) (left left' : Option Text) (ms : List Mov
       absurd (omega (arith, stop.ends, t.1.2, w.few))
   whole_at (closing.Ended ending.ReadFault) stop moves w = inr (inr refl)
   whole_at (closing.Ended ending.NoMemory) stop moves w = inr (inl refl)
+  whole_at closing.OutFault at moves w = absurd at
   whole_at (closing.Misfit n) bad moves w =
       let m = move.At n bad.kind in
       let t = lines_told left left' bad.held (ms ++ m ∷ []) bad.total w.text bad.lines w.told in
@@ -106,7 +114,8 @@ module _ (script : Option (List Text)) (left left' : Option Text) (ms : List Mov
       absurd (no_misfit script moves ms m h.0 w.fit bad.misfit h.1)
 
   -- a log with a line that is no legal move
-  cut_at : (c : Closing) → ClosesAt c left left' script ms l → (moves : List Move) → IsCut script left moves → ((c ≡ closing.Ended (ending.No (length moves + 1))) × (ms ≡ moves)) ⊎ Broke c
+  cut_at : (c : Closing) → ClosesAt c left left' script ms l → (moves : List Move) (w : IsCut script left moves)
+      → ((c ≡ closing.Ended (ending.No (length moves + 1) w.refused)) × (ms ≡ moves) × (l ≡ w.life)) ⊎ Broke c
   cut_at (closing.Ended ending.Yes) stop moves w =
       let t = lines_told left left' stop.held ms stop.total w.text stop.lines w.told in
       let end : t.0 ≡ [] = end_told left' t.0 t.1.0 stop.ends.1 in
@@ -114,17 +123,25 @@ module _ (script : Option (List Text)) (left left' : Option Text) (ms : List Mov
       sym w.whole ∙ t.1.1 ∙ ap (λ xs. spelled_moves ms ++ (xs ++ t.0)) stop.ends.0 ∙ ap (λ xs. spelled_moves ms ++ xs) end in
       let one = one_reading moves ms w.rest [] unstarted w.life l w.in_range stop.lines.in_range w.replays replays (inr w.stuck) (inl refl) same in
       absurd (omega (arith, w.stuck.some, ap length one.1))
-  cut_at (closing.Ended (ending.No n)) stop moves w =
+  cut_at (closing.Ended (ending.No n o)) stop moves w =
       let t = lines_told left left' stop.held ms stop.total w.text stop.lines w.told in
       let stuck : IsStuck l (stop.held ++ t.0) = subst (λ (o : Option Text). StuckBefore o l stop.held) t.1.0 stop.ends.1 in
       let same : spelled_moves moves ++ w.rest ≡ spelled_moves ms ++ (stop.held ++ t.0) = sym w.whole ∙ t.1.1 in
       let one = one_reading moves ms w.rest (stop.held ++ t.0) unstarted w.life l w.in_range stop.lines.in_range w.replays replays (inr w.stuck) (inr stuck) same in
-      inl (ap (λ (k : ℕ). closing.Ended (ending.No k)) (stop.ends.0 ∙ ap (λ (zs : List Move). length zs + 1) (sym one.0)), sym one.0)
+      let spelled : Spells o (stop.held ++ t.0) = subst (λ (x : Option Text). SpellsBefore x o stop.held) t.1.0 stop.ends.3 in
+      let move : o ≡ w.refused = same_spelled (stop.held ++ t.0) w.rest o w.refused (sym one.1) spelled w.spelled in
+      let line : n ≡ length moves + 1 = stop.ends.0 ∙ ap (λ (zs : List Move). length zs + 1) (sym one.0) in
+      inl (
+        ap (λ (k : ℕ). closing.Ended (ending.No k o)) line ∙ ap (λ (x : Option Move). closing.Ended (ending.No (length moves + 1) x)) move,
+        sym one.0,
+        replays_one ms unstarted l w.life replays (subst (λ (zs : List Move). Replays zs unstarted w.life) one.0 w.replays),
+      )
   cut_at (closing.Ended ending.TooLong) stop moves w =
       let t = lines_told left left' stop.held ms stop.total w.text stop.lines w.told in
       absurd (omega (arith, stop.ends, t.1.2, w.few))
   cut_at (closing.Ended ending.ReadFault) stop moves w = inr (inr refl)
   cut_at (closing.Ended ending.NoMemory) stop moves w = inr (inl refl)
+  cut_at closing.OutFault at moves w = absurd at
   cut_at (closing.Misfit n) bad moves w =
       let m = move.At n bad.kind in
       let t = lines_told left left' bad.held (ms ++ m ∷ []) bad.total w.text bad.lines w.told in
@@ -142,7 +159,7 @@ module _ (script : Option (List Text)) (left left' : Option Text) (ms : List Mov
       sym (ap (λ xs. spelled_moves ms ++ xs) end) ∙ sym (ap (λ xs. spelled_moves ms ++ (xs ++ t.0)) stop.ends.0) ∙ sym t.1.1 ∙ w.whole in
       let h = prefix_reading ms (moves ++ m ∷ []) [] w.rest unstarted l w.life stop.lines.in_range w.in_range replays w.replays (inl refl) same in
       absurd (no_misfit script ms moves m h.0 fit w.misfit h.1)
-  misfit_at (closing.Ended (ending.No k)) stop moves n w =
+  misfit_at (closing.Ended (ending.No k o)) stop moves n w =
       let m = move.At n w.kind in
       let t = lines_told left left' stop.held ms stop.total w.text stop.lines w.told in
       let stuck : IsStuck l (stop.held ++ t.0) = subst (λ (o : Option Text). StuckBefore o l stop.held) t.1.0 stop.ends.1 in
@@ -153,6 +170,7 @@ module _ (script : Option (List Text)) (left left' : Option Text) (ms : List Mov
       absurd (omega (arith, stop.ends, t.1.2, w.few))
   misfit_at (closing.Ended ending.ReadFault) stop moves n w = inr (inr refl)
   misfit_at (closing.Ended ending.NoMemory) stop moves n w = inr (inl refl)
+  misfit_at closing.OutFault at moves n w = absurd at
   misfit_at (closing.Misfit k) bad moves n w =
       let m = move.At n w.kind in
       let b = move.At k bad.kind in
@@ -163,33 +181,31 @@ module _ (script : Option (List Text)) (left left' : Option Text) (ms : List Mov
 
 -- ---- what is written
 
-shown_as : (took took' : Option Text) (text : Text) (status result : ℕ) → Shows took took' text status result → Says took took' result status text
-shown_as took took' text status result (inl h) = inl h
-shown_as took took' text status result (inr h) = inr (inr (inr h.0))
+fault_of : (c : Closing) (status : ℕ) → status ≡ closing_status c → Broke c → IsFault status
+fault_of c status e (inl one) = inl (e ∙ one)
+fault_of c status e (inr four) = inr (inl (e ∙ four))
 
-broken : (took took' : Option Text) (text : Text) (status result : ℕ) → (status ≡ 1) ⊎ (status ≡ 4) → Shows took took' text status result → IsFault result
-broken took took' text status result (inl one) (inl h) = inl (h.0 ∙ one)
-broken took took' text status result (inr four) (inl h) = inr (inl (h.0 ∙ four))
-broken took took' text status result s (inr h) = inr (inr h.0)
+module _ (script : Option (List Text)) (said : Said) (why : Why) (left left' took took' : Option Text) (result : ℕ) where
+  says_at : (t : HasTold left left' took took' script said why result) → (c : Closing) (moves : List Move) (l : FrameLife) → ((t.closing ≡ c) × (t.moves ≡ moves)) ⊎ Broke t.closing
+      → close_words why t.life c ≡ close_words why l c → Says took took' result (closing_status c) (closing_text said why l moves c)
+  says_at t c moves l (inl same) words =
+      let x : closing_text said why t.life t.moves t.closing ≡ closing_text said why l moves c =
+      ap (λ (d : Closing). closing_text said why t.life t.moves d) same.0 ∙ ap (λ (ms : List Move). closing_text said why t.life ms c) same.1
+      ∙ ap (λ xs. said (ends_well c) moves ++ xs) words in
+      inl (t.status_is ∙ ap closing_status same.0, subst (λ (z : Text). Appended took took' z) x t.written)
+  says_at t c moves l (inr broke) words = inr (fault_of t.closing result t.status_is broke)
 
-module _ (script : Option (List Text)) (said : Said) (left left' took took' : Option Text) (text : Text) (status result : ℕ) (shows : Shows took took' text status result) where
-  says_at : (t : HasTold left left' script said text status) → (c : Closing) (moves : List Move) → ((t.closing ≡ c) × (t.moves ≡ moves)) ⊎ Broke t.closing → Says took took' result (closing_status c) (closing_text said moves c)
-  says_at t c moves (inl same) =
-      let s : status ≡ closing_status c = t.status_is ∙ ap closing_status same.0 in
-      let x : text ≡ closing_text said moves c = t.text_is ∙ ap (λ (d : Closing). closing_text said t.moves d) same.0 ∙ ap (λ (ms : List Move). closing_text said ms c) same.1 in
-      shown_as took took' (closing_text said moves c) (closing_status c) result
-      (subst (λ (z : Text). Shows took took' z (closing_status c) result) x (subst (λ (k : ℕ). Shows took took' text k result) s shows))
-  says_at t c moves (inr broke) = inr (broken took took' text status result (elim broke [ inl h ↦ inl (t.status_is ∙ h) | inr h ↦ inr (t.status_is ∙ h) ]) shows)
+  -- in the state in which the line is bad
+  cut_says : (t : HasTold left left' took took' script said why result) → (c : Closing) (moves : List Move) (l : FrameLife) → ((t.closing ≡ c) × (t.moves ≡ moves) × (t.life ≡ l)) ⊎ Broke t.closing
+      → Says took took' result (closing_status c) (closing_text said why l moves c)
+  cut_says t c moves l (inl same) = says_at t c moves l (inl (same.0, same.1)) (ap (λ (k : FrameLife). close_words why k c) same.2)
+  cut_says t c moves l (inr broke) = inr (fault_of t.closing result t.status_is broke)
 
-  pub says_exactly : Answers left left' script said text status → SaysExactly script said left took took' result
-  says_exactly (inl h) = record {
-    whole = λ moves w. inr (broken took took' text status result (inl h.0) shows);
-    cut = λ moves w. inr (broken took took' text status result (inl h.0) shows);
-    misfit = λ moves n w. inr (broken took took' text status result (inl h.0) shows);
-  }
-  says_exactly (inr t) = record {
+  pub says_exactly : Answers left left' took took' script said why result → SaysExactly script said why left took took' result
+  says_exactly (inl t) = record {
     whole = λ moves w. subst (λ (z : Text). Says took took' result 0 z) (append_nil (said true moves))
-        (says_at t (closing.Ended ending.Yes) moves (whole_at script left left' t.moves t.life t.replays t.fit t.closing t.at moves w));
-    cut = λ moves w. says_at t (closing.Ended (ending.No (length moves + 1))) moves (cut_at script left left' t.moves t.life t.replays t.fit t.closing t.at moves w);
-    misfit = λ moves n w. says_at t (closing.Misfit n) moves (misfit_at script left left' t.moves t.life t.replays t.fit t.closing t.at moves n w);
+        (says_at t (closing.Ended ending.Yes) moves unstarted (whole_at script left left' t.moves t.life t.replays t.fit t.closing t.at moves w) refl);
+    cut = λ moves w. cut_says t (closing.Ended (ending.No (length moves + 1) w.refused)) moves w.life (cut_at script left left' t.moves t.life t.replays t.fit t.closing t.at moves w);
+    misfit = λ moves n w. says_at t (closing.Misfit n) moves unstarted (misfit_at script left left' t.moves t.life t.replays t.fit t.closing t.at moves n w) refl;
   }
+  says_exactly (inr bad) = record { whole = λ moves w. inr bad; cut = λ moves w. inr bad; misfit = λ moves n w. inr bad }

@@ -10,11 +10,11 @@ use Rattle.mm_types.specs.declared.moves.LineKind.{LineKind}
 use Rattle.mm_life.specs.MoveText.{IsSpelled, AreMoves, spelled_moves}
 use Rattle.mm_life.specs.Life.{FrameLife, unstarted}
 use Rattle.mm_life.specs.Replay.{Replays}
-use Rattle.mm_log.specs.Verdict.{most_bytes, IsStuck}
+use Rattle.mm_log.specs.Verdict.{most_bytes, IsStuck, Spells}
 use Rattle.mm_log.specs.Exact.{IsFault}
 use Rattle.mm_log.specs.declared.endings.Ending.TheVariants as ending
 use Rattle.mm_tell.specs.Fitting.{fits, AreFit}
-use Rattle.mm_tell.specs.Answering.{Said, close_words}
+use Rattle.mm_tell.specs.Answering.{Said, Why, close_words}
 use Rattle.mm_tell.specs.declared.closings.Closing.TheVariants as closing
 
 -- the status and the text; or memory was refused, or a source or the sink failed
@@ -44,6 +44,9 @@ pub record IsCut (script : Option (List Text)) (left : Option Text)
   pub life : FrameLife
   pub replays : Replays moves unstarted life
   pub stuck : IsStuck life rest
+  -- the move, if any, that the line after them spells
+  pub refused : Option Move
+  pub spelled : Spells refused rest
   pub fit : AreFit script moves
 
 -- the log replays up to the line n, which is the first that does not fit
@@ -62,12 +65,13 @@ pub record IsMisfitAt (script : Option (List Text)) (left : Option Text) (moves 
   pub misfit : fits script (move.At n kind) ≡ false
 
 -- what a form says of such logs, each exactly
-pub record SaysExactly (script : Option (List Text)) (said : Said) (left took took' : Option Text)
-    (result : ℕ) : Type 0 where
+pub record SaysExactly (script : Option (List Text)) (said : Said) (why : Why)
+    (left took took' : Option Text) (result : ℕ) : Type 0 where
   pub whole : (moves : List Move) → IsWhole script left moves
       → Says took took' result 0 (said true moves)
-  pub cut : (moves : List Move) → IsCut script left moves
+  pub cut : (moves : List Move) (c : IsCut script left moves)
       → Says took took' result 3 (said false moves
-      ++ close_words (closing.Ended (ending.No (length moves + 1))))
+      ++ close_words why c.life (closing.Ended (ending.No (length moves + 1) c.refused)))
   pub misfit : (moves : List Move) (n : ℕ) → IsMisfitAt script left moves n
-      → Says took took' result 6 (said false moves ++ close_words (closing.Misfit n))
+      → Says took took' result 6 (said false moves
+      ++ close_words why unstarted (closing.Misfit n))

@@ -2,6 +2,7 @@
 -- Profile, "What a log shows".
 use Rattle.std.specs.Prelude.{◌≡◌, ℕ, Bool, true, false, List, [], ◌∷◌, ◌++◌, Option}
 use Rattle.mm_types.specs.Spelling.{Text}
+use Rattle.mm_types.specs.Outside.{Appended}
 use Rattle.mm_types.specs.declared.moves.Move.{Move}
 use Rattle.mm_types.specs.declared.moves.Move.TheVariants as move
 use Rattle.mm_types.specs.declared.moves.LineKind.{LineKind}
@@ -21,19 +22,27 @@ abbrev pub RestOf : Type 0
 RestOf = Bool → FrameLife → List Move → Text
 
 -- From the first state on these moves were told, and this text came of it.
-abbrev pub Told : RestOf → Text → List Move → RestOf → FrameLife → Text → Type 0
-Told rest text moves rest' l text' =
-    (whole : Bool) (ms : List Move) → text' ++ rest' whole l ms ≡ text
-    ++ rest whole unstarted (moves ++ ms)
+abbrev pub Told : RestOf → List Move → RestOf → FrameLife → Text → Type 0
+Told rest moves rest' l text =
+    (whole : Bool) (ms : List Move) → text ++ rest' whole l ms ≡ rest whole unstarted (moves ++ ms)
 
--- the moves so far were read and made, fit the script, and were told
-pub record Tells (left left' : Option Text) (script : Option (List Text)) (r : LogReader)
-    (rest : RestOf) (text : Text) (rest' : RestOf) (l : FrameLife) (text' : Text) : Type 0 where
+-- of a text that was kept a front was written, and this is kept now
+pub record Poured (took took' : Option Text) (text kept : Text) : Type 0 where
+  pub written : Text
+  pub appended : Appended took took' written
+  pub whole : text ≡ written ++ kept
+
+-- the moves so far were read and made, fit the script, and were told: of the text that came of
+-- them a front was written, and this is kept
+pub record Tells (left left' took took' : Option Text) (script : Option (List Text)) (r : LogReader)
+    (rest rest' : RestOf) (l : FrameLife) (kept : Text) : Type 0 where
   pub moves : List Move
   pub reading : Reading left left' r moves
   pub replays : Replays moves unstarted l
   pub fit : AreFit script moves
-  pub told : Told rest text moves rest' l text'
+  pub written : Text
+  pub appended : Appended took took' written
+  pub told : Told rest moves rest' l (written ++ kept)
 
 -- the next line is a legal move that does not fit the script
 pub record Misfits (left left' : Option Text) (script : Option (List Text)) (moves : List Move)
@@ -49,16 +58,21 @@ abbrev pub ClosesAt : Closing → Option Text → Option Text → Option (List T
     → FrameLife → Type 0
 ClosesAt (closing.Ended e) left left' script moves l = Stops left left' moves l e
 ClosesAt (closing.Misfit n) left left' script moves l = Misfits left left' script moves l n
+ClosesAt closing.OutFault left left' script moves l = ⊥
 
 -- and that came to an end
-pub record Closes (left left' : Option Text) (script : Option (List Text)) (rest : RestOf)
-    (text : Text) (c : Closing) (rest' : RestOf) (l : FrameLife) (text' : Text) : Type 0 where
+pub record Closes (left left' took took' : Option Text) (script : Option (List Text)) (rest : RestOf)
+    (c : Closing) (rest' : RestOf) (l : FrameLife) (kept : Text) : Type 0 where
   pub moves : List Move
   pub replays : Replays moves unstarted l
   pub fit : AreFit script moves
-  pub told : Told rest text moves rest' l text'
+  pub written : Text
+  pub appended : Appended took took' written
+  pub told : Told rest moves rest' l (written ++ kept)
   pub at : ClosesAt c left left' script moves l
 
-abbrev pub is_refused : Closing → Bool
-is_refused (closing.Ended ending.NoMemory) = true
-is_refused _ = false
+-- memory was refused, or a write failed: nothing is said of what was written
+abbrev pub is_broken : Closing → Bool
+is_broken (closing.Ended ending.NoMemory) = true
+is_broken closing.OutFault = true
+is_broken _ = false

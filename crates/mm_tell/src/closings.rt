@@ -7,4 +7,6 @@ pub enum Closing {
     Ended(Ending),
     /// This line of the script is missing, or can be no line as the log has it.
     Misfit(u32),
+    /// A write of what was told failed.
+    OutFault,
 }

@@ -2,15 +2,18 @@
 #![tactic(auto)]
 
 mod answers;
+mod classifiers;
 mod closings;
 mod files;
 mod fitting;
 mod lines;
+mod pouring;
 mod replays;
 mod shown;
 mod tellers;
 
-pub use answers::{Answer, answered};
+pub use answers::answered;
+pub use classifiers::{Classed, Classifier, Pending};
 pub use closings::Closing;
 pub use files::{FileFault, named_lines};
 pub use lines::Lines;

@@ -1,4 +1,4 @@
-ghost use Rattle.std.specs.Prelude.{◌≡◌, ◌+◌, ◌<◌, ◌≤◌, ◌^◌, ◌++◌, ◌∷◌, ℕ, Bool, false, List};
+ghost use Rattle.std.specs.Prelude.{◌≡◌, ◌+◌, ◌<◌, ◌≤◌, ◌^◌, ◌++◌, ◌∷◌, [], ℕ, Bool, false, List};
 ghost use Rattle.std.specs.Prelude.{Option, MatchResult, OnOk, Err};
 ghost use Rattle.mm_types.specs.declared.moves.Move.{Move};
 ghost use Rattle.mm_types.specs.Outside.{Rose};
@@ -8,16 +8,17 @@ ghost use Rattle.mm_log.specs.declared.endings.Ending.{Ending};
 ghost use Rattle.mm_log.specs.Reading.{IsReady};
 ghost use Rattle.mm_life.specs.Legal.{IsLegal};
 ghost use Rattle.mm_life.specs.Effect.{after_move};
-ghost use Rattle.mm_tell.specs.Telling.{RestOf, Tells, Closes, is_refused};
+ghost use Rattle.mm_tell.specs.Telling.{RestOf, Tells, Closes, is_broken};
 
 use crate::closings::Closing;
 use crate::fitting::misfit;
 use crate::lines::Lines;
+use crate::pouring::pour;
 use crate::tellers::Teller;
-use mm_io::Source;
+use mm_io::{Sink, Source};
 use mm_log::{Ending, LogReader, MOST_LINES};
 use mm_moves::Life;
-use mm_types::{Move, NoMemory};
+use mm_types::{Failed, Move, NoMemory};
 
 /// Tells a move that is legal in this state, and makes it.
 fn take<T: Teller>(
@@ -38,28 +39,34 @@ fn take<T: Teller>(
     life.make(m)
 }
 
-/// Reads the next move, tells it and makes it.
-fn next<S: Source, T: Teller>(
+/// Reads the next move, tells it, makes it, and writes what is kept where that is much.
+fn next<S: Source, T: Teller, O: Sink>(
     life: &mut Life,
     reader: &mut LogReader,
     script: &Option<Lines>,
     source: &mut S,
     teller: &mut T,
     text: &mut Vec<u8>,
+    out: &mut O,
 ) -> Result<(), Closing>
     requires ready { IsReady reader.old }
     requires few { T.counted teller.old + 1 < 2 ^ 63 }
-    ensures told { (left : Option (List ℕ)) (rest : RestOf) (first : List ℕ)
-        → Tells left (S.left source.old) script.now reader.old rest first (T.rest teller.old) (life_of life.old) text.old.items
+    ensures told { (left took : Option (List ℕ)) (rest : RestOf)
+        → Tells left (S.left source.old) took (O.taken out.old) script.now reader.old rest
+        (T.rest teller.old) (life_of life.old) text.old.items
         → MatchResult result
-        (λ u. Tells left (S.left source.new) script.now reader.new rest first (T.rest teller.new) (life_of life.new) text.new.items)
-        (λ c. is_refused c ≡ false
-        → Closes left (S.left source.new) script.now rest first c (T.rest teller.new) (life_of life.new) text.new.items) }
+        (λ u. Tells left (S.left source.new) took (O.taken out.new) script.now reader.new rest
+        (T.rest teller.new) (life_of life.new) text.new.items)
+        (λ c. is_broken c ≡ false
+        → Closes left (S.left source.new) took (O.taken out.new) script.now rest c
+        (T.rest teller.new) (life_of life.new) text.new.items) }
     ensures ready { OnOk result (IsReady reader.new × (reader.new.lines ≡ reader.old.lines + 1)) }
     ensures counted { T.counted teller.new ≤ T.counted teller.old + 1 }
-    ensures later { S.faults source.old ≤ S.faults source.new }
-    ensures blame { result ≡ Err (Closing.Ended Ending.ReadFault)
+    ensures later { (S.faults source.old ≤ S.faults source.new) ×
+        (O.faults out.old ≤ O.faults out.new) }
+    ensures read_fault { result ≡ Err (Closing.Ended Ending.ReadFault)
         → Rose (S.faults source.old) (S.faults source.new) }
+    ensures out_fault { result ≡ Err Closing.OutFault → Rose (O.faults out.old) (O.faults out.new) }
 {
     let m = match reader.next_move(life, source) {
         Ok(m) => m,
@@ -70,33 +77,43 @@ fn next<S: Source, T: Teller>(
         None => {}
     }
     match take(life, &m, teller, text) {
+        Ok(()) => {}
+        Err(NoMemory) => return Err(Closing::Ended(Ending::NoMemory)),
+    }
+    match pour(text, out) {
         Ok(()) => Ok(()),
-        Err(NoMemory) => Err(Closing::Ended(Ending::NoMemory)),
+        Err(Failed) => Err(Closing::OutFault),
     }
 }
 
-#[tactic(auto, using(crate::proofs::Tellings::tellings))]
 /// Tells a log from its first line to its end, or to the first line that is none of a legal move,
-/// or that the script does not fit.
-pub(crate) fn tell_log<S: Source, T: Teller>(
+/// or that the script does not fit. What it tells is written to `out` in pieces; `text` is what of
+/// it is kept yet.
+#[tactic(auto, using(crate::proofs::Tellings::tellings))]
+pub(crate) fn tell_log<S: Source, T: Teller, O: Sink>(
     life: &mut Life,
     script: &Option<Lines>,
     source: &mut S,
     teller: &mut T,
     text: &mut Vec<u8>,
+    out: &mut O,
 ) -> Closing
     requires life { life_of life.old ≡ unstarted }
     requires counted { T.counted teller.old ≡ 0 }
-    ensures closes { is_refused result ≡ false
-        → Closes (S.left source.old) (S.left source.new) script.now
-        (T.rest teller.old) text.old.items result (T.rest teller.new) (life_of life.new) text.new.items }
-    ensures later { S.faults source.old ≤ S.faults source.new }
-    ensures blame { result ≡ Closing.Ended Ending.ReadFault
+    requires none { text.old.items ≡ [] }
+    ensures closes { is_broken result ≡ false
+        → Closes (S.left source.old) (S.left source.new) (O.taken out.old) (O.taken out.new)
+        script.now
+        (T.rest teller.old) result (T.rest teller.new) (life_of life.new) text.new.items }
+    ensures later { (S.faults source.old ≤ S.faults source.new) ×
+        (O.faults out.old ≤ O.faults out.new) }
+    ensures read_fault { result ≡ Closing.Ended Ending.ReadFault
         → Rose (S.faults source.old) (S.faults source.new) }
+    ensures out_fault { result ≡ Closing.OutFault → Rose (O.faults out.old) (O.faults out.new) }
 {
     let mut reader = LogReader::new();
     for n in 0..MOST_LINES {
-        match next(life, &mut reader, script, source, teller, text) {
+        match next(life, &mut reader, script, source, teller, text, out) {
             Ok(()) => {}
             Err(closing) => return closing,
         }

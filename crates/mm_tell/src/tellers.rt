@@ -17,6 +17,10 @@ pub trait Teller {
     /// How much was counted so far.
     ghost counted: { Self → ℕ };
 
+    /// What is said behind the number of a line that spells a move which is not legal in this
+    /// state.
+    ghost why: { FrameLife → Move → List ℕ };
+
     /// Takes the next move, which is legal in this state.
     fn take(&mut self, life: &Life, m: &Move, text: &mut Vec<u8>) -> Result<(), NoMemory>
         requires legal { IsLegal m.now (life_of life.now) }
@@ -30,4 +34,9 @@ pub trait Teller {
     fn finish(&mut self, whole: bool, life: &Life, text: &mut Vec<u8>) -> Result<(), NoMemory>
         ensures { OnOk result (text.new.items ≡ text.old.items
             ++ rest self.old whole (life_of life.now) []) };
+
+    /// Writes why a move is not legal in this state, behind the number of its line: nothing, or
+    /// `: `, the move, `: ` and the reason.
+    fn tell_why(&self, life: &Life, m: &Move, text: &mut Vec<u8>) -> Result<(), NoMemory>
+        ensures { OnOk result (text.new.items ≡ text.old.items ++ why (life_of life.now) m.now) };
 }

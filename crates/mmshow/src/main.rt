@@ -34,8 +34,23 @@ fn words(rt: &(impl Env + AllocGlobal)) -> Result<Vec<String>, AllocError> {
     }
 }
 
-/// The file that the word at a place names, if there is such a word and the file can be opened.
+/// Whether the first word is the name of a form whose values are files.
+fn has_files(words: &[String]) -> bool {
+    match words.get(0) {
+        Some(name) => {
+            let name = name.as_bytes();
+            name == b"html".as_slice() || name == b"tell".as_slice()
+        }
+        None => false,
+    }
+}
+
+/// The file that the word at a place names, if the form has files, there is such a word and the
+/// file can be opened.
 fn named(rt: &HostRuntime, words: &[String], place: usize) -> Option<StdSource<File>> {
+    if !has_files(words) {
+        return None;
+    }
     match words.get(place) {
         Some(name) => match fs::open(rt, name.as_str()) {
             Ok(file) => Some(StdSource::new(file)),

@@ -1,14 +1,38 @@
+use Rattle.std.proofs.Common.{arith}
+use Rattle.mm_types.proofs.Bytes.{rose_later}
 use Rattle.mm_reasons.proofs.Sayings.{said_then, talked_then}
+use Rattle.mm_reasons.proofs.Blames.{blamed_write}
 use Rattle.mm_reasons.proofs.talks.listen.Goals as goal
 
-pub returns-in-Err-take_bytes : goal.returns-in-Err-take_bytes
-returns-in-Err-take_bytes g c =
+pub returns-in-Err-clause-blame : goal.returns-in-Err-clause-blame
+returns-in-Err-clause-blame g c =
+    let faults = g.S.Source.faults in
+    rose_later (faults c.args.source.now) (faults c.loop-turn.source) (faults c.read.new.self)
+    c.loop-turn.invariant.source_later c.in-Err.ensures.cause.failed
+
+pub returns-in-Err-take_bytes-clause-said : goal.returns-in-Err-take_bytes-clause-said
+returns-in-Err-take_bytes-clause-said g c =
     let taken = g.O.Sink.taken in
     talked_then c.in-Err-take_bytes.ending (taken c.args.out.now) (taken c.loop-turn.out) (taken c.take_bytes.new.out)
-    c.loop-turn.invariant c.in-Err-take_bytes.ensures
+    c.loop-turn.invariant.said c.in-Err-take_bytes.ensures.said
+
+pub returns-in-Err-take_bytes-clause-blame : goal.returns-in-Err-take_bytes-clause-blame
+returns-in-Err-take_bytes-clause-blame g c =
+    let out = g.O.Sink.faults in
+    let err = g.E.Sink.faults in
+    blamed_write c.in-Err-take_bytes.ending (g.S.Source.faults c.args.source.now) (g.S.Source.faults c.read.new.self)
+    (out c.args.out.now) (out c.loop-turn.out) (out c.take_bytes.new.out)
+    (err c.args.err.now) (err c.loop-turn.err) (err c.take_bytes.new.err)
+    c.loop-turn.invariant.later c.loop-turn.invariant.err_later c.in-Err-take_bytes.ensures.blame
 
 pub loop-turn-preserved : goal.loop-turn-preserved
 loop-turn-preserved g c =
     let taken = g.O.Sink.taken in
-    said_then (taken c.args.out.now) (taken c.loop-turn.out) (taken c.take_bytes.new.out) c.loop-turn.invariant
-    c.in-Ok-take_bytes.ensures
+    let i = c.loop-turn.invariant in
+    record {
+      said = said_then (taken c.args.out.now) (taken c.loop-turn.out) (taken c.take_bytes.new.out) i.said
+          c.in-Ok-take_bytes.ensures.said;
+      source_later = omega (arith, c.read.ensures.cause.later, i.source_later);
+      later = omega (arith, c.take_bytes.ensures.later, i.later);
+      err_later = omega (arith, c.take_bytes.ensures.err_later, i.err_later);
+    }

@@ -1,5 +1,11 @@
+use Rattle.std.proofs.Common.{◌≤◌}
 use Rattle.mm_reasons.specs.Forms.{Said}
 use Rattle.mm_reasons.proofs.talks.listen.Given as goal
 
 abbrev pub invariant-loop-turn : goal.invariant-loop-turn
-invariant-loop-turn g l = Said (g.O.Sink.taken l.fn.out) (g.O.Sink.taken l.out)
+invariant-loop-turn g l = record {
+  said : Said (g.O.Sink.taken l.fn.out) (g.O.Sink.taken l.out);
+  source_later : g.S.Source.faults l.fn.source ≤ g.S.Source.faults l.source;
+  later : g.O.Sink.faults l.fn.out ≤ g.O.Sink.faults l.out;
+  err_later : g.E.Sink.faults l.fn.err ≤ g.E.Sink.faults l.err;
+}

@@ -2,8 +2,8 @@ use Rattle.std.proofs.Common.{◌∙◌}
 use Rattle.mm_reasons.proofs.Sayings.{said_event}
 use Rattle.mm_reasons.proofs.talks.say.Goals as goal
 
-pub returns-in-Ok-write_flushed : goal.returns-in-Ok-write_flushed
-returns-in-Ok-write_flushed g c =
+pub returns-in-Ok-write_flushed-clause-said : goal.returns-in-Ok-write_flushed-clause-said
+returns-in-Ok-write_flushed-clause-said g c =
     let taken = g.O.Sink.taken in
     said_event (taken c.args.out.now) (taken c.write_flushed.new.out) c.as_slice.result.now c.args.event.now c.requires
     (c.as_slice.ensures.value ∙ c.in-Ok.ensures) c.in-Ok-write_flushed.ensures.wrote

@@ -1,5 +1,10 @@
+use Rattle.std.proofs.Common.{◌≤◌}
 use Rattle.mm_reasons.specs.Forms.{Said}
 use Rattle.mm_reasons.proofs.talks.take_bytes.Given as goal
 
 abbrev pub invariant-loop-byte : goal.invariant-loop-byte
-invariant-loop-byte g l = Said (g.O.Sink.taken l.fn.out) (g.O.Sink.taken l.out)
+invariant-loop-byte g l = record {
+  said : Said (g.O.Sink.taken l.fn.out) (g.O.Sink.taken l.out);
+  later : g.O.Sink.faults l.fn.out ≤ g.O.Sink.faults l.out;
+  err_later : g.E.Sink.faults l.fn.err ≤ g.E.Sink.faults l.err;
+}

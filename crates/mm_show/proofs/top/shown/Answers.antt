@@ -1,17 +1,41 @@
-use Rattle.std.proofs.Common.{Option, sym, subst}
-use Rattle.mm_tell.specs.Answering.{Said, Answers}
-use Rattle.mm_show.specs.Showing.{form_said}
 use Rattle.mm_show.specs.Texts.{page_of}
-use Rattle.mm_show.specs.declared.forms.Form.{Form}
-use Rattle.mm_show.proofs.Exactness.{said_sums}
+use Rattle.mm_show.proofs.Exactness.{said_sums, told_as}
+use Rattle.mm_show.proofs.Exactness.{said_is}
+use Rattle.mm_transcripts.specs.Waiting.{transcript_rest}
+use Rattle.mm_uses.specs.Rest.{counts_rest, use_rest}
+use Rattle.mm_uses.specs.StateRest.{state_rest}
+use Rattle.mm_histories.specs.Rest.{history_rest}
+use Rattle.mm_faults.specs.Rest.{fault_rest}
 use Rattle.mm_show.proofs.top.shown.Goals as goal
+
+pub returns-in-Tell-clause-answers : goal.returns-in-Tell-clause-answers
+returns-in-Tell-clause-answers g c =
+    told_as c.args.form _ (page_of c.args.page.now) c.args.script.now c.args.answers.now _ _ _ _ _ _ c.in-Tell.is (said_is (transcript_rest c.new-teller.result) _ c.new-teller.ensures) c.answered-in-Tell.ensures.answers
+
+pub returns-in-Counts-clause-answers : goal.returns-in-Counts-clause-answers
+returns-in-Counts-clause-answers g c =
+    told_as c.args.form _ (page_of c.args.page.now) c.args.script.now c.args.answers.now _ _ _ _ _ _ c.in-Counts.is (said_is (counts_rest c.new.result) _ c.new.ensures) c.answered-in-Counts.ensures.answers
+
+pub returns-in-CountsAt-clause-answers : goal.returns-in-CountsAt-clause-answers
+returns-in-CountsAt-clause-answers g c =
+    told_as c.args.form _ (page_of c.args.page.now) c.args.script.now c.args.answers.now _ _ _ _ _ _ c.in-CountsAt.is (said_is (use_rest c.new-in-CountsAt.result) _ c.new-in-CountsAt.ensures) c.answered-in-CountsAt.ensures.answers
+
+pub returns-in-StateAt-clause-answers : goal.returns-in-StateAt-clause-answers
+returns-in-StateAt-clause-answers g c =
+    told_as c.args.form _ (page_of c.args.page.now) c.args.script.now c.args.answers.now _ _ _ _ _ _ c.in-StateAt.is (said_is (state_rest c.new-in-StateAt.result) _ c.new-in-StateAt.ensures) c.answered-in-StateAt.ensures.answers
+
+pub returns-in-FrameAt-clause-answers : goal.returns-in-FrameAt-clause-answers
+returns-in-FrameAt-clause-answers g c =
+    told_as c.args.form _ (page_of c.args.page.now) c.args.script.now c.args.answers.now _ _ _ _ _ _ c.in-FrameAt.is (said_is (history_rest c.of_frame.result) _ c.of_frame.ensures) c.answered-in-FrameAt.ensures.answers
+
+pub returns-in-KeyAt-clause-answers : goal.returns-in-KeyAt-clause-answers
+returns-in-KeyAt-clause-answers g c =
+    told_as c.args.form _ (page_of c.args.page.now) c.args.script.now c.args.answers.now _ _ _ _ _ _ c.in-KeyAt.is (said_is (history_rest c.of_key.result) _ c.of_key.ensures) c.answered-in-KeyAt.ensures.answers
+
+pub returns-in-Faults-clause-answers : goal.returns-in-Faults-clause-answers
+returns-in-Faults-clause-answers g c =
+    told_as c.args.form _ (page_of c.args.page.now) c.args.script.now c.args.answers.now _ _ _ _ _ _ c.in-Faults.is (said_is (fault_rest c.new-in-Faults.result) _ c.new-in-Faults.ensures) c.answered-in-Faults.ensures.answers
 
 pub returns-in-Sums-clause-answers : goal.returns-in-Sums-clause-answers
 returns-in-Sums-clause-answers g c =
-    let a = c.args in
-    let left = g.S.Source.left a.log.now in
-    let left' = g.S.Source.left c.answered.new.log in
-    let text = c.answered.result.text.items in
-    let status = c.answered.result.status in
-    subst (λ (f : Form). Answers left left' a.script.now (form_said f (page_of a.page.now) a.script.now a.answers.now) text status) (sym c.in-Sums.is)
-    (subst (λ (said : Said). Answers left left' a.script.now said text status) (said_sums c.new.result (page_of a.page.now) a.script.now a.answers.now c.new.ensures.sums) c.answered.ensures.answers)
+    told_as c.args.form _ (page_of c.args.page.now) c.args.script.now c.args.answers.now _ _ _ _ _ _ c.in-Sums.is (said_sums c.new-in-Sums.result c.new-in-Sums.ensures.sums) c.answered-in-Sums.ensures.answers

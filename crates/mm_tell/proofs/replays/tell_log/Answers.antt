@@ -5,23 +5,25 @@ use Rattle.mm_tell.proofs.replays.tell_log.Goals as goal
 
 pub loop-n-init : goal.loop-n-init
 loop-n-init g c = record {
-  tells = tells_none (g.S.Source.left c.args.source.now) c.args.script.now c.new-reader.result (g.T.Teller.rest c.args.teller.now) c.args.text.now.items (life c.args.life.now) (c.new-reader.ensures.none (g.S.Source.left c.args.source.now)) c.requires.life;
+  tells = tells_none (g.S.Source.left c.args.source.now) (g.O.Sink.taken c.args.out.now) c.args.script.now c.new-reader.result (g.T.Teller.rest c.args.teller.now) (life c.args.life.now) c.args.text.now.items (c.new-reader.ensures.none (g.S.Source.left c.args.source.now)) c.requires.life c.requires.none;
   ready = c.new-reader.ensures.ready;
   lines = c.new-reader.ensures.lines;
   counted = omega (arith, c.requires.counted);
-  later = omega arith;
+  source_later = omega arith;
+  out_later = omega arith;
 }
 
 pub loop-n-preserved : goal.loop-n-preserved
 loop-n-preserved g c = record {
-  tells = c.in-Ok.ensures.told (g.S.Source.left c.args.source.now) (g.T.Teller.rest c.args.teller.now) c.args.text.now.items c.loop-n.invariant.tells;
+  tells = c.in-Ok.ensures.told (g.S.Source.left c.args.source.now) (g.O.Sink.taken c.args.out.now) (g.T.Teller.rest c.args.teller.now) c.loop-n.invariant.tells;
   ready = c.in-Ok.ensures.ready.0;
   lines = omega (arith, c.in-Ok.ensures.ready.1, c.loop-n.invariant.lines);
   counted = omega (arith, c.next.ensures.counted, c.loop-n.invariant.counted);
-  later = omega (arith, c.next.ensures.later, c.loop-n.invariant.later);
+  source_later = omega (arith, c.next.ensures.later.0, c.loop-n.invariant.source_later);
+  out_later = omega (arith, c.next.ensures.later.1, c.loop-n.invariant.out_later);
 }
 
 pub returns-clause-closes : goal.returns-clause-closes
 returns-clause-closes g c = λ fine.
-    closes_full (g.S.Source.left c.args.source.now) (g.S.Source.left c.loop-n.source) c.args.script.now c.loop-n.reader (g.T.Teller.rest c.args.teller.now) c.args.text.now.items (g.T.Teller.rest c.loop-n.teller) (life c.loop-n.life) c.loop-n.text.items
+    closes_full (g.S.Source.left c.args.source.now) (g.S.Source.left c.loop-n.source) (g.O.Sink.taken c.args.out.now) (g.O.Sink.taken c.loop-n.out) c.args.script.now c.loop-n.reader (g.T.Teller.rest c.args.teller.now) (g.T.Teller.rest c.loop-n.teller) (life c.loop-n.life) c.loop-n.text.items
     c.loop-n.invariant.ready (omega (arith, c.loop-n.invariant.lines))

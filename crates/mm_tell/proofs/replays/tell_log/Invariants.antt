@@ -6,9 +6,10 @@ use Rattle.mm_tell.proofs.replays.tell_log.Given as goal
 
 abbrev pub invariant-loop-n : goal.invariant-loop-n
 invariant-loop-n g l = record {
-  tells : Tells (g.S.Source.left l.fn.source) (g.S.Source.left l.source) l.script l.reader (g.T.Teller.rest l.fn.teller) l.fn.text.items (g.T.Teller.rest l.teller) (life l.life) l.text.items;
+  tells : Tells (g.S.Source.left l.fn.source) (g.S.Source.left l.source) (g.O.Sink.taken l.fn.out) (g.O.Sink.taken l.out) l.script l.reader (g.T.Teller.rest l.fn.teller) (g.T.Teller.rest l.teller) (life l.life) l.text.items;
   ready : IsReady l.reader;
   lines : l.reader.lines ≡ l.n;
   counted : g.T.Teller.counted l.teller ≤ l.n;
-  later : g.S.Source.faults l.fn.source ≤ g.S.Source.faults l.source;
+  source_later : g.S.Source.faults l.fn.source ≤ g.S.Source.faults l.source;
+  out_later : g.O.Sink.faults l.fn.out ≤ g.O.Sink.faults l.out;
 }

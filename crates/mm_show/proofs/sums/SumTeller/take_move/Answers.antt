@@ -1,9 +1,9 @@
 use Rattle.std.proofs.Common.{◌++◌, Option, ap, ◌∙◌}
 use Rattle.mm_moves.specs.Standing.{life}
 use Rattle.mm_classes.specs.Marking.{marks_of}
-use Rattle.mm_show.specs.Classing.{class_list}
+use Rattle.mm_tell.specs.Classing.{class_list}
 use Rattle.mm_show.specs.Counted.{of_class}
-use Rattle.mm_show.specs.declared.classifiers.Classed.{Classed}
+use Rattle.mm_tell.specs.declared.classifiers.Classed.{Classed}
 use Rattle.mm_show.proofs.Summed.{sum_taken}
 use Rattle.mm_show.proofs.sums.SumTeller.take_move.Goals as goal
 

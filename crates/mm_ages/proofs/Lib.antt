@@ -1,0 +1,2 @@
+mod Aged
+mod Kept

@@ -1,0 +1,60 @@
+-- Ages of the pages of working sets.
+-- Profile, "Paging, as far as answers show it".
+use Rattle.std.specs.Prelude.{ℕ, ◌+◌, Bool, ◌==◌, min, is_some, if◌then◌else◌, Option, Some, None}
+use Rattle.std.specs.Prelude.{option_map}
+use Rattle.mm_types.specs.declared.numbers.Pid.{Pid}
+use Rattle.mm_types.specs.declared.numbers.Tid.{Tid}
+use Rattle.mm_types.specs.declared.numbers.Place.{Place}
+use Rattle.mm_types.specs.declared.moves.Move.{Move}
+use Rattle.mm_types.specs.declared.moves.Move.TheVariants as move
+use Rattle.mm_life.specs.Life.{same_place}
+
+pub record AgesOf : Type 0 where
+  -- the age of each valid page
+  pub age : Place → Option ℕ
+  -- the page of the access that a thread keeps: of the last that was begun and waits
+  pub kept : Tid → Option Place
+
+abbrev pub no_ages : AgesOf
+no_ages = record { age = λ _. None; kept = λ _. None }
+
+-- a function changed at one place, at one thread
+abbrev pub at_place : {A : Type 0} → Place → A → (Place → A) → Place → A
+at_place p x f q = if same_place p q then x else f q
+
+abbrev pub at_thread : {A : Type 0} → Tid → A → (Tid → A) → Tid → A
+at_thread t x f u = if t.0 == u.0 then x else f u
+
+-- ---- what gives a page its age
+
+-- it has age 0 when it is mapped
+abbrev pub made_valid : Place → AgesOf → AgesOf
+made_valid p v = record v { age = at_place p (Some 0) v.age }
+
+abbrev pub made_invalid : Place → AgesOf → AgesOf
+made_invalid p v = record v { age = at_place p None v.age }
+
+-- and when an access there was answered `ok`
+abbrev pub touched : Place → AgesOf → AgesOf
+touched p v = if is_some (v.age p) then made_valid p v else v
+
+-- `age` adds one to each valid page of the process, up to 7
+abbrev pub older : ℕ → ℕ
+older n = min 7 (n + 1)
+
+abbrev pub older_of : Pid → (Place → Option ℕ) → Place → Option ℕ
+older_of pid f p = if p.pid.0 == pid.0 then option_map older (f p) else f p
+
+abbrev pub aged : Pid → AgesOf → AgesOf
+aged pid v = record v { age = older_of pid v.age }
+
+-- a thread keeps an access to this page
+abbrev pub keeping : Tid → Place → AgesOf → AgesOf
+keeping t p v = record v { kept = at_thread t (Some p) v.kept }
+
+-- ---- moves
+
+abbrev pub after_move : Move → AgesOf → AgesOf
+after_move (move.Map f p) v = made_valid p v
+after_move (move.Unmap p) v = made_invalid p v
+after_move _ v = v

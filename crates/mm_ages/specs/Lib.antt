@@ -1,0 +1,5 @@
+pub mod Ages
+pub mod Keeping
+pub mod Lines
+pub mod Reasons
+pub mod Shown

@@ -1,0 +1,4 @@
+pub mod Same
+pub mod Counted
+pub mod Shares
+pub mod Summing

@@ -1,0 +1,8 @@
+use Rattle.std.proofs.Common.{None, refl}
+use Rattle.mm_classes.specs.Marking.{marks_of}
+use Rattle.mm_faults.specs.Rest.{tally_of}
+use Rattle.mm_faults.proofs.Same.{fault_none}
+use Rattle.mm_faults.proofs.faults.FaultTeller.new.Goals as goal
+
+pub returns : goal.returns
+returns c = fault_none (tally_of c.new-2.result) (marks_of c.new.result) None c.new-2.ensures c.new.ensures refl

@@ -1,0 +1,30 @@
+-- The table of faults, where some moves were counted and some are to come.
+-- Profile, "What a log shows".
+use Rattle.std.specs.Prelude.{Bool, true, false, List, []}
+use Rattle.mm_types.specs.Spelling.{Text}
+use Rattle.mm_types.specs.declared.moves.Move.{Move}
+use Rattle.mm_life.specs.Life.{FrameLife}
+use Rattle.mm_classes.specs.Marking.{marks_of}
+use Rattle.mm_faults.specs.Tallies.{Tally, tally_from}
+use Rattle.mm_faults.specs.Rows.{tally_text}
+use Rattle.mm_faults.specs.declared.counters.Counters.{Counters}
+use Rattle.mm_faults.specs.declared.faults.FaultTeller.{FaultTeller}
+
+abbrev pub tally_of : Counters → Tally
+tally_of c = record {
+  pages = c.pages.entries;
+  processes = c.processes.entries;
+  paging_file = c.paging_file;
+  files = c.files;
+  zero_fills = c.zero_fills;
+  hard = c.hard;
+  soft = c.soft;
+  first_uses = c.first_uses;
+}
+
+abbrev pub said_of : Bool → Tally → Text
+said_of true t = tally_text t
+said_of false t = []
+
+abbrev pub fault_rest : FaultTeller → Bool → FrameLife → List Move → Text
+fault_rest t whole l ms = said_of whole (tally_from (tally_of t.counters) l (marks_of t.marks) t.before ms)

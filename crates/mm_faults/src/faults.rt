@@ -1,0 +1,92 @@
+ghost use Rattle.std.specs.Prelude.{◌≡◌, ◌++◌, ◌∷◌, [], ℕ, Bool, List, Option, OnOk, None};
+ghost use Rattle.mm_types.specs.declared.moves.Move.{Move};
+ghost use Rattle.mm_life.specs.Effect.{after_move};
+ghost use Rattle.mm_life.specs.Life.{unstarted};
+ghost use Rattle.mm_classes.specs.Classes.{class_of};
+ghost use Rattle.mm_classes.specs.Marking.{marks_of};
+ghost use Rattle.mm_moves.specs.Standing.{life as life_of};
+ghost use Rattle.mm_faults.specs.Rows.{fault_rows};
+
+use crate::counters::Counters;
+use crate::rows::put_tally;
+use mm_classes::{Class, Marks, class_of};
+use mm_moves::Life;
+use mm_sentences::put_why;
+use mm_tell::Teller;
+use mm_types::{Move, NoMemory};
+use std::alloc::Global;
+
+/// The class of a move, before the next is known. Only that of an `unmap`, which is no fault, may
+/// yet be another.
+fn class_so_far(life: &Life, marks: &Marks, before: Option<Move>, m: &Move) -> Option<Class>
+    ensures { result ≡ class_of (life_of life.now) (marks_of marks.now) before m.now None }
+{
+    match before {
+        Some(before) => class_of(life, marks, Some(&before), m, None),
+        None => class_of(life, marks, None, m, None),
+    }
+}
+
+/// Tells the faults of a log by process and page, and the traffic of its devices.
+#[derive(Drop)]
+pub struct FaultTeller {
+    marks: Marks,
+    before: Option<Move>,
+    counters: Counters,
+}
+
+impl FaultTeller {
+    ghost use Rattle.mm_faults.specs.Rest.{fault_rest};
+
+    /// Nothing was counted.
+    pub fn new(alloc: Global) -> FaultTeller
+        ensures { (whole : Bool) (moves : List Move)
+            → fault_rest result whole unstarted moves ≡ fault_rows whole moves }
+    {
+        FaultTeller {
+            marks: Marks::new(alloc),
+            before: None,
+            counters: Counters::new(alloc),
+        }
+    }
+
+    /// Counts a move.
+    fn take_move(&mut self, life: &Life, m: &Move) -> Result<(), NoMemory>
+        ensures { OnOk result ((whole : Bool) (ms : List Move)
+            → fault_rest self.new whole (after_move (life_of life.now) m.now) ms
+            ≡ fault_rest self.old whole (life_of life.now) (m.now ∷ ms)) }
+    {
+        let class = class_so_far(life, &self.marks, self.before, m);
+        self.counters.count_move(life, m, class)?;
+        self.marks.follow(m)?;
+        self.before = Some(*m);
+        Ok(())
+    }
+}
+
+impl Teller for FaultTeller {
+    ghost use Rattle.mm_faults.specs.Rest.{fault_rest};
+    ghost use Rattle.mm_sentences.specs.Refusals.{why_text};
+
+    ghost rest = { fault_rest };
+
+    ghost counted = { λ t. 0 };
+
+    ghost why = { why_text };
+
+    fn take(&mut self, life: &Life, m: &Move, _text: &mut Vec<u8>) -> Result<(), NoMemory> {
+        self.take_move(life, m)
+    }
+
+    fn finish(&mut self, whole: bool, _life: &Life, text: &mut Vec<u8>) -> Result<(), NoMemory> {
+        if whole {
+            put_tally(&self.counters, text)
+        } else {
+            Ok(())
+        }
+    }
+
+    fn tell_why(&self, life: &Life, m: &Move, text: &mut Vec<u8>) -> Result<(), NoMemory> {
+        put_why(life, m, text)
+    }
+}

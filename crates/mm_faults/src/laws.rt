@@ -1,0 +1,14 @@
+ghost use Rattle.std.specs.Prelude.{List};
+ghost use Rattle.mm_types.specs.declared.moves.Move.{Move};
+ghost use Rattle.mm_life.specs.Life.{FrameLife, unstarted};
+ghost use Rattle.mm_life.specs.Replay.{Replays};
+ghost use Rattle.mm_classes.specs.Classes.{classes};
+ghost use Rattle.mm_faults.specs.Sums.{SumsToClasses};
+ghost use Rattle.mm_faults.specs.Tallies.{tally};
+
+/// The sum of each column, over pages and over processes, is the number of moves whose class is
+/// counted there, and so are the numbers of the last line. It does nothing.
+pub fn faults_sum_to_classes()
+    ensures { (moves : List Move) (l : FrameLife) → Replays moves unstarted l
+        → SumsToClasses (tally moves) (classes moves) }
+{}

@@ -1,0 +1,117 @@
+-- What became of one frame, or of one page, move by move.
+-- Profile, "What a log shows".
+use Rattle.std.specs.Prelude.{ℕ, Bool, false, ◌==◌, nat_lt, if◌then◌else◌, List, [], ◌∷◌, ◌++◌, codes}
+use Rattle.std.specs.Prelude.{Option, Some, None}
+use Rattle.mm_types.specs.Spelling.{Text, decimal}
+use Rattle.mm_types.specs.declared.frames.Held.{Held}
+use Rattle.mm_types.specs.declared.frames.Held.TheVariants as held
+use Rattle.mm_types.specs.declared.moves.LineKind.TheVariants as kind
+use Rattle.mm_types.specs.declared.moves.Move.{Move}
+use Rattle.mm_types.specs.declared.moves.Move.TheVariants as move
+use Rattle.mm_types.specs.declared.numbers.Frame.{Frame}
+use Rattle.mm_types.specs.declared.numbers.Key.{Key}
+use Rattle.mm_life.specs.Effect.{after_move}
+use Rattle.mm_life.specs.Life.{FrameLife, same_key, unstarted}
+use Rattle.mm_life.specs.Located.{held_at}
+use Rattle.mm_life.specs.MoveText.{numbered}
+use Rattle.mm_classes.specs.Classes.{class_of, next_of}
+use Rattle.mm_classes.specs.Marks.{MarksOf, marks_after, no_marks}
+use Rattle.mm_classes.specs.declared.classes.Class.{Class}
+use Rattle.mm_sentences.specs.Facts.{facts_of}
+use Rattle.mm_sentences.specs.Sentences.{sentence_text}
+use Rattle.mm_sentences.specs.States.{frame_row, state_of, state_text}
+use Rattle.mm_sentences.specs.Words.{key_text}
+use Rattle.mm_sentences.specs.declared.facts.Facts.{Facts}
+use Rattle.mm_sentences.specs.declared.states.FrameState.{FrameState}
+use Rattle.mm_columns.specs.Columns.{left_in}
+use Rattle.mm_histories.specs.declared.subjects.Subject.{Subject}
+use Rattle.mm_histories.specs.declared.subjects.Subject.TheVariants as subject
+
+-- ---- which moves are told
+
+abbrev pub is_frame : ℕ → Option Frame → Bool
+is_frame n None = false
+is_frame n (Some f) = f.0 == n
+
+abbrev pub is_key : Key → Option Key → Bool
+is_key k None = false
+is_key k (Some j) = same_key k j
+
+-- a move is about a frame, or a page
+abbrev pub is_about : Subject → Facts → Bool
+is_about (subject.Frame n) x = is_frame n x.frame
+is_about (subject.Page k) x = is_key k x.key
+
+-- ---- the row of a move
+
+-- the state of the frame before the move, if there is a frame
+abbrev pub state_before : FrameLife → Option Frame → Option FrameState
+state_before l None = None
+state_before l (Some f) = Some (state_of l f.0)
+
+-- and the one after it
+abbrev pub change_text : Option FrameState → Option Frame → FrameLife → Text
+change_text None f after = []
+change_text (Some s) None after = []
+change_text (Some s) (Some f) after =
+    state_text s ++ (codes " -> " ++ state_text (state_of after f.0))
+
+abbrev pub row_text : ℕ → Option FrameState → Class → Facts → FrameLife → Text
+row_text line was class x after =
+    codes "line " ++ (left_in 7 (decimal line) ++ (32 ∷ []
+    ++ (left_in 26 (change_text was x.frame after) ++ (32 ∷ []
+    ++ (sentence_text false class x after ++ 10 ∷ [])))))
+
+-- a move of this class that is about the subject; a move without a class begins a line
+abbrev pub row_of : Subject → ℕ → Option FrameState → Option Class → Facts → FrameLife → Text
+row_of s line was None x after = []
+row_of s line was (Some class) x after =
+    if is_about s x then row_text line was class x after else []
+
+abbrev pub move_row : Subject → FrameLife → Move → Option Class → FrameLife → Text
+move_row s l m class after =
+    let x = facts_of l m in row_of s l.line (state_before l x.frame) class x after
+
+-- ---- head and end
+
+abbrev pub frames_in : List Move → ℕ
+frames_in (move.At n (kind.Machine frames slots depth blocks) ∷ ms) = frames
+frames_in _ = 0
+
+-- a frame that the machine has, or a page
+abbrev pub head : Subject → List Move → Text
+head (subject.Frame n) moves =
+    if nat_lt n (frames_in moves) then numbered (codes "frame ") n (10 ∷ []) else []
+head (subject.Page k) moves = codes "page " ++ (key_text k ++ 10 ∷ [])
+
+abbrev pub held_text : Held → Text
+held_text (held.Frame f) = codes "frame " ++ decimal f.0
+held_text (held.Slot s) = codes "slot " ++ decimal s.0
+held_text (held.Block b) = codes "block " ++ decimal b.0
+held_text held.Zero = codes "zero"
+held_text held.Dead = codes "dead"
+
+-- what stands at the end of a whole log
+abbrev pub end_text : Subject → FrameLife → Text
+end_text (subject.Frame n) l =
+    if nat_lt n l.machine.frames
+    then codes "at the end: " ++ (frame_row l n ++ 10 ∷ [])
+    else codes "no such frame" ++ 10 ∷ []
+end_text (subject.Page k) l = codes "at the end: " ++ (held_text (held_at l k) ++ 10 ∷ [])
+
+-- ---- a history
+
+abbrev pub rows_from : Subject → Bool → FrameLife → MarksOf → Option Move → List Move → Text
+rows_from s whole l v before [] = if whole then end_text s l else []
+rows_from s whole l v before (m ∷ ms) =
+    move_row s l m (class_of l v before m (next_of ms)) (after_move l m)
+    ++ rows_from s whole (after_move l m) (marks_after v m) (Some m) ms
+
+abbrev pub history : Subject → Bool → List Move → Text
+history s whole moves = head s moves ++ rows_from s whole unstarted no_marks None moves
+
+abbrev pub frame_history : ℕ → Bool → List Move → Text
+frame_history n whole moves = history (subject.Frame n) whole moves
+
+abbrev pub key_history : Key → Bool → List Move → Text
+key_history k whole moves = history (subject.Page k) whole moves

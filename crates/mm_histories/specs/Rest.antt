@@ -1,0 +1,39 @@
+-- The rest of a history, where the row of the last move is still to come.
+-- Profile, "What a log shows".
+use Rattle.std.specs.Prelude.{Bool, if◌then◌else◌, List, [], ◌++◌, Option, Some, None}
+use Rattle.mm_types.specs.Spelling.{Text}
+use Rattle.mm_types.specs.declared.moves.Move.{Move}
+use Rattle.mm_life.specs.Life.{FrameLife}
+use Rattle.mm_classes.specs.Classes.{next_of}
+use Rattle.mm_classes.specs.Marking.{marks_of}
+use Rattle.mm_sentences.specs.Facts.{facts_of}
+use Rattle.mm_tell.specs.Classing.{class_then, move_of}
+use Rattle.mm_tell.specs.declared.classifiers.Classed.{Classed}
+use Rattle.mm_histories.specs.Histories.{head, row_of, rows_from, state_before}
+use Rattle.mm_histories.specs.declared.histories.HistoryTeller.{HistoryTeller}
+use Rattle.mm_histories.specs.declared.rows.Noted.{Noted}
+use Rattle.mm_histories.specs.declared.subjects.Subject.{Subject}
+
+-- what has to be known of a move before it is made
+abbrev pub noted : FrameLife → Move → Noted
+noted l m = record {
+  line = l.line;
+  facts = facts_of l m;
+  was = state_before l (facts_of l m).frame;
+}
+
+-- the row of the move that waits for its class
+abbrev pub waiting_row : Subject → Option Noted → Option Classed → FrameLife → Text
+waiting_row s None c after = []
+waiting_row s (Some x) None after = []
+waiting_row s (Some x) (Some c) after = row_of s x.line x.was c.class x.facts after
+
+-- the head, unless it stands
+abbrev pub head_left : Bool → Subject → List Move → Text
+head_left begun s ms = if begun then [] else head s ms
+
+abbrev pub history_rest : HistoryTeller → Bool → FrameLife → List Move → Text
+history_rest t whole l ms =
+    head_left t.begun t.subject ms
+    ++ (waiting_row t.subject t.waiting (class_then t.classifier.pending (next_of ms)) l
+    ++ rows_from t.subject whole l (marks_of t.classifier.marks) (move_of t.classifier.pending) ms)

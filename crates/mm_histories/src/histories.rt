@@ -1,0 +1,156 @@
+ghost use Rattle.std.specs.Prelude.{◌≡◌, ◌++◌, ◌∷◌, [], ℕ, Bool, List, OnOk, true, if◌then◌else◌};
+ghost use Rattle.mm_types.specs.declared.moves.Move.{Move};
+ghost use Rattle.mm_life.specs.Effect.{after_move};
+ghost use Rattle.mm_life.specs.Life.{unstarted};
+ghost use Rattle.mm_moves.specs.Standing.{life as life_of};
+ghost use Rattle.mm_histories.specs.Histories.{history, frame_history, key_history, end_text};
+ghost use Rattle.mm_histories.specs.Rest.{head_left};
+
+use crate::heads::{put_end, put_head, put_head_alone};
+use crate::rows::{Noted, note, put_waiting};
+use crate::subjects::Subject;
+use mm_moves::Life;
+use mm_sentences::put_why;
+use mm_tell::{Classifier, Teller};
+use mm_types::{Key, Move, NoMemory};
+use std::alloc::Global;
+
+/// Writes the head of a log with this first move, unless it stands.
+fn put_head_left(
+    begun: bool,
+    subject: Subject,
+    m: &Move,
+    text: &mut Vec<u8>,
+) -> Result<(), NoMemory>
+    ensures { OnOk result ((ms : List Move) → text.new.items
+        ≡ text.old.items ++ head_left begun subject (m.now ∷ ms)) }
+{
+    if begun {
+        Ok(())
+    } else {
+        put_head(subject, m, text)
+    }
+}
+
+/// Writes the head of a log without moves, unless a move came.
+fn put_empty_head_left(begun: bool, subject: Subject, text: &mut Vec<u8>) -> Result<(), NoMemory>
+    ensures { OnOk result (text.new.items ≡ text.old.items ++ head_left begun subject []) }
+{
+    if begun {
+        Ok(())
+    } else {
+        put_head_alone(subject, text)
+    }
+}
+
+/// Tells what became of a page frame, or of a page.
+#[derive(Drop)]
+pub struct HistoryTeller {
+    alloc: Global,
+    subject: Subject,
+    /// Whether the head stands.
+    begun: bool,
+    /// What was noted of the move that waits for its class.
+    waiting: Option<Noted>,
+    classifier: Classifier,
+}
+
+impl HistoryTeller {
+    ghost use Rattle.mm_histories.specs.Rest.{history_rest};
+
+    /// Nothing was told.
+    pub fn new(alloc: Global, subject: Subject) -> HistoryTeller
+        ensures { (whole : Bool) (moves : List Move)
+            → history_rest result whole unstarted moves ≡ history subject whole moves }
+    {
+        HistoryTeller {
+            alloc,
+            subject,
+            begun: false,
+            waiting: None,
+            classifier: Classifier::new(alloc),
+        }
+    }
+
+    /// The history of the page frame of this number.
+    pub fn of_frame(alloc: Global, n: u32) -> HistoryTeller
+        ensures { (whole : Bool) (moves : List Move)
+            → history_rest result whole unstarted moves ≡ frame_history n whole moves }
+    {
+        HistoryTeller::new(alloc, Subject::Frame(n))
+    }
+
+    /// The history of a page.
+    pub fn of_key(alloc: Global, key: Key) -> HistoryTeller
+        ensures { (whole : Bool) (moves : List Move)
+            → history_rest result whole unstarted moves ≡ key_history key whole moves }
+    {
+        HistoryTeller::new(alloc, Subject::Page(key))
+    }
+
+    /// Takes the next move.
+    fn take_move(&mut self, life: &Life, m: &Move, text: &mut Vec<u8>) -> Result<(), NoMemory>
+        ensures { OnOk result ((whole : Bool) (ms : List Move) → text.new.items
+            ++ history_rest self.new whole (after_move (life_of life.now) m.now) ms
+            ≡ text.old.items ++ history_rest self.old whole (life_of life.now) (m.now ∷ ms)) }
+    {
+        put_head_left(self.begun, self.subject, m, text)?;
+        self.begun = true;
+        let classed = self.classifier.next(life, m)?;
+        put_waiting(self.alloc, self.subject, &self.waiting, classed, life, text)?;
+        self.waiting = Some(note(life, m));
+        Ok(())
+    }
+
+    /// Writes the row of the last move, and at the end of a whole log how the subject stands.
+    #[tactic(auto, using(mm_moves::proofs::Onto::onto))]
+    fn put_last(&self, whole: bool, life: &Life, text: &mut Vec<u8>) -> Result<(), NoMemory>
+        ensures { OnOk result (text.new.items ≡ text.old.items
+            ++ history_rest self.now whole (life_of life.now) []) }
+    {
+        put_empty_head_left(self.begun, self.subject, text)?;
+        let last = self.classifier.last();
+        put_waiting(self.alloc, self.subject, &self.waiting, last, life, text)?;
+        put_end_of(self.subject, whole, life, text)
+    }
+}
+
+/// Writes how the subject stands at the end, if the log is whole.
+fn put_end_of(
+    subject: Subject,
+    whole: bool,
+    life: &Life,
+    text: &mut Vec<u8>,
+) -> Result<(), NoMemory>
+    ensures { OnOk result (text.new.items ≡ text.old.items
+        ++ (if whole then end_text subject (life_of life.now) else [])) }
+{
+    if whole {
+        put_end(subject, life, text)
+    } else {
+        Ok(())
+    }
+}
+
+impl Teller for HistoryTeller {
+    ghost use Rattle.mm_histories.specs.Rest.{history_rest};
+    ghost use Rattle.mm_sentences.specs.Refusals.{why_text};
+
+    ghost rest = { history_rest };
+
+    ghost counted = { λ t. 0 };
+
+    ghost why = { why_text };
+
+    fn take(&mut self, life: &Life, m: &Move, text: &mut Vec<u8>) -> Result<(), NoMemory> {
+        self.take_move(life, m, text)
+    }
+
+    fn finish(&mut self, whole: bool, life: &Life, text: &mut Vec<u8>) -> Result<(), NoMemory> {
+        self.put_last(whole, life, text)
+    }
+
+    fn tell_why(&self, life: &Life, m: &Move, text: &mut Vec<u8>) -> Result<(), NoMemory> {
+        put_why(life, m, text)
+    }
+}

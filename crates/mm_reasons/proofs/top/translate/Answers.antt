@@ -1,0 +1,6 @@
+use Rattle.mm_reasons.proofs.top.translate.Goals as goal
+
+pub returns-in-Err-TooLong-clause-came : goal.returns-in-Err-TooLong-clause-came
+returns-in-Err-TooLong-clause-came g c =
+    let came = rw c.in-Err-TooLong.field-0-is at c.in-Err-TooLong.ensures.err in
+    came (g.O.Sink.taken c.args.out.now)

@@ -1,0 +1,4 @@
+pub mod Numbers
+pub mod Failures
+pub mod Remarks
+pub mod Worked

@@ -1,0 +1,6 @@
+pub mod Joined
+pub mod Filling
+pub mod Walking
+pub mod Lowest
+pub mod Legally
+pub mod Spelling

@@ -1,0 +1,11 @@
+use Rattle.std.proofs.Common.{◌≡◌, [], ◌∷◌, ◌++◌, drop, false}
+use Rattle.mm_moves.specs.Standing.{life}
+use Rattle.mm_sentences.specs.Parts.{first_failing}
+use Rattle.mm_sentences.specs.Tested.{all_hold}
+use Rattle.mm_sentences.proofs.refusals.first_or.Given as goal
+
+abbrev pub invariant-loop-part : goal.invariant-loop-part
+invariant-loop-part l = record {
+  same : first_failing (life l.life) (drop l.part-index l.parts ++ l.last ∷ []) ≡ first_failing (life l.life) (l.parts ++ l.last ∷ []);
+  fails : all_hold (life l.life) (drop l.part-index l.parts ++ l.last ∷ []) ≡ false;
+}

@@ -1,0 +1,11 @@
+use Rattle.std.proofs.Common.{◌≡◌, drop}
+use Rattle.mm_life.specs.Frames.{is_on}
+use Rattle.mm_moves.specs.Looking.{frame_at}
+use Rattle.mm_moves.specs.Standing.{life}
+use Rattle.mm_sentences.proofs.states.is_zeroed.Given as goal
+
+abbrev pub invariant-loop-i : goal.invariant-loop-i
+invariant-loop-i l = record {
+  at : l.next ≡ frame_at (life l.life).frames.zeroed l._i;
+  left : is_on l.frame.0 (drop l._i (life l.life).frames.zeroed) ≡ is_on l.frame.0 (life l.life).frames.zeroed;
+}

@@ -1,0 +1,14 @@
+ghost use Rattle.std.specs.Prelude.{◌≡◌, false, Some};
+ghost use Rattle.mm_types.specs.declared.moves.Move.{Move};
+ghost use Rattle.mm_life.specs.Legal.{is_legal};
+ghost use Rattle.mm_life.specs.Life.{FrameLife};
+ghost use Rattle.mm_sentences.specs.Parts.{holds, parts_of, refusal};
+ghost use Rattle.mm_sentences.specs.Tested.{all_hold};
+ghost use Rattle.mm_sentences.specs.declared.parts.Part.{Part};
+
+/// A move is legal exactly where each part of its condition holds, and the part that is told fails.
+#[tactic(auto, using(crate::proofs::Legally::parted))]
+pub fn parts_make_the_condition()
+    ensures whole { (l : FrameLife) (m : Move) → is_legal l m ≡ all_hold l (parts_of m) }
+    ensures fails { (l : FrameLife) (m : Move) (p : Part) → refusal l m ≡ Some p → holds l p ≡ false }
+{}

@@ -1,0 +1,97 @@
+ghost use Rattle.std.specs.Prelude.{◌≡◌, ◌/◌, option_map};
+ghost use Rattle.mm_show.specs.Forms.{line_of, pid_of, before, behind, private_key, shared_key};
+ghost use Rattle.mm_show.specs.Forms.{page_at, key_of};
+
+use mm_text::number;
+use mm_types::{Area, Key, Pid, Vpn};
+
+/// The number of a line that a word is, 1 to 1,000,000.
+pub(crate) fn line(word: &[u8]) -> Option<u32>
+    ensures { result ≡ line_of word.now }
+{
+    match number(word) {
+        Some(n) => {
+            if n >= 1 && n <= 1_000_000 {
+                Some(n)
+            } else {
+                None
+            }
+        }
+        None => None,
+    }
+}
+
+/// The number of a process that a word is, below 256.
+fn pid(word: &[u8]) -> Option<Pid>
+    ensures { option_map (λ p. p.0) result ≡ pid_of word.now }
+{
+    match number(word) {
+        Some(n) => { if n < 256 { Some(Pid(n as u8)) } else { None } }
+        None => None,
+    }
+}
+
+/// The bytes before the first such byte; all where there is none.
+fn before(byte: u8, word: &[u8]) -> &[u8]
+    ensures { result.now ≡ before byte word.now }
+{
+    for i in 0..word.len() {
+        if word[i] == byte {
+            return &word[..i];
+        }
+    }
+    word
+}
+
+/// The bytes behind the first such byte; none where there is none.
+#[tactic(auto, using(crate::proofs::Behind::rest_behind))]
+fn behind(byte: u8, word: &[u8]) -> &[u8]
+    ensures { result.now ≡ behind byte word.now }
+{
+    let front = before(byte, word).len();
+    if front < word.len() {
+        &word[front + 1..]
+    } else {
+        &[]
+    }
+}
+
+fn private_key(pid: Option<Pid>, page: Option<u32>) -> Option<Key>
+    ensures { result ≡ private_key (option_map (λ p. p.0) pid) page }
+{
+    match (pid, page) {
+        (Some(pid), Some(page)) => Some(Key::Private(pid, Vpn(page))),
+        _ => None,
+    }
+}
+
+fn shared_key(area: Option<u32>, index: Option<u32>) -> Option<Key>
+    ensures { result ≡ shared_key area index }
+{
+    match (area, index) {
+        (Some(area), Some(index)) => Some(Key::Shared(Area(area), index)),
+        _ => None,
+    }
+}
+
+/// The page that holds the address that a word is.
+fn page_at(word: &[u8]) -> Option<u32>
+    ensures { result ≡ page_at word.now }
+{
+    match number(word) {
+        Some(address) => Some(address / 4096),
+        None => None,
+    }
+}
+
+/// The page that a word names: `p1.16` and `s0.2` as a log has them, or a process and an address,
+/// `1:0x11000`. Each number may be decimal, or hexadecimal behind `0x`.
+pub(crate) fn key(word: &[u8]) -> Option<Key>
+    ensures { result ≡ key_of word.now }
+{
+    match word {
+        [b'p', rest @ ..] => private_key(pid(before(b'.', rest)), number(behind(b'.', rest))),
+        [b's', rest @ ..] => shared_key(number(before(b'.', rest)), number(behind(b'.', rest))),
+        _ => private_key(pid(before(b':', word)), page_at(behind(b':', word))),
+    }
+}

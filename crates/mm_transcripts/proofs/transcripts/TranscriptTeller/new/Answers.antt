@@ -1,0 +1,7 @@
+use Rattle.mm_classes.specs.Marking.{marks_of}
+use Rattle.mm_transcripts.proofs.Telling.{row_first}
+use Rattle.mm_transcripts.proofs.transcripts.TranscriptTeller.new.Goals as goal
+
+pub returns : goal.returns
+returns c = λ whole. row_first _ (marks_of c.new.result.marks) c.new.result.pending _ _ _
+    c.new.ensures.marks c.new.ensures.none c.new-2.ensures

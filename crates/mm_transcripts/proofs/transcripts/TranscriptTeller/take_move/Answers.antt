@@ -1,0 +1,22 @@
+use Rattle.std.proofs.Common.{◌++◌, Option, ap, ◌∙◌}
+use Rattle.mm_life.specs.Life.{FrameLife}
+use Rattle.mm_moves.specs.Standing.{life}
+use Rattle.mm_classes.specs.Marking.{marks_of}
+use Rattle.mm_ages.specs.Shown.{ages_of}
+use Rattle.mm_tell.specs.declared.classifiers.Classed.{Classed}
+use Rattle.mm_transcripts.specs.Rows.{Beside}
+use Rattle.mm_transcripts.specs.Waiting.{classed_row, beside_of}
+use Rattle.mm_transcripts.specs.declared.transcripts.TranscriptTeller.{TranscriptTeller}
+use Rattle.mm_transcripts.proofs.Telling.{row_taken}
+use Rattle.mm_transcripts.proofs.transcripts.TranscriptTeller.take_move.Goals as goal
+
+pub returns : goal.returns
+returns c =
+    let t : TranscriptTeller = c.args.self.now in
+    let b : Beside = beside_of t in
+    let l : FrameLife = life c.args.life.now in
+    λ whole. row_taken b l (marks_of t.classifier.marks) t.classifier.pending t.facts t.reason (ages_of t.ages) c.args.m.now
+    (marks_of c.next.new.self.marks) c.next.new.self.pending c.facts_of-self.result c.reason_then-self.result (ages_of c.follow_ages.new.ages)
+    c.args.text.now.items c.put_classed.new.text.items
+    (c.in_ok-put_classed.ensures ∙ ap (λ (o : Option Classed). c.args.text.now.items ++ classed_row b o t.facts t.reason l) c.in_ok-before.ensures.before)
+    c.in_ok-before.ensures.marks c.in_ok-before.ensures.pending c.facts_of-self.ensures c.reason_then-self.ensures c.in_ok-follow_ages.ensures

@@ -1,0 +1,4 @@
+pub mod Rows
+pub mod Transcripts
+pub mod Waiting
+pub mod Worked

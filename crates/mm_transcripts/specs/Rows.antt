@@ -1,0 +1,78 @@
+-- The rows of a transcript: one for each line of a log, and below it one for each of its moves.
+-- Profile, "What a log shows".
+use Rattle.std.specs.Prelude.{ℕ, ◌-◌, Bool, true, false, ◌&&◌, ◌==◌, if◌then◌else◌, is_some, List}
+use Rattle.std.specs.Prelude.{[], ◌∷◌, ◌++◌, length, replicate, slice_get, codes, Option, Some}
+use Rattle.std.specs.Prelude.{None}
+use Rattle.mm_types.specs.Spelling.{Text, decimal}
+use Rattle.mm_types.specs.declared.moves.LineKind.{LineKind}
+use Rattle.mm_types.specs.declared.moves.Move.{Move}
+use Rattle.mm_types.specs.declared.moves.Move.TheVariants as move
+use Rattle.mm_life.specs.Life.{FrameLife}
+use Rattle.mm_classes.specs.declared.classes.Class.{Class}
+use Rattle.mm_sentences.specs.declared.facts.Facts.{Facts}
+use Rattle.mm_sentences.specs.Words.{kind_text}
+use Rattle.mm_sentences.specs.Sentences.{sentence_text}
+use Rattle.mm_remarks.specs.Remarks.{remark_text}
+use Rattle.mm_ages.specs.Reasons.{words_if}
+use Rattle.mm_ages.specs.declared.reasons.Reason.{Reason}
+
+-- the script and its answers, where they are named
+pub record Beside : Type 0 where
+  pub script : Option (List Text)
+  pub answers : Option (List Text)
+
+abbrev pub line_of : Option (List Text) → ℕ → Option Text
+line_of None n = None
+line_of (Some lines) n = slice_get lines (n - 1)
+
+-- ---- the row of a line
+
+abbrev pub is_none_left : Text → Bool
+is_none_left [] = true
+is_none_left (c ∷ cs) = false
+
+-- without the spaces at its end
+abbrev pub trimmed : Text → Text
+trimmed [] = []
+trimmed (c ∷ cs) =
+    let behind = trimmed cs in
+    if (c == 0x20) && is_none_left behind then [] else c ∷ behind
+
+-- with spaces up to a width of 46
+abbrev pub padded : Text → Text
+padded text = text ++ replicate (46 - length text) 0x20
+
+-- a line, and its answer if it has one
+abbrev pub answered_row : Text → Text → Text
+answered_row asked [] = trimmed asked
+answered_row asked (c ∷ cs) = padded asked ++ (codes "  " ++ c ∷ cs)
+
+abbrev pub said_text : Option Text → Text
+said_text None = []
+said_text (Some said) = trimmed said
+
+-- the script's line with its answer; where no script is named, what the line is to the frames
+abbrev pub asked_row : Option Text → Option Text → LineKind → Text
+asked_row None said k = kind_text k
+asked_row (Some line) said k = answered_row line (said_text said)
+
+-- Windows' names of what stands there
+abbrev pub names_text : Option Text → Option Text → Text
+names_text None said = []
+names_text (Some line) said = remark_text line said
+
+abbrev pub line_row : ℕ → LineKind → Option Text → Option Text → Text
+line_row n k line said =
+    decimal n ++ (codes "  " ++ (asked_row line said k ++ (names_text line said ++ 10 ∷ [])))
+
+-- ---- the row of a move
+
+-- places have addresses where a script is named; `after` is the state after the move
+abbrev pub class_row : Bool → Option Class → Facts → Option Reason → FrameLife → Text
+class_row addressed None x r after = []
+class_row addressed (Some c) x r after =
+    codes "     " ++ (sentence_text addressed c x after ++ (words_if c r ++ 10 ∷ []))
+
+abbrev pub row_text : Beside → Move → Option Class → Facts → Option Reason → FrameLife → Text
+row_text b (move.At n k) c x r after = line_row n k (line_of b.script n) (line_of b.answers n)
+row_text b _ c x r after = class_row (is_some b.script) c x r after

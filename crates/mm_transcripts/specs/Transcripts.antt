@@ -1,0 +1,44 @@
+-- The transcript of a log.
+-- Profile, "What a log shows".
+use Rattle.std.specs.Prelude.{Bool, ◌&&◌, if◌then◌else◌, is_some, List, [], ◌∷◌, ◌++◌, Option, Some}
+use Rattle.std.specs.Prelude.{None}
+use Rattle.mm_types.specs.Spelling.{Text}
+use Rattle.mm_types.specs.declared.moves.Move.{Move}
+use Rattle.mm_types.specs.declared.moves.Move.TheVariants as move
+use Rattle.mm_life.specs.Life.{FrameLife, unstarted}
+use Rattle.mm_life.specs.Effect.{after_move}
+use Rattle.mm_classes.specs.Marks.{MarksOf, no_marks, marks_after}
+use Rattle.mm_classes.specs.Classes.{class_of, next_of}
+use Rattle.mm_sentences.specs.Facts.{facts_of}
+use Rattle.mm_ages.specs.Ages.{AgesOf, no_ages, after_move as ages_moved}
+use Rattle.mm_ages.specs.Lines.{after_line}
+use Rattle.mm_ages.specs.Reasons.{reason_at}
+use Rattle.mm_ages.specs.declared.reasons.Reason.{Reason}
+use Rattle.mm_transcripts.specs.Rows.{Beside, line_of, row_text}
+
+-- ages are known where the script and its answers are named
+abbrev pub has_ages : Beside → Bool
+has_ages b = is_some b.script && is_some b.answers
+
+abbrev pub ages_by : Beside → Move → AgesOf → AgesOf
+ages_by b (move.At n k) a = after_line (line_of b.script n) (line_of b.answers n) a
+ages_by b m a = ages_moved m a
+
+abbrev pub ages_then : Beside → Move → AgesOf → AgesOf
+ages_then b m a = if has_ages b then ages_by b m a else a
+
+abbrev pub reason_then : Beside → AgesOf → FrameLife → Move → Option Reason
+reason_then b a l m = if has_ages b then reason_at a l m else None
+
+-- the rows of the moves that come, in this state, with these marks and ages, after this move
+abbrev pub rows_from : Beside → FrameLife → MarksOf → AgesOf → Option Move → List Move → Text
+rows_from b l v a before [] = []
+rows_from b l v a before (m ∷ ms) =
+    row_text b m (class_of l v before m (next_of ms)) (facts_of l m) (reason_then b a l m)
+    (after_move l m)
+    ++ rows_from b (after_move l m) (marks_after v m) (ages_then b m a) (Some m) ms
+
+-- the rows of all moves, whether the log ends well or not
+abbrev pub transcript : Option (List Text) → Option (List Text) → Bool → List Move → Text
+transcript script answers whole moves =
+    rows_from (record { script = script; answers = answers }) unstarted no_marks no_ages None moves

@@ -1,0 +1,165 @@
+ghost use Rattle.std.specs.Prelude.{◌≡◌, ◌-◌, ◌++◌, OnOk, length, replicate, option_map, codes};
+ghost use Rattle.mm_moves.specs.Standing.{life as life_of};
+ghost use Rattle.mm_ages.specs.Reasons.{words_if};
+ghost use Rattle.mm_transcripts.specs.Rows.{trimmed, padded, answered_row, asked_row, said_text};
+ghost use Rattle.mm_transcripts.specs.Rows.{names_text, line_row, class_row};
+
+use mm_ages::{Reason, put_reason};
+use mm_classes::Class;
+use mm_moves::Life;
+use mm_remarks::put_remark;
+use mm_sentences::{Facts, put_kind, put_number, put_sentence, put_words};
+use mm_types::{LineKind, NoMemory};
+
+/// A line without the spaces at its end.
+#[tactic(auto, using(crate::proofs::Trimming::trimming))]
+fn trimmed(line: &[u8]) -> &[u8]
+    ensures { result.now ≡ trimmed line.now }
+{
+    let mut end = line.len();
+    while end > 0 && line[end - 1] == b' ' {
+        end -= 1;
+    }
+    &line[..end]
+}
+
+/// Writes so many spaces.
+#[tactic(auto, using(crate::proofs::Trimming::spaces))]
+fn put_spaces(count: usize, text: &mut Vec<u8>) -> Result<(), NoMemory>
+    ensures { OnOk result (text.new.items ≡ text.old.items ++ replicate count 32) }
+{
+    for _i in 0..count {
+        text.push(b' ')?;
+    }
+    Ok(())
+}
+
+/// Writes a line, and spaces up to a width of 46.
+#[tactic(auto, using(mm_sentences::proofs::Joined::joined))]
+fn put_padded(line: &[u8], text: &mut Vec<u8>) -> Result<(), NoMemory>
+    ensures { OnOk result (text.new.items ≡ text.old.items ++ padded line.now) }
+{
+    put_words(line, text)?;
+    put_spaces(46usize.saturating_sub(line.len()), text)
+}
+
+/// Writes a line with its answer, if it has one.
+#[tactic(auto, using(mm_sentences::proofs::Joined::joined))]
+fn put_answered(line: &[u8], said: &[u8], text: &mut Vec<u8>) -> Result<(), NoMemory>
+    ensures { OnOk result (text.new.items ≡ text.old.items ++ answered_row line.now said.now) }
+{
+    if said.is_empty() {
+        return put_words(trimmed(line), text);
+    }
+    put_padded(line, text)?;
+    put_words(b"  ", text)?;
+    put_words(said, text)
+}
+
+/// The answer without the spaces at its end; nothing where there is none.
+fn said_text(said: Option<&[u8]>) -> &[u8]
+    ensures { result.now ≡ said_text (option_map (λ s. s.now) said.entry) }
+{
+    match said {
+        Some(said) => trimmed(said),
+        None => b"",
+    }
+}
+
+/// Writes the line of the script with its answer; where no script is named, what the line is to the
+/// frames.
+fn put_asked(
+    kind: LineKind,
+    line: Option<&[u8]>,
+    said: Option<&[u8]>,
+    text: &mut Vec<u8>,
+) -> Result<(), NoMemory>
+    ensures { OnOk result (text.new.items ≡ text.old.items
+        ++ asked_row (option_map (λ s. s.now) line.entry) (option_map (λ s. s.now) said.entry)
+        kind) }
+{
+    match line {
+        Some(line) => put_answered(line, said_text(said), text),
+        None => put_kind(kind, text),
+    }
+}
+
+/// Writes Windows' names of the numbers of a line and of its answer.
+#[tactic(auto, using(mm_sentences::proofs::Joined::joined))]
+fn put_names(line: Option<&[u8]>, said: Option<&[u8]>, text: &mut Vec<u8>) -> Result<(), NoMemory>
+    ensures { OnOk result (text.new.items ≡ text.old.items
+        ++ names_text (option_map (λ s. s.now) line.entry) (option_map (λ s. s.now) said.entry)) }
+{
+    match line {
+        Some(line) => put_remark(line, said, text),
+        None => Ok(()),
+    }
+}
+
+/// Writes the row of a line.
+#[tactic(auto, using(mm_sentences::proofs::Joined::joined))]
+pub(crate) fn put_line_row(
+    number: u32,
+    kind: LineKind,
+    line: Option<&[u8]>,
+    said: Option<&[u8]>,
+    text: &mut Vec<u8>,
+) -> Result<(), NoMemory>
+    ensures { OnOk result (text.new.items ≡ text.old.items ++ line_row number kind
+        (option_map (λ s. s.now) line.entry) (option_map (λ s. s.now) said.entry)) }
+{
+    put_number(u64::from(number), text)?;
+    put_words(b"  ", text)?;
+    put_asked(kind, line, said, text)?;
+    put_names(line, said, text)?;
+    put_words(b"\n", text)
+}
+
+/// Writes why a page left its working set, where that is known.
+#[tactic(auto, using(mm_sentences::proofs::Joined::joined))]
+fn put_reason_if(class: Class, reason: &Option<Reason>, text: &mut Vec<u8>) -> Result<(), NoMemory>
+    ensures { OnOk result (text.new.items ≡ text.old.items ++ words_if class reason.now) }
+{
+    match reason {
+        Some(reason) => put_reason(class, reason, text),
+        None => Ok(()),
+    }
+}
+
+/// Writes the row of a move of this class; `after` is the state after it.
+#[tactic(auto, using(mm_sentences::proofs::Joined::joined))]
+fn put_move_row(
+    addressed: bool,
+    class: Class,
+    facts: &Facts,
+    reason: &Option<Reason>,
+    after: &Life,
+    text: &mut Vec<u8>,
+) -> Result<(), NoMemory>
+    ensures { OnOk result (text.new.items ≡ text.old.items
+        ++ class_row addressed (Some class) facts.now reason.now (life_of after.now)) }
+{
+    put_words(b"     ", text)?;
+    put_sentence(class, facts, addressed, after, text)?;
+    put_reason_if(class, reason, text)?;
+    put_words(b"\n", text)
+}
+
+/// Writes the row of a move, if it is of a class.
+#[tactic(auto, using(mm_sentences::proofs::Joined::joined))]
+pub(crate) fn put_class_row(
+    addressed: bool,
+    class: Option<Class>,
+    facts: &Facts,
+    reason: &Option<Reason>,
+    after: &Life,
+    text: &mut Vec<u8>,
+) -> Result<(), NoMemory>
+    ensures { OnOk result (text.new.items ≡ text.old.items
+        ++ class_row addressed class facts.now reason.now (life_of after.now)) }
+{
+    match class {
+        Some(class) => put_move_row(addressed, class, facts, reason, after, text),
+        None => Ok(()),
+    }
+}

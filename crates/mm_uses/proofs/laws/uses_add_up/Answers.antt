@@ -1,0 +1,8 @@
+use Rattle.std.proofs.Common.{ap, sym, ◌∙◌}
+use Rattle.mm_moves.specs.Standing.{life}
+use Rattle.mm_laws.specs.Standing.{counted_frames}
+use Rattle.mm_uses.proofs.Adding.{add_up}
+use Rattle.mm_uses.proofs.laws.uses_add_up.Goals as goal
+
+pub returns : goal.returns
+returns c = add_up (life c.args.life.now) (ap counted_frames (sym c.counts-known.ensures.value) ∙ c.counts-known.ensures.sum)

@@ -1,0 +1,40 @@
+-- The lines of a log, as they end.
+-- Profile, "What a log shows".
+use Rattle.std.specs.Prelude.{ℕ, Bool, ◌&&◌, not, ◌==◌, if◌then◌else◌, List, [], ◌∷◌, ◌++◌, codes}
+use Rattle.std.specs.Prelude.{flat_map}
+use Rattle.std.specs.List.{list_any}
+use Rattle.mm_types.specs.Spelling.{Text}
+use Rattle.mm_types.specs.declared.moves.Move.{Move}
+use Rattle.mm_types.specs.declared.moves.Move.TheVariants as move
+use Rattle.mm_life.specs.Life.{FrameLife}
+use Rattle.mm_life.specs.Effect.{after_move}
+
+-- the state in which the line ends that began last, if any did
+abbrev pub ended : FrameLife → List FrameLife
+ended l = if l.line == 0 then [] else l ∷ []
+
+-- the line that ends as this move begins the next
+abbrev pub ended_by : FrameLife → Move → List FrameLife
+ended_by l (move.At n k) = ended l
+ended_by l _ = []
+
+-- the state at the end of each line that ends among these moves; at the end of a whole log its
+-- last line ends too
+abbrev pub line_ends : Bool → FrameLife → List Move → List FrameLife
+line_ends whole l [] = if whole then ended l else []
+line_ends whole l (m ∷ ms) = ended_by l m ++ line_ends whole (after_move l m) ms
+
+-- the line of this number
+abbrev pub is_line : ℕ → FrameLife → Bool
+is_line line l = l.line == line
+
+-- what is said of the line of this number, if it is one of those that end so
+abbrev pub said_of : ℕ → (FrameLife → Text) → List FrameLife → Text
+said_of line say ends = flat_map (λ l. if is_line line l then say l else []) ends
+
+abbrev pub is_among : ℕ → List FrameLife → Bool
+is_among line ends = list_any (is_line line) ends
+
+-- a whole log has no line of this number
+abbrev pub unless_found : Bool → Bool → Text
+unless_found whole found = if whole && not found then codes "no such line" ++ 10 ∷ [] else []

@@ -1,0 +1,27 @@
+-- What the tellers of counts and of uses have still to write.
+-- Profile, "What a log shows".
+use Rattle.std.specs.Prelude.{ℕ, Bool, ◌||◌, if◌then◌else◌, List, [], ◌++◌, flat_map}
+use Rattle.mm_types.specs.Spelling.{Text}
+use Rattle.mm_types.specs.declared.moves.Move.{Move}
+use Rattle.mm_life.specs.Life.{FrameLife}
+use Rattle.mm_uses.specs.Lines.{line_ends, said_of, is_among, unless_found}
+use Rattle.mm_uses.specs.Counts.{counts_head, counts_row}
+use Rattle.mm_uses.specs.Uses.{use_text}
+use Rattle.mm_uses.specs.declared.counts.CountsTeller.{CountsTeller}
+use Rattle.mm_uses.specs.declared.counts.UseTeller.{UseTeller}
+
+-- the head, unless it stands
+abbrev pub head_left : Bool → Text
+head_left begun = if begun then [] else counts_head
+
+abbrev pub counts_rest : CountsTeller → Bool → FrameLife → List Move → Text
+counts_rest t whole l ms = head_left t.begun ++ flat_map counts_row (line_ends whole l ms)
+
+-- what is said of the line, if it comes; or that it does not
+abbrev pub said_rest : ℕ → (FrameLife → Text) → Bool → Bool → FrameLife → List Move → Text
+said_rest line say found whole l ms =
+    said_of line say (line_ends whole l ms)
+    ++ unless_found whole (found || is_among line (line_ends whole l ms))
+
+abbrev pub use_rest : UseTeller → Bool → FrameLife → List Move → Text
+use_rest t whole l ms = said_rest t.line use_text t.found whole l ms
