@@ -1,18 +1,20 @@
 -- The age of each page after the pages were changed, as a map.
-use Rattle.std.proofs.Common.{◌≡◌, ◌≢◌, ℕ, ◌+◌, ◌≤◌, true, false, cond, eqb, ltb, List, [], ◌∷◌, length, map, Some, None, refl, sym, ap, ◌∙◌, inl, inr, arith}
+use Rattle.std.proofs.Common.{◌≡◌, ◌≢◌, ℕ, ◌+◌, ◌<◌, ◌≤◌, Bool, true, false, cond, eqb, ltb, List, [], ◌∷◌, length, map, Option, Some, None, refl, sym, ap, ◌∙◌, inl, inr, arith}
 use Rattle.std.proofs.lemmas.Bool.{cases_eq, cases_lt, lt-ltb, le-ltb, eq-eqb, ne_eqb, eqb-true}
-use Rattle.std.specs.Prelude.{IsSome, option_map}
+use Rattle.std.specs.Prelude.{IsSome, is_some, option_map}
 use Rattle.std.specs.Ordering.{nat_cmp}
 use Rattle.std.specs.Cmp.{unsigned_tied, nat_cmp_total}
 use Rattle.std.specs.FinMap as finite
 use Rattle.std.specs.FinMap.{find}
 use Rattle.mm_types.proofs.Finite.{same}
 use Rattle.mm_types.proofs.Tables.{is_insert, is_remove}
-use Rattle.mm_wset.specs.declared.trees.Aged.{Aged}
+use Rattle.mm_wset.specs.declared.trees.Grouped.{Grouped}
 use Rattle.mm_wset.specs.Ages.{older, AgesBy}
-use Rattle.mm_wset.specs.AgedPages.{IsSorted, age_in, add_page, remove_page, just_used, older_aged}
+use Rattle.mm_wset.specs.GroupedPages.{IsSorted, group_in, age_in, add_page, remove_page, moved, retired}
+use Rattle.mm_wset.specs.Ring.{turned, next_newest}
 use Rattle.mm_wset.specs.Held.{entry_of, ages_of}
-use Rattle.mm_wset.proofs.PageLemmas.{age_below, age_here, age_there}
+use Rattle.mm_wset.proofs.PageLemmas.{group_below, group_here, group_there}
+use Rattle.mm_wset.proofs.RingLemmas.{turned_newest, known_turned, turned_older}
 
 -- ---- the map is what the pages say
 
@@ -22,51 +24,83 @@ either_way a b = elim (cases_eq a b) [
   | inr other ↦ ne_eqb a b other ∙ sym (ne_eqb b a (λ e. other (sym e)))
 ]
 
-find_age : (xs : List Aged) (v : ℕ) → find nat_cmp v (map entry_of xs) ≡ age_in xs v
-find_age [] v = refl
-find_age (x ∷ xs) v =
-    ap (λ t. cond t (Some x.age) (find nat_cmp v (map entry_of xs))) (unsigned_tied v x.page ∙ either_way v x.page)
-    ∙ ap (cond (eqb x.page v) (Some x.age)) (find_age xs v)
+module _ (newest : ℕ) where
+  one_or_later : (b : Bool) (g : ℕ) (later : Option ℕ) → cond b (Some (turned newest g)) (option_map (turned newest) later) ≡ option_map (turned newest) (cond b (Some g) later)
+  one_or_later true g later = refl
+  one_or_later false g later = refl
 
-pub get-ages : (xs : List Aged) (v : ℕ) → finite.get (ages_of xs) v ≡ age_in xs v
-unfolding ages_of
-get-ages xs v = finite.get-from_entries nat_cmp_total (map entry_of xs) v ∙ find_age xs v
+  find_age : (xs : List Grouped) (v : ℕ) → find nat_cmp v (map (entry_of newest) xs) ≡ age_in newest xs v
+  find_age [] v = refl
+  find_age (x ∷ xs) v =
+      ap (λ t. cond t (Some (turned newest x.group)) (find nat_cmp v (map (entry_of newest) xs))) (unsigned_tied v x.page ∙ either_way v x.page)
+      ∙ ap (cond (eqb x.page v) (Some (turned newest x.group))) (find_age xs v)
+      ∙ one_or_later (eqb x.page v) x.group (group_in xs v)
 
-pub ages_none : ages_of [] ≡ finite.empty
-ages_none = same (ages_of []) finite.empty (λ v. get-ages [] v ∙ sym (finite.get-empty nat_cmp v))
+  pub get-ages : (xs : List Grouped) (v : ℕ) → finite.get (ages_of newest xs) v ≡ age_in newest xs v
+  unfolding ages_of
+  get-ages xs v = finite.get-from_entries nat_cmp_total (map (entry_of newest) xs) v ∙ find_age xs v
+
+  -- the same map where each page has the same group
+  get_by : (xs : List Grouped) (v : ℕ) (o : Option ℕ) → group_in xs v ≡ o → finite.get (ages_of newest xs) v ≡ option_map (turned newest) o
+  get_by xs v o e = get-ages xs v ∙ ap (option_map (turned newest)) e
+
+  pub ages_none : ages_of newest [] ≡ finite.empty
+  ages_none = same (ages_of newest []) finite.empty (λ v. get-ages [] v ∙ sym (finite.get-empty nat_cmp v))
+
+  -- a page without an age has no group
+  pub no_group : (xs : List Grouped) (v : ℕ) → finite.get (ages_of newest xs) v ≡ None → group_in xs v ≡ None
+  no_group xs v e = by (group_in xs v) (sym (get-ages xs v) ∙ e) where
+    by : (o : Option ℕ) → option_map (turned newest) o ≡ None → o ≡ None
+    by None e = refl
+    by (Some g) e = cc
+
+  -- a page has a group where it has an age
+  pub has_both : (xs : List Grouped) (v : ℕ) → is_some (finite.get (ages_of newest xs) v) ≡ is_some (group_in xs v)
+  has_both xs v = ap is_some (get-ages xs v) ∙ by (group_in xs v) where
+    by : (o : Option ℕ) → is_some (option_map (turned newest) o) ≡ is_some o
+    by None = refl
+    by (Some g) = refl
+
+  -- one with an age has one
+  pub some_group : (xs : List Grouped) (v : ℕ) → IsSome (finite.get (ages_of newest xs) v) → IsSome (group_in xs v)
+  some_group xs v held = sym (has_both xs v) ∙ held
+
+  -- the groups are the eight where the ages are
+  pub known_group : newest < 7 → (xs : List Grouped) → ((v a : ℕ) → finite.get (ages_of newest xs) v ≡ Some a → a ≤ 7) → (v g : ℕ) → group_in xs v ≡ Some g → g ≤ 7
+  known_group turning xs young v g e = known_turned newest turning g (young v (turned newest g) (get_by xs v (Some g) e))
 
 -- ---- one page more
 
 -- a page that is not there is neither the first nor later
-first_other : (x : Aged) (xs : List Aged) (v : ℕ) → age_in (x ∷ xs) v ≡ None → x.page ≢ v
-first_other x xs v none e = let bad : Some x.age ≡ None = sym (age_here x xs v e) ∙ none in cc
+first_other : (x : Grouped) (xs : List Grouped) (v : ℕ) → group_in (x ∷ xs) v ≡ None → x.page ≢ v
+first_other x xs v none e = let bad : Some x.group ≡ None = sym (group_here x xs v e) ∙ none in cc
 
-rest_none : (x : Aged) (xs : List Aged) (v : ℕ) → age_in (x ∷ xs) v ≡ None → age_in xs v ≡ None
-rest_none x xs v none = sym (age_there x xs v (first_other x xs v none)) ∙ none
+rest_none : (x : Grouped) (xs : List Grouped) (v : ℕ) → group_in (x ∷ xs) v ≡ None → group_in xs v ≡ None
+rest_none x xs v none = sym (group_there x xs v (first_other x xs v none)) ∙ none
 
-added_here : (x : Aged) (xs : List Aged) → age_in xs x.page ≡ None → age_in (add_page x xs) x.page ≡ Some x.age
-added_here x [] none = age_here x [] x.page refl
+added_here : (x : Grouped) (xs : List Grouped) → group_in xs x.page ≡ None → group_in (add_page x xs) x.page ≡ Some x.group
+added_here x [] none = group_here x [] x.page refl
 added_here x (y ∷ ys) none =
-    elim (ltb x.page y.page) as (λ b. age_in (cond b (x ∷ y ∷ ys) (y ∷ add_page x ys)) x.page ≡ Some x.age) [
-      | true ↦ age_here x (y ∷ ys) x.page refl
-      | false ↦ age_there y (add_page x ys) x.page (first_other y ys x.page none) ∙ added_here x ys (rest_none y ys x.page none)
+    elim (ltb x.page y.page) as (λ b. group_in (cond b (x ∷ y ∷ ys) (y ∷ add_page x ys)) x.page ≡ Some x.group) [
+      | true ↦ group_here x (y ∷ ys) x.page refl
+      | false ↦ group_there y (add_page x ys) x.page (first_other y ys x.page none) ∙ added_here x ys (rest_none y ys x.page none)
     ]
 
-added_there : (x : Aged) (xs : List Aged) (q : ℕ) → q ≢ x.page → age_in (add_page x xs) q ≡ age_in xs q
-added_there x [] q other = age_there x [] q (λ e. other (sym e))
+added_there : (x : Grouped) (xs : List Grouped) (q : ℕ) → q ≢ x.page → group_in (add_page x xs) q ≡ group_in xs q
+added_there x [] q other = group_there x [] q (λ e. other (sym e))
 added_there x (y ∷ ys) q other =
-    elim (ltb x.page y.page) as (λ b. age_in (cond b (x ∷ y ∷ ys) (y ∷ add_page x ys)) q ≡ age_in (y ∷ ys) q) [
-      | true ↦ age_there x (y ∷ ys) q (λ e. other (sym e))
-      | false ↦ ap (cond (eqb y.page q) (Some y.age)) (added_there x ys q other)
+    elim (ltb x.page y.page) as (λ b. group_in (cond b (x ∷ y ∷ ys) (y ∷ add_page x ys)) q ≡ group_in (y ∷ ys) q) [
+      | true ↦ group_there x (y ∷ ys) q (λ e. other (sym e))
+      | false ↦ ap (cond (eqb y.page q) (Some y.group)) (added_there x ys q other)
     ]
 
-pub ages_add : (x : Aged) (xs : List Aged) → age_in xs x.page ≡ None → ages_of (add_page x xs) ≡ finite.insert (ages_of xs) x.page x.age
-ages_add x xs none =
-    is_insert (ages_of xs) (ages_of (add_page x xs)) x.page x.age
-    (get-ages (add_page x xs) x.page ∙ added_here x xs none)
-    (λ q other. get-ages (add_page x xs) q ∙ added_there x xs q other ∙ sym (get-ages xs q))
+pub ages_add : (newest : ℕ) (x : Grouped) (xs : List Grouped) → group_in xs x.page ≡ None → ages_of newest (add_page x xs) ≡ finite.insert (ages_of newest xs) x.page (turned newest x.group)
+ages_add newest x xs none =
+    is_insert (ages_of newest xs) (ages_of newest (add_page x xs)) x.page (turned newest x.group)
+    (get_by newest (add_page x xs) x.page (Some x.group) (added_here x xs none))
+    (λ q other. get_by newest (add_page x xs) q (group_in xs q) (added_there x xs q other) ∙ sym (get-ages newest xs q))
 
-pub sorted_add : (x : Aged) (a : ℕ) (xs : List Aged) → IsSorted a xs → a ≤ x.page → age_in xs x.page ≡ None → IsSorted a (add_page x xs)
+pub sorted_add : (x : Grouped) (a : ℕ) (xs : List Grouped) → IsSorted a xs → a ≤ x.page → group_in xs x.page ≡ None → IsSorted a (add_page x xs)
 sorted_add x a [] p low none = (low, tt)
 sorted_add x a (y ∷ ys) p low none =
     elim (ltb x.page y.page) as (λ b. ltb x.page y.page ≡ b → IsSorted a (cond b (x ∷ y ∷ ys) (y ∷ add_page x ys))) [
@@ -87,86 +121,101 @@ sorted_add x a (y ∷ ys) p low none =
 
 -- ---- one page fewer
 
-removed_here : (v a : ℕ) (xs : List Aged) → IsSorted a xs → age_in (remove_page v xs) v ≡ None
+removed_here : (v a : ℕ) (xs : List Grouped) → IsSorted a xs → group_in (remove_page v xs) v ≡ None
 removed_here v a [] p = refl
 removed_here v a (x ∷ xs) p =
-    elim (eqb x.page v) as (λ b. eqb x.page v ≡ b → age_in (cond b xs (x ∷ remove_page v xs)) v ≡ None) [
-      | true ↦ λ t. age_below v (x.page + 1) xs p.1 (let e = eqb-true x.page v t in omega (arith, e))
-      | false ↦ λ t. ap (λ b. cond b (Some x.age) (age_in (remove_page v xs) v)) t ∙ removed_here v (x.page + 1) xs p.1
+    elim (eqb x.page v) as (λ b. eqb x.page v ≡ b → group_in (cond b xs (x ∷ remove_page v xs)) v ≡ None) [
+      | true ↦ λ t. group_below v (x.page + 1) xs p.1 (let e = eqb-true x.page v t in omega (arith, e))
+      | false ↦ λ t. ap (λ b. cond b (Some x.group) (group_in (remove_page v xs) v)) t ∙ removed_here v (x.page + 1) xs p.1
     ] refl
 
-removed_there : (v : ℕ) (xs : List Aged) (q : ℕ) → q ≢ v → age_in (remove_page v xs) q ≡ age_in xs q
+removed_there : (v : ℕ) (xs : List Grouped) (q : ℕ) → q ≢ v → group_in (remove_page v xs) q ≡ group_in xs q
 removed_there v [] q other = refl
 removed_there v (x ∷ xs) q other =
-    elim (eqb x.page v) as (λ b. eqb x.page v ≡ b → age_in (cond b xs (x ∷ remove_page v xs)) q ≡ age_in (x ∷ xs) q) [
-      | true ↦ λ t. sym (age_there x xs q (λ e. other (sym e ∙ eqb-true x.page v t)))
-      | false ↦ λ t. ap (cond (eqb x.page q) (Some x.age)) (removed_there v xs q other)
+    elim (eqb x.page v) as (λ b. eqb x.page v ≡ b → group_in (cond b xs (x ∷ remove_page v xs)) q ≡ group_in (x ∷ xs) q) [
+      | true ↦ λ t. sym (group_there x xs q (λ e. other (sym e ∙ eqb-true x.page v t)))
+      | false ↦ λ t. ap (cond (eqb x.page q) (Some x.group)) (removed_there v xs q other)
     ] refl
 
-pub ages_removed : (v : ℕ) (xs : List Aged) → IsSorted 0 xs → ages_of (remove_page v xs) ≡ finite.remove (ages_of xs) v
-ages_removed v xs sorted =
-    is_remove (ages_of xs) (ages_of (remove_page v xs)) v
-    (get-ages (remove_page v xs) v ∙ removed_here v 0 xs sorted)
-    (λ q other. get-ages (remove_page v xs) q ∙ removed_there v xs q other ∙ sym (get-ages xs q))
+pub ages_removed : (newest v : ℕ) (xs : List Grouped) → IsSorted 0 xs → ages_of newest (remove_page v xs) ≡ finite.remove (ages_of newest xs) v
+ages_removed newest v xs sorted =
+    is_remove (ages_of newest xs) (ages_of newest (remove_page v xs)) v
+    (get_by newest (remove_page v xs) v None (removed_here v 0 xs sorted))
+    (λ q other. get_by newest (remove_page v xs) q (group_in xs q) (removed_there v xs q other) ∙ sym (get-ages newest xs q))
 
-pub sorted_removed : (v a : ℕ) (xs : List Aged) → IsSorted a xs → IsSorted a (remove_page v xs)
+pub sorted_removed : (v a : ℕ) (xs : List Grouped) → IsSorted a xs → IsSorted a (remove_page v xs)
 sorted_removed v a [] p = tt
 sorted_removed v a (x ∷ xs) p =
     elim (eqb x.page v) as (λ b. IsSorted a (cond b xs (x ∷ remove_page v xs))) [
       | true ↦ lower a (x.page + 1) xs (omega (arith, p.0)) p.1
       | false ↦ (p.0, sorted_removed v (x.page + 1) xs p.1)
     ] where
-      lower : (a b : ℕ) (xs : List Aged) → a ≤ b → IsSorted b xs → IsSorted a xs
+      lower : (a b : ℕ) (xs : List Grouped) → a ≤ b → IsSorted b xs → IsSorted a xs
       lower a b [] h p = tt
       lower a b (x ∷ xs) h p = (omega (arith, h, p.0), p.1)
 
-pub length-removed : (v : ℕ) (xs : List Aged) → IsSome (age_in xs v) → length (remove_page v xs) + 1 ≡ length xs
+pub length-removed : (v : ℕ) (xs : List Grouped) → IsSome (group_in xs v) → length (remove_page v xs) + 1 ≡ length xs
 length-removed v [] held = let bad : false ≡ true = held in cc
 length-removed v (x ∷ xs) held =
-    elim (eqb x.page v) as (λ b. IsSome (cond b (Some x.age) (age_in xs v)) → length (cond b xs (x ∷ remove_page v xs)) + 1 ≡ length (x ∷ xs)) [
+    elim (eqb x.page v) as (λ b. IsSome (cond b (Some x.group) (group_in xs v)) → length (cond b xs (x ∷ remove_page v xs)) + 1 ≡ length (x ∷ xs)) [
       | true ↦ λ h. omega arith
       | false ↦ λ h. omega (arith, length-removed v xs h)
     ] held
 
--- ---- ages change
+-- ---- groups change
 
-used_here : (v : ℕ) (xs : List Aged) → IsSome (age_in xs v) → age_in (map (just_used v) xs) v ≡ Some 0
-used_here v [] held = let bad : false ≡ true = held in cc
-used_here v (x ∷ xs) held =
-    elim (eqb x.page v) as (λ b. IsSome (cond b (Some x.age) (age_in xs v)) → cond b (Some (cond b 0 x.age)) (age_in (map (just_used v) xs) v) ≡ Some 0) [
+moved_here : (v group : ℕ) (xs : List Grouped) → IsSome (group_in xs v) → group_in (map (moved v group) xs) v ≡ Some group
+moved_here v group [] held = let bad : false ≡ true = held in cc
+moved_here v group (x ∷ xs) held =
+    elim (eqb x.page v) as (λ b. IsSome (cond b (Some x.group) (group_in xs v)) → cond b (Some (cond b group x.group)) (group_in (map (moved v group) xs) v) ≡ Some group) [
       | true ↦ λ h. refl
-      | false ↦ λ h. used_here v xs h
+      | false ↦ λ h. moved_here v group xs h
     ] held
 
-used_there : (v : ℕ) (xs : List Aged) (q : ℕ) → q ≢ v → age_in (map (just_used v) xs) q ≡ age_in xs q
-used_there v [] q other = refl
-used_there v (x ∷ xs) q other =
-    elim (eqb x.page q) as (λ b. eqb x.page q ≡ b → cond b (Some (cond (eqb x.page v) 0 x.age)) (age_in (map (just_used v) xs) q) ≡ cond b (Some x.age) (age_in xs q)) [
-      | true ↦ λ t. ap (λ b. Some (cond b 0 x.age)) (ne_eqb x.page v (λ e. other (sym (eqb-true x.page q t) ∙ e)))
-      | false ↦ λ t. used_there v xs q other
+moved_there : (v group : ℕ) (xs : List Grouped) (q : ℕ) → q ≢ v → group_in (map (moved v group) xs) q ≡ group_in xs q
+moved_there v group [] q other = refl
+moved_there v group (x ∷ xs) q other =
+    elim (eqb x.page q) as (λ b. eqb x.page q ≡ b → cond b (Some (cond (eqb x.page v) group x.group)) (group_in (map (moved v group) xs) q) ≡ cond b (Some x.group) (group_in xs q)) [
+      | true ↦ λ t. ap (λ b. Some (cond b group x.group)) (ne_eqb x.page v (λ e. other (sym (eqb-true x.page q t) ∙ e)))
+      | false ↦ λ t. moved_there v group xs q other
     ] refl
 
-pub ages_used : (v : ℕ) (xs : List Aged) → IsSome (age_in xs v) → ages_of (map (just_used v) xs) ≡ finite.insert (ages_of xs) v 0
-ages_used v xs held =
-    is_insert (ages_of xs) (ages_of (map (just_used v) xs)) v 0
-    (get-ages (map (just_used v) xs) v ∙ used_here v xs held)
-    (λ q other. get-ages (map (just_used v) xs) q ∙ used_there v xs q other ∙ sym (get-ages xs q))
+-- a page that went to the newest group has age 0
+pub ages_used : (newest v : ℕ) (xs : List Grouped) → IsSome (group_in xs v) → ages_of newest (map (moved v newest) xs) ≡ finite.insert (ages_of newest xs) v 0
+ages_used newest v xs held =
+    is_insert (ages_of newest xs) (ages_of newest (map (moved v newest) xs)) v 0
+    (get_by newest (map (moved v newest) xs) v (Some newest) (moved_here v newest xs held) ∙ ap (λ (n : ℕ). Some n) (turned_newest newest))
+    (λ q other. get_by newest (map (moved v newest) xs) q (group_in xs q) (moved_there v newest xs q other) ∙ sym (get-ages newest xs q))
 
-older_age : (xs : List Aged) (v : ℕ) → age_in (map older_aged xs) v ≡ option_map older (age_in xs v)
-older_age [] v = refl
-older_age (x ∷ xs) v =
-    elim (eqb x.page v) as (λ b. cond b (Some (older x.age)) (age_in (map older_aged xs) v) ≡ option_map older (cond b (Some x.age) (age_in xs v))) [
+abbrev retired_to : ℕ → ℕ → ℕ
+retired_to group g = cond (eqb g group) 7 g
+
+retired_group : (group : ℕ) (xs : List Grouped) (v : ℕ) → group_in (map (retired group) xs) v ≡ option_map (retired_to group) (group_in xs v)
+retired_group group [] v = refl
+retired_group group (x ∷ xs) v =
+    elim (eqb x.page v) as (λ b. cond b (Some (retired_to group x.group)) (group_in (map (retired group) xs) v) ≡ option_map (retired_to group) (cond b (Some x.group) (group_in xs v))) [
       | true ↦ refl
-      | false ↦ older_age xs v
+      | false ↦ retired_group group xs v
     ]
 
-pub ages_older : (xs : List Aged) → AgesBy older (ages_of xs) (ages_of (map older_aged xs))
-ages_older xs v = get-ages (map older_aged xs) v ∙ older_age xs v ∙ ap (option_map older) (sym (get-ages xs v))
+-- the ring turned by one: each age is one more
+pub ages_older : (newest : ℕ) → newest < 7 → (xs : List Grouped) → ((v g : ℕ) → group_in xs v ≡ Some g → g ≤ 7)
+    → AgesBy older (ages_of newest xs) (ages_of (next_newest newest) (map (retired (next_newest newest)) xs))
+ages_older newest turning xs known v =
+    get_by next (map (retired next) xs) v (option_map (retired_to next) (group_in xs v)) (retired_group next xs v)
+    ∙ by (group_in xs v) (known v)
+    ∙ ap (option_map older) (sym (get-ages newest xs v)) where
+      next : ℕ
+      next = next_newest newest
+
+      by : (o : Option ℕ) → ((g : ℕ) → o ≡ Some g → g ≤ 7) → option_map (turned next) (option_map (retired_to next) o) ≡ option_map older (option_map (turned newest) o)
+      by None known = refl
+      by (Some g) known = ap (λ (n : ℕ). Some n) (turned_older newest turning g (known g refl))
 
 -- pages that keep their numbers keep their order
-pub sorted_map : (f : Aged → Aged) (a : ℕ) (xs : List Aged) → ((x : Aged) → (f x).page ≡ x.page) → IsSorted a xs → IsSorted a (map f xs)
+pub sorted_map : (f : Grouped → Grouped) (a : ℕ) (xs : List Grouped) → ((x : Grouped) → (f x).page ≡ x.page) → IsSorted a xs → IsSorted a (map f xs)
 sorted_map f a [] keeps p = tt
 sorted_map f a (x ∷ xs) keeps p = (omega (arith, p.0, keeps x), sorted_map_from f (x.page + 1) ((f x).page + 1) xs keeps (omega (arith, keeps x)) p.1) where
-  sorted_map_from : (f : Aged → Aged) (a b : ℕ) (xs : List Aged) → ((x : Aged) → (f x).page ≡ x.page) → b ≤ a → IsSorted a xs → IsSorted b (map f xs)
+  sorted_map_from : (f : Grouped → Grouped) (a b : ℕ) (xs : List Grouped) → ((x : Grouped) → (f x).page ≡ x.page) → b ≤ a → IsSorted a xs → IsSorted b (map f xs)
   sorted_map_from f a b [] keeps h p = tt
   sorted_map_from f a b (x ∷ xs) keeps h p = (omega (arith, p.0, keeps x, h), sorted_map_from f (x.page + 1) ((f x).page + 1) xs keeps (omega (arith, keeps x)) p.1)

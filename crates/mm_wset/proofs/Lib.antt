@@ -1,3 +1,4 @@
+pub mod RingLemmas
 pub mod PageLemmas
 pub mod FirstLemmas
 pub mod InOrder

@@ -5,16 +5,17 @@ use Rattle.std.specs.FinMap as finite
 use Rattle.std.specs.FinMap.{FinMap}
 use Rattle.mm_types.specs.Table.{table}
 use Rattle.slab.specs.Slab.{Slab, slab_len}
-use Rattle.mm_wset.specs.declared.trees.Aged.{Aged}
+use Rattle.mm_wset.specs.declared.trees.Grouped.{Grouped}
 use Rattle.mm_wset.specs.Ages.{WorkingSetOf, EachAtOnePlace}
-use Rattle.mm_wset.specs.AgedPages.{IsSorted}
+use Rattle.mm_wset.specs.GroupedPages.{IsSorted}
+use Rattle.mm_wset.specs.Ring.{turned}
 
-abbrev pub entry_of : Aged → ℕ × ℕ
-entry_of x = (x.page, x.age)
+abbrev pub entry_of : ℕ → Grouped → ℕ × ℕ
+entry_of newest x = (x.page, turned newest x.group)
 
--- from each page its age
-unfoldable pub ages_of : List Aged → FinMap nat_cmp ℕ
-ages_of pages = finite.from_entries (map entry_of pages)
+-- from each page its age, which its group has
+unfoldable pub ages_of : ℕ → List Grouped → FinMap nat_cmp ℕ
+ages_of newest pages = finite.from_entries (map (entry_of newest) pages)
 
 -- from each place in use its page
 abbrev pub places_of : Slab ℕ → FinMap nat_cmp ℕ
@@ -39,7 +40,7 @@ pub record KnowsUses (ages places : FinMap nat_cmp ℕ) (rounds : ℕ) (used_in 
   pub fresh : (p v : ℕ) → finite.get places p ≡ Some v → slice_index used_in p ≡ rounds → finite.get ages v ≡ Some 0
 
 -- there are as many places in use as pages, and a spare node for each page that may yet come
-pub record IsWorkingSet (most : ℕ) (places : Slab ℕ) (pages : List Aged) (spare spare_room rounds : ℕ) (used_in : List ℕ) : Type 0 where
+pub record IsWorkingSet (most : ℕ) (places : Slab ℕ) (newest : ℕ) (pages : List Grouped) (spare spare_room rounds : ℕ) (used_in : List ℕ) : Type 0 where
   pub counted : finite.len (places_of places) ≡ slab_len places
   pub as_many : length pages ≡ slab_len places
   pub stocked : slab_len places + spare ≡ most
@@ -48,6 +49,7 @@ pub record IsWorkingSet (most : ℕ) (places : Slab ℕ) (pages : List Aged) (sp
   pub fits : places.capacity < 2 ^ 32
   pub enough : places.capacity ≤ length used_in
   pub in_range : (p v : ℕ) → finite.get (places_of places) p ≡ Some v → p < places.capacity
+  pub turning : newest < 7
   pub sorted : IsSorted 0 pages
-  pub each : EachAtOnePlace (maps (ages_of pages) (places_of places))
-  pub uses : KnowsUses (ages_of pages) (places_of places) rounds used_in
+  pub each : EachAtOnePlace (maps (ages_of newest pages) (places_of places))
+  pub uses : KnowsUses (ages_of newest pages) (places_of places) rounds used_in

@@ -1,6 +1,7 @@
 pub mod Ages
 pub mod InOrder
-pub mod AgedPages
+pub mod Ring
+pub mod GroupedPages
 pub mod Shape
 pub mod Nodes
 pub mod Held

@@ -3,15 +3,15 @@ ghost use Rattle.std.specs.Option.{ForSome};
 ghost use Rattle.std.specs.FinMap as finite;
 ghost use Rattle.mm_wset.specs.Ages.{EachAtOnePlace, AgesBy, older, IsOldest, NoneFollows};
 ghost use Rattle.mm_wset.specs.InOrder.{IsNextFrom};
-ghost use Rattle.mm_wset.specs.AgedPages.{IsSorted, age_in, add_page, remove_page};
+ghost use Rattle.mm_wset.specs.GroupedPages.{IsSorted, group_in, add_page, remove_page};
 ghost use Rattle.mm_wset.specs.Held.{last_round};
+ghost use Rattle.mm_wset.specs.Ring.{next_newest};
 
-use crate::trees::{AGES, Aged, Node, Tree};
+use crate::trees::{AGES, Grouped, Node, Tree};
 use mm_types::{NoMemory, Vpn};
 use slab::Slab;
 use std::alloc::Global;
 use std::marker::Model;
-use std::mem;
 
 /// A process's working set: its valid pages, each at a place of its own and with an age.
 ///
@@ -28,6 +28,8 @@ pub struct WorkingSet {
     pages: Tree,
     /// Nodes for pages to come.
     stock: Vec<Box<Node>>,
+    /// The group of the pages of age 0.
+    newest: u8,
     /// How often all pages became older.
     rounds: u64,
     /// For each place the round in which its page was last used.
@@ -43,9 +45,9 @@ impl Model for WorkingSet {
 
     ghost coded = { working_set_code };
 
-    ghost view = { λ s. record { min = s.min; max = s.max; reserved = s.is_reserved; ages = ages_of s.pages.pages; places = places_of s.places } };
+    ghost view = { λ s. record { min = s.min; max = s.max; reserved = s.is_reserved; ages = ages_of s.newest s.pages.pages; places = places_of s.places } };
 
-    ghost invariant = { λ s. IsWorkingSet (room_of s.is_reserved s.max) s.places s.pages.pages (vec_len s.stock) (vec_capacity s.stock) s.rounds s.used_in.items };
+    ghost invariant = { λ s. IsWorkingSet (room_of s.is_reserved s.max) s.places s.newest s.pages.pages (vec_len s.stock) (vec_capacity s.stock) s.rounds s.used_in.items };
 }
 
 /// So many nodes that hold no page yet.
@@ -61,34 +63,32 @@ fn take_nodes(alloc: Global, n: u32) -> Result<Vec<Box<Node>>, NoMemory>
     Ok(nodes)
 }
 
-/// Takes a page in, of age 0, with one of the spare nodes.
-fn put_in(pages: &mut Tree, stock: &mut Vec<Box<Node>>, page: u32)
+/// Takes a page into a group, with one of the spare nodes.
+fn put_in(pages: &mut Tree, stock: &mut Vec<Box<Node>>, page: u32, group: u8)
+    requires known { group ≤ 7 }
     requires stocked { 0 < vec_len stock.old }
     requires sorted { IsSorted 0 pages.old.pages }
     requires few { length pages.old.pages + 1 < 2 ^ 32 }
-    ensures pages { pages.new.pages ≡ add_page (record { page = page; age = 0 }) pages.old.pages }
+    ensures pages { pages.new.pages ≡ add_page (record { page = page; group = group }) pages.old.pages }
     ensures spare { vec_len stock.new + 1 ≡ vec_len stock.old }
     ensures room { vec_capacity stock.new ≡ vec_capacity stock.old }
 {
     let mut node = stock.take_last();
-    node.aged = Aged { page, age: 0 };
-    let others = mem::replace(pages, Tree::new());
-    *pages = others.insert(node);
+    node.member = Grouped { page, group };
+    pages.insert(node);
 }
 
 /// Takes a page out; its node is spare from now on.
 fn take_out(pages: &mut Tree, stock: &mut Vec<Box<Node>>, page: u32)
     requires room { vec_len stock.old < vec_capacity stock.old }
     requires sorted { IsSorted 0 pages.old.pages }
-    requires held { IsSome (age_in pages.old.pages page) }
+    requires held { IsSome (group_in pages.old.pages page) }
     requires few { length pages.old.pages < 2 ^ 32 }
     ensures pages { pages.new.pages ≡ remove_page page pages.old.pages }
     ensures spare { vec_len stock.new ≡ vec_len stock.old + 1 }
     ensures room { vec_capacity stock.new ≡ vec_capacity stock.old }
 {
-    let all = mem::replace(pages, Tree::new());
-    let (node, others) = all.remove(page);
-    *pages = others;
+    let (node, _) = pages.remove(page);
     stock.push_reserved(node);
 }
 
@@ -97,6 +97,15 @@ fn use_in(round: u64) -> u64
     ensures { result ≡ min round (last_round - 1) }
 {
     round.min(u64::MAX - 1)
+}
+
+/// The group that becomes the newest after another.
+fn next_newest(newest: u8) -> u8
+    requires { newest < 7 }
+    ensures is { result ≡ next_newest newest }
+    ensures turning { result < 7 }
+{
+    if newest + 2 < AGES { newest + 1 } else { 0 }
 }
 
 impl WorkingSet {
@@ -112,6 +121,7 @@ impl WorkingSet {
             places: Slab::new(alloc),
             pages: Tree::new(),
             stock: Vec::new(alloc),
+            newest: 0,
             rounds: 0,
             used_in: Vec::new(alloc),
         }
@@ -169,7 +179,7 @@ impl WorkingSet {
         ensures set { self.new ≡ record self.old { ages = finite.insert self.old.ages v.0 0; places = finite.insert self.old.places result v.0 } }
     {
         let place = self.places.insert_reserved(v.0);
-        put_in(&mut self.pages, &mut self.stock, v.0);
+        put_in(&mut self.pages, &mut self.stock, v.0, self.newest);
         self.used_in[place] = use_in(self.rounds);
         place as u32
     }
@@ -197,8 +207,7 @@ impl WorkingSet {
         let Some(page) = self.places.get(place).copied() else {
             unreachable!()
         };
-        let pages = mem::replace(&mut self.pages, Tree::new());
-        self.pages = pages.touch(page);
+        self.pages.regroup(page, self.newest);
         self.used_in[place] = use_in(self.rounds);
     }
 
@@ -207,8 +216,10 @@ impl WorkingSet {
         ensures ages { AgesBy older self.old.ages self.new.ages }
         ensures rest { self.new ≡ record self.old { ages = self.new.ages } }
     {
-        let pages = mem::replace(&mut self.pages, Tree::new());
-        self.pages = pages.older();
+        // the group of age 6 joins that of age 7, and is the one of age 0 from now on
+        let newest = next_newest(self.newest);
+        self.pages.retire(newest);
+        self.newest = newest;
         self.rounds = self.rounds.saturating_add(1);
     }
 
@@ -219,11 +230,11 @@ impl WorkingSet {
         ensures { MatchOption result (NoneFollows self.now.ages (option_map (λ w. w.0) after)) (λ v. IsOldest self.now.ages (option_map (λ w. w.0) after) v.0) }
     {
         let found = match after {
-            None => self.pages.oldest_below(AGES),
-            Some(v) => self.pages.next_after(v.0),
+            None => self.pages.oldest_below(self.newest, AGES),
+            Some(v) => self.pages.next_after(self.newest, v.0),
         };
         match found {
-            Some(aged) => Some(Vpn(aged.page)),
+            Some(first) => Some(Vpn(first.page)),
             None => None,
         }
     }

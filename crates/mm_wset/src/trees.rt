@@ -1,38 +1,43 @@
-ghost use Rattle.std.specs.Prelude.{◌≡◌, ◌==◌, ◌+◌, ◌^◌, ◌<◌, ◌≤◌, ℕ, max, [], ◌∷◌, ◌++◌, length, map, Some, None, IsSome, IfSome, MatchOption, find, is_some};
+ghost use Rattle.std.specs.Prelude.{◌≡◌, ◌==◌, ◌+◌, ◌-◌, ◌^◌, ◌<◌, ◌≤◌, ℕ, max, [], ◌∷◌, ◌++◌, length, map, Some, None, IsSome, IfSome, MatchOption, find, is_some, if◌then◌else◌, bit_or, false};
 ghost use Rattle.std.specs.Int.{bit_at};
-ghost use Rattle.mm_wset.specs.Ages.{older, GoesBefore};
-ghost use Rattle.mm_wset.specs.AgedPages.{IsSorted, age_in, add_page, remove_page, just_used, older_aged, is_from, IsFirstOf, NoneOf, IsBelow};
+ghost use Rattle.std.specs.Option.{ForSome};
+ghost use Rattle.mm_wset.specs.Ages.{GoesBefore};
+ghost use Rattle.mm_wset.specs.GroupedPages.{IsSorted, group_in, age_in, add_page, remove_page, moved, retired, is_from, has_group, IsFirstOf, NoneOf, IsBelow};
+ghost use Rattle.mm_wset.specs.Ring.{turned};
 ghost use Rattle.mm_wset.specs.InOrder.{IsNextFrom};
-ghost use Rattle.mm_wset.specs.Shape.{IsShaped, IsFork, IsBalanced, DifferByAtMost};
-ghost use Rattle.mm_wset.specs.Nodes.{kept_over, IsSpan, IsNode};
+ghost use Rattle.mm_wset.specs.Shape.{IsShaped, IsFork, IsTurned, IsBalanced, DifferByAtMost};
+ghost use Rattle.mm_wset.specs.Nodes.{number, tree_of, tree_at, pages_of, IsTree, Became, MayLean, kept_over, IsSpan, IsNode};
 
 use mm_types::Vpn;
 use std::marker::Model;
 use std::mem;
 
-/// How many ages there are: a page's age is below this.
+/// How many ages there are, and groups of pages: an age is below this, and a group's number.
 pub const AGES: u8 = 8;
 
-/// A valid page and its age, 0 to 7.
+/// The group of the pages of the greatest age. The others, below it, take turns.
+const LAST: u8 = AGES - 1;
+
+/// A valid page and its group: the pages of one age are a group.
 #[derive(Clone, Copy)]
-pub struct Aged {
+pub struct Grouped {
     pub page: u32,
-    pub age: u8,
+    pub group: u8,
 }
 
-/// Pages in order, each with its age, as a balanced tree.
+/// Pages in order, each with its group, as a balanced tree.
 #[cycle(tree)]
 #[derive(Drop)]
 pub struct Tree {
     root: Option<Box<Node>>,
 }
 
-/// A page and its age, between the pages below it and those above it.
+/// A page and its group, between the pages below it and those above it.
 #[cycle(tree)]
 #[derive(Drop)]
 pub struct Node {
     left: Tree,
-    pub aged: Aged,
+    pub member: Grouped,
     right: Tree,
     span: Span,
 }
@@ -40,21 +45,24 @@ pub struct Node {
 /// What is kept of the pages of a tree.
 #[derive(Clone, Copy)]
 struct Span {
-    /// Which ages there are: bit a for age a.
-    ages: u8,
+    /// Which groups have pages there: bit g for group g.
+    groups: u8,
     height: u32,
 }
 
 impl Span {
     /// What is kept where there are no pages.
-    const NONE: Span = Span { ages: 0, height: 0 };
+    const NONE: Span = Span {
+        groups: 0,
+        height: 0,
+    };
 
-    /// Whether one of the pages has this age.
-    fn has(self, age: u8) -> bool
-        requires { age ≤ 7 }
-        ensures { result ≡ (bit_at self.ages age == 1) }
+    /// Whether one of the pages is of this group.
+    fn has(self, group: u8) -> bool
+        requires { group ≤ 7 }
+        ensures { result ≡ (bit_at self.groups group == 1) }
     {
-        (self.ages >> age) & 1 == 1
+        (self.groups >> group) & 1 == 1
     }
 }
 
@@ -82,7 +90,7 @@ impl Node {
     pub fn blank() -> Node {
         Node {
             left: Tree::new(),
-            aged: Aged { page: 0, age: 0 },
+            member: Grouped { page: 0, group: 0 },
             right: Tree::new(),
             span: Span::NONE,
         }
@@ -121,8 +129,8 @@ impl Tree {
 
     /// The node at the root, and the trees below it and above it.
     fn apart(self) -> Option<(Tree, Box<Node>, Tree)>
-        ensures fork { MatchOption result (self ≡ record { pages = []; height = 0 }) (λ t. IsFork self t.0 t.1.value.aged t.2) }
-        ensures young { IfSome result (λ t. t.1.value.aged.age ≤ 7) }
+        ensures fork { MatchOption result (self ≡ record { pages = []; height = 0 }) (λ t. IsFork self t.0 t.1.value.member t.2) }
+        ensures known { IfSome result (λ t. t.1.value.member.group ≤ 7) }
     {
         match self.root {
             None => None,
@@ -141,124 +149,128 @@ impl Tree {
         self.root
     }
 
-    /// The pages with that of `node` in its place.
-    pub fn insert(self, node: Box<Node>) -> Tree
-        requires sorted { IsSorted 0 self.pages }
-        requires young { node.value.aged.age ≤ 7 }
-        requires few { length self.pages + 1 < 2 ^ 32 }
-        ensures pages { result.pages ≡ add_page node.value.aged self.pages }
-        ensures not_lower { self.height ≤ result.height }
-        ensures at_most_one_higher { result.height ≤ self.height + 1 }
+    /// The page of `node` comes to its place. Answers whether what is kept of the pages has
+    /// changed.
+    pub fn insert(&mut self, node: Box<Node>) -> bool
+        requires sorted { IsSorted 0 self.old.pages }
+        requires known { node.value.member.group ≤ 7 }
+        requires few { length self.old.pages + 1 < 2 ^ 32 }
+        ensures { Became self.old self.new (add_page node.value.member self.old.pages) self.old.height (self.old.height + 1) result }
     {
-        match self.opened() {
-            None => fork(Tree::new(), node, Tree::new()),
-            Some(mut top) => {
-                if node.aged.page < top.aged.page {
-                    let left = mem::replace(&mut top.left, Tree::new());
-                    put_left(left.insert(node), top)
-                } else {
-                    let right = mem::replace(&mut top.right, Tree::new());
-                    put_right(top, right.insert(node))
-                }
+        let Some(top) = &mut self.root else {
+            self.root = fork(Tree::new(), node, Tree::new()).opened();
+            return true;
+        };
+        if node.member.page < top.member.page {
+            if top.left.insert(node) {
+                return settle(top);
             }
+            sound(top);
+            return false;
         }
+        if top.right.insert(node) {
+            return settle(top);
+        }
+        sound(top);
+        false
     }
 
-    /// The node of one of the pages, and the other pages.
-    pub fn remove(self, page: u32) -> (Box<Node>, Tree)
-        requires sorted { IsSorted 0 self.pages }
-        requires held { IsSome (age_in self.pages page) }
-        requires few { length self.pages < 2 ^ 32 }
-        ensures pages { result.1.pages ≡ remove_page page self.pages }
-        ensures not_higher { result.1.height ≤ self.height }
-        ensures at_most_one_lower { self.height ≤ result.1.height + 1 }
+    /// One of the pages goes. Answers its node, and whether what is kept of the pages has changed.
+    pub fn remove(&mut self, page: u32) -> (Box<Node>, bool)
+        requires sorted { IsSorted 0 self.old.pages }
+        requires held { IsSome (group_in self.old.pages page) }
+        requires few { length self.old.pages < 2 ^ 32 }
+        ensures { Became self.old self.new (remove_page page self.old.pages) (self.old.height - 1) self.old.height result.1 }
     {
-        let Some(mut top) = self.opened() else {
+        if stands_at(&self.root, page) {
+            return (take_top(&mut self.root), true);
+        }
+        let Some(top) = &mut self.root else {
             unreachable!()
         };
-        if page < top.aged.page {
-            let left = mem::replace(&mut top.left, Tree::new());
-            let (node, rest) = left.remove(page);
-            (node, put_left(rest, top))
-        } else if top.aged.page < page {
-            let right = mem::replace(&mut top.right, Tree::new());
-            let (node, rest) = right.remove(page);
-            (node, put_right(top, rest))
-        } else {
-            let left = mem::replace(&mut top.left, Tree::new());
-            let right = mem::replace(&mut top.right, Tree::new());
-            (top, join(left, right))
-        }
-    }
-
-    /// The pages after one of them was used.
-    pub fn touch(self, page: u32) -> Tree
-        requires sorted { IsSorted 0 self.pages }
-        requires few { length self.pages < 2 ^ 32 }
-        ensures pages { result.pages ≡ map (just_used page) self.pages }
-        ensures height { result.height ≡ self.height }
-    {
-        match self.apart() {
-            None => Tree::new(),
-            Some((left, mut top, right)) => {
-                if page < top.aged.page {
-                    fork(left.touch(page), top, right)
-                } else if top.aged.page < page {
-                    fork(left, top, right.touch(page))
-                } else {
-                    top.aged.age = 0;
-                    fork(left, top, right)
-                }
+        if page < top.member.page {
+            let (node, changed) = top.left.remove(page);
+            if changed {
+                return (node, settle(top));
             }
+            sound(top);
+            return (node, false);
         }
+        let (node, changed) = top.right.remove(page);
+        if changed {
+            return (node, settle(top));
+        }
+        sound(top);
+        (node, false)
     }
 
-    /// The pages, each one older, up to the greatest age.
-    pub fn older(self) -> Tree
-        requires { length self.pages < 2 ^ 32 }
-        ensures pages { result.pages ≡ map older_aged self.pages }
-        ensures height { result.height ≡ self.height }
+    /// One of the pages goes to a group.
+    pub fn regroup(&mut self, page: u32, group: u8)
+        requires sorted { IsSorted 0 self.old.pages }
+        requires known { group ≤ 7 }
+        ensures pages { self.new.pages ≡ map (moved page group) self.old.pages }
+        ensures height { self.new.height ≡ self.old.height }
     {
-        match self.apart() {
-            None => Tree::new(),
-            Some((left, mut top, right)) => {
-                top.aged.age = older(top.aged.age);
-                fork(left.older(), top, right.older())
-            }
+        let Some(node) = &mut self.root else { return };
+        if page < node.member.page {
+            node.left.regroup(page, group);
+            return renew(node);
         }
+        if node.member.page < page {
+            node.right.regroup(page, group);
+            return renew(node);
+        }
+        node.member.group = group;
+        renew(node)
     }
 
-    /// The age of a page, if it is one of these.
-    fn age_of(&self, page: u32) -> Option<u8>
+    /// The pages of a group join the last one. Nothing is visited where none of these is.
+    pub fn retire(&mut self, group: u8)
+        requires { group ≤ 7 }
+        ensures pages { self.new.pages ≡ map (retired group) self.old.pages }
+        ensures height { self.new.height ≡ self.old.height }
+    {
+        let Some(node) = &mut self.root else { return };
+        if !node.span.has(group) {
+            return;
+        }
+        node.left.retire(group);
+        node.right.retire(group);
+        node.member.group = joining(node.member.group, group);
+        renew(node)
+    }
+
+    /// The group of a page, if it is one of these.
+    fn group_of(&self, page: u32) -> Option<u8>
         requires { IsSorted 0 self.now.pages }
-        ensures { result ≡ age_in self.now.pages page }
+        ensures { result ≡ group_in self.now.pages page }
     {
         let node = self.top()?;
-        if page < node.aged.page {
-            node.left.age_of(page)
-        } else if node.aged.page < page {
-            node.right.age_of(page)
+        if page < node.member.page {
+            node.left.group_of(page)
+        } else if node.member.page < page {
+            node.right.group_of(page)
         } else {
-            Some(node.aged.age)
+            Some(node.member.group)
         }
     }
 
-    /// The lowest page of an age, at `from` or above.
-    fn first_from(&self, age: u8, from: u64) -> Option<Aged>
+    /// The lowest page of a group, at `from` or above.
+    fn first_from(&self, group: u8, from: u64) -> Option<Grouped>
         requires sorted { IsSorted 0 self.now.pages }
-        requires young { age ≤ 7 }
-        ensures { result ≡ find (is_from from age) self.now.pages }
+        requires known { group ≤ 7 }
+        ensures { result ≡ find (is_from from group) self.now.pages }
     {
         let node = self.top()?;
-        if !node.span.has(age) {
+        if !node.span.has(group) {
             return None;
         }
-        if u64::from(node.aged.page) < from {
-            return node.right.first_from(age, from);
+        if u64::from(node.member.page) < from {
+            return node.right.first_from(group, from);
         }
-        match node.left.first_from(age, from) {
-            None if node.aged.age == age => Some(node.aged),
-            None => node.right.first_from(age, from),
+        match node.left.first_from(group, from) {
+            None if node.member.group == group => Some(node.member),
+            None => node.right.first_from(group, from),
             found => found,
         }
     }
@@ -266,204 +278,308 @@ impl Tree {
     /// The lowest page at `from` or above.
     pub fn lowest_from(&self, from: u32) -> Option<Vpn>
         requires { IsSorted 0 self.now.pages }
-        ensures { IsNextFrom (λ v. is_some (age_in self.now.pages v)) from result }
+        ensures { IsNextFrom (λ v. is_some (group_in self.now.pages v)) from result }
     {
         let node = self.top()?;
-        if node.aged.page < from {
+        if node.member.page < from {
             return node.right.lowest_from(from);
         }
         match node.left.lowest_from(from) {
-            None => Some(Vpn(node.aged.page)),
+            None => Some(Vpn(node.member.page)),
             found => found,
         }
     }
 
-    /// The lowest page of an age.
-    fn lowest_of(&self, age: u8) -> Option<Aged>
+    /// The lowest page of a group.
+    fn lowest_of(&self, group: u8) -> Option<Grouped>
         requires sorted { IsSorted 0 self.now.pages }
-        requires young { age ≤ 7 }
-        ensures { result ≡ find (is_from 0 age) self.now.pages }
+        requires known { group ≤ 7 }
+        ensures { result ≡ find (is_from 0 group) self.now.pages }
     {
         let node = self.top()?;
-        if node.left.span().has(age) {
-            return node.left.lowest_of(age);
+        if node.left.span().has(group) {
+            return node.left.lowest_of(group);
         }
-        if node.aged.age == age {
-            return Some(node.aged);
+        if node.member.group == group {
+            return Some(node.member);
         }
-        node.right.lowest_of(age)
+        node.right.lowest_of(group)
     }
 
     /// The page that goes first of those whose age is below `limit`: the oldest, and of these the lowest.
-    pub fn oldest_below(&self, limit: u8) -> Option<Aged>
+    pub fn oldest_below(&self, newest: u8, limit: u8) -> Option<Grouped>
         requires sorted { IsSorted 0 self.now.pages }
+        requires turning { newest < 7 }
         requires young { limit ≤ 8 }
-        ensures { MatchOption result (NoneOf (age_in self.now.pages) (IsBelow limit)) (IsFirstOf (age_in self.now.pages) (IsBelow limit)) }
+        ensures { MatchOption result (NoneOf (age_in newest self.now.pages) (IsBelow limit)) (λ x. IsFirstOf (age_in newest self.now.pages) (IsBelow limit) x.page) }
     {
         let span = self.span();
         let mut age = limit;
         while age > 0 {
             age -= 1;
-            if span.has(age) {
-                return self.lowest_of(age);
+            let group = turned(newest, age);
+            if span.has(group) {
+                return self.lowest_of(group);
             }
         }
         None
     }
 
     /// The page that goes next after one of these.
-    pub fn next_after(&self, page: u32) -> Option<Aged>
+    pub fn next_after(&self, newest: u8, page: u32) -> Option<Grouped>
         requires sorted { IsSorted 0 self.now.pages }
-        requires held { IsSome (age_in self.now.pages page) }
-        requires young { (a : ℕ) → age_in self.now.pages page ≡ Some a → a ≤ 7 }
-        ensures { (a : ℕ) → age_in self.now.pages page ≡ Some a → MatchOption result (NoneOf (age_in self.now.pages) (GoesBefore page a)) (IsFirstOf (age_in self.now.pages) (GoesBefore page a)) }
+        requires turning { newest < 7 }
+        requires held { IsSome (group_in self.now.pages page) }
+        requires known { (g : ℕ) → group_in self.now.pages page ≡ Some g → g ≤ 7 }
+        ensures { (a : ℕ) → age_in newest self.now.pages page ≡ Some a → MatchOption result (NoneOf (age_in newest self.now.pages) (GoesBefore page a)) (λ x. IsFirstOf (age_in newest self.now.pages) (GoesBefore page a) x.page) }
     {
-        let Some(age) = self.age_of(page) else {
+        let Some(group) = self.group_of(page) else {
             unreachable!()
         };
-        let found = self.first_from(age, u64::from(page) + 1);
+        let found = self.first_from(group, u64::from(page) + 1);
         if found.is_some() {
             return found;
         }
-        self.oldest_below(age)
+        self.oldest_below(newest, turned(newest, group))
     }
 }
 
-/// One more, up to the greatest age.
-fn older(age: u8) -> u8
-    requires { age ≤ 7 }
-    ensures { result ≡ older age }
+/// What a node keeps of the groups of its pages is written anew.
+#[inline(always)] // each step of the way down to a page that changes its group ends here
+fn renew(node: &mut Node)
+    requires known { node.old.member.group ≤ 7 }
+    ensures same { node.new ≡ record node.old { span = node.new.span } }
+    ensures height { node.new.span.height ≡ node.old.span.height }
+    ensures groups { (g : ℕ) → bit_at node.new.span.groups g ≡ number (has_group g (pages_of node.old)) }
 {
-    if age + 1 < AGES { age + 1 } else { age }
+    let (below, above) = (node.left.span(), node.right.span());
+    node.span.groups = groups_over(below.groups, node.member.group, above.groups);
+}
+
+/// The group of a page once those of `group` have joined the last one.
+fn joining(of: u8, group: u8) -> u8
+    requires { of ≤ 7 }
+    ensures is { result ≡ if of == group then 7 else of }
+    ensures known { result ≤ 7 }
+{
+    if of == group { LAST } else { of }
+}
+
+/// The age of a group while another is the newest, and as well the group of an age.
+fn turned(newest: u8, n: u8) -> u8
+    requires turning { newest < 7 }
+    requires known { n ≤ 7 }
+    ensures is { result ≡ turned newest n }
+    ensures known { result ≤ 7 }
+{
+    if n <= newest {
+        newest - n
+    } else if n < LAST {
+        newest + LAST - n
+    } else {
+        n
+    }
 }
 
 /// The page of `node` between two trees that are about as high.
-#[inline(always)] // each step of each way down ends here
+#[inline(always)] // each step of the way to the lowest page of a side ends here
 fn fork(left: Tree, mut node: Box<Node>, right: Tree) -> Tree
     requires near { DifferByAtMost 1 left.height right.height }
-    requires young { node.value.aged.age ≤ 7 }
+    requires known { node.value.member.group ≤ 7 }
     requires few { length left.pages + length right.pages + 1 < 2 ^ 32 }
-    ensures { IsFork result left node.value.aged right }
+    ensures { IsFork result left node.value.member right }
 {
-    let aged = node.aged;
-    let span = span_over(left.span(), aged.age, right.span());
+    let member = node.member;
+    let span = span_over(left.span(), member.group, right.span());
     *node = Node {
         left,
-        aged,
+        member,
         right,
         span,
     };
     Tree { root: Some(node) }
 }
 
-/// The pages of `left`, then those from the page of `node` on; what stood below it is given up. Of its two sides one may be two levels
-/// higher. A side that has not changed is not touched.
-#[inline(always)] // each step of the way down to a page that comes or goes ends here or in `put_right`
-fn put_left(left: Tree, mut node: Box<Node>) -> Tree
-    requires near { DifferByAtMost 2 left.height node.value.right.height }
-    requires young { node.value.aged.age ≤ 7 }
-    requires few { length left.pages + length node.value.right.pages + 1 < 2 ^ 32 }
-    ensures { IsBalanced result (left.pages ++ node.value.aged ∷ node.value.right.pages) left.height node.value.right.height }
+/// Puts a node right of whose sides one may be two levels higher, with what it keeps of them.
+/// Answers whether that has changed.
+#[inline(always)] // each step of the way down to a page that comes or goes may end here
+fn settle(node: &mut Node) -> bool
+    requires { MayLean node.old }
+    ensures is { IsNode node.new (tree_at node.new) }
+    ensures balanced { IsBalanced (tree_at node.new) (pages_of node.old) node.old.left.height node.old.right.height }
+    ensures same { result ≡ false → IsSpan node.old.span (tree_at node.new) }
 {
-    let (below, above) = (left.span(), node.right.span());
+    let (below, above) = (node.left.span(), node.right.span());
     if below.height.abs_diff(above.height) > 1 {
-        let right = mem::replace(&mut node.right, Tree::new());
-        balance(left, node, right)
-    } else {
-        node.span = span_over(below, node.aged.age, above);
-        node.left = left;
-        Tree { root: Some(node) }
+        level(node);
+        return true;
+    }
+    let was = node.span;
+    let span = span_over(below, node.member.group, above);
+    node.span = span;
+    differ(was, span)
+}
+
+/// Puts a node right of whose sides one is two levels higher.
+#[cold]
+#[inline(never)]
+fn level(node: &mut Node)
+    requires { MayLean node.old }
+    ensures is { IsNode node.new (tree_at node.new) }
+    ensures balanced { IsBalanced (tree_at node.new) (pages_of node.old) node.old.left.height node.old.right.height }
+{
+    let left = mem::replace(&mut node.left, Tree::new());
+    let right = mem::replace(&mut node.right, Tree::new());
+    let (left, member, right) = turn(left, node.member, right);
+    let span = span_over(left.span(), member.group, right.span());
+    *node = Node {
+        left,
+        member,
+        right,
+        span,
+    };
+}
+
+/// Whether one says something else than the other.
+fn differ(a: Span, b: Span) -> bool
+    ensures { result ≡ false → a ≡ b }
+{
+    a.height != b.height || a.groups != b.groups
+}
+
+/// Both sides of a node are trees. A call that does nothing.
+fn sound(node: &Node)
+    ensures left { IsShaped node.now.left }
+    ensures right { IsShaped node.now.right }
+{
+    node.left.span();
+    node.right.span();
+}
+
+/// Whether this page stands at the root.
+fn stands_at(root: &Option<Box<Node>>, page: u32) -> bool
+    requires { IsSome root.now }
+    ensures { ForSome root.now (λ n. result ≡ (n.value.member.page == page)) }
+{
+    match root {
+        None => unreachable!(),
+        Some(node) => node.member.page == page,
     }
 }
 
-/// The pages up to the page of `node`, then those of `right`; what stood above it is given up. As `put_left`.
-#[inline(always)]
-fn put_right(mut node: Box<Node>, right: Tree) -> Tree
-    requires near { DifferByAtMost 2 node.value.left.height right.height }
-    requires young { node.value.aged.age ≤ 7 }
-    requires few { length node.value.left.pages + length right.pages + 1 < 2 ^ 32 }
-    ensures { IsBalanced result (node.value.left.pages ++ node.value.aged ∷ right.pages) node.value.left.height right.height }
+/// The node at the root, in whose place the pages of its sides stay.
+fn take_top(root: &mut Option<Box<Node>>) -> Box<Node>
+    requires some { IsSome root.old }
+    requires near { ForSome root.old (λ n. DifferByAtMost 1 n.value.left.height n.value.right.height) }
+    requires few { ForSome root.old (λ n. length n.value.left.pages + length n.value.right.pages < 2 ^ 32) }
+    ensures tree { IsTree root.new }
+    ensures pages { ForSome root.old (λ n. (tree_of root.new).pages ≡ n.value.left.pages ++ n.value.right.pages) }
+    ensures least { ForSome root.old (λ n. max n.value.left.height n.value.right.height ≤ (tree_of root.new).height) }
+    ensures most { ForSome root.old (λ n. (tree_of root.new).height ≤ max n.value.left.height n.value.right.height + 1) }
 {
-    let (below, above) = (node.left.span(), right.span());
-    if below.height.abs_diff(above.height) > 1 {
-        let left = mem::replace(&mut node.left, Tree::new());
-        balance(left, node, right)
-    } else {
-        node.span = span_over(below, node.aged.age, above);
-        node.right = right;
-        Tree { root: Some(node) }
-    }
+    let Some(mut top) = mem::replace(root, None) else {
+        unreachable!()
+    };
+    let left = mem::replace(&mut top.left, Tree::new());
+    let right = mem::replace(&mut top.right, Tree::new());
+    *root = join(left, right).opened();
+    top
 }
 
-/// What is kept of the pages on both sides of one of this age.
-fn span_over(below: Span, age: u8, above: Span) -> Span
-    requires young { age ≤ 7 }
+/// The groups on both sides of a page of this group, and this one.
+fn groups_over(below: u8, group: u8, above: u8) -> u8
+    requires { group ≤ 7 }
+    ensures { result ≡ bit_or (bit_or below (2 ^ group)) above }
+{
+    below | 1 << group | above
+}
+
+/// What is kept of the pages on both sides of one of this group.
+fn span_over(below: Span, group: u8, above: Span) -> Span
+    requires known { group ≤ 7 }
     requires low { max below.height above.height + 1 < 2 ^ 32 }
-    ensures { result ≡ kept_over below age above }
+    ensures { result ≡ kept_over below group above }
 {
     Span {
-        ages: below.ages | 1 << age | above.ages,
+        groups: groups_over(below.groups, group, above.groups),
         height: below.height.max(above.height) + 1,
     }
 }
 
 /// The page of `node` between two trees of which one may be two levels higher.
-fn balance(left: Tree, node: Box<Node>, right: Tree) -> Tree
+fn balance(left: Tree, mut node: Box<Node>, right: Tree) -> Tree
     requires near { DifferByAtMost 2 left.height right.height }
-    requires young { node.value.aged.age ≤ 7 }
+    requires known { node.value.member.group ≤ 7 }
     requires few { length left.pages + length right.pages + 1 < 2 ^ 32 }
-    ensures { IsBalanced result (left.pages ++ node.value.aged ∷ right.pages) left.height right.height }
+    ensures { IsBalanced result (left.pages ++ node.value.member ∷ right.pages) left.height right.height }
+{
+    let (left, member, right) = turn(left, node.member, right);
+    node.member = member;
+    fork(left, node, right)
+}
+
+/// Two trees of which one may be two levels higher, and a page between them: as two that are about
+/// as high, and a page between these.
+fn turn(left: Tree, member: Grouped, right: Tree) -> (Tree, Grouped, Tree)
+    requires near { DifferByAtMost 2 left.height right.height }
+    requires known { member.group ≤ 7 }
+    requires few { length left.pages + length right.pages + 1 < 2 ^ 32 }
+    ensures { IsTurned left member right result.0 result.1 result.2 }
 {
     let (l, r) = (left.span().height, right.span().height);
     if l > r + 1 {
-        lean_left(left, node, right)
+        turn_right(left, member, right)
     } else if r > l + 1 {
-        lean_right(left, node, right)
+        turn_left(left, member, right)
     } else {
-        fork(left, node, right)
+        (left, member, right)
     }
 }
 
-/// The page of `node` between two trees, the left one two levels higher.
+/// As `turn`, where the left one is two levels higher.
 #[cold]
 #[inline(never)]
-fn lean_left(left: Tree, node: Box<Node>, right: Tree) -> Tree
+fn turn_right(left: Tree, member: Grouped, right: Tree) -> (Tree, Grouped, Tree)
     requires two_higher { left.height ≡ right.height + 2 }
-    requires young { node.value.aged.age ≤ 7 }
+    requires known { member.group ≤ 7 }
     requires few { length left.pages + length right.pages + 1 < 2 ^ 32 }
-    ensures { IsBalanced result (left.pages ++ node.value.aged ∷ right.pages) left.height right.height }
+    ensures { IsTurned left member right result.0 result.1 result.2 }
 {
-    let Some((outer, top, inner)) = left.apart() else {
+    let Some((outer, mut top, inner)) = left.apart() else {
         unreachable!()
     };
     if outer.span().height >= inner.span().height {
-        return fork(outer, top, fork(inner, node, right));
+        let between = mem::replace(&mut top.member, member);
+        return (outer, between, fork(inner, top, right));
     }
-    let Some((below, middle, above)) = inner.apart() else {
+    let Some((below, mut middle, above)) = inner.apart() else {
         unreachable!()
     };
-    fork(fork(outer, top, below), middle, fork(above, node, right))
+    let between = mem::replace(&mut middle.member, member);
+    (fork(outer, top, below), between, fork(above, middle, right))
 }
 
-/// The page of `node` between two trees, the right one two levels higher.
+/// As `turn`, where the right one is two levels higher.
 #[cold]
 #[inline(never)]
-fn lean_right(left: Tree, node: Box<Node>, right: Tree) -> Tree
+fn turn_left(left: Tree, member: Grouped, right: Tree) -> (Tree, Grouped, Tree)
     requires two_higher { right.height ≡ left.height + 2 }
-    requires young { node.value.aged.age ≤ 7 }
+    requires known { member.group ≤ 7 }
     requires few { length left.pages + length right.pages + 1 < 2 ^ 32 }
-    ensures { IsBalanced result (left.pages ++ node.value.aged ∷ right.pages) left.height right.height }
+    ensures { IsTurned left member right result.0 result.1 result.2 }
 {
-    let Some((inner, top, outer)) = right.apart() else {
+    let Some((inner, mut top, outer)) = right.apart() else {
         unreachable!()
     };
     if outer.span().height >= inner.span().height {
-        return fork(fork(left, node, inner), top, outer);
+        let between = mem::replace(&mut top.member, member);
+        return (fork(left, top, inner), between, outer);
     }
-    let Some((below, middle, above)) = inner.apart() else {
+    let Some((below, mut middle, above)) = inner.apart() else {
         unreachable!()
     };
-    fork(fork(left, node, below), middle, fork(above, top, outer))
+    let between = mem::replace(&mut middle.member, member);
+    (fork(left, middle, below), between, fork(above, top, outer))
 }
 
 /// The pages of two trees that are about as high, one tree after the other.
@@ -486,10 +602,10 @@ fn join(left: Tree, right: Tree) -> Tree
 /// The node of the lowest page of a tree that was taken apart, and the other pages.
 fn take_lowest(left: Tree, top: Box<Node>, right: Tree) -> (Box<Node>, Tree)
     requires near { DifferByAtMost 1 left.height right.height }
-    requires young { top.value.aged.age ≤ 7 }
+    requires known { top.value.member.group ≤ 7 }
     requires few { length left.pages + length right.pages + 1 < 2 ^ 32 }
-    ensures pages { result.0.value.aged ∷ result.1.pages ≡ left.pages ++ top.value.aged ∷ right.pages }
-    ensures young { result.0.value.aged.age ≤ 7 }
+    ensures pages { result.0.value.member ∷ result.1.pages ≡ left.pages ++ top.value.member ∷ right.pages }
+    ensures known { result.0.value.member.group ≤ 7 }
     ensures not_higher { result.1.height ≤ max left.height right.height + 1 }
     ensures at_most_one_lower { max left.height right.height ≤ result.1.height }
 {

@@ -11,13 +11,13 @@ pub take_out-requires-clause-held : goal.take_out-requires-clause-held
 take_out-requires-clause-held c =
     let s = c.self.inside in
     let r = c.remove-page in
-    remove_held _ s.places r.new.self s.pages.pages _ _ s.rounds s.used_in.items c.args.place r.result c.self.invariant r.ensures.value r.ensures.updates
+    remove_held _ s.places r.new.self s.newest s.pages.pages _ _ s.rounds s.used_in.items c.args.place r.result c.self.invariant r.ensures.value r.ensures.updates
 
 pub invariant_of-self : goal.invariant_of-self
 invariant_of-self c =
     let s = c.self.inside in
     let r = c.remove-page in
-    remove_keeps _ s.places r.new.self s.pages.pages _ _ s.rounds s.used_in.items c.args.place r.result c.self.invariant r.ensures.value r.ensures.updates
+    remove_keeps _ s.places r.new.self s.newest s.pages.pages _ _ s.rounds s.used_in.items c.args.place r.result c.self.invariant r.ensures.value r.ensures.updates
     c.take_out.new.pages.pages _ _ r.ensures.len r.ensures.capacity c.take_out.ensures.pages c.take_out.ensures.spare c.take_out.ensures.room
 
 pub returns-clause-page : goal.returns-clause-page
@@ -25,12 +25,12 @@ returns-clause-page c =
     let s = c.self.inside in
     let r = c.remove-page in
     ap (λ (w : WorkingSetOf). finite.get w.places c.args.place) (sym c.self.view_is)
-    ∙ remove_page_at _ s.places r.new.self s.pages.pages _ _ s.rounds s.used_in.items c.args.place r.result c.self.invariant r.ensures.value r.ensures.updates
+    ∙ remove_page_at _ s.places r.new.self s.newest s.pages.pages _ _ s.rounds s.used_in.items c.args.place r.result c.self.invariant r.ensures.value r.ensures.updates
 
 pub returns-clause-set : goal.returns-clause-set
 returns-clause-set c =
     let s = c.self.inside in
     let r = c.remove-page in
-    remove_view _ s.places r.new.self s.pages.pages _ _ s.rounds s.used_in.items c.args.place r.result c.self.invariant r.ensures.value r.ensures.updates
+    remove_view _ s.places r.new.self s.newest s.pages.pages _ _ s.rounds s.used_in.items c.args.place r.result c.self.invariant r.ensures.value r.ensures.updates
     s.min s.max s.is_reserved c.take_out.new.pages.pages c.take_out.ensures.pages
     ∙ ap (λ (w : WorkingSetOf). record w { ages = finite.remove w.ages r.result; places = finite.remove w.places c.args.place }) c.self.view_is
