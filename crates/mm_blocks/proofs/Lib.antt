@@ -1,4 +1,5 @@
 pub mod Fronts
+pub mod Holding
 pub mod Logs
 pub mod Serving
 pub mod Stored

@@ -1,5 +1,4 @@
 pub mod Numbered
 pub mod Traffic
-pub mod Plans
 pub mod Devices
 pub mod Stores

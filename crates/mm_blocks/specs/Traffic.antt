@@ -1,5 +1,5 @@
 -- The reads and writes of a device, as its log tells them, and those that were named to fail.
-use Rattle.std.specs.Prelude.{◌≡◌, ℕ, ◌-◌, ◌==◌, ◌≤◌, Bool, true, false, not, ◌&&◌, if◌then◌else◌, List, [], ◌∷◌, ◌++◌, map, replicate, Option, Some, None, Result, is_ok, IsErrOf}
+use Rattle.std.specs.Prelude.{◌≡◌, ℕ, ◌-◌, ◌==◌, ◌≤◌, Bool, true, false, not, ◌&&◌, if◌then◌else◌, List, [], ◌++◌, map, replicate, Option, Some, None, Result, is_ok, IsErrOf, OnOk, OnErr}
 use Rattle.std.specs.List.{list_any}
 use Rattle.mm_types.specs.Outside.{Rose}
 use Rattle.mm_types.specs.declared.devices.Direction.{Direction}
@@ -44,10 +44,6 @@ is_due d c = same_direction d c.direction && (c.passes == 0) && not (c.fails == 
 abbrev pub one_further : Direction → NamedCalls → NamedCalls
 one_further d c = if same_direction d c.direction then (if c.passes == 0 then record c { fails = c.fails - 1 } else record c { passes = c.passes - 1 }) else c
 
--- no call is named
-abbrev pub none_named : List NamedCalls
-none_named = []
-
 -- the next call of this direction is named to fail
 abbrev pub is_named : Direction → List NamedCalls → Bool
 is_named d calls = list_any (is_due d) calls
@@ -55,13 +51,17 @@ is_named d calls = list_any (is_due d) calls
 abbrev pub after_call : Direction → List NamedCalls → List NamedCalls
 after_call d calls = map (one_further d) calls
 
--- A count of faults never falls, and the device failed only where it rose; it stays where there was no memory.
+-- ---- the count of faults
+
+-- A call leaves it as it was where it succeeded, and it rose where it failed; it never falls.
+pub record HasCallCause {T E : Type 0} (before now : ℕ) (result : Result T E) : Type 0 where
+  pub later : before ≤ now
+  pub stays : OnOk result (now ≡ before)
+  pub rose : OnErr result (Rose before now)
+
+-- The same where memory may be out, in which case it stays.
 pub record HasOpenCause {T : Type 0} (before now : ℕ) (result : Result T OpenFault) : Type 0 where
   pub later : before ≤ now
+  pub stays : OnOk result (now ≡ before)
   pub failed : IsErrOf result fault.Failed → Rose before now
   pub quiet : IsErrOf result fault.Memory → now ≡ before
-
--- the log of a device over another, which tells it as long as the other names no call itself
-abbrev pub told_by : List NamedCalls → Option (List DeviceCall) → Option (List DeviceCall)
-told_by [] log = log
-told_by (c ∷ calls) log = None

@@ -1,4 +1,4 @@
-ghost use Rattle.std.specs.Prelude.{◌≡◌, ◌+◌, []};
+ghost use Rattle.std.specs.Prelude.{◌≡◌, []};
 ghost use Rattle.mm_types.specs.Outside.{Loan};
 
 use crate::plans::Plan;
@@ -14,14 +14,11 @@ pub struct Injected<'a, B: Blocks> {
 }
 
 impl<'a, B: Blocks> Injected<'a, B> {
-    /// Over a device that names no calls itself. None is named.
+    /// Over a device. No call is named.
     pub fn new(device: &'a mut B) -> Injected<'a, B>
-        requires plain { B.named device.old ≡ [] }
         ensures same_reference { result.device.ghost_name ≡ device.entry.ghost_name }
         ensures device { result.device.now ≡ device.old }
-        ensures plain { B.named result.device.now ≡ [] }
-        ensures named { result.plan.named ≡ [] }
-        ensures faults { result.plan.faults ≡ 0 }
+        ensures named { result.plan ≡ [] }
     {
         Injected {
             device,
@@ -33,29 +30,22 @@ impl<'a, B: Blocks> Injected<'a, B> {
     pub fn finish(self) -> &'a mut B
         ensures same_reference { result.ghost_name ≡ self.entry.device.ghost_name }
         ensures device { result.now ≡ self.entry.device.now }
-        ensures faults { self.entry.plan.named ≡ [] → B.faults result.now ≡ B.faults self.entry.device.now + self.entry.plan.faults }
     {
         let Injected { device, plan: _ } = self;
         device
     }
 }
 
-impl<'a, B: Blocks> Blocks for Injected<'a, B> {
-    ghost use Rattle.mm_blocks.specs.Traffic.{told_by};
-
+impl<'a, B: Blocks> Inject for Injected<'a, B> {
     ghost blocks = { λ d. B.blocks d.device.now };
 
-    ghost log = { λ d. told_by (B.named d.device.now) (B.log d.device.now) };
+    ghost log = { λ d. B.log d.device.now };
 
-    ghost named = { λ d. d.plan.named };
+    ghost named = { λ d. d.plan };
 
-    ghost faults = { λ d. B.faults d.device.now + d.plan.faults };
+    ghost faults = { λ d. B.faults d.device.now };
 
     ghost loans = { λ d. Loan d.device.ghost_name };
-
-    fn open(&mut self, n: u32) -> Result<(), OpenFault> {
-        self.device.open(n)
-    }
 
     fn extend(&mut self, n: u32) -> Result<(), OpenFault> {
         self.device.extend(n)
@@ -74,9 +64,7 @@ impl<'a, B: Blocks> Blocks for Injected<'a, B> {
         }
         self.device.write(i, bytes)
     }
-}
 
-impl<'a, B: Blocks> Inject for Injected<'a, B> {
     fn name_calls(&mut self, direction: Direction, k: u32, n: u32) {
         self.plan.add(direction, k, n);
     }

@@ -10,11 +10,11 @@ mod mem_blocks;
 mod plans;
 mod stores;
 
-ghost use Rattle.std.specs.Prelude.{◌≡◌, ◌≤◌, ◌<◌, ◌+◌, ◌-◌, ◌++◌, [], ◌∷◌, List, ℕ, Option, Some, OnOk, OnErr, IsErr, length, replicate, slice_get, slice_set};
-ghost use Rattle.std.specs.Bool.{OnTrue, OnFalse};
-ghost use Rattle.mm_types.specs.Outside.{Loans, HasCause};
+ghost use Rattle.std.specs.Prelude.{◌≡◌, ◌≤◌, ◌<◌, ◌+◌, ◌-◌, ◌++◌, [], ◌∷◌, List, ℕ, Option, Some, OnOk, OnErr, is_ok, length, replicate, slice_get, slice_set};
+ghost use Rattle.mm_types.specs.Outside.{Loans};
 ghost use Rattle.mm_types.specs.declared.devices.Direction.TheVariants as way;
-ghost use Rattle.mm_blocks.specs.Traffic.{Logged, NoneLogged, HasOpenCause, made_call, is_named, after_call, empty_block};
+ghost use Rattle.mm_blocks.specs.Traffic.{Logged, NoneLogged, HasCallCause, HasOpenCause, made_call, is_named, empty_block};
+ghost use Rattle.mm_blocks.specs.Devices.{Serves, device_with};
 
 pub use device_calls::{DeviceCall, NamedCalls};
 pub use injections::Injected;
@@ -24,16 +24,12 @@ use mm_types::{Direction, Failed, OpenFault};
 /// A device of blocks (own).
 pub trait Blocks {
     ghost use Rattle.mm_blocks.specs.declared.device_calls.DeviceCall.{DeviceCall};
-    ghost use Rattle.mm_blocks.specs.declared.device_calls.NamedCalls.{NamedCalls};
 
     /// The 4,096 bytes of each block.
     ghost blocks: { Self → List (List ℕ) };
 
-    /// The reads and writes since it was opened, where told, but those that were named to fail.
+    /// The reads and writes since it was opened, where told.
     ghost log: { Self → Option (List DeviceCall) };
-
-    /// The calls that are named to fail.
-    ghost named: { Self → List NamedCalls };
 
     /// How often it has failed.
     ghost faults: { Self → ℕ };
@@ -41,18 +37,67 @@ pub trait Blocks {
     /// The references that it holds.
     ghost loans: { Self → Loans };
 
-    /// Opens it with n blocks of zeros, at most 262,144, and an empty log. `Failed` comes only where the
-    /// count of faults rose. After an error each device says itself what it holds.
+    /// Opens it with n blocks of zeros, at most 262,144, and an empty log. After an error its log is as
+    /// before, and each device says itself what it holds.
     fn open(&mut self, n: u32) -> Result<(), OpenFault>
         requires { n ≤ 262144 }
         ensures ok { OnOk result (blocks self.new ≡ replicate n empty_block) }
         ensures log { OnOk result (NoneLogged (log self.new)) }
-        ensures named { named self.new ≡ named self.old }
+        ensures err_log { OnErr result (log self.new ≡ log self.old) }
         ensures cause { HasOpenCause (faults self.old) (faults self.new) result }
         ensures loans { loans self.new ≡ loans self.old };
 
     /// Adds n blocks of zeros at the end; 262,144 is the most. After an error the blocks are as before.
-    /// `Failed` comes only where the count of faults rose.
+    fn extend(&mut self, n: u32) -> Result<(), OpenFault>
+        requires { length (blocks self.old) + n ≤ 262144 }
+        ensures ok { OnOk result (blocks self.new ≡ blocks self.old ++ replicate n empty_block) }
+        ensures err { OnErr result (blocks self.new ≡ blocks self.old) }
+        ensures log { log self.new ≡ log self.old }
+        ensures cause { HasOpenCause (faults self.old) (faults self.new) result }
+        ensures loans { loans self.new ≡ loans self.old };
+
+    /// Reads block i, counted from 0, into `out`.
+    fn read(&mut self, i: u32, out: &mut [u8; 4096]) -> Result<(), Failed>
+        requires { i < length (blocks self.old) }
+        ensures ok { OnOk result (slice_get (blocks self.old) i ≡ Some out.new) }
+        ensures blocks { blocks self.new ≡ blocks self.old }
+        ensures logged { Logged (log self.old) (log self.new) (made_call way.Read i result ∷ []) }
+        ensures cause { HasCallCause (faults self.old) (faults self.new) result }
+        ensures loans { loans self.new ≡ loans self.old };
+
+    /// Writes block i, counted from 0. After an error the blocks are as before.
+    fn write(&mut self, i: u32, bytes: &[u8; 4096]) -> Result<(), Failed>
+        requires { i < length (blocks self.old) }
+        ensures ok { OnOk result (blocks self.new ≡ slice_set (blocks self.old) i bytes.now) }
+        ensures err { OnErr result (blocks self.new ≡ blocks self.old) }
+        ensures logged { Logged (log self.old) (log self.new) (made_call way.Write i result ∷ []) }
+        ensures cause { HasCallCause (faults self.old) (faults self.new) result }
+        ensures loans { loans self.new ≡ loans self.old };
+}
+
+/// A device whose reads and writes can be named to fail (own). What each of them does to log, named
+/// calls and count of faults is `Serves`.
+pub trait Inject {
+    ghost use Rattle.mm_blocks.specs.declared.device_calls.DeviceCall.{DeviceCall};
+    ghost use Rattle.mm_blocks.specs.declared.device_calls.NamedCalls.{NamedCalls};
+
+    /// The 4,096 bytes of each block.
+    ghost blocks: { Self → List (List ℕ) };
+
+    /// The reads and writes, where told, but those that were named to fail.
+    ghost log: { Self → Option (List DeviceCall) };
+
+    /// The calls that are named to fail.
+    ghost named: { Self → List NamedCalls };
+
+    /// How often it has failed of itself.
+    ghost faults: { Self → ℕ };
+
+    /// The references that it holds.
+    ghost loans: { Self → Loans };
+
+    /// Adds n blocks of zeros at the end; 262,144 is the most. After an error the blocks are as before.
+    /// No such call is ever named to fail.
     fn extend(&mut self, n: u32) -> Result<(), OpenFault>
         requires { length (blocks self.old) + n ≤ 262144 }
         ensures ok { OnOk result (blocks self.new ≡ blocks self.old ++ replicate n empty_block) }
@@ -62,46 +107,36 @@ pub trait Blocks {
         ensures cause { HasOpenCause (faults self.old) (faults self.new) result }
         ensures loans { loans self.new ≡ loans self.old };
 
-    /// Reads block i, counted from 0, into `out`. It fails where it was named to, and only where the count of
-    /// faults rose.
+    /// Reads block i, counted from 0, into `out`. It fails where it was named to.
     fn read(&mut self, i: u32, out: &mut [u8; 4096]) -> Result<(), Failed>
         requires { i < length (blocks self.old) }
         ensures ok { OnOk result (slice_get (blocks self.old) i ≡ Some out.new) }
         ensures blocks { blocks self.new ≡ blocks self.old }
-        ensures named_fails { OnTrue (is_named way.Read (named self.old)) (IsErr result) }
-        ensures named_quiet { OnTrue (is_named way.Read (named self.old)) (log self.new ≡ log self.old) }
-        ensures logged { OnFalse (is_named way.Read (named self.old)) (Logged (log self.old) (log self.new) (made_call way.Read i result ∷ [])) }
-        ensures named { named self.new ≡ after_call way.Read (named self.old) }
-        ensures cause { HasCause (faults self.old) (faults self.new) result }
+        ensures served { Serves (record { way = way.Read; block = i; succeeded = is_ok result; named = is_named way.Read (named self.old) })
+            (device_with (log self.old) (named self.old) (faults self.old)) (device_with (log self.new) (named self.new) (faults self.new)) }
         ensures loans { loans self.new ≡ loans self.old };
 
-    /// Writes block i, counted from 0. It fails where it was named to, and only where the count of faults
-    /// rose; the blocks are then as before.
+    /// Writes block i, counted from 0. It fails where it was named to; after an error the blocks are as
+    /// before.
     fn write(&mut self, i: u32, bytes: &[u8; 4096]) -> Result<(), Failed>
         requires { i < length (blocks self.old) }
         ensures ok { OnOk result (blocks self.new ≡ slice_set (blocks self.old) i bytes.now) }
         ensures err { OnErr result (blocks self.new ≡ blocks self.old) }
-        ensures named_fails { OnTrue (is_named way.Write (named self.old)) (IsErr result) }
-        ensures named_quiet { OnTrue (is_named way.Write (named self.old)) (log self.new ≡ log self.old) }
-        ensures logged { OnFalse (is_named way.Write (named self.old)) (Logged (log self.old) (log self.new) (made_call way.Write i result ∷ [])) }
-        ensures named { named self.new ≡ after_call way.Write (named self.old) }
-        ensures cause { HasCause (faults self.old) (faults self.new) result }
+        ensures served { Serves (record { way = way.Write; block = i; succeeded = is_ok result; named = is_named way.Write (named self.old) })
+            (device_with (log self.old) (named self.old) (faults self.old)) (device_with (log self.new) (named self.new) (faults self.new)) }
         ensures loans { loans self.new ≡ loans self.old };
-}
 
-/// A device whose calls can be named to fail (own).
-pub trait Inject: Blocks {
     /// Of the reads, or of the writes, from now on, the k-th, counted from 1, is the first of n that fail.
     /// At most 64 times: what is named stays in the list once it is spent.
     fn name_calls(&mut self, direction: Direction, k: u32, n: u32)
-        requires room { length (Self.named self.old) < 64 }
+        requires room { length (named self.old) < 64 }
         requires first { 1 ≤ k }
         requires some { 1 ≤ n }
-        ensures named { Self.named self.new ≡ Self.named self.old ++ record { direction = direction; passes = k - 1; fails = n } ∷ [] }
-        ensures blocks { Self.blocks self.new ≡ Self.blocks self.old }
-        ensures log { Self.log self.new ≡ Self.log self.old }
-        ensures faults { Self.faults self.new ≡ Self.faults self.old }
-        ensures loans { Self.loans self.new ≡ Self.loans self.old };
+        ensures named { named self.new ≡ named self.old ++ record { direction = direction; passes = k - 1; fails = n } ∷ [] }
+        ensures blocks { blocks self.new ≡ blocks self.old }
+        ensures log { log self.new ≡ log self.old }
+        ensures faults { faults self.new ≡ faults self.old }
+        ensures loans { loans self.new ≡ loans self.old };
 }
 
 #[cfg(test)]

@@ -1,10 +1,9 @@
 ghost use Rattle.std.specs.Prelude.{◌≡◌, ◌≤◌, ◌<◌, ◌+◌, ◌++◌, ◌↔◌, [], ◌∷◌, Some, None, OnOk, OnErr, IfOk, IfSome, IfNone, IsErr, IsErrOf, length, replicate, slice_get, slice_set, vec_len, vec_capacity};
-ghost use Rattle.std.specs.Bool.{OnTrue, OnFalse};
-ghost use Rattle.mm_types.specs.Outside.{Loans, NoLoan, HasCause};
+ghost use Rattle.mm_types.specs.Outside.{Loans, NoLoan};
 ghost use Rattle.mm_types.specs.declared.devices.Direction.TheVariants as way;
 ghost use Rattle.mm_types.specs.declared.faults.OpenFault.TheVariants as fault;
 ghost use Rattle.mm_blocks.specs.Numbered.{NextFails, next_call, told};
-ghost use Rattle.mm_blocks.specs.Traffic.{Logged, NoneLogged, HasOpenCause, made_call, is_named, after_call, none_named, empty_block};
+ghost use Rattle.mm_blocks.specs.Traffic.{Logged, NoneLogged, HasCallCause, HasOpenCause, made_call, empty_block};
 
 use crate::call_logs::CallLog;
 use crate::fail_lists::FailList;
@@ -29,7 +28,6 @@ impl MemBlocks {
     pub fn new(alloc: Global, fails: Vec<u32>, log: u32) -> Result<MemBlocks, NoMemory>
         ensures blocks { IfOk result (λ d. ⟦<MemBlocks as Blocks>⟧.blocks d ≡ []) }
         ensures log { IfOk result (λ d. ⟦<MemBlocks as Blocks>⟧.log d ≡ Some []) }
-        ensures named { IfOk result (λ d. ⟦<MemBlocks as Blocks>⟧.named d ≡ []) }
         ensures fails { IfOk result (λ d. d.list.fails ≡ fails) }
         ensures calls { IfOk result (λ d. d.list.calls ≡ 0) }
         ensures room { IfOk result (λ d. d.log.room ≡ log) }
@@ -77,8 +75,6 @@ impl Blocks for MemBlocks {
 
     ghost log = { λ d. told d.log.room d.log.made d.log.calls.items };
 
-    ghost named = { λ d. none_named };
-
     ghost faults = { λ d. d.list.faults };
 
     ghost loans = { λ d. NoLoan };
@@ -86,11 +82,10 @@ impl Blocks for MemBlocks {
     fn open(&mut self, n: u32) -> Result<(), OpenFault>
         ensures ok { OnOk result (self.new.blocks ≡ replicate n empty_block) }
         ensures log { OnOk result (NoneLogged (told self.new.log.room self.new.log.made self.new.log.calls.items)) }
-        ensures named { none_named ≡ none_named }
+        ensures err_log { OnErr result (told self.new.log.room self.new.log.made self.new.log.calls.items ≡ told self.old.log.room self.old.log.made self.old.log.calls.items) }
         ensures cause { HasOpenCause self.old.list.faults self.new.list.faults result }
         ensures loans { NoLoan ≡ NoLoan }
         ensures err { OnErr result (self.new.blocks ≡ self.old.blocks) }
-        ensures err_log { OnErr result (self.new.log ≡ self.old.log) }
         ensures fails { IsErrOf result fault.Failed ↔ NextFails self.old.list.fails.items self.old.list.calls }
         ensures calls { self.new.list.calls ≡ next_call self.old.list.calls }
         ensures same_fails { self.new.list.fails ≡ self.old.list.fails }
@@ -113,7 +108,6 @@ impl Blocks for MemBlocks {
         ensures ok { OnOk result (self.new.blocks ≡ self.old.blocks ++ replicate n empty_block) }
         ensures err { OnErr result (self.new.blocks ≡ self.old.blocks) }
         ensures log { told self.new.log.room self.new.log.made self.new.log.calls.items ≡ told self.old.log.room self.old.log.made self.old.log.calls.items }
-        ensures named { none_named ≡ none_named }
         ensures cause { HasOpenCause self.old.list.faults self.new.list.faults result }
         ensures loans { NoLoan ≡ NoLoan }
         ensures fails { IsErrOf result fault.Failed ↔ NextFails self.old.list.fails.items self.old.list.calls }
@@ -134,11 +128,8 @@ impl Blocks for MemBlocks {
         requires { i < length self.old.blocks }
         ensures ok { OnOk result (slice_get self.old.blocks i ≡ Some out.new) }
         ensures blocks { self.new.blocks ≡ self.old.blocks }
-        ensures named_fails { OnTrue (is_named way.Read none_named) (IsErr result) }
-        ensures named_quiet { OnTrue (is_named way.Read none_named) (told self.new.log.room self.new.log.made self.new.log.calls.items ≡ told self.old.log.room self.old.log.made self.old.log.calls.items) }
-        ensures logged { OnFalse (is_named way.Read none_named) (Logged (told self.old.log.room self.old.log.made self.old.log.calls.items) (told self.new.log.room self.new.log.made self.new.log.calls.items) (made_call way.Read i result ∷ [])) }
-        ensures named { none_named ≡ after_call way.Read none_named }
-        ensures cause { HasCause self.old.list.faults self.new.list.faults result }
+        ensures logged { Logged (told self.old.log.room self.old.log.made self.old.log.calls.items) (told self.new.log.room self.new.log.made self.new.log.calls.items) (made_call way.Read i result ∷ []) }
+        ensures cause { HasCallCause self.old.list.faults self.new.list.faults result }
         ensures loans { NoLoan ≡ NoLoan }
         ensures fails { IsErr result ↔ NextFails self.old.list.fails.items self.old.list.calls }
         ensures calls { self.new.list.calls ≡ next_call self.old.list.calls }
@@ -163,11 +154,8 @@ impl Blocks for MemBlocks {
         requires { i < length self.old.blocks }
         ensures ok { OnOk result (self.new.blocks ≡ slice_set self.old.blocks i bytes.now) }
         ensures err { OnErr result (self.new.blocks ≡ self.old.blocks) }
-        ensures named_fails { OnTrue (is_named way.Write none_named) (IsErr result) }
-        ensures named_quiet { OnTrue (is_named way.Write none_named) (told self.new.log.room self.new.log.made self.new.log.calls.items ≡ told self.old.log.room self.old.log.made self.old.log.calls.items) }
-        ensures logged { OnFalse (is_named way.Write none_named) (Logged (told self.old.log.room self.old.log.made self.old.log.calls.items) (told self.new.log.room self.new.log.made self.new.log.calls.items) (made_call way.Write i result ∷ [])) }
-        ensures named { none_named ≡ after_call way.Write none_named }
-        ensures cause { HasCause self.old.list.faults self.new.list.faults result }
+        ensures logged { Logged (told self.old.log.room self.old.log.made self.old.log.calls.items) (told self.new.log.room self.new.log.made self.new.log.calls.items) (made_call way.Write i result ∷ []) }
+        ensures cause { HasCallCause self.old.list.faults self.new.list.faults result }
         ensures loans { NoLoan ≡ NoLoan }
         ensures fails { IsErr result ↔ NextFails self.old.list.fails.items self.old.list.calls }
         ensures calls { self.new.list.calls ≡ next_call self.old.list.calls }

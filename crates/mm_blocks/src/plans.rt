@@ -1,6 +1,4 @@
 ghost use Rattle.std.specs.Prelude.{◌≡◌, ◌≤◌, ◌<◌, ◌+◌, ◌-◌, [], ◌∷◌, ◌++◌, length, take, map};
-ghost use Rattle.std.specs.Bool.{OnTrue, OnFalse};
-ghost use Rattle.mm_types.specs.Outside.{Rose};
 ghost use Rattle.mm_blocks.specs.Traffic.{is_named, after_call, one_further};
 
 use crate::device_calls::{NamedCalls, after_one, is_next};
@@ -10,23 +8,22 @@ use std::marker::Model;
 /// How often calls may be named.
 pub(crate) const ROOM: usize = 64;
 
-/// The calls that are to fail, in the order in which they were named, and how many of them did.
+/// The calls that are to fail, in the order in which they were named.
 #[derive(Drop)]
 pub(crate) struct Plan {
     entries: [NamedCalls; ROOM],
     count: usize,
-    faults: u64,
 }
 
 impl Model for Plan {
-    ghost use Rattle.std.specs.Prelude.{take};
-    ghost use Rattle.mm_blocks.specs.Plans.{PlanOf, IsPlan};
+    ghost use Rattle.std.specs.Prelude.{◌≤◌, List, take};
+    ghost use Rattle.mm_blocks.specs.declared.device_calls.NamedCalls.{NamedCalls};
 
-    ghost Value = { PlanOf };
+    ghost Value = { List NamedCalls };
 
-    ghost view = { λ p. record { named = take p.count p.entries; faults = p.faults } };
+    ghost view = { λ p. take p.count p.entries };
 
-    ghost invariant = { λ p. IsPlan p.count p.entries p.faults };
+    ghost invariant = { λ p. p.count ≤ 64 };
 }
 
 /// The first `count` of these, one call of this direction further.
@@ -55,7 +52,7 @@ fn is_due(entries: &[NamedCalls; ROOM], count: usize, direction: Direction) -> b
 impl Plan {
     /// No call is named.
     pub(crate) fn new() -> Plan
-        ensures { result ≡ record { named = []; faults = 0 } }
+        ensures { result ≡ [] }
     {
         let none = NamedCalls {
             direction: Direction::Read,
@@ -65,16 +62,14 @@ impl Plan {
         Plan {
             entries: [none; ROOM],
             count: 0,
-            faults: 0,
         }
     }
 
     /// Of the calls of this direction from now on, the k-th, counted from 1, is the first of n that fail.
     pub(crate) fn add(&mut self, direction: Direction, k: u32, n: u32)
-        requires room { length self.old.named < 64 }
+        requires room { length self.old < 64 }
         requires first { 1 ≤ k }
-        ensures named { self.new.named ≡ self.old.named ++ record { direction = direction; passes = k - 1; fails = n } ∷ [] }
-        ensures faults { self.new.faults ≡ self.old.faults }
+        ensures { self.new ≡ self.old ++ record { direction = direction; passes = k - 1; fails = n } ∷ [] }
     {
         self.entries[self.count] = NamedCalls {
             direction,
@@ -86,17 +81,11 @@ impl Plan {
 
     /// One more call of this direction: whether it was named to fail.
     pub(crate) fn fails(&mut self, direction: Direction) -> bool
-        ensures due { result ≡ is_named direction self.old.named }
-        ensures named { self.new.named ≡ after_call direction self.old.named }
-        ensures later { self.old.faults ≤ self.new.faults }
-        ensures rose { OnTrue result (Rose self.old.faults self.new.faults) }
-        ensures stays { OnFalse result (self.new.faults ≡ self.old.faults) }
+        ensures due { result ≡ is_named direction self.old }
+        ensures named { self.new ≡ after_call direction self.old }
     {
         let due = is_due(&self.entries, self.count, direction);
         move_on(&mut self.entries, self.count, direction);
-        if due {
-            self.faults = self.faults.saturating_add(1);
-        }
         due
     }
 }

@@ -83,8 +83,8 @@ fn log_is_told_up_to_its_room(rt: HostRuntime) -> Result<(), Fail> {
 #[test]
 fn named_calls_fail(rt: HostRuntime) -> Result<(), Fail> {
     let mut memory = MemBlocks::new(rt.alloc(), Vec::new(rt.alloc()), 4)?;
+    memory.open(1)?;
     let mut device = Injected::new(&mut memory);
-    device.open(1)?;
     device.extend(1)?;
     let memory = device.finish();
     assert_eq!(rt; memory.count(), 2);

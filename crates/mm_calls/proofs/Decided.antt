@@ -1,5 +1,5 @@
 -- What the definitions of calls come to.
-use Rattle.std.proofs.Common.{◌≡◌, ◌≤◌, ◌<◌, ◌+◌, ◌-◌, ℕ, true, false, Option, Some, None, is_some, is_none, refl, ◌∙◌, ap, arith}
+use Rattle.std.proofs.Common.{◌≡◌, ◌≤◌, ◌<◌, ◌+◌, ◌-◌, ℕ, zero, suc, true, false, Option, Some, None, is_some, is_none, refl, sym, ◌∙◌, ap, arith}
 use Rattle.mm_types.specs.declared.answers.Answer.TheVariants as answer
 use Rattle.mm_types.specs.declared.codes.Code.TheVariants as code
 use Rattle.mm_types.specs.declared.views.Kind.TheVariants as kind
@@ -10,13 +10,14 @@ use Rattle.mm_world.specs.Find.{Found, process_of, region_around, set_region, se
 use Rattle.mm_world.specs.Alloc.{commit_pages, commit_in, commit_shared}
 use Rattle.mm_world.specs.Charge.{charge, limit}
 use Rattle.mm_world.specs.Contents.{Tables, blank}
-use Rattle.mm_world.specs.Outcome.{OutcomeOf, done, refused, need, find_or, within_limit}
+use Rattle.mm_world.specs.Outcome.{OutcomeOf, done, refused, need, within_limit}
 use Rattle.mm_world.specs.Protect.{protection_at}
 use Rattle.mm_world.specs.Rows.{is_protection_among, private_protections, accepts, is_committed_at, every_page, protected, commit, change_rows}
 use Rattle.mm_world.specs.WellFormed.{WellFormed}
 use Rattle.mm_sections.specs.Pages.{uncommitted_in}
 use Rattle.mm_spaces.specs.Tables.{owned_in}
 use Rattle.mm_tables.specs.Fits.{new_marks}
+use Rattle.mm_calls.specs.Marking.{protect_pages}
 use Rattle.mm_calls.proofs.Areas.{in_section, range_in_section}
 use Rattle.mm_calls.proofs.Around.{around}
 use Rattle.mm_calls.proofs.Counts.{commit_charge, protect_charge, area_charge_more, no_marks}
@@ -90,28 +91,29 @@ module _ (t : Tables) (pid : ℕ) (p : ProcessOf (Unit {0})) (range : Range) (pr
 
 -- ---- protect
 
+pub some_marks : (n : ℕ) → (n ≡ 0 → ⊥) → 1 ≤ n
+some_marks zero h = absurd (h refl)
+some_marks (suc n) h = omega arith
+
 module _ (t : Tables) (pid : ℕ) (p : ProcessOf (Unit {0})) (range : Range) (prot n : ℕ) (lives : process_of t pid ≡ Some p) where
   abbrev after : Found (RegionOf (Unit {0})) → OutcomeOf (Unit {0})
   after r = done (answer.OldProt (protection_at r.thing range.first)) (set_region t pid p r.place (change_rows (protected r.thing.kind prot) range r.thing))
 
-  -- what is left of a `protect` once its parameters were found right
-  abbrev pub protect_pages : OutcomeOf (Unit {0})
-  protect_pages =
-      find_or t code.InvalidAddress (region_around p.regions range) (λ r.
-      need t code.InvalidAddress (every_page (is_committed_at t r.thing) range) (
-      need t code.InvalidParameter (every_page (accepts r.thing prot) range) (
-      within_limit t (done (answer.OldProt (protection_at r.thing range.first))
-      (set_region t pid p r.place (change_rows (protected r.thing.kind prot) range r.thing))))))
-
   module _ (r : Found (RegionOf (Unit {0}))) (found : region_around p.regions range ≡ Some r) (there : every_page (is_committed_at t r.thing) range ≡ true) (takes : every_page (accepts r.thing prot) range ≡ true) (counted : n ≡ new_marks p.regions range prot) where
-    protect_reached : protect_pages ≡ within_limit t (after r)
+    protect_reached : protect_pages t pid p range prot ≡ within_limit t (after r)
     protect_reached =
         at_found t code.InvalidAddress (region_around p.regions range) r _ found
         ∙ at_met t code.InvalidAddress (every_page (is_committed_at t r.thing) range) _ there
         ∙ at_met t code.InvalidParameter (every_page (accepts r.thing prot) range) _ takes
 
-    pub protect_refused : limit t < charge t + n → protect_pages ≡ refused t code.CommitmentLimit
+    pub protect_refused : limit t < charge t + n → protect_pages t pid p range prot ≡ refused t code.CommitmentLimit
     protect_refused past = protect_reached ∙ at_limit t (after r) (omega (arith, protect_charge t pid p range r lives found prot, counted, past))
 
-    pub protect_made : charge t + n ≤ limit t → protect_pages ≡ done (answer.OldProt (protection_at r.thing range.first)) (set_region t pid p r.place (change_rows (protected r.thing.kind prot) range r.thing))
+    pub protect_made : charge t + n ≤ limit t → protect_pages t pid p range prot ≡ done (answer.OldProt (protection_at r.thing range.first)) (set_region t pid p r.place (change_rows (protected r.thing.kind prot) range r.thing))
     protect_made room = protect_reached ∙ at_room t (after r) (omega (arith, protect_charge t pid p range r lives found prot, counted, room))
+
+    -- the marks that it makes are charged
+    pub protect_charges : charge t + n ≤ limit t → charge (protect_pages t pid p range prot).world ≡ charge t + n
+    protect_charges room =
+        ap (λ (o : OutcomeOf (Unit {0})). charge o.world) (protect_made room)
+        ∙ protect_charge t pid p range r lives found prot ∙ ap (λ m. charge t + m) (sym counted)

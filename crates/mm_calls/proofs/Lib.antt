@@ -4,3 +4,4 @@ pub mod Decided
 pub mod Areas
 pub mod Pages
 pub mod Beginning
+pub mod Marks

@@ -1,4 +1,4 @@
-ghost use Rattle.std.specs.Prelude.{◌≡◌, ◌≤◌, ◌+◌, ◌-◌, true, false, length, nat_le, IfOk, OnOk, OnErr};
+ghost use Rattle.std.specs.Prelude.{◌≡◌, ◌≤◌, ◌+◌, ◌-◌, ℕ, true, false, length, nat_le, IfOk, OnOk, OnErr};
 ghost use Rattle.mm_types.specs.declared.answers.Answer.TheVariants as answer;
 ghost use Rattle.mm_types.specs.declared.moves.LineKind.TheVariants as line_kind;
 ghost use Rattle.mm_types.specs.Outside.{Rose};
@@ -68,6 +68,8 @@ pub fn grow_paging<G: Pages>(
     ensures rest { OnOk result (G.store g.new ≡ extended (G.store g.old) (G.store g.new)) }
     ensures report { OnOk result ((G.store g.new).report ≡ record (begun (G.store g.old).report) { counts = (G.store g.new).report.counts; extended = (G.store g.new).report.extended }) }
     ensures line { OnOk result ((G.store g.new).line ≡ line) }
+    ensures grew { IfOk result (λ a. (limit : ℕ) → a ≡ answer.Limit limit →
+        (G.store g.new).paging_device ≡ (G.store g.old).paging_device) }
     ensures cause { IfOk result (λ a. a ≡ answer.Fault → Rose (G.store g.old).paging_device.faults (G.store g.new).paging_device.faults) }
     ensures faults { (G.store g.old).paging_device.faults ≤ (G.store g.new).paging_device.faults }
     ensures unpaged { G.unpaged ≡ true → OnOk result (is_failed_extension (G.store g.new).report.extended ≡ false) }

@@ -1,6 +1,5 @@
-ghost use Rattle.std.specs.Prelude.{◌≡◌, ◌≤◌, ◌==◌, true, false, is_some, IsOk, IfOk, OnErr, IsSomeAnd};
-ghost use Rattle.mm_types.specs.Address.{end_of_user_pages, range_of};
-ghost use Rattle.mm_types.specs.Protection.{base_of};
+ghost use Rattle.std.specs.Prelude.{◌≡◌, true, false, is_some, IsOk, IfOk, OnErr};
+ghost use Rattle.mm_types.specs.Address.{end_of_user_pages};
 ghost use Rattle.mm_types.specs.declared.moves.LineKind.TheVariants as line_kind;
 ghost use Rattle.mm_world.specs.Find.{process_of};
 ghost use Rattle.mm_world.specs.Alloc.{alloc};
@@ -9,7 +8,8 @@ ghost use Rattle.mm_world.specs.Free.{free};
 ghost use Rattle.mm_world.specs.Protect.{protect};
 ghost use Rattle.mm_pages.specs.Housekeeping.{Turn, Turns, Makes, Ends};
 ghost use Rattle.mm_pages.specs.Passing.{PassesIn};
-ghost use Rattle.mm_tables.specs.Fits.{Fits, Called, beside, is_uncommitted, new_marks};
+ghost use Rattle.mm_tables.specs.Fits.{Fits, Called, beside, is_uncommitted};
+ghost use Rattle.mm_calls.specs.Marking.{marks_anew};
 
 use crate::allocations::{commit, reserve};
 use crate::frees::{decommit_range, decommit_region, release};
@@ -121,8 +121,7 @@ pub fn protect<G: Pages>(
     requires kind { (G.store g.old).kind ≡ line_kind.Call }
     ensures ok { IfOk result (λ a. Called (protect t.old pid.0 addr size prot) t.old (G.contents g.old) a t.new (G.contents g.new)) }
     ensures err { OnErr result ((t.new ≡ t.old) × (G.contents g.new ≡ G.contents g.old)) }
-    ensures unmarked { (base_of prot == 0x08) ≡ false → IsOk result }
-    ensures marks { OnErr result (IsSomeAnd (process_of t.old pid.0) (λ p. 1 ≤ new_marks p.regions (range_of addr size) prot)) }
+    ensures no_memory { marks_anew t.old pid.0 addr size prot ≡ false → IsOk result }
     ensures fits { Fits t.new (G.contents g.new) (G.store g.new) }
     ensures beside { G.store g.new ≡ beside (G.store g.old) (G.store g.new) }
     ensures passes { (turn : Turn) → PassesIn G.unpaged (Turns turn) (G.store g.old) (G.store g.new) (G.behind g.old) (G.behind g.new) }

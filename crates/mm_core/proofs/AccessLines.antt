@@ -20,7 +20,7 @@ use Rattle.mm_world.specs.Step.{stepped, unpaged, told, failing, need_at, when, 
 use Rattle.mm_world.specs.Contents.{Tables, world_with}
 use Rattle.mm_world.proofs.Tables.{Holds, tables}
 use Rattle.mm_pages.specs.Store.{StoreOf, changed}
-use Rattle.mm_pages.specs.Reports.{Ends, Served, SomeRose}
+use Rattle.mm_pages.specs.Reports.{Ends, Served, SomeFailed}
 use Rattle.mm_tables.specs.Fits.{Fits, bytes_of}
 use Rattle.mm_core.specs.Serving.{IsFailure, Named, Flushed}
 use Rattle.mm_core.specs.Accessing.{Refuses, Accessed}
@@ -68,14 +68,14 @@ module _ (u : Bool) (w : World) (pid addr : ℕ) (what : Attempt) (m z : StoreOf
       let fine : access_fails n z.report ≡ false = subst (λ r. OnOk r (access_fails n z.report ≡ false)) is ends.ok in
       record { need = n; needs = needs; had = λ e. outcome; lost = λ e. never (access_fails n z.report) e fine; served = served }
 
-  pub accessed-lost : (v : World) (x : PageFault) → result ≡ Err x → v ≡ w → OnErr result (SomeRose m z) → (u ≡ true → IsOk result) → Accessed u w pid addr what m z (answer.Raised raise.InPageError) v
+  pub accessed-lost : (v : World) (x : PageFault) → result ≡ Err x → v ≡ w → OnErr result (SomeFailed m z) → (u ≡ true → IsOk result) → Accessed u w pid addr what m z (answer.Raised raise.InPageError) v
   accessed-lost v x is same blamed paged =
       let failed : access_fails n z.report ≡ true = fails n z.report result x is ends in
       record {
         need = n;
         needs = needs;
         had = λ e. never (access_fails n z.report) failed e;
-        lost = λ e. record { raised = refl; same = same; blamed = subst (λ r. OnErr r (SomeRose m z)) is blamed; paged = never-fails u result x is paged };
+        lost = λ e. record { raised = refl; same = same; blamed = subst (λ r. OnErr r (SomeFailed m z)) is blamed; paged = never-fails u result x is paged };
         served = served;
       }
 
@@ -101,7 +101,7 @@ module _ (u : Bool) (e : Event) (n : ℕ) (t : Tables) (old mid : Key → Option
   v = world_with after (bytes_of new)
 
   module _ (keeps : Keeps after new z) (line_is : z.line ≡ m.line) (is_told : told w e s.report z.report ≡ failing (need_at w pid addr what) z.report) (is_unpaged : unpaged w e ≡ access w pid addr what) (named : Named u e a s.paging_device z.paging_device s.file_device z.file_device) (flushed : Flushed v z.file_blocks e a) where
-    decided-by : Stepped u w e s.report z.report a v → Served m z → (IsFailure a → SomeRose m z) → Decided u e n t old s a after new z
+    decided-by : Stepped u w e s.report z.report a v → Served m z → (IsFailure a → SomeFailed m z) → Decided u e n t old s a after new z
     decided-by step served failed =
         record {
           stepped = subst (λ (c : Key → Option Page). Stepped u (world_with t (bytes_of c)) e s.report z.report a v) same step;

@@ -9,6 +9,7 @@ use Rattle.mm_life.specs.MoveText.{AreMoves, spelled_moves}
 use Rattle.mm_life.specs.Replay.{Replays}
 use Rattle.mm_world.specs.World.{World}
 use Rattle.mm_world.specs.Report.{Report}
+use Rattle.mm_blocks.specs.Devices.{KeepsOthers}
 use Rattle.mm_walks.specs.Walks.{Walk, Through, walked}
 use Rattle.mm_pages.specs.Store.{StoreOf}
 use Rattle.mm_pages.specs.Behind.{Behind}
@@ -73,6 +74,8 @@ marked_lined plain w e n a v u s z b c accesses p paging =
         file_calls = q.file_calls;
         files_served = q.files;
         files_are = q.files_are ∙ ap (file_traffic b.life) is;
+        slots_kept = subst (λ (t : List Move). KeepsOthers (paging_traffic b.life t) b.slots c.slots) is q.slots_kept;
+        blocks_kept = subst (λ (t : List Move). KeepsOthers (file_traffic b.life t) s.file_blocks z.file_blocks) is q.blocks_kept;
       };
     }
 

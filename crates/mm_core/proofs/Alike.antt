@@ -5,6 +5,7 @@ use Rattle.std.proofs.Math.Path.{fun_ext}
 use Rattle.mm_types.specs.declared.moves.LineKind.{LineKind}
 use Rattle.mm_types.specs.declared.moves.LineKind.TheVariants as line_kind
 use Rattle.mm_types.specs.declared.numbers.Key.{Key}
+use Rattle.mm_types.specs.declared.numbers.Key.TheVariants as key_of_page
 use Rattle.mm_types.specs.declared.numbers.Pid.{Pid}
 use Rattle.mm_types.specs.declared.numbers.Place.{Place}
 use Rattle.mm_types.specs.declared.views.Kind.{Kind}
@@ -19,9 +20,9 @@ use Rattle.mm_world.specs.Contents.{Tables, no_bytes, region_with_bytes, process
 use Rattle.mm_world.proofs.Across.{live_back}
 use Rattle.mm_world.proofs.Natural.{first-map, some-map}
 use Rattle.mm_world.proofs.Reconstruct.{tables_back}
-use Rattle.mm_paging.specs.Kinds.{lives, row_key, if_lives}
+use Rattle.mm_paging.specs.Kinds.{lives, row_key, if_lives, file_block_of}
 use Rattle.mm_paging.specs.Lines.{is_uncommitted, flushed_in, flushed_keys}
-use Rattle.mm_tables.specs.Fits.{key_at, is_uncommitted as is_free}
+use Rattle.mm_tables.specs.Fits.{key_at, block_in, is_uncommitted as is_free}
 use Rattle.mm_views.specs.Stages.{keys_of_region, flushed_keys as keys_flushed}
 use Rattle.mm_core.proofs.With.{found_with, home_with, committed_with, pages-with, get-areas, process-with, committed-with}
 
@@ -77,6 +78,11 @@ module _ (t : Tables) (b : Key → Page) where
       by_area : (o : Option (AreaOf (Unit {0}))) → (unwrap_or (option_map (area_with b (0 + area)) o) no_area).file_block ≡ (unwrap_or o no_area).file_block
       by_area None = refl
       by_area (Some a) = refl
+
+  pub block_of-with : (k : Key) → file_block_of w k ≡ block_in t k
+  block_of-with (key_of_page.Private pid page) = refl
+  block_of-with (key_of_page.Shared area index) = λ i.
+      cond (live-with (key_of_page.Shared area index) i) (option_map (λ first. first + index) (block-with area.0 i)) None
 
   range-with : (pid addr size : ℕ) (r : RegionOf (Unit {0})) → flushed_range (region_with_bytes b pid r) addr size ≡ flushed_range r addr size
   range-with pid addr size r = ap (λ (pages : Range). cond (size == 0) (record { first = page_of addr; count = end_of pages - page_of addr }) (range_of addr size)) (pages-with b pid r)

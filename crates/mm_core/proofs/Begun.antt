@@ -9,6 +9,7 @@ use Rattle.mm_life.specs.MoveText.{AreMoves, spelled_moves}
 use Rattle.mm_life.specs.Replay.{Replays}
 use Rattle.mm_life.proofs.Noting.{grew_then}
 use Rattle.mm_life.proofs.Replays.{replays_then, spelled-append, moves-append}
+use Rattle.mm_blocks.specs.Devices.{KeepsOthers}
 use Rattle.mm_walks.specs.Walks.{waits_through, ages_through}
 use Rattle.mm_pages.specs.Store.{StoreOf}
 use Rattle.mm_pages.specs.Behind.{Behind}
@@ -82,6 +83,8 @@ module _ (n : ℕ) (k : LineKind) where
             file_calls = p.file_calls;
             files_served = p.files;
             files_are = p.files_are ∙ ap (file_traffic b.life) e;
+            slots_kept = subst (λ (t : List Move). KeepsOthers (paging_traffic b.life t) b.slots c.slots) e p.slots_kept;
+            blocks_kept = subst (λ (t : List Move). KeepsOthers (file_traffic b.life t) s.file_blocks z.file_blocks) e p.blocks_kept;
           };
         }
 
@@ -133,6 +136,8 @@ module _ (n : ℕ) (k : LineKind) where
     file_calls = p.file_calls;
     files = p.files;
     files_are = p.files_are;
+    slots_kept = p.slots_kept;
+    blocks_kept = p.blocks_kept;
   }
 
   pub went_alone : (u : Bool) (s z : StoreOf) (b c : Behind) (Q : List Move → Type 0) → u ≡ false → ((log : Log) → c ≡ begun_with n k log b → Q []) → PassesIn u (OneMove at) s z b c → Went false at Q s z b c

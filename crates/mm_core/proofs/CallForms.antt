@@ -14,6 +14,7 @@ use Rattle.mm_types.specs.declared.numbers.Key.{Key}
 use Rattle.mm_types.specs.declared.numbers.Pid.{Pid}
 use Rattle.mm_types.specs.declared.numbers.Place.{Place}
 use Rattle.mm_types.specs.Address.{end_of_user_pages}
+use Rattle.mm_life.specs.Life.{FrameLife}
 use Rattle.mm_life.specs.Logs.{Log}
 use Rattle.mm_world.specs.World.{Page, World, KeptOf}
 use Rattle.mm_world.specs.Find.{process_of}
@@ -24,10 +25,11 @@ use Rattle.mm_world.specs.Contents.{Tables, world_with}
 use Rattle.mm_world.proofs.Finding.{numbered_inside}
 use Rattle.mm_walks.specs.Waits.{Waiting, Idle}
 use Rattle.mm_walks.specs.Walks.{waits_through, ages_through}
-use Rattle.mm_walks.specs.Chores.{all_aged, Flushing}
+use Rattle.mm_walks.specs.Chores.{all_aged}
 use Rattle.mm_pages.specs.Store.{StoreOf}
 use Rattle.mm_pages.specs.Behind.{Behind}
-use Rattle.mm_pages.specs.Housekeeping.{Makes, Ends, AllTurn, Rises, pages_gone, Turns, OneMove, Trims, Ages, Flushes}
+use Rattle.mm_pages.specs.Flushing.{Flushing}
+use Rattle.mm_pages.specs.Housekeeping.{Makes, Ends, AllTurn, Rises, pages_gone, Turned, Turns, OneMove, Trims, Ages, Flushes}
 use Rattle.mm_pages.specs.Passing.{PassesIn, Notes, NotesIn}
 use Rattle.mm_paging.specs.Kinds.{lives, if_lives, made_process, grown}
 use Rattle.mm_paging.specs.Lines.{Does, GivesUp, Trimming, is_uncommitted, keeps_for, with_line}
@@ -57,6 +59,8 @@ passes_to false P Q s z b c to p = record {
   file_calls = p.file_calls;
   files = p.files;
   files_are = p.files_are;
+  slots_kept = p.slots_kept;
+  blocks_kept = p.blocks_kept;
 }
 
 -- of a line that asks devices for what is no move, nothing is told of devices
@@ -75,13 +79,13 @@ module _ (t : Tables) (old : Key → Option Page) (after : Tables) (new : Key �
   abbrev now : LineKind
   now = cond (is_some (process_of t pid.0)) (kind.Unbind pid) kind.Call
 
-  pub marked_release : (u : Bool) (s m z : StoreOf) (b y c : Behind) → Plain e w a b → ((k : LineKind) (ms : List Move) → GivesUp (is_uncommitted v) ms → Does w e a v z.report (with_line (move.At n k) b) ms c)
+  pub marked_release : (u : Bool) (s m z : StoreOf) (b y c : Behind) → Plain e w a b → ((k : LineKind) (ms : List Move) → GivesUp (is_uncommitted v) (with_line (move.At n k) b).life ms → Does w e a v z.report (with_line (move.At n k) b) ms c)
       → PassesIn u (OneMove (move.At n now)) s m b y → PassesIn u (Turns (Ends (is_free after) 0 end_of_user_pages)) m z y c → u ≡ false
       → Went false (move.At n (if_lives w pid (kind.Unbind pid))) (λ ms. Tells n (if_lives w pid (kind.Unbind pid)) e w a v z.report b ms c) s z b c
   marked_release u s m z b y c plain does p q paging =
       subst (λ (k : LineKind). Went false (move.At n k) (λ ms. Tells n k e w a v z.report b ms c) s z b c) (kind-with t (bytes_of old) pid (kind.Unbind pid))
       (marked_ends n now e w a v u s m z b y c plain (is_free after) 0 end_of_user_pages
-      (λ ms log h. does now ms (subst (λ (held : Place → Bool). GivesUp held ms) (uncommitted-with after (bytes_of new)) (record { all = h.all; order = h.order }))) p q paging)
+      (λ ms log h. does now ms (subst (λ (held : Place → Bool). GivesUp held (with_line (move.At n now) b).life ms) (uncommitted-with after (bytes_of new)) h.turned)) p q paging)
 
 -- a handle is closed: of pages of processes none goes
 none_rises : (ps : List ℕ) → Rises 0 0 ps → ps ≡ []
@@ -94,10 +98,10 @@ ends_any held from to low high (move.Unmap p ∷ ms) a = (a.0, ends_any held fro
 ends_any held from to low high (move.Drop k ∷ ms) a = (refl, ends_any held from to low high ms a.1)
 ends_any held from to low high (_ ∷ ms) a = let bad = a.0 in cc
 
-pub closed : (ms : List Move) → AllTurn (Ends (λ _. false) 0 0) ms → Rises 0 0 (pages_gone ms) → GivesUp (λ _. false) ms × (pages_gone ms ≡ [])
-closed ms all order =
-    let none = none_rises (pages_gone ms) order in
-    (record { all = ends_any (λ _. false) 0 0 0 end_of_user_pages ms all; order = subst (Rises 0 end_of_user_pages) (sym none) tt }, none)
+pub closed : (l : FrameLife) (ms : List Move) → Turned (Ends (λ _. false) 0 0) l ms → GivesUp (λ _. false) l ms × (pages_gone ms ≡ [])
+closed l ms t =
+    let none = none_rises (pages_gone ms) t.order in
+    (record { all = ends_any (λ _. false) 0 0 0 end_of_user_pages ms t.all; order = subst (Rises 0 end_of_user_pages) (sym none) tt; lowest = t.lowest }, none)
 
 -- ---- a process
 
@@ -186,13 +190,13 @@ marked_flush t old new n pid addr size a u s m z b y c p q paging =
 -- ---- lines that ask devices for what is no move
 
 -- a file
-pub marked_file : (n : ℕ) (e : Event) (w : World) (a : Answer) (v : World) (u : Bool) (s m z : StoreOf) (b y c : Behind) → Plain e w a b → ((ms : List Move) → AllTurn Makes ms → Does w e a v z.report (with_line (move.At n kind.Call) b) ms c) → PassesIn u (OneMove (move.At n kind.Call)) s m b y → NotesIn u (Turns Makes) y c → u ≡ false
+pub marked_file : (n : ℕ) (e : Event) (w : World) (a : Answer) (v : World) (u : Bool) (s m z : StoreOf) (b y c : Behind) → Plain e w a b → ((ms : List Move) → Turned Makes (with_line (move.At n kind.Call) b).life ms → Does w e a v z.report (with_line (move.At n kind.Call) b) ms c) → PassesIn u (OneMove (move.At n kind.Call)) s m b y → NotesIn u (Turns Makes) y c → u ≡ false
     → Went true (move.At n kind.Call) (λ ms. Tells n kind.Call e w a v z.report b ms c) s z b c
 marked_file n e w a v u s m z b y c plain does p q paging =
     noted_then n kind.Call (Turns Makes) u s m z b y c (λ ms. Tells n kind.Call e w a v z.report b ms c) paging
     (λ log ms h. record {
-      one_way = inl (makes_keep ms h.all);
-      does = does ms h.all;
+      one_way = inl (makes_keep ms h.turned.all);
+      does = does ms h.turned;
       ages = h.moved.ages ∙ sym (plain.ages ms);
       waits = h.moved.waits ∙ sym (plain.waits (waits_through ms b.waits) c.life);
     }) p q
@@ -281,12 +285,12 @@ module _ (t : Tables) (old mid : Key → Option Page) (after : Tables) (new : Ke
 
   exit_tells : (ws : ℕ → Waiting) → ((tid : ℕ) → ws tid ≡ idle_left t pid.0 threads b.waits tid) → (ms : List Move) → Ended (record b { waits = ws }) ms → Tells n first e exits a exited z.report b ms c
   exit_tells ws idle ms (log, h) = record {
-    one_way = inr (ends_take (is_free after) 0 end_of_user_pages ms h.all);
-    does = subst (λ (held : Place → Bool). GivesUp held ms) (uncommitted-with after (bytes_of new)) (record { all = h.all; order = h.order });
+    one_way = inr (ends_take (is_free after) 0 end_of_user_pages ms h.turned.all);
+    does = subst (λ (held : Place → Bool). GivesUp held (with_line (move.At n first) b).life ms) (uncommitted-with after (bytes_of new)) h.turned;
     ages = h.moved.ages;
     waits =
-        h.moved.waits ∙ away_waits ms ws (ends_take (is_free after) 0 end_of_user_pages ms h.all)
-        ∙ (λ i. λ tid. (idle tid ∙ (λ j. cond ((below pid.0 t tid count ∙ same_holder pid (kept_by t tid)) j) Idle (b.waits tid)) ∙ (λ j. cond (keeps_for (kept_by t tid) pid) Idle (sym (away_waits ms b.waits (ends_take (is_free after) 0 end_of_user_pages ms h.all)) j tid))) i);
+        h.moved.waits ∙ away_waits ms ws (ends_take (is_free after) 0 end_of_user_pages ms h.turned.all)
+        ∙ (λ i. λ tid. (idle tid ∙ (λ j. cond ((below pid.0 t tid count ∙ same_holder pid (kept_by t tid)) j) Idle (b.waits tid)) ∙ (λ j. cond (keeps_for (kept_by t tid) pid) Idle (sym (away_waits ms b.waits (ends_take (is_free after) 0 end_of_user_pages ms h.turned.all)) j tid))) i);
   }
 
   moved_back : (ws : ℕ → Waiting) → ((tid : ℕ) → ws tid ≡ idle_left t pid.0 threads b.waits tid) → Went false (move.At n first) (Ended (record b { waits = ws })) (waited s x) z (record b { waits = ws }) c → Went false (move.At n first) (λ ms. Tells n first e exits a exited z.report b ms c) s z b c
@@ -304,6 +308,8 @@ module _ (t : Tables) (old mid : Key → Option Page) (after : Tables) (new : Ke
       file_calls = d.file_calls;
       files_served = d.files_served;
       files_are = d.files_are;
+      slots_kept = d.slots_kept;
+      blocks_kept = d.blocks_kept;
     };
   }
 

@@ -280,3 +280,7 @@ module _ (u : Bool) (direction : Direction) (k n number : ℕ) (s m z : StoreOf)
   pub named-line : (device : Device) → (device ≡ device_of.File → FilesNamed) → (device ≡ device_of.Paging → PagingNamed) → z.line ≡ m.line
   named-line device_of.File files paging = ap (λ (s : StoreOf). s.line) (files refl)
   named-line device_of.Paging files paging = ap (λ (s : StoreOf). s.line) (paging refl)
+
+  pub named-blocks : (device : Device) → (device ≡ device_of.File → FilesNamed) → (device ≡ device_of.Paging → PagingNamed) → z.file_blocks ≡ m.file_blocks
+  named-blocks device_of.File files paging = ap (λ (s : StoreOf). s.file_blocks) (files refl)
+  named-blocks device_of.Paging files paging = ap (λ (s : StoreOf). s.file_blocks) (paging refl)

@@ -34,3 +34,4 @@ pub mod CallForms
 pub mod AccessMarks
 pub mod Promised
 pub mod Memory
+pub mod Grown

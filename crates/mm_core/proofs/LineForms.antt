@@ -21,7 +21,7 @@ use Rattle.mm_life.specs.Replay.{Replays}
 use Rattle.mm_world.specs.World.{World}
 use Rattle.mm_world.specs.Access.{Attempt}
 use Rattle.mm_world.specs.Failure.{Need}
-use Rattle.mm_world.specs.Report.{Report}
+use Rattle.mm_world.specs.Report.{Report, BeingRead}
 use Rattle.mm_world.specs.Step.{need_at}
 use Rattle.mm_walks.specs.Searches.{is_valid, Starved}
 use Rattle.mm_walks.specs.Waits.{Waiting, Idle}
@@ -96,16 +96,18 @@ module _ (plain : Bool) (w : World) (e : Event) (n : ℕ) (r : Answer) (v : Worl
 
     -- an access behind the `at`
     lined : (a : Aim) → aim_at w y.life pid addr what ≡ Some a → AccessMoves a y ys → (is_had r ≡ true → is_valid c.life a.place ≡ true)
+        → (is_pending_read r ≡ true → after.whereabouts a.need.key ≡ Some BeingRead)
         → (plain ≡ true → is_failed r ≡ true → after.last_failed_read ≡ None → Starved (c.life.valid a.place) (walked_all (walk_from y) ys))
         → c.ages ≡ place_had (Some a) r (ages_through ys y.ages) → c.waits ≡ waits_of_line w e r b (waits_through ys b.waits) c.life
         → Lined w e n r v after b (xs ++ ys) c
-    lined a is made valid starved ages waits =
+    lined a is made valid awaited starved ages waits =
         let life : y.life ≡ after_move b.life m = begun_life m b y xs rep p in
         let old : y.ages ≡ b.ages = begun_ages m b y xs rep p in
         let aim : aim_of w (with_line m b).life e ≡ Some a = form.aim (after_move b.life m) ∙ ap (λ (l : FrameLife). aim_at w l pid addr what) (sym life) ∙ is in
         let accesses : Accesses plain a r after (with_line m b) ys c = record {
           made = moves_from a m b y ys life old made;
           valid = valid;
+          awaited = awaited;
           starved = λ x f none. subst (λ (u : Walk). Starved (c.life.valid a.place) (walked_all u ys)) (walk-begun m b y life old) (starved x f none);
         } in
         record {
@@ -125,7 +127,7 @@ module _ (plain : Bool) (w : World) (e : Event) (n : ℕ) (r : Answer) (v : Worl
     -- a plain access
     lined_plain : {Ready : Type 0} → ((f : ℕ → Waiting) (l : FrameLife) → waits_of_line w e r b f l ≡ f) → Answered (aim_at w y.life pid addr what) Ready r after y ys c → Lined w e n r v after b (xs ++ ys) c
     lined_plain waits q =
-        lined q.aimed q.is q.answers.made q.answers.valid (λ x. q.answers.starved) q.answers.ages
+        lined q.aimed q.is q.answers.made q.answers.valid (λ pends. let bad : true ≡ false = sym pends ∙ q.answers.settled in cc) (λ x. q.answers.starved) q.answers.ages
         (q.answers.waits ∙ ap (waits_through ys) (begun_waits m b y xs rep p) ∙ sym (waits (waits_through ys b.waits) c.life))
 
     module _ (tid : ℕ) (waited : Waited w e r tid) where
@@ -138,7 +140,7 @@ module _ (plain : Bool) (w : World) (e : Event) (n : ℕ) (r : Answer) (v : Worl
       -- an access of a thread that was made
       lined_made : (plain ≡ true → ⊥) → MadeBy (aim_at w y.life pid addr what) tid r y ys c → Lined w e n r v after b (xs ++ ys) c
       lined_made never q =
-          lined q.aimed q.is q.made q.valid (λ x. absurd (never x)) q.ages
+          lined q.aimed q.is q.made q.valid (λ pends. let bad : true ≡ false = sym pends ∙ q.settled in cc) (λ x. absurd (never x)) q.ages
           (q.waits
           ∙ ap (λ (f : ℕ → Waiting). changed ◌==◌ (waits_through ys f) tid Idle) (begun_waits m b y xs rep p)
           ∙ (λ i. changed ◌==◌ (waits_through ys b.waits) tid (cond (sym q.settled i) (awaited (Some q.aimed) c.life) Idle))
@@ -149,7 +151,7 @@ module _ (plain : Bool) (w : World) (e : Event) (n : ℕ) (r : Answer) (v : Worl
       lined_failed never lost settled a is q =
           let ages : c.ages ≡ y.ages = ap (λ (x : Behind). x.ages) q.same in
           let waits : c.waits ≡ changed ◌==◌ y.waits tid Idle = ap (λ (x : Behind). x.waits) q.same in
-          lined a is (subst (λ t. AccessMoves a y t) (sym q.none) (no_moves a y)) (λ had. let bad : true ≡ false = sym had ∙ lost in cc) (λ x. absurd (never x))
+          lined a is (subst (λ t. AccessMoves a y t) (sym q.none) (no_moves a y)) (λ had. let bad : true ≡ false = sym had ∙ lost in cc) (λ pends. let bad : true ≡ false = sym pends ∙ settled in cc) (λ x. absurd (never x))
           (ages ∙ ap (λ t. ages_through t y.ages) (sym q.none) ∙ (λ i. λ x. cond (sym lost i) (changed same_place (ages_through ys y.ages) a.place 0 x) (ages_through ys y.ages x)))
           (waits
           ∙ ap (λ (f : ℕ → Waiting). changed ◌==◌ f tid Idle) (begun_waits m b y xs rep p ∙ ap (λ t. waits_through t b.waits) (sym q.none))
@@ -166,11 +168,16 @@ begun-awaits why.Read a l held.Dead = refl
 begun-awaits why.Full a l h = refl
 begun-awaits why.Frame a l h = refl
 
+reads : (x : Why) → is_pending_read (answer.Pending x) ≡ true → x ≡ why.Read
+reads why.Read e = refl
+reads why.Full e = cc
+reads why.Frame e = cc
+
 module _ (w : World) (e : Event) (n : ℕ) (why : Why) (v : World) (after : Report) (pid : Pid) (addr : ℕ) (what : Attempt) (form : IsAccess false w e (answer.Pending why) v after pid addr what) (tid : ℕ) (waited : Waited w e (answer.Pending why) tid) where
   -- an access of a thread that has to wait
-  lined_waits : (b y c : Behind) (xs ys : List Move) → Replays xs b.life y.life → OneMove (move.At n (kind_of_line w e (answer.Pending why))) b xs y → WaitsBy (aim_at w y.life pid addr what) tid why y ys c → Lined w e n (answer.Pending why) v after b (xs ++ ys) c
+  lined_waits : (b y c : Behind) (xs ys : List Move) → Replays xs b.life y.life → OneMove (move.At n (kind_of_line w e (answer.Pending why))) b xs y → WaitsBy (aim_at w y.life pid addr what) tid why after y ys c → Lined w e n (answer.Pending why) v after b (xs ++ ys) c
   lined_waits b y c xs ys rep p q =
-      lined false w e n (answer.Pending why) v after pid addr what form b y c xs ys rep p q.aimed q.is q.starts.made (λ had. cc) (λ plain. cc) q.starts.ages
+      lined false w e n (answer.Pending why) v after pid addr what form b y c xs ys rep p q.aimed q.is q.starts.made (λ had. cc) (λ pends. q.awaited (reads why pends)) (λ plain. cc) q.starts.ages
       (q.starts.waits
       ∙ ap (λ (f : ℕ → Waiting). changed ◌==◌ (waits_through ys f) tid (wait_begun (start.Pending why) (c.life.stands q.aimed.need.key))) (begun_waits (move.At n (kind_of_line w e (answer.Pending why))) b y xs rep p)
       ∙ ap (λ (x : Waiting). changed ◌==◌ (waits_through ys b.waits) tid x) (begun-awaits why q.aimed c.life (c.life.stands q.aimed.need.key))
@@ -239,11 +246,11 @@ module _ (u : Bool) (w : World) (e : Event) (n : ℕ) (v : World) (s m z : Store
 
   -- and one that has to wait
   pub waits_line : (why : Why) (pid : Pid) (addr : ℕ) (what : Attempt) (tid : ℕ) → IsAccess false w e (answer.Pending why) v z.report pid addr what → Waited w e (answer.Pending why) tid → begins (answer.Pending why)
-      → PassesIn u (WaitsBy (aim_at w y.life pid addr what) tid why) m z y c → PassesIn u (Lined w e n (answer.Pending why) v z.report) s z b c
+      → PassesIn u (WaitsBy (aim_at w y.life pid addr what) tid why z.report) m z y c → PassesIn u (Lined w e n (answer.Pending why) v z.report) s z b c
   waits_line why pid addr what tid form waited p q =
-      passes_then u (OneMove (move.At n (kind_of_line w e (answer.Pending why)))) (λ x ms d. WaitsBy (aim_at w x.life pid addr what) tid why x ms d) (Lined w e n (answer.Pending why) v z.report) s m z b y c
+      passes_then u (OneMove (move.At n (kind_of_line w e (answer.Pending why)))) (λ x ms d. WaitsBy (aim_at w x.life pid addr what) tid why z.report x ms d) (Lined w e n (answer.Pending why) v z.report) s m z b y c
       (record { join = λ b y c xs ys rep p q. lined_waits w e n why v z.report pid addr what form tid waited b y c xs ys rep p q })
-      p (passes_as u _ (λ x ms d. WaitsBy (aim_at w x.life pid addr what) tid why x ms d) m z y c (λ ms rep a. a) q)
+      p (passes_as u _ (λ x ms d. WaitsBy (aim_at w x.life pid addr what) tid why z.report x ms d) m z y c (λ ms rep a. a) q)
 
   -- and one whose read failed while it waited
   pub failed_line : (r : Answer) (pid : Pid) (addr : ℕ) (what : Attempt) (tid : ℕ) → IsAccess false w e r v z.report pid addr what → Waited w e r tid → is_had r ≡ false → is_pending_read r ≡ false → ((l : FrameLife) → is_some (aim_at w l pid addr what) ≡ true) → begins r

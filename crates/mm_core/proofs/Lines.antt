@@ -18,7 +18,7 @@ use Rattle.mm_world.specs.Contents.{Tables, BytesAfter, AcrossBytes, world_with}
 use Rattle.mm_world.proofs.LineLeaves.{in_step}
 use Rattle.mm_world.proofs.Tables.{Holds}
 use Rattle.mm_pages.specs.Store.{StoreOf}
-use Rattle.mm_pages.specs.Reports.{Served, SomeRose, begun}
+use Rattle.mm_pages.specs.Reports.{Served, SomeFailed, begun}
 use Rattle.mm_tables.specs.Fits.{Fits, bytes_of, Called}
 use Rattle.mm_tables.specs.References.{MadeAtMost}
 use Rattle.mm_core.specs.Serving.{IsFailure, Named, Flushed}
@@ -113,7 +113,7 @@ module _ (u : Bool) (e : Event) (n : ℕ) (t : Tables) (old : Key → Option Pag
   faulted-made false q k h h' outcome = subst (λ (t : Tables). MadeAtMost k t) (ap (λ (o : OutcomeOf (Unit {0})). o.world) outcome) h'
 
   -- a line that called devices
-  pub decided-served : n ≡ s.line + 1 → Begins n s m → z.line ≡ m.line → Served m z → Stepped u w e s.report z.report a v → (IsFailure a → SomeRose m z) → NamedHere → Flushed v z.file_blocks e a → MadeAtMost (s.line + 1) after → Fits after new z → Decided u e n t old s a after new z
+  pub decided-served : n ≡ s.line + 1 → Begins n s m → z.line ≡ m.line → Served m z → Stepped u w e s.report z.report a v → (IsFailure a → SomeFailed m z) → NamedHere → Flushed v z.file_blocks e a → MadeAtMost (s.line + 1) after → Fits after new z → Decided u e n t old s a after new z
   decided-served next b line_is served step failed named flushed few fits =
       record {
         stepped = step;

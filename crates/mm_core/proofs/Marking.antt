@@ -6,6 +6,8 @@ use Rattle.mm_types.specs.declared.events.Event.{Event}
 use Rattle.mm_types.specs.declared.frames.Held.{Held}
 use Rattle.mm_types.specs.declared.frames.Held.TheVariants as held
 use Rattle.mm_types.specs.declared.frames.Record.{Record}
+use Rattle.mm_types.specs.declared.frames.Request.{Request}
+use Rattle.mm_types.specs.declared.frames.Request.TheVariants as request
 use Rattle.mm_types.specs.declared.moves.LineKind.{LineKind}
 use Rattle.mm_types.specs.declared.moves.Move.{Move}
 use Rattle.mm_types.specs.declared.moves.Move.TheVariants as move
@@ -21,10 +23,11 @@ use Rattle.mm_life.specs.Victims.{can_be_written}
 use Rattle.mm_world.specs.World.{World}
 use Rattle.mm_walks.specs.Waits.{Waiting}
 use Rattle.mm_walks.specs.Walks.{Walk, Through, walked, waits_through, ages_through}
-use Rattle.mm_walks.specs.Chores.{TrimMove, frame_of, clearings, writes_begun, target, ending, IsEndOf, IsWriteOf, FlushMoves, FlushedAt, ends_lost, Flushing}
+use Rattle.mm_walks.specs.Chores.{TrimMove, frame_of, clearings, writes_begun, target, ending}
+use Rattle.mm_pages.specs.Flushing.{IsEndOf, IsWriteOf, IsWrittenNow, IsWrittenIf, IsEndedFirst, FlushesBy, FlushedAt, ends_lost, life_through, Flushing}
 use Rattle.mm_pages.specs.Store.{StoreOf}
 use Rattle.mm_pages.specs.Behind.{Behind}
-use Rattle.mm_pages.specs.Housekeeping.{Turn, Makes, Ends, AllTurn, Turns, OneMove, NoMove, Exactly, Trims, Completes, Flushes}
+use Rattle.mm_pages.specs.Housekeeping.{Turn, Makes, Ends, AllTurn, Turned, Turns, OneMove, NoMove, Exactly, Trims, Completes, Flushes}
 use Rattle.mm_pages.specs.Passing.{Passes, PassesIn, Notes, NotesIn}
 use Rattle.mm_paging.specs.Lines.{Does, with_line, ages_of_line, waits_of_line}
 use Rattle.mm_core.specs.Noting.{keeps_keys, Each, IsOneWay, Went, Tells, is_later, Halted}
@@ -90,27 +93,41 @@ end_keeps f m (inr e) = ap keeps_keys e
 write_keeps : (f : Frame) (m : Move) → IsWriteOf f m → keeps_keys m ≡ true
 write_keeps f m e = ap keeps_keys e.1
 
-flush_keeps : (f : Frame) (ms : List Move) → FlushMoves f ms → Each keeps_keys ms
-flush_keeps f [] h = tt
-flush_keeps f (x ∷ []) h = (end_keeps f x h, tt)
-flush_keeps f (x ∷ y ∷ []) h = (write_keeps f x h.0, (end_keeps f y h.1, tt))
-flush_keeps f (x ∷ y ∷ z ∷ []) h = (ap keeps_keys h.0, (write_keeps f y h.1, (end_keeps f z h.2, tt)))
-flush_keeps f (x ∷ y ∷ z ∷ u ∷ ms) h = absurd h
-
 none_keep : (ms : List Move) → ms ≡ [] → Each keeps_keys ms
 none_keep ms e = subst (Each keeps_keys) (sym e) tt
 
-flushed_keep : (h : Held) (ms : List Move) → FlushedAt h ms → Each keeps_keys ms
-flushed_keep (held.Frame f) ms p = flush_keeps f ms p
-flushed_keep (held.Slot s) ms p = none_keep ms p
-flushed_keep (held.Block b) ms p = none_keep ms p
-flushed_keep held.Zero ms p = none_keep ms p
-flushed_keep held.Dead ms p = none_keep ms p
+written_now_keep : (f : Frame) (ms : List Move) → IsWrittenNow f ms → Each keeps_keys ms
+written_now_keep f [] h = absurd h
+written_now_keep f (x ∷ []) h = absurd h
+written_now_keep f (x ∷ y ∷ []) h = (write_keeps f x h.0, (end_keeps f y h.1, tt))
+written_now_keep f (x ∷ y ∷ z ∷ ms) h = absurd h
+
+written_if_keep : (changed : Bool) (f : Frame) (ms : List Move) → IsWrittenIf changed f ms → Each keeps_keys ms
+written_if_keep true f ms h = written_now_keep f ms h
+written_if_keep false f ms h = none_keep ms h
+
+ended_first_keep : (again : Bool) (f : Frame) (ms : List Move) → IsEndedFirst again f ms → Each keeps_keys ms
+ended_first_keep again f [] h = absurd h
+ended_first_keep again f (x ∷ ms) (inl h) = (ap keeps_keys h.0, written_if_keep again f ms h.1)
+ended_first_keep again f (x ∷ ms) (inr h) = (ap keeps_keys h.0, none_keep ms h.1)
+
+flush_keeps : (r : Request) (changed : Bool) (f : Frame) (ms : List Move) → FlushesBy r changed f ms → Each keeps_keys ms
+flush_keeps request.None changed f ms h = written_if_keep changed f ms h
+flush_keeps request.Read changed f ms h = written_if_keep changed f ms h
+flush_keeps request.Write changed f ms h = ended_first_keep false f ms h
+flush_keeps request.WriteAgain changed f ms h = ended_first_keep true f ms h
+
+flushed_keep : (l : FrameLife) (h : Held) (ms : List Move) → FlushedAt l h ms → Each keeps_keys ms
+flushed_keep l (held.Frame f) ms p = let r = record_at l.frames f.0 in flush_keeps r.request r.changed f ms p
+flushed_keep l (held.Slot s) ms p = none_keep ms p
+flushed_keep l (held.Block b) ms p = none_keep ms p
+flushed_keep l held.Zero ms p = none_keep ms p
+flushed_keep l held.Dead ms p = none_keep ms p
 
 flushing_keep : (l : FrameLife) (ks : List Key) (ms : List Move) → Flushing l ks ms → Each keeps_keys ms
 flushing_keep l [] ms h = none_keep ms h
 flushing_keep l (k ∷ ks) ms h =
-    subst (Each keeps_keys) (sym h.1.1.0) (each_then keeps_keys h.0 h.1.0 (flushed_keep (l.stands k) h.0 h.1.1.1) (by_end (ends_lost h.0) (λ e. none_keep h.1.0 (h.1.1.2 e)) (λ e. flushing_keep l ks h.1.0 (h.1.1.3 e))))
+    subst (Each keeps_keys) (sym h.1.1.0) (each_then keeps_keys h.0 h.1.0 (flushed_keep l (l.stands k) h.0 h.1.1.1) (by_end (ends_lost h.0) (λ e. none_keep h.1.0 (h.1.1.2 e)) (λ e. flushing_keep (life_through l h.0) ks h.1.0 (h.1.1.3 e))))
   where
     by_end : (b : Bool) → (b ≡ true → Each keeps_keys h.1.0) → (b ≡ false → Each keeps_keys h.1.0) → Each keeps_keys h.1.0
     by_end true f g = f refl
@@ -145,16 +162,19 @@ module _ (n : ℕ) (k : LineKind) (e : Event) (w : World) (a : Answer) (v : Worl
     }
 
     -- keys come to be
-    pub marked_makes : ((ms : List Move) → AllTurn Makes ms → Done ms) → PassesIn u (OneMove at) s m b y → PassesIn u (Turns Makes) m z y c → Noted
-    marked_makes done p q paging =
-        went_then n k (Turns Makes) u s m z b y c There paging
-        (λ log ms h. tells ms (inl (makes_keep ms h.all)) (done ms h.all) h.moved.ages h.moved.waits) p q
+    pub marked_turn : (t : Turn) → ((ms : List Move) → AllTurn t ms → AllTurn Makes ms) → ((ms : List Move) → Turned t (with_line at b).life ms → Done ms) → PassesIn u (OneMove at) s m b y → PassesIn u (Turns t) m z y c → Noted
+    marked_turn t makes done p q paging =
+        went_then n k (Turns t) u s m z b y c There paging
+        (λ log ms h. tells ms (inl (makes_keep ms (makes ms h.turned.all))) (done ms h.turned) h.moved.ages h.moved.waits) p q
+
+    pub marked_makes : ((ms : List Move) → Turned Makes (with_line at b).life ms → Done ms) → PassesIn u (OneMove at) s m b y → PassesIn u (Turns Makes) m z y c → Noted
+    marked_makes done p q = marked_turn Makes (λ ms a. a) done p q
 
     -- pages and keys go
     pub marked_ends : (held : Place → Bool) (from to : ℕ) → ((ms : List Move) (log : Log) → Turns (Ends held from to) (begun_with n k log b) ms c → Done ms) → PassesIn u (OneMove at) s m b y → PassesIn u (Turns (Ends held from to)) m z y c → Noted
     marked_ends held from to done p q paging =
         went_then n k (Turns (Ends held from to)) u s m z b y c There paging
-        (λ log ms h. tells ms (inr (ends_take held from to ms h.all)) (done ms log h) h.moved.ages h.moved.waits) p q
+        (λ log ms h. tells ms (inr (ends_take held from to ms h.turned.all)) (done ms log h) h.moved.ages h.moved.waits) p q
 
     -- a call that makes no move, of which any turn is told
     pub marked_still : ((ms : List Move) → ms ≡ [] → Done ms) → PassesIn u (OneMove at) s m b y → ((turn : Turn) → PassesIn u (Turns turn) m z y c) → Noted
@@ -209,21 +229,29 @@ module _ (n : ℕ) (k : LineKind) (e : Event) (w : World) (a : Answer) (v : Worl
 
 -- ---- a line that ran out of memory
 
-halted : (beside : Bool) (n : ℕ) (k : LineKind) (s z : StoreOf) (b c : Behind) → is_later k ≡ true → Went beside (move.At n k) (AllTurn Makes) s z b c → Halted n b c
+-- keys came to be, and no slot changed
+abbrev Adds : Behind → Behind → List Move → Type 0
+Adds b c ms = AllTurn Makes ms × (c.slots ≡ b.slots)
+
+halted : (beside : Bool) (n : ℕ) (k : LineKind) (s z : StoreOf) (b c : Behind) → is_later k ≡ true → Went beside (move.At n k) (Adds b c) s z b c → Halted n b c
 halted beside n k s z b c later h =
-    record { piece = move.At n k ∷ h.moves; in_range = h.in_range; grew = h.grew; replays = h.replays; cut = inr (k, (h.moves, (later, refl, h.that))) }
+    record { piece = move.At n k ∷ h.moves; in_range = h.in_range; grew = h.grew; replays = h.replays; slots = h.that.1; cut = inr (k, (h.moves, (later, refl, h.that.0))) }
+
+pub halted_turn : (n : ℕ) (k : LineKind) → is_later k ≡ true → (t : Turn) → ((ms : List Move) → AllTurn t ms → AllTurn Makes ms) → (u : Bool) (s m z : StoreOf) (b y c : Behind) → PassesIn u (OneMove (move.At n k)) s m b y → PassesIn u (Turns t) m z y c → u ≡ false → Halted n b c
+halted_turn n k later t makes u s m z b y c p q paging =
+    halted false n k s z b c later (went_then n k (Turns t) u s m z b y c (Adds b c) paging (λ log ms h. (makes ms h.turned.all, h.slots)) p q)
 
 pub halted_makes : (n : ℕ) (k : LineKind) → is_later k ≡ true → (u : Bool) (s m z : StoreOf) (b y c : Behind) → PassesIn u (OneMove (move.At n k)) s m b y → PassesIn u (Turns Makes) m z y c → u ≡ false → Halted n b c
-halted_makes n k later u s m z b y c p q paging =
-    halted false n k s z b c later (went_then n k (Turns Makes) u s m z b y c (AllTurn Makes) paging (λ log ms h. h.all) p q)
+halted_makes n k later u s m z b y c p q = halted_turn n k later Makes (λ ms a. a) u s m z b y c p q
 
 pub halted_notes : (n : ℕ) (k : LineKind) → is_later k ≡ true → (u : Bool) (s m z : StoreOf) (b y c : Behind) → PassesIn u (OneMove (move.At n k)) s m b y → NotesIn u (Turns Makes) y c → u ≡ false → Halted n b c
 halted_notes n k later u s m z b y c p q paging =
-    halted true n k s z b c later (noted_then n k (Turns Makes) u s m z b y c (AllTurn Makes) paging (λ log ms h. h.all) p q)
+    halted true n k s z b c later (noted_then n k (Turns Makes) u s m z b y c (Adds b c) paging (λ log ms h. (h.turned.all, h.slots)) p q)
 
 pub halted_alone : (n : ℕ) (k : LineKind) → is_later k ≡ true → (u : Bool) (s z : StoreOf) (b c : Behind) → PassesIn u (OneMove (move.At n k)) s z b c → u ≡ false → Halted n b c
 halted_alone n k later u s z b c p paging =
-    halted false n k s z b c later (went_alone n k u s z b c (AllTurn Makes) paging (λ log same. tt) p)
+    halted false n k s z b c later (went_alone n k u s z b c (Adds b c) paging (λ log same. (tt, ap (λ (x : Behind). x.slots) same)) p)
 
 pub halted_none : (n : ℕ) (b c : Behind) → Notes NoMove b c → Halted n b c
-halted_none n b c p = record { piece = p.moves; in_range = p.in_range; grew = p.grew; replays = p.replays; cut = inl p.that.none }
+halted_none n b c p =
+    record { piece = p.moves; in_range = p.in_range; grew = p.grew; replays = p.replays; slots = ap (λ (x : Behind). x.slots) p.that.same; cut = inl p.that.none }

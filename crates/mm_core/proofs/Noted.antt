@@ -10,6 +10,7 @@ use Rattle.mm_types.specs.declared.moves.LineKind.TheVariants as kind
 use Rattle.mm_types.specs.declared.moves.Move.{Move}
 use Rattle.mm_types.specs.declared.moves.Move.TheVariants as move
 use Rattle.mm_types.specs.declared.numbers.Key.{Key}
+use Rattle.mm_types.specs.Machine.{MachineOf}
 use Rattle.mm_life.specs.Life.{FrameLife, is_live, is_dead}
 use Rattle.mm_life.specs.Effect.{after_at}
 use Rattle.mm_life.specs.Replay.{Replays}
@@ -22,11 +23,11 @@ use Rattle.mm_pages.specs.Store.{StoreOf}
 use Rattle.mm_pages.specs.Behind.{Behind}
 use Rattle.mm_pages.specs.Standing.{Stands, StandsIn}
 use Rattle.mm_paging.specs.Kinds.{kind_of_line, made_process, grown, kept_kind, lives}
-use Rattle.mm_paging.specs.Lines.{Agrees, TurnsKeys, Noted, Broken}
+use Rattle.mm_paging.specs.Lines.{Agrees, TurnsKeys, HoldsBeside, Noted, Broken}
 use Rattle.mm_tables.specs.Fits.{Fits, bytes_of, is_paging}
 use Rattle.mm_core.specs.Deciding.{Keeps}
 use Rattle.mm_core.specs.Noting.{is_later, IsOneWay, IsCut, Marked, MarkedIn, Halted, HaltedIn}
-use Rattle.mm_core.proofs.Alike.{live-with, row_key-with}
+use Rattle.mm_core.proofs.Alike.{live-with, row_key-with, block_of-with}
 use Rattle.mm_types.proofs.Options.{some_found}
 use Rattle.mm_core.proofs.Turned.{keys_made, keys_gone, none_made}
 
@@ -116,7 +117,7 @@ module _ (t : Tables) (c : Key → Option Page) (s : StoreOf) (b : Behind) (fits
       let listed : is_paging t k ≡ true = sym (fits.paging k) ∙ sym (h.paging k) ∙ e in
       live-with t (bytes_of c) k ∙ (parts (is_some (content_of t k)) (not (is_file_key t k)) listed).0
 
-  agrees : Agrees w s.report b
+  pub agrees : Agrees w s.report b
   agrees = record {
     keys = lives_in;
     places = λ p f valid.
@@ -125,6 +126,9 @@ module _ (t : Tables) (c : Key → Option Page) (s : StoreOf) (b : Behind) (fits
     counts = h.counts;
     whereabouts = h.whereabouts;
     waits = h.waits;
+    machine = h.machine ∙ fits.machine;
+    slots = h.slots ∙ ap (λ (m : MachineOf). m.slots) fits.machine;
+    blocks = λ k. sym (h.block k) ∙ fits.blocks k ∙ sym (block_of-with t (bytes_of c) k);
   }
 
 -- ---- the line
@@ -137,7 +141,10 @@ module _ (e : Event) (a : Answer) (t : Tables) (old : Key → Option Page) (s : 
   v = world_with after (bytes_of new)
 
   abbrev Here : Type 0
-  Here = Noted x s.report b s.paging_device s.file_device e a v z.report c z.paging_device z.file_device
+  Here = Noted x s.report b s.paging_device s.file_device s.file_blocks e a v z.report c z.paging_device z.file_device z.file_blocks
+
+  abbrev Held : Type 0
+  Held = HoldsBeside x e a b.slots c.slots s.file_blocks z.file_blocks
 
   turned : (n : ℕ) (k : LineKind) (ms : List Move) → is_later k ≡ true → IsOneWay ms → Replays ms (after_at b.life n k) c.life → TurnsKeys x v ms
   turned n k ms later (inl keep) r =
@@ -145,8 +152,8 @@ module _ (e : Event) (a : Answer) (t : Tables) (old : Key → Option Page) (s : 
   turned n k ms later (inr take) r =
       keys_gone x v (after_at b.life n k) c.life (λ q on. listed_in t old s b fits h q (ap (λ f. f q) (sym (at_paging b.life n k later)) ∙ on)) (lives_in after new z c fits' h') ms r take
 
-  noted_at : Marked e (b.life.line + 1) x s b a v z c → Here
-  noted_at m = record {
+  noted_at : Held → Marked e (b.life.line + 1) x s b a v z c → Here
+  noted_at beside m = record {
     piece = move.At (b.life.line + 1) (kind_of_line x e a) ∷ m.moves;
     in_range = m.in_range;
     grew = m.grew;
@@ -161,15 +168,16 @@ module _ (e : Event) (a : Answer) (t : Tables) (old : Key → Option Page) (s : 
       waits = m.that.waits;
       told = m.told;
       traffic = m.traffic;
+      beside = beside;
     };
   }
 
-  noted_by : (n : ℕ) → n ≡ s.line + 1 → Marked e n x s b a v z c → Here
-  noted_by n next m = noted_at (subst (λ (k : ℕ). Marked e k x s b a v z c) (next ∙ ap (λ l. l + 1) (sym h.line)) m)
+  noted_by : (n : ℕ) → n ≡ s.line + 1 → Held → Marked e n x s b a v z c → Here
+  noted_by n next beside m = noted_at beside (subst (λ (k : ℕ). Marked e k x s b a v z c) (next ∙ ap (λ l. l + 1) (sym h.line)) m)
 
-pub line-noted : (u : Bool) (e : Event) (n : ℕ) (t : Tables) (old : Key → Option Page) (s : StoreOf) (b : Behind) (a : Answer) (after : Tables) (new : Key → Option Page) (z : StoreOf) (c : Behind) → u ≡ false → n ≡ s.line + 1 → Fits t old s → Keeps after new z → StandsIn u old s b → StandsIn u new z c → MarkedIn u e n t old s b a after new z c → Noted (world_with t (bytes_of old)) s.report b s.paging_device s.file_device e a (world_with after (bytes_of new)) z.report c z.paging_device z.file_device
-line-noted u e n t old s b a after new z c paging next fits keeps h h' m =
-    noted_by e a t old s b after new z c fits (stands u old s b paging h) keeps.fits (stands u new z c paging h') n next (m paging)
+pub line-noted : (u : Bool) (e : Event) (n : ℕ) (t : Tables) (old : Key → Option Page) (s : StoreOf) (b : Behind) (a : Answer) (after : Tables) (new : Key → Option Page) (z : StoreOf) (c : Behind) → u ≡ false → n ≡ s.line + 1 → Fits t old s → Keeps after new z → StandsIn u old s b → StandsIn u new z c → HoldsBeside (world_with t (bytes_of old)) e a b.slots c.slots s.file_blocks z.file_blocks → MarkedIn u e n t old s b a after new z c → Noted (world_with t (bytes_of old)) s.report b s.paging_device s.file_device s.file_blocks e a (world_with after (bytes_of new)) z.report c z.paging_device z.file_device z.file_blocks
+line-noted u e n t old s b a after new z c paging next fits keeps h h' beside m =
+    noted_by e a t old s b after new z c fits (stands u old s b paging h) keeps.fits (stands u new z c paging h') n next beside (m paging)
 
 -- ---- a line that ran out of memory
 
@@ -187,6 +195,7 @@ module _ (old new : Key → Option Page) (s z : StoreOf) (b c : Behind) (same : 
     in_range = m.in_range;
     grew = m.grew;
     replays = m.replays;
+    slots = m.slots;
     at_most = subst (λ (l : ℕ). (m.piece ≡ []) ⊎ ((k : LineKind) × (m.piece ≡ move.At l k ∷ []))) (next ∙ ap (λ l. l + 1) (sym h.line)) (cut_short n m.piece m.replays m.cut);
   }
 

@@ -12,7 +12,7 @@ use Rattle.mm_world.specs.Report.{Report, failed_calls}
 use Rattle.mm_world.specs.Step.{step, stepped, when}
 use Rattle.mm_world.specs.Contents.{Tables, world_with}
 use Rattle.mm_pages.specs.Store.{StoreOf, Ready}
-use Rattle.mm_pages.specs.Reports.{Served, SomeRose, completed}
+use Rattle.mm_pages.specs.Reports.{Served, SomeFailed, completed}
 use Rattle.mm_tables.specs.Fits.{Fits, bytes_of}
 use Rattle.mm_core.specs.Serving.{IsFailure, Named, Flushed}
 use Rattle.mm_core.specs.Stepping.{asks_frames}
@@ -24,7 +24,7 @@ module _ (u : Bool) (n : ℕ) (t : Tables) (c : Key → Option Page) (s m z : St
   abbrev w : World
   w = world_with t (bytes_of c)
 
-  pub told-line : (e : Event) (a : Answer) → asks_frames e ≡ true → step w e s.report z.report ≡ done a w → z.line ≡ m.line → Served m z → (IsFailure a → SomeRose m z) → Named u e a s.paging_device z.paging_device s.file_device z.file_device → Flushed (world_with t (bytes_of d)) z.file_blocks e a → Fits t d z → Decided u e n t c s a t d z
+  pub told-line : (e : Event) (a : Answer) → asks_frames e ≡ true → step w e s.report z.report ≡ done a w → z.line ≡ m.line → Served m z → (IsFailure a → SomeFailed m z) → Named u e a s.paging_device z.paging_device s.file_device z.file_device → Flushed (world_with t (bytes_of d)) z.file_blocks e a → Fits t d z → Decided u e n t c s a t d z
   told-line e a asks answer line_is served failed named flushed fits =
       decided-served u e n t c s m a t d z next b line_is served
       (record {

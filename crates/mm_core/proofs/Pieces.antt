@@ -3,6 +3,7 @@ use Rattle.std.proofs.Common.{List, [], Bool, true, false, refl}
 use Rattle.mm_types.specs.declared.moves.Move.{Move}
 use Rattle.mm_life.specs.Replay.{Replays}
 use Rattle.mm_life.proofs.Noting.{grew_nothing}
+use Rattle.mm_blocks.proofs.Holding.{keeps_same}
 use Rattle.mm_pages.specs.Store.{StoreOf}
 use Rattle.mm_pages.specs.Behind.{Behind}
 use Rattle.mm_pages.specs.Passing.{PassesIn}
@@ -23,6 +24,8 @@ passes_as false P Q s z b c h p = record {
   file_calls = p.file_calls;
   files = p.files;
   files_are = p.files_are;
+  slots_kept = p.slots_kept;
+  blocks_kept = p.blocks_kept;
 }
 
 -- no move, and the store is as before
@@ -41,4 +44,6 @@ passes_still false Q s b q = record {
   file_calls = [];
   files = refl;
   files_are = refl;
+  slots_kept = keeps_same [] b.slots b.slots refl;
+  blocks_kept = keeps_same [] s.file_blocks s.file_blocks refl;
 }

@@ -15,7 +15,7 @@ use Rattle.mm_world.proofs.Reconstruct.{tables_back}
 use Rattle.mm_pages.specs.Behind.{Behind}
 use Rattle.mm_pages.specs.Standing.{StandsIn}
 use Rattle.mm_pages.specs.Store.{StoreOf}
-use Rattle.mm_paging.specs.Lines.{Line, Noted}
+use Rattle.mm_paging.specs.Lines.{Line, HoldsBeside, Noted}
 use Rattle.mm_tables.specs.Fits.{Fits, bytes_of}
 use Rattle.mm_tables.specs.References.{IsTidy}
 use Rattle.mm_core.specs.Deciding.{Decided, Idle}
@@ -31,12 +31,12 @@ use Rattle.mm_core.proofs.Readiness.{idle_in}
 
 -- what was noted, if that is told of this store
 abbrev NotedIn : Bool → Scene → Event → Answer → Scene → Type 0
-NotedIn u s e a z = u ≡ false → Noted s.world s.report s.behind s.paging s.files e a z.world z.report z.behind z.paging z.files
+NotedIn u s e a z = u ≡ false → Noted s.world s.report s.behind s.paging s.files s.blocks e a z.world z.report z.behind z.paging z.files z.blocks
 
 pub record Piece (u : Bool) (s : Scene) (e : Event) (a : Answer) (z : Scene) : Type 0 where
   pub moves : List Move
   pub notes : u ≡ false → Notes s.behind moves z.behind
-  pub line : u ≡ false → Line s.world s.report s.behind s.paging s.files e a moves z.world z.report z.behind z.paging z.files
+  pub line : u ≡ false → Line s.world s.report s.behind s.paging s.files s.blocks e a moves z.world z.report z.behind z.paging z.files z.blocks
 
 no_way : true ≡ false → ⊥
 no_way e = cc
@@ -82,9 +82,9 @@ module _ (u : Bool) (n : ℕ) (t : Tables) (old : Key → Option Page) (s : Stor
     unwaited = λ never tid. idle_in u new z c h.stands_after never tid;
   }
 
-  pub decides : (e : Event) (a : Answer) → Fits t old s → Standing → Decided u e n t old s a after new z → EndsWaits t e a z.report → (u ≡ false → AskedBeside t.blocks_used e a s.paging_device z.paging_device s.file_device z.file_device) → MarkedIn u e n t old s b a after new z c → DecidesStep u before e a behind
+  pub decides : (e : Event) (a : Answer) → Fits t old s → Standing → Decided u e n t old s a after new z → EndsWaits t e a z.report → (u ≡ false → AskedBeside t.blocks_used e a s.paging_device z.paging_device s.file_device z.file_device s.file_blocks z.file_blocks × HoldsBeside (world_with t (bytes_of old)) e a b.slots c.slots s.file_blocks z.file_blocks) → MarkedIn u e n t old s b a after new z c → DecidesStep u before e a behind
   decides e a fits h d waits beside marked =
-      let p = piece_in u before e a behind (λ paging. line-noted u e n t old s b a after new z c paging h.next fits d.keeps h.stands h.stands_after marked) in
+      let p = piece_in u before e a behind (λ paging. line-noted u e n t old s b a after new z c paging h.next fits d.keeps h.stands h.stands_after (beside paging).1 marked) in
       record {
         outcome = d.stepped;
         moves = p.moves;
@@ -93,7 +93,7 @@ module _ (u : Bool) (n : ℕ) (t : Tables) (old : Key → Option Page) (s : Stor
           sound = sound h;
           asked_paging = d.devices.asked_paging;
           asked_files = d.devices.asked_files;
-          beside = beside;
+          beside = λ paging. (beside paging).0;
           named = d.devices.named;
           few_paging = d.keeps.fits.named_paging;
           few_files = d.keeps.fits.named_file;
@@ -129,6 +129,7 @@ unbegun u s h = record {
     in_range = tt;
     grew = grew_nothing s.behind.log;
     replays = refl;
+    slots = refl;
     at_most = inl refl;
   };
 }

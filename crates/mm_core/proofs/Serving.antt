@@ -10,9 +10,9 @@ use Rattle.mm_world.specs.Report.{Report, Tally}
 use Rattle.mm_blocks.specs.Devices.{DeviceOf, Call, AllServed}
 use Rattle.mm_pages.specs.Tallies.{with_call, tallied}
 use Rattle.mm_pages.specs.Store.{StoreOf}
-use Rattle.mm_pages.specs.Reports.{Served, SomeRose, rearranged}
+use Rattle.mm_pages.specs.Reports.{Served, SomeFailed, rearranged}
 use Rattle.mm_tables.specs.Fits.{beside}
-use Rattle.mm_core.specs.Serving.{IsFailure, FailedBefore, Named, OneRose}
+use Rattle.mm_core.specs.Serving.{IsFailure, FailedBefore, Named, OneFailed}
 use Rattle.mm_core.specs.Deciding.{Begins, Devices}
 
 -- ---- calls behind calls
@@ -83,7 +83,7 @@ served-quiet m z h =
 
 -- ---- a line
 
-pub devices-told : (u : Bool) (e : Event) (n : ℕ) (s m z : StoreOf) (a : Answer) → Begins n s m → Served m z → Named u e a s.paging_device z.paging_device s.file_device z.file_device → (IsFailure a → FailedBefore e s.report ⊎ SomeRose m z) → Devices u e s z a
+pub devices-told : (u : Bool) (e : Event) (n : ℕ) (s m z : StoreOf) (a : Answer) → Begins n s m → Served m z → Named u e a s.paging_device z.paging_device s.file_device z.file_device → (IsFailure a → FailedBefore e s.report ⊎ SomeFailed m z) → Devices u e s z a
 devices-told u e n s m z a b h named failed =
     record {
       asked_files = λ plain.
@@ -103,14 +103,14 @@ devices-told u e n s m z a b h named failed =
       named = named;
       failed = λ f. elim (failed f) [
         | inl before ↦ inl before
-        | inr rose ↦ inr (subst (λ (d : DeviceOf). OneRose d z.paging_device s.file_device z.file_device) b.paging
-            (subst (λ (d : DeviceOf). OneRose m.paging_device z.paging_device d z.file_device) b.files rose))
+        | inr rose ↦ inr (subst (λ (d : DeviceOf). OneFailed d z.paging_device s.file_device z.file_device) b.paging
+            (subst (λ (d : DeviceOf). OneFailed m.paging_device z.paging_device d z.file_device) b.files rose))
       ];
       paging_later = omega (arith, all-later h.paging_calls m.paging_device z.paging_device h.paging, ap (λ (d : DeviceOf). d.faults) b.paging);
       files_later = omega (arith, all-later h.file_calls m.file_device z.file_device h.files, ap (λ (d : DeviceOf). d.faults) b.files);
     }
 
-pub devices-served : (u : Bool) (e : Event) (n : ℕ) (s m z : StoreOf) (a : Answer) → Begins n s m → Served m z → Named u e a s.paging_device z.paging_device s.file_device z.file_device → (IsFailure a → SomeRose m z) → Devices u e s z a
+pub devices-served : (u : Bool) (e : Event) (n : ℕ) (s m z : StoreOf) (a : Answer) → Begins n s m → Served m z → Named u e a s.paging_device z.paging_device s.file_device z.file_device → (IsFailure a → SomeFailed m z) → Devices u e s z a
 devices-served u e n s m z a b h named failed = devices-told u e n s m z a b h named (λ f. inr (failed f))
 
 -- where no device was called, the answer is no failure

@@ -3,6 +3,7 @@ use Rattle.std.proofs.Common.{◌≡◌, ◌≤◌, ℕ, List, ◌++◌, Bool, t
 use Rattle.std.specs.Prelude.{count_by, ◌==◌}
 use Rattle.mm_types.specs.declared.answers.Answer.{Answer}
 use Rattle.mm_types.specs.declared.answers.Why.{Why}
+use Rattle.mm_types.specs.declared.answers.Why.TheVariants as why_of
 use Rattle.mm_types.specs.declared.moves.LineKind.TheVariants as kind
 use Rattle.mm_types.specs.declared.moves.Move.{Move}
 use Rattle.mm_types.specs.declared.numbers.Key.{Key}
@@ -12,7 +13,7 @@ use Rattle.mm_life.specs.Life.{FrameLife}
 use Rattle.mm_life.specs.Legal.{is_thread}
 use Rattle.mm_life.specs.Replay.{Replays}
 use Rattle.mm_world.specs.World.{Page}
-use Rattle.mm_world.specs.Report.{Report}
+use Rattle.mm_world.specs.Report.{Report, BeingRead}
 use Rattle.mm_walks.specs.Waits.{Waiting, Idle}
 use Rattle.mm_walks.specs.Walks.{Walk, walked_all, Through, waits_through, ages_through, is_read_move, is_wrote_move, takes_frame}
 use Rattle.mm_pages.specs.Store.{StoreOf, changed}
@@ -96,6 +97,6 @@ module _ (aim later : Option Aim) (a : Aim) (is : aim ≡ Some a) (l : FrameLife
 
 -- ---- it has to wait
 
-pub started_waits : (u : Bool) (aim : Option Aim) (a : Aim) → aim ≡ Some a → (tid : ℕ) (why : Why) (s z : StoreOf) (b c : Behind) → PassesIn u (Starts a tid (start.Pending why)) s z b c → PassesIn u (WaitsBy aim tid why) s z b c
-started_waits u aim a is tid why s z b c p =
-    passes_as u (Starts a tid (start.Pending why)) (WaitsBy aim tid why) s z b c (λ ms rep h. record { aimed = a; is = is; starts = h }) p
+pub started_waits : (u : Bool) (aim : Option Aim) (a : Aim) → aim ≡ Some a → (tid : ℕ) (why : Why) (s z : StoreOf) (b c : Behind) → (why ≡ why_of.Read → z.report.whereabouts a.need.key ≡ Some BeingRead) → PassesIn u (Starts a tid (start.Pending why)) s z b c → PassesIn u (WaitsBy aim tid why z.report) s z b c
+started_waits u aim a is tid why s z b c awaited p =
+    passes_as u (Starts a tid (start.Pending why)) (WaitsBy aim tid why z.report) s z b c (λ ms rep h. record { aimed = a; is = is; starts = h; awaited = awaited }) p

@@ -22,7 +22,7 @@ use Rattle.mm_world.specs.Step.{step, stepped, unpaged, told, need_at, kept_by, 
 use Rattle.mm_world.specs.Contents.{Tables, world_with, process_with}
 use Rattle.mm_core.proofs.With.{process-with}
 use Rattle.mm_pages.specs.Store.{StoreOf}
-use Rattle.mm_pages.specs.Reports.{Served, SomeRose}
+use Rattle.mm_pages.specs.Reports.{Served, SomeFailed}
 use Rattle.mm_tables.specs.Fits.{bytes_of}
 use Rattle.mm_core.specs.Serving.{IsFailure, Named, Flushed, FailedBefore}
 use Rattle.mm_core.specs.Accessing.{Refuses}
@@ -64,7 +64,7 @@ module _ (u : Bool) (n : ℕ) (t : Tables) (old mid : Key → Option Page) (s m 
   began : (depth : ℕ) (need : Need) (z : StoreOf) (o : Option Why) → pending depth need m.report z.report ≡ o → pending depth need s.report z.report ≡ o
   began depth need z o p = subst (λ (r : Report). pending depth need r z.report ≡ o) b.report_is p
 
-  thread-line : (e : Event) (a : Answer) (after : Tables) (new : Key → Option Page) (z : StoreOf) → Keeps after new z → z.line ≡ m.line → Stepped u w e s.report z.report a (world_with after (bytes_of new)) → Served m z → (IsFailure a → FailedBefore e s.report ⊎ SomeRose m z) → Named u e a s.paging_device z.paging_device s.file_device z.file_device → Flushed (world_with after (bytes_of new)) z.file_blocks e a → Decided u e n t old s a after new z
+  thread-line : (e : Event) (a : Answer) (after : Tables) (new : Key → Option Page) (z : StoreOf) → Keeps after new z → z.line ≡ m.line → Stepped u w e s.report z.report a (world_with after (bytes_of new)) → Served m z → (IsFailure a → FailedBefore e s.report ⊎ SomeFailed m z) → Named u e a s.paging_device z.paging_device s.file_device z.file_device → Flushed (world_with after (bytes_of new)) z.file_blocks e a → Decided u e n t old s a after new z
   thread-line e a after new z keeps line_is step served failed named flushed =
       record {
         stepped = subst (λ (c : Key → Option Page). Stepped u (world_with t (bytes_of c)) e s.report z.report a (world_with after (bytes_of new))) same step;

@@ -1,5 +1,5 @@
 -- The lines `begin` and `resume`: their pieces of the log, from what begins them and how the thread's access went.
-use Rattle.std.proofs.Common.{◌≡◌, ℕ, List, Bool, true, false, Option, Some, None, refl, sym, ap, ◌∙◌, subst, cond, is_some}
+use Rattle.std.proofs.Common.{◌≡◌, ℕ, List, Bool, true, false, Option, Some, None, refl, sym, ap, ◌∙◌, subst, cond, is_some, Result}
 use Rattle.std.specs.Prelude.{◌==◌}
 use Rattle.mm_types.specs.declared.answers.Answer.{Answer}
 use Rattle.mm_types.specs.declared.answers.Answer.TheVariants as answer
@@ -32,7 +32,9 @@ use Rattle.mm_pages.proofs.Passed.{passes_then}
 use Rattle.mm_paging.specs.Kinds.{kind_of_line, aim_of, aim_at, aim_kept, kept_kind}
 use Rattle.mm_paging.specs.Lines.{awaited, is_pending_read, wait_of_begin}
 use Rattle.mm_tables.specs.Fits.{bytes_of}
-use Rattle.mm_core.specs.Answering.{MadeBy, WaitsBy, RefusedBy, FailedBy, TurnedBy, aim_in}
+use Rattle.mm_core.specs.Answering.{MadeBy, WaitsBy, WentBy, RefusedBy, FailedBy, TurnedBy, aim_in}
+use Rattle.mm_core.specs.Over.{PassesOver, aim_over}
+use Rattle.mm_pages.specs.declared.pages.Pages.{Ghosts as PagesGhosts}
 use Rattle.mm_core.specs.Lining.{Lined}
 use Rattle.mm_core.specs.declared.threads.Threaded.TheVariants as threaded
 use Rattle.mm_core.specs.Pending.{Permitted}
@@ -105,10 +107,10 @@ module _ (u : Bool) (tid : Tid) (pid : Pid) (what : AccessSpec) (n : ℕ) (t : T
         (subst (λ (c' : Key → Option Page). PassesIn u (MadeBy (aim_in t c' y pid addr does) tid.0 r) m z y c) same p)
 
     -- it has to wait
-    pub begin-waits-passes : (why : Why) (v : World) (z : StoreOf) (c : Behind) → PassesIn u (WaitsBy (aim_in t mid y pid addr does) tid.0 why) m z y c → PassesIn u (Lined w e n (answer.Pending why) v z.report) s z b c
+    pub begin-waits-passes : (why : Why) (v : World) (z : StoreOf) (c : Behind) → PassesIn u (WaitsBy (aim_in t mid y pid addr does) tid.0 why z.report) m z y c → PassesIn u (Lined w e n (answer.Pending why) v z.report) s z b c
     begin-waits-passes why v z c p =
         waits_line u w e n v s m z b y c why pid addr does tid.0 (form (answer.Pending why) v z.report) (waited (answer.Pending why)) (begins (answer.Pending why))
-        (subst (λ (c' : Key → Option Page). PassesIn u (WaitsBy (aim_in t c' y pid addr does) tid.0 why) m z y c) same p)
+        (subst (λ (c' : Key → Option Page). PassesIn u (WaitsBy (aim_in t c' y pid addr does) tid.0 why z.report) m z y c) same p)
 
 -- ---- `resume`
 
@@ -159,10 +161,10 @@ module _ (u : Bool) (tid : Tid) (n : ℕ) (t : Tables) (old mid : Key → Option
     moved P z c p = subst (λ (c' : Key → Option Page). PassesIn u (P (aim_in t c' y pid at tries)) m z y c) same p
 
     -- the kept access has to wait still
-    pub resume-waits-passes : (why : Why) (v : World) (z : StoreOf) (c : Behind) → PassesIn u (WaitsBy (aim_in t mid y pid at tries) tid.0 why) m z y c → PassesIn u (Lined x f n (answer.Pending why) v z.report) s z b c
+    pub resume-waits-passes : (why : Why) (v : World) (z : StoreOf) (c : Behind) → PassesIn u (WaitsBy (aim_in t mid y pid at tries) tid.0 why z.report) m z y c → PassesIn u (Lined x f n (answer.Pending why) v z.report) s z b c
     resume-waits-passes why v z c p =
         waits_line u x f n v s m z b y c why pid at tries tid.0 (access (answer.Pending why) v z.report) (awaits (answer.Pending why)) (begun (answer.Pending why))
-        (moved (λ aim. WaitsBy aim tid.0 why) z c p)
+        (moved (λ aim. WaitsBy aim tid.0 why z.report) z c p)
 
     module _ (v : World) (z' z : StoreOf) (c' c : Behind) (forgot : PassesIn u (Forgets tid.0) z' z c' c) where
       -- it is made
@@ -190,10 +192,22 @@ module _ (u : Bool) (tid : Tid) (n : ℕ) (t : Tables) (old mid : Key → Option
 -- ---- an access of a thread that asks the store for nothing
 
 module _ (u : Bool) (w : World) (pid : Pid) (addr : ℕ) (what : Attempt) (tid : ℕ) where
-  pub turned_refused : (r : Answer) (s : StoreOf) (b : Behind) → need_at w pid.0 addr what ≡ None → PassesIn u (TurnedBy (aim_at w b.life pid addr what) tid (threaded.Refused r)) s s b b
+  pub turned_refused : (r : Answer) (s : StoreOf) (b : Behind) → need_at w pid.0 addr what ≡ None → PassesIn u (TurnedBy (aim_at w b.life pid addr what) tid (threaded.Refused r) s.report) s s b b
   turned_refused r s b needless =
-      passes_still u (TurnedBy (aim_at w b.life pid addr what) tid (threaded.Refused r)) s b (record { none = aim-needless w b.life pid addr what needless; still = record { none = refl; same = refl } })
+      passes_still u (TurnedBy (aim_at w b.life pid addr what) tid (threaded.Refused r) s.report) s b (record { none = aim-needless w b.life pid addr what needless; still = record { none = refl; same = refl } })
 
-  pub turned_failed : (s : StoreOf) (b : Behind) → Permitted w pid.0 addr what → PassesIn u (TurnedBy (aim_at w b.life pid addr what) tid threaded.Failed) s s b b
+  pub turned_failed : (s : StoreOf) (b : Behind) → Permitted w pid.0 addr what → PassesIn u (TurnedBy (aim_at w b.life pid addr what) tid threaded.Failed s.report) s s b b
   turned_failed s b h =
-      passes_still u (TurnedBy (aim_at w b.life pid addr what) tid threaded.Failed) s b (record { aimed = _; is = aim-needs w b.life pid addr what h.need h.needs; still = record { none = refl; same = refl } })
+      passes_still u (TurnedBy (aim_at w b.life pid addr what) tid threaded.Failed s.report) s b (record { aimed = _; is = aim-needs w b.life pid addr what h.need h.needs; still = record { none = refl; same = refl } })
+
+-- ---- an access that one of two calls made
+
+module _ {G : Type 0} (p : PagesGhosts G) where
+  pub went_joined : (t v : Tables) (x y z : G) (pid : Pid) (addr : ℕ) (what : Attempt) (tid : ℕ) (r o : Result Answer Why)
+      → v ≡ t → z ≡ y → r ≡ o
+      → PassesOver p (WentBy (aim_over p v x pid addr what) tid r (p.store y).report) x y
+      → PassesOver p (WentBy (aim_over p t x pid addr what) tid o (p.store z).report) x z
+  went_joined t v x y z pid addr what tid r o same is ends h =
+      subst (λ (z : G). PassesOver p (WentBy (aim_over p t x pid addr what) tid o (p.store z).report) x z) (sym is)
+      (subst (λ (r : Result Answer Why). PassesOver p (WentBy (aim_over p t x pid addr what) tid r (p.store y).report) x y) ends
+      (subst (λ (t : Tables). PassesOver p (WentBy (aim_over p t x pid addr what) tid r (p.store y).report) x y) same h))

@@ -23,7 +23,7 @@ use Rattle.mm_world.specs.World.{World}
 use Rattle.mm_world.specs.Keys.{content_of}
 use Rattle.mm_pages.specs.Behind.{Behind}
 use Rattle.mm_pages.specs.Store.{StoreOf}
-use Rattle.mm_pages.specs.Housekeeping.{Makes, Ends, AllTurn, Turns, Exactly}
+use Rattle.mm_pages.specs.Housekeeping.{Makes, MakesStack, Ends, AllTurn, Turns, Exactly}
 use Rattle.mm_pages.specs.Passing.{Passes}
 use Rattle.mm_paging.specs.Lines.{TurnsOne, TurnsKeys}
 use Rattle.mm_core.specs.Noting.{keeps_keys, takes_away, Each}
@@ -199,6 +199,11 @@ makes_keep [] a = tt
 makes_keep (move.Add k b ∷ ms) a = (refl, makes_keep ms a.1)
 makes_keep (_ ∷ ms) a = let bad = a.0 in cc
 
+-- so do those of a new stack
+pub stack_makes : (ms : List Move) → AllTurn MakesStack ms → AllTurn Makes ms
+stack_makes [] a = tt
+stack_makes (m ∷ ms) a = (a.0, stack_makes ms a.1)
+
 pub ends_take : (held : Place → Bool) (from to : ℕ) (ms : List Move) → AllTurn (Ends held from to) ms → Each takes_away ms
 ends_take held from to [] a = tt
 ends_take held from to (move.Unmap p ∷ ms) a = (refl, ends_take held from to ms a.1)
@@ -226,9 +231,9 @@ still s z b c p q = record {
   grew = p.grew;
   replays = p.replays;
   that = record {
-    are = none_made p.moves b.life c.life p.replays p.that.all (λ k. same_bool (is_live b.life k) (is_live c.life k)
-        (lives_on p.moves b.life c.life p.replays (makes_keep p.moves p.that.all) k)
-        (stays_dead q.moves b.life c.life q.replays (ends_take _ 0 0 q.moves q.that.all) k));
+    are = none_made p.moves b.life c.life p.replays p.that.turned.all (λ k. same_bool (is_live b.life k) (is_live c.life k)
+        (lives_on p.moves b.life c.life p.replays (makes_keep p.moves p.that.turned.all) k)
+        (stays_dead q.moves b.life c.life q.replays (ends_take _ 0 0 q.moves q.that.turned.all) k));
     moved = p.that.moved;
     slots = p.that.slots;
   };
@@ -239,4 +244,6 @@ still s z b c p q = record {
   file_calls = p.file_calls;
   files = p.files;
   files_are = p.files_are;
+  slots_kept = p.slots_kept;
+  blocks_kept = p.blocks_kept;
 }

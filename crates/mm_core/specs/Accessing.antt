@@ -16,7 +16,7 @@ use Rattle.mm_world.specs.Report.{Report}
 use Rattle.mm_world.specs.Step.{need_at}
 use Rattle.mm_world.specs.Contents.{Tables}
 use Rattle.mm_pages.specs.Store.{StoreOf}
-use Rattle.mm_pages.specs.Reports.{Served, SomeRose}
+use Rattle.mm_pages.specs.Reports.{Served, SomeFailed}
 use Rattle.mm_tables.specs.declared.looks.CommittedRow.{CommittedRow}
 use Rattle.mm_tables.specs.Looks.{told_row}
 
@@ -39,7 +39,7 @@ pub record Admits (t : Tables) (pid addr : ℕ) (kind : Access) (told : Committe
 pub record Lost (never_fails : Bool) (w : World) (m z : StoreOf) (a : Answer) (v : World) : Type 0 where
   pub raised : a ≡ answer.Raised raise.InPageError
   pub same : v ≡ w
-  pub blamed : SomeRose m z
+  pub blamed : SomeFailed m z
   pub paged : never_fails ≡ true → ⊥
 
 -- a permitted access ended, and its line's report tells whether what it needs was had

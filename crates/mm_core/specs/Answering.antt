@@ -3,13 +3,14 @@
 use Rattle.std.specs.Prelude.{◌≡◌, ℕ, true, false, List, Option, Some, None, count_by, ◌==◌, Result, Ok, Err}
 use Rattle.mm_types.specs.declared.answers.Answer.{Answer}
 use Rattle.mm_types.specs.declared.answers.Why.{Why}
+use Rattle.mm_types.specs.declared.answers.Why.TheVariants as why_of
 use Rattle.mm_types.specs.declared.moves.Move.{Move}
 use Rattle.mm_types.specs.declared.numbers.Key.{Key}
 use Rattle.mm_types.specs.declared.numbers.Pid.{Pid}
 use Rattle.mm_world.specs.World.{Page}
 use Rattle.mm_world.specs.Access.{Attempt}
 use Rattle.mm_world.specs.Contents.{Tables, world_with}
-use Rattle.mm_world.specs.Report.{Report}
+use Rattle.mm_world.specs.Report.{Report, BeingRead}
 use Rattle.mm_walks.specs.Searches.{is_valid, Starved}
 use Rattle.mm_walks.specs.Waits.{Idle}
 use Rattle.mm_walks.specs.Walks.{waits_through, ages_through, walked_all, is_read_move}
@@ -58,11 +59,12 @@ pub record MadeBy (aim : Option Aim) (tid : ℕ) (r : Answer) (b : Behind) (move
   pub waits : c.waits ≡ changed ◌==◌ (waits_through moves b.waits) tid Idle
   pub settled : is_pending_read r ≡ false
 
--- it has to wait
-pub record WaitsBy (aim : Option Aim) (tid : ℕ) (why : Why) (b : Behind) (moves : List Move) (c : Behind) : Type 0 where
+-- it has to wait; where for a read, its page is being read after it
+pub record WaitsBy (aim : Option Aim) (tid : ℕ) (why : Why) (after : Report) (b : Behind) (moves : List Move) (c : Behind) : Type 0 where
   pub aimed : Aim
   pub is : aim ≡ Some aimed
   pub starts : Starts aimed tid (start.Pending why) b moves c
+  pub awaited : why ≡ why_of.Read → after.whereabouts aimed.need.key ≡ Some BeingRead
 
 -- it is not permitted
 pub record RefusedBy (aim : Option Aim) (b : Behind) (moves : List Move) (c : Behind) : Type 0 where
@@ -75,13 +77,13 @@ pub record FailedBy (aim : Option Aim) (b : Behind) (moves : List Move) (c : Beh
   pub is : aim ≡ Some aimed
   pub still : NoMove b moves c
 
-abbrev pub TurnedBy : Option Aim → ℕ → Threaded → Behind → List Move → Behind → Type 0
-TurnedBy aim tid (threaded.Refused a) b moves c = RefusedBy aim b moves c
-TurnedBy aim tid threaded.Failed b moves c = FailedBy aim b moves c
-TurnedBy aim tid (threaded.Made a) b moves c = MadeBy aim tid a b moves c
-TurnedBy aim tid (threaded.Waiting why) b moves c = WaitsBy aim tid why b moves c
+abbrev pub TurnedBy : Option Aim → ℕ → Threaded → Report → Behind → List Move → Behind → Type 0
+TurnedBy aim tid (threaded.Refused a) after b moves c = RefusedBy aim b moves c
+TurnedBy aim tid threaded.Failed after b moves c = FailedBy aim b moves c
+TurnedBy aim tid (threaded.Made a) after b moves c = MadeBy aim tid a b moves c
+TurnedBy aim tid (threaded.Waiting why) after b moves c = WaitsBy aim tid why after b moves c
 
 -- it was permitted, and went on or has to wait
-abbrev pub WentBy : Option Aim → ℕ → Result Answer Why → Behind → List Move → Behind → Type 0
-WentBy aim tid (Ok a) b moves c = MadeBy aim tid a b moves c
-WentBy aim tid (Err why) b moves c = WaitsBy aim tid why b moves c
+abbrev pub WentBy : Option Aim → ℕ → Result Answer Why → Report → Behind → List Move → Behind → Type 0
+WentBy aim tid (Ok a) after b moves c = MadeBy aim tid a b moves c
+WentBy aim tid (Err why) after b moves c = WaitsBy aim tid why after b moves c

@@ -1,10 +1,10 @@
 -- Which lines a world decides, and which lines may take memory.
 -- Profile, "Script".
-use Rattle.std.specs.Prelude.{ℕ, Bool, true, false, ◌==◌}
+use Rattle.std.specs.Prelude.{ℕ, Bool, true, false}
 use Rattle.mm_types.specs.declared.events.Event.{Event}
 use Rattle.mm_types.specs.declared.events.Event.TheVariants as line
-use Rattle.mm_types.specs.Protection.{base_of, writecopy}
 use Rattle.mm_world.specs.World.{WorldOf}
+use Rattle.mm_calls.specs.Marking.{marks_anew}
 use Rattle.mm_stack.specs.Growth.{grows}
 
 -- The first line makes the world, and written pages are told beside it.
@@ -21,12 +21,13 @@ is_access_line (line.Write pid addr bytes) = true
 is_access_line (line.Exec pid addr) = true
 is_access_line _ = false
 
--- a line that may run out of memory in this world: of `protect`, one that asks for marks, of `probe`, one that makes a stack grow
+-- a line that may run out of memory in this world: of `protect`, one that gives a page its first mark,
+-- of `probe`, one that makes a stack grow
 abbrev pub takes_memory : {B : Type 0} → (ℕ → B) → WorldOf B → Event → Bool
 takes_memory fill w (line.Process min max) = true
 takes_memory fill w (line.File name pages byte) = true
 takes_memory fill w (line.Alloc pid addr size type prot) = true
-takes_memory fill w (line.Protect pid addr size prot) = base_of prot == writecopy
+takes_memory fill w (line.Protect pid addr size prot) = marks_anew w pid.0 addr size prot
 takes_memory fill w (line.Create pid size flags name) = true
 takes_memory fill w (line.CreateFile pid file flags name) = true
 takes_memory fill w (line.Open pid name) = true

@@ -12,7 +12,7 @@ use Rattle.mm_pages.specs.Store.{StoreOf}
 use Rattle.mm_pages.specs.Reports.{begun}
 use Rattle.mm_tables.specs.Fits.{Fits, bytes_of}
 use Rattle.mm_tables.specs.References.{MadeAtMost}
-use Rattle.mm_core.specs.Serving.{AskedFiles, AskedPaging, IsFailure, OneRose, Flushed, Named, is_grow, is_fail, FailedBefore}
+use Rattle.mm_core.specs.Serving.{AskedFiles, AskedPaging, IsFailure, OneFailed, Flushed, Named, is_grow, is_fail, FailedBefore}
 use Rattle.mm_core.specs.Stepping.{Stepped}
 
 -- a line that names no numbers of its own in its kind
@@ -40,7 +40,7 @@ pub record Devices (never_fails : Bool) (e : Event) (s z : StoreOf) (a : Answer)
   pub asked_files : is_fail e ≡ false → AskedFiles s.file_device z.file_device z.report
   pub asked_paging : is_fail e ≡ false → is_grow e ≡ false → AskedPaging s.paging_device z.paging_device z.report
   pub named : Named never_fails e a s.paging_device z.paging_device s.file_device z.file_device
-  pub failed : IsFailure a → FailedBefore e s.report ⊎ OneRose s.paging_device z.paging_device s.file_device z.file_device
+  pub failed : IsFailure a → FailedBefore e s.report ⊎ OneFailed s.paging_device z.paging_device s.file_device z.file_device
   pub paging_later : s.paging_device.faults ≤ z.paging_device.faults
   pub files_later : s.file_device.faults ≤ z.file_device.faults
 

@@ -58,7 +58,8 @@ pub record Went (beside : Bool) (first : Move) (That : List Move → Type 0) (s 
   pub replays : Replays (first ∷ moves) b.life c.life
   pub that : That moves
   pub told : beside ≡ false → told_of z.report ≡ told_through b.life (first ∷ moves) (told_of s.report)
-  pub traffic : beside ≡ false → Traffic b.life (first ∷ moves) s.paging_device z.paging_device s.file_device z.file_device
+  pub traffic : beside ≡ false →
+      Traffic b.life (first ∷ moves) s.paging_device z.paging_device s.file_device z.file_device b.slots c.slots s.file_blocks z.file_blocks
 
 -- what the moves of a line are, by the worlds before and after it, where its `at` has this number and kind
 pub record Tells (n : ℕ) (k : LineKind) (e : Event) (w : World) (a : Answer) (v : World) (after : Report) (b : Behind) (moves : List Move) (c : Behind) : Type 0 where
@@ -95,6 +96,7 @@ pub record Halted (n : ℕ) (b c : Behind) : Type 0 where
   pub in_range : AreMoves piece
   pub grew : Grew b.log c.log (spelled_moves piece)
   pub replays : Replays piece b.life c.life
+  pub slots : c.slots ≡ b.slots
   pub cut : IsCut n piece
 
 abbrev pub HaltedIn : Bool → ℕ → Behind → Behind → Type 0

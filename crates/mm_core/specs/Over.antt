@@ -12,6 +12,7 @@ use Rattle.mm_pages.specs.Accesses.{Aim}
 use Rattle.mm_pages.specs.Behind.{Behind}
 use Rattle.mm_pages.specs.Passing.{PassesIn}
 use Rattle.mm_pages.specs.declared.pages.Pages.{Ghosts as PagesGhosts}
+use Rattle.mm_paging.specs.Lines.{HoldsBeside}
 use Rattle.mm_tables.specs.Fits.{Fits, bytes_of}
 use Rattle.mm_core.specs.Serving.{AskedBeside}
 use Rattle.mm_core.specs.Deciding.{Keeps, Decided, Idle}
@@ -36,8 +37,12 @@ module _ {G : Type 0} (p : PagesGhosts G) where
   abbrev pub PassesOver : (Behind → List Move → Behind → Type 0) → G → G → Type 0
   PassesOver That g h = PassesIn p.unpaged That (p.store g) (p.store h) (p.behind g) (p.behind h)
 
+  -- what a line asks of devices beside its moves, and what slots and blocks hold then
   abbrev pub AskedBesideOver : Tables → Event → Answer → G → G → Type 0
-  AskedBesideOver t e a g h = AskedBeside t.blocks_used e a (p.store g).paging_device (p.store h).paging_device (p.store g).file_device (p.store h).file_device
+  AskedBesideOver t e a g h =
+      AskedBeside t.blocks_used e a (p.store g).paging_device (p.store h).paging_device (p.store g).file_device (p.store h).file_device
+      (p.store g).file_blocks (p.store h).file_blocks
+      × HoldsBeside (world_over t g) e a (p.behind g).slots (p.behind h).slots (p.store g).file_blocks (p.store h).file_blocks
 
   -- a line was decided, by tables and store before it and after it
   abbrev pub DecidedOver : Event → ℕ → Tables → G → Answer → Tables → G → Type 0

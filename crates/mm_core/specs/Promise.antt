@@ -23,7 +23,7 @@ use Rattle.mm_tables.specs.References.{IsTidy}
 use Rattle.mm_core.specs.declared.worlds.World.{World as Kept}
 use Rattle.mm_core.specs.Forgetting.{EndsWaits}
 use Rattle.mm_core.specs.Serving.{AskedBeside, AskedFiles, AskedPaging, Named}
-use Rattle.mm_core.specs.Serving.{IsFailure, FailedBefore, OneRose, Flushed, is_fail, is_grow}
+use Rattle.mm_core.specs.Serving.{IsFailure, FailedBefore, OneFailed, Flushed, is_fail, is_grow}
 use Rattle.mm_core.specs.Stepping.{Stepped}
 
 -- What a world over a store shows between two lines.
@@ -76,14 +76,14 @@ pub record Told (never_fails : Bool) (s : Scene) (e : Event) (a : Answer) (moves
   -- what these lines ask beside: a `file` line writes the blocks of its file in rising order,
   -- `grow` asks the paging device to grow, and `fail` names calls
   pub beside : never_fails ≡ false →
-      AskedBeside s.world.blocks_used e a s.paging z.paging s.files z.files
+      AskedBeside s.world.blocks_used e a s.paging z.paging s.files z.files s.blocks z.blocks
   pub named : Named never_fails e a s.paging z.paging s.files z.files
   -- no more calls of a device are named than `fail` lines were answered `ok`
   pub few_paging : length z.paging.named ≤ z.world.fails_taken
   pub few_files : length z.files.named ≤ z.world.fails_taken
   -- a failure is a device's in this line, or, of a `resume`, that of the read that its thread
   -- waited for
-  pub failed : IsFailure a → FailedBefore e s.report ⊎ OneRose s.paging z.paging s.files z.files
+  pub failed : IsFailure a → FailedBefore e s.report ⊎ OneFailed s.paging z.paging s.files z.files
   pub paging_later : s.paging.faults ≤ z.paging.faults
   pub files_later : s.files.faults ≤ z.files.faults
   -- after a `flush` answered `ok` the blocks hold the bytes of their pages
@@ -92,8 +92,8 @@ pub record Told (never_fails : Bool) (s : Scene) (e : Event) (a : Answer) (moves
   pub waits : EndsWaits s.world e a z.report
   -- the moves are one `at` with the line's number and kind, and what its form allows
   pub line : never_fails ≡ false →
-      Line s.world s.report s.behind s.paging s.files e a moves
-      z.world z.report z.behind z.paging z.files
+      Line s.world s.report s.behind s.paging s.files s.blocks e a moves
+      z.world z.report z.behind z.paging z.files z.blocks
 
 -- Moves that are legal one after another, and by whose text the log grew.
 pub record Notes (b : Behind) (moves : List Move) (c : Behind) : Type 0 where

@@ -1,6 +1,6 @@
 -- What a line does to devices, and what it leaves in blocks.
 -- Profile, "A run".
-use Rattle.std.specs.Prelude.{◌≡◌, ◌≤◌, ◌⊎◌, ℕ, ◌+◌, ◌-◌, Bool, true, false, List, ◌++◌, map, Option, Some, None, slice_get}
+use Rattle.std.specs.Prelude.{◌≡◌, ◌<◌, ◌⊎◌, ℕ, ◌+◌, ◌-◌, Bool, true, false, List, ◌++◌, map, Option, Some, None, slice_get}
 use Rattle.mm_types.specs.declared.answers.Answer.{Answer}
 use Rattle.mm_types.specs.declared.answers.Answer.TheVariants as answer
 use Rattle.mm_types.specs.declared.codes.Raise.TheVariants as raise
@@ -10,13 +10,12 @@ use Rattle.mm_types.specs.declared.events.Event.TheVariants as line
 use Rattle.mm_types.specs.declared.views.View.{View}
 use Rattle.mm_types.specs.declared.views.Kind.TheVariants as kind
 use Rattle.mm_types.specs.Address.{holds_page}
-use Rattle.mm_types.specs.Outside.{Rose}
 use Rattle.mm_world.specs.World.{Page, World, RegionOf, ProcessOf}
 use Rattle.mm_world.specs.Find.{Found, process_of, area_at, shared_page}
 use Rattle.mm_world.specs.Failure.{wait_failed}
 use Rattle.mm_world.specs.Report.{Report, Tally}
 use Rattle.mm_world.specs.Views.{flushed_view, flushed_range}
-use Rattle.mm_blocks.specs.Devices.{DeviceOf, Call, AllServed, logged_call}
+use Rattle.mm_blocks.specs.Devices.{DeviceOf, Call, AllServed, CallFailed, KeepsOthers, logged_call}
 use Rattle.mm_pages.specs.Passing.{writes_from, last_write}
 use Rattle.mm_pages.specs.Tallies.{tallied}
 use Rattle.mm_pages.specs.Reports.{no_calls, called, with_named, with_named_paging}
@@ -59,27 +58,33 @@ Named unpaged (line.Fail device direction k n) answer.Ok paging paging' files fi
 Named unpaged (line.Fail device direction k n) _ paging paging' files files' = (paging' ≡ paging) × (files' ≡ files)
 Named unpaged _ _ paging paging' files files' = Unit {0}
 
--- the blocks of a new file are written in rising order from `first` on, all of them, or up to the first write that fails
-pub record WritesBlocks (first pages : ℕ) (ok : Bool) (old new : DeviceOf) : Type 0 where
+-- the blocks of a new file are written in rising order from `first` on, all of them, or up to the first write that fails,
+-- which is of one of them
+pub record WritesBlocks (first pages : ℕ) (ok : Bool) (old new : DeviceOf) (blocks blocks' : List Page) : Type 0 where
   pub whole : ℕ
   pub calls : List Call
   pub served : AllServed calls old new
   pub are : map logged_call calls ≡ writes_from first whole ++ last_write ok (first + whole)
-  pub most : whole ≤ pages
   pub all : ok ≡ true → whole ≡ pages
+  pub some : ok ≡ false → whole < pages
+  -- each block that none of these writes is of is as before
+  pub kept : KeepsOthers (map logged_call calls) blocks blocks'
 
 -- of a file that is refused none is written
-abbrev pub FileWrites : ℕ → ℕ → Answer → DeviceOf → DeviceOf → Type 0
-FileWrites first pages answer.Ok old new = WritesBlocks first pages true old new
-FileWrites first pages answer.Fault old new = WritesBlocks first pages false old new
-FileWrites first pages _ old new = new ≡ old
+abbrev pub FileWrites : ℕ → ℕ → Answer → DeviceOf → DeviceOf → List Page → List Page → Type 0
+FileWrites first pages answer.Ok old new blocks blocks' = WritesBlocks first pages true old new blocks blocks'
+FileWrites first pages answer.Fault old new blocks blocks' = WritesBlocks first pages false old new blocks blocks'
+FileWrites first pages _ old new blocks blocks' = (new ≡ old) × (blocks' ≡ blocks)
 
 -- What is asked of devices beside the moves: a `file` line writes the blocks of its file, the lowest that no file used, and does not call the
--- paging device; a `grow` line asks the paging device to grow, which stands in no log, and does not call the file device.
-abbrev pub AskedBeside : ℕ → Event → Answer → DeviceOf → DeviceOf → DeviceOf → DeviceOf → Type 0
-AskedBeside used (line.File name pages byte) a paging paging' files files' = (paging' ≡ paging) × FileWrites used pages a files files'
-AskedBeside used (line.Grow n) a paging paging' files files' = (paging' ≡ called paging paging') × (files' ≡ files)
-AskedBeside used _ a paging paging' files files' = Unit {0}
+-- paging device; a `grow` line asks the paging device to grow, which stands in no log, and does not call the file device. Where it grew,
+-- it is as before but for its slots.
+abbrev pub AskedBeside : ℕ → Event → Answer → DeviceOf → DeviceOf → DeviceOf → DeviceOf → List Page → List Page → Type 0
+AskedBeside used (line.File name pages byte) a paging paging' files files' blocks blocks' =
+    (paging' ≡ paging) × FileWrites used pages a files files' blocks blocks'
+AskedBeside used (line.Grow n) (answer.Limit limit) paging paging' files files' blocks blocks' = (paging' ≡ paging) × (files' ≡ files)
+AskedBeside used (line.Grow n) a paging paging' files files' blocks blocks' = (paging' ≡ called paging paging') × (files' ≡ files)
+AskedBeside used _ a paging paging' files files' blocks blocks' = Unit {0}
 
 -- the thread whose access a line resumes
 abbrev pub resumed_thread : Event → Option ℕ
@@ -100,9 +105,9 @@ IsFailure answer.Fault = Unit {0}
 IsFailure (answer.Raised raise.InPageError) = Unit {0}
 IsFailure _ = ⊥
 
--- the count of faults of one of both devices rose
-abbrev pub OneRose : DeviceOf → DeviceOf → DeviceOf → DeviceOf → Type 0
-OneRose paging paging' files files' = Rose paging.faults paging'.faults ⊎ Rose files.faults files'.faults
+-- a call of one of both devices failed
+abbrev pub OneFailed : DeviceOf → DeviceOf → DeviceOf → DeviceOf → Type 0
+OneFailed paging paging' files files' = CallFailed paging paging' ⊎ CallFailed files files'
 
 -- after a `flush`, the blocks of the shared pages of the range hold their bytes
 abbrev pub FlushHolds : World → List Page → ℕ → ℕ → ℕ → Type 0

@@ -10,7 +10,7 @@ ghost use Rattle.mm_world.specs.Access.{written};
 ghost use Rattle.mm_world.specs.WellFormed.{Spaces};
 ghost use Rattle.mm_pages.specs.Store.{changed};
 ghost use Rattle.mm_pages.specs.Accesses.{Touches, Copies};
-ghost use Rattle.mm_pages.specs.Reports.{IsBegun, Ends, Served, SomeRose, eased};
+ghost use Rattle.mm_pages.specs.Reports.{IsBegun, Ends, Served, SomeFailed, eased};
 ghost use Rattle.mm_pages.specs.Conditions.{place_at, touch, copying, IsReady, MayAccess};
 ghost use Rattle.mm_tables.specs.Fits.{bytes_of, key_at};
 ghost use Rattle.mm_core.specs.Accessing.{Admits};
@@ -66,7 +66,7 @@ pub(crate) fn fetch<G: Pages>(
     ensures contents { G.contents g.new ≡ G.contents g.old }
     ensures line { (G.store g.new).line ≡ (G.store g.old).line }
     ensures served { Served (G.store g.old) (G.store g.new) }
-    ensures blamed { OnErr result (SomeRose (G.store g.old) (G.store g.new)) }
+    ensures blamed { OnErr result (SomeFailed (G.store g.old) (G.store g.new)) }
     ensures ready { IsReady (G.store g.old) (place_at pid (page_of addr)) (touch key) → IsOk result }
     ensures unpaged { G.unpaged ≡ true → IsOk result }
     ensures passes { PassesOver G.Pages (Touches (record { place = place_at pid (page_of addr); need = touch key; writes = false; start = (G.behind g.old).life }) (IsReady (G.store g.old) (place_at pid (page_of addr)) (touch key)) result) g.old g.new }
@@ -97,7 +97,7 @@ pub(crate) fn read_bytes<G: Pages>(
     ensures contents { G.contents g.new ≡ G.contents g.old }
     ensures line { (G.store g.new).line ≡ (G.store g.old).line }
     ensures served { Served (G.store g.old) (G.store g.new) }
-    ensures blamed { OnErr result (SomeRose (G.store g.old) (G.store g.new)) }
+    ensures blamed { OnErr result (SomeFailed (G.store g.old) (G.store g.new)) }
     ensures ready { IsReady (G.store g.old) (place_at pid (page_of addr)) (touch key) → IsOk result }
     ensures unpaged { G.unpaged ≡ true → IsOk result }
     ensures passes { PassesOver G.Pages (Touches (record { place = place_at pid (page_of addr); need = touch key; writes = false; start = (G.behind g.old).life }) (IsReady (G.store g.old) (place_at pid (page_of addr)) (touch key)) result) g.old g.new }
@@ -132,7 +132,7 @@ pub(crate) fn put<G: Pages>(
     ensures fits { FitsOver G.Pages t.now g.new }
     ensures line { (G.store g.new).line ≡ (G.store g.old).line }
     ensures served { Served (G.store g.old) (G.store g.new) }
-    ensures blamed { OnErr result (SomeRose (G.store g.old) (G.store g.new)) }
+    ensures blamed { OnErr result (SomeFailed (G.store g.old) (G.store g.new)) }
     ensures ready { IsReady (G.store g.old) (place_at pid (page_of addr)) (touch key) → IsOk result }
     ensures eased { IsReady (G.store g.old) (place_at pid (page_of addr)) (touch key) → (G.store g.new).report ≡ eased (G.store g.old).report (G.store g.new).report }
     ensures unpaged { G.unpaged ≡ true → IsOk result }
@@ -166,7 +166,7 @@ fn copy<G: Pages>(
     ensures fits { FitsOver G.Pages t.new g.new }
     ensures line { (G.store g.new).line ≡ (G.store g.old).line }
     ensures served { Served (G.store g.old) (G.store g.new) }
-    ensures blamed { OnErr result (SomeRose (G.store g.old) (G.store g.new)) }
+    ensures blamed { OnErr result (SomeFailed (G.store g.old) (G.store g.new)) }
     ensures was_ready { IsReady (G.store g.old) (place_at pid (page_of addr)) (copying row.key (place_at pid (page_of addr))) → IsOk result }
     ensures unpaged { G.unpaged ≡ true → IsOk result }
     ensures passes { PassesOver G.Pages (Copies (record { place = place_at pid (page_of addr); need = copying row.key (place_at pid (page_of addr)); writes = true; start = (G.behind g.old).life }) (IsReady (G.store g.old) (place_at pid (page_of addr)) (copying row.key (place_at pid (page_of addr)))) result) g.old g.new }
@@ -202,7 +202,7 @@ pub(crate) fn put_copy<G: Pages>(
     ensures fits { FitsOver G.Pages t.new g.new }
     ensures line { (G.store g.new).line ≡ (G.store g.old).line }
     ensures served { Served (G.store g.old) (G.store g.new) }
-    ensures blamed { OnErr result (SomeRose (G.store g.old) (G.store g.new)) }
+    ensures blamed { OnErr result (SomeFailed (G.store g.old) (G.store g.new)) }
     ensures was_ready { IsReady (G.store g.old) (place_at pid (page_of addr)) (copying row.key (place_at pid (page_of addr))) → IsOk result }
     ensures unpaged { G.unpaged ≡ true → IsOk result }
     ensures passes { PassesOver G.Pages (Copies (record { place = place_at pid (page_of addr); need = copying row.key (place_at pid (page_of addr)); writes = true; start = (G.behind g.old).life }) (IsReady (G.store g.old) (place_at pid (page_of addr)) (copying row.key (place_at pid (page_of addr)))) result) g.old g.new }

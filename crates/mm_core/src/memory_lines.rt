@@ -1,6 +1,6 @@
-ghost use Rattle.std.specs.Prelude.{◌≡◌, ◌≤◌, ◌+◌, ◌==◌, false, IfOk, OnErr, IsOk};
+ghost use Rattle.std.specs.Prelude.{◌≡◌, ◌≤◌, ◌+◌, false, IfOk, OnErr, IsOk};
 ghost use Rattle.mm_types.specs.declared.events.Event.TheVariants as event;
-ghost use Rattle.mm_types.specs.Protection.{base_of, writecopy};
+ghost use Rattle.mm_calls.specs.Marking.{marks_anew};
 ghost use Rattle.mm_core.specs.Forgetting.{EndsWaits};
 ghost use Rattle.mm_core.specs.Over.{AskedBesideOver, DecidedOver, HaltedOver, IdleOver, KeepsOver, MarkedOver};
 
@@ -120,7 +120,7 @@ pub(crate) fn protect_line<G: Pages>(
     requires next { line ≡ (G.store g.old).line + 1 }
     ensures ok { IfOk result (λ a. DecidedOver G.Pages (event.Protect pid addr size prot) line t.old g.old a t.new g.new) }
     ensures err { OnErr result (IdleOver G.Pages t.old g.old t.new g.new) }
-    ensures unmarked { (base_of prot == writecopy) ≡ false → IsOk result }
+    ensures no_memory { marks_anew t.old pid.0 addr size prot ≡ false → IsOk result }
     ensures marked { IfOk result (λ a. MarkedOver G.Pages (event.Protect pid addr size prot) line t.old g.old a t.new g.new) }
     ensures halted { OnErr result (HaltedOver G.Pages line g.old g.new) }
     ensures loans { G.loans g.new ≡ G.loans g.old }
@@ -176,7 +176,7 @@ pub(crate) fn grow_line<G: Pages>(
     ensures err { OnErr result (IdleOver G.Pages t.old g.old t.new g.new) }
     ensures marked { IfOk result (λ a. MarkedOver G.Pages (event.Grow n) line t.old g.old a t.new g.new) }
     ensures halted { OnErr result (HaltedOver G.Pages line g.old g.new) }
-    ensures beside { IfOk result (λ a. AskedBesideOver G.Pages t.old (event.Grow n) a g.old g.new) }
+    ensures beside { G.unpaged ≡ false → IfOk result (λ a. AskedBesideOver G.Pages t.old (event.Grow n) a g.old g.new) }
     ensures loans { G.loans g.new ≡ G.loans g.old }
 {
     t.sound();

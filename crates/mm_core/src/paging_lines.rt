@@ -1,6 +1,6 @@
-ghost use Rattle.std.specs.Prelude.{◌≡◌, ◌≤◌, ◌+◌};
+ghost use Rattle.std.specs.Prelude.{◌≡◌, ◌≤◌, ◌+◌, false};
 ghost use Rattle.mm_types.specs.declared.events.Event.TheVariants as event;
-ghost use Rattle.mm_core.specs.Over.{DecidedOver, KeepsOver, MarkedOver};
+ghost use Rattle.mm_core.specs.Over.{AskedBesideOver, DecidedOver, KeepsOver, MarkedOver};
 
 use crate::beginning::{begin, begin_trim};
 use mm_pages::{Done, Pages};
@@ -70,6 +70,7 @@ pub(crate) fn fail_line<G: Pages>(
     requires some { 1 ≤ n }
     ensures decided { DecidedOver G.Pages (event.Fail device direction k n) line t.old g.old result t.new g.new }
     ensures marked { MarkedOver G.Pages (event.Fail device direction k n) line t.old g.old result t.new g.new }
+    ensures beside { G.unpaged ≡ false → AskedBesideOver G.Pages t.old (event.Fail device direction k n) result g.old g.new }
     ensures loans { G.loans g.new ≡ G.loans g.old }
 {
     t.sound();

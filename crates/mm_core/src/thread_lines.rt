@@ -44,7 +44,7 @@ fn access_on<G: Pages>(
     ensures keeps { KeepsOver G.Pages t.new g.new }
     ensures line { (G.store g.new).line ≡ (G.store g.old).line }
     ensures unpaged { G.unpaged ≡ true → (why : Why) → result ≡ threaded.Waiting why → ⊥ }
-    ensures passes { PassesOver G.Pages (TurnedBy (aim_over G.Pages t.old g.old pid (address_in what.now) (attempt_in what.now)) tid.0 result) g.old g.new }
+    ensures passes { PassesOver G.Pages (TurnedBy (aim_over G.Pages t.old g.old pid (address_in what.now) (attempt_in what.now)) tid.0 result (G.store g.new).report) g.old g.new }
     ensures loans { G.loans g.new ≡ G.loans g.old }
 {
     match what {

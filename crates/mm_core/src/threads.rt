@@ -59,7 +59,7 @@ pub(crate) fn read_on<G: Pages>(
     ensures keeps { KeepsOver G.Pages t.now g.new }
     ensures line { (G.store g.new).line ≡ (G.store g.old).line }
     ensures unpaged { G.unpaged ≡ true → IsOk result }
-    ensures passes { PassesOver G.Pages (WentBy (aim_over G.Pages t.now g.old pid addr (ReadOf len)) tid.0 result) g.old g.new }
+    ensures passes { PassesOver G.Pages (WentBy (aim_over G.Pages t.now g.old pid addr (ReadOf len)) tid.0 result (G.store g.new).report) g.old g.new }
     ensures loans { G.loans g.new ≡ G.loans g.old }
 {
     g.sound();
@@ -93,7 +93,7 @@ pub(crate) fn write_on<G: Pages>(
     ensures keeps { KeepsOver G.Pages t.now g.new }
     ensures line { (G.store g.new).line ≡ (G.store g.old).line }
     ensures unpaged { G.unpaged ≡ true → IsOk result }
-    ensures passes { PassesOver G.Pages (WentBy (aim_over G.Pages t.now g.old pid addr (WriteOf bytes.now)) tid.0 result) g.old g.new }
+    ensures passes { PassesOver G.Pages (WentBy (aim_over G.Pages t.now g.old pid addr (WriteOf bytes.now)) tid.0 result (G.store g.new).report) g.old g.new }
     ensures loans { G.loans g.new ≡ G.loans g.old }
 {
     g.sound();
@@ -128,7 +128,7 @@ pub(crate) fn write_to_copy_on<G: Pages>(
     ensures keeps { KeepsOver G.Pages t.new g.new }
     ensures line { (G.store g.new).line ≡ (G.store g.old).line }
     ensures unpaged { G.unpaged ≡ true → IsOk result }
-    ensures passes { PassesOver G.Pages (WentBy (aim_over G.Pages t.old g.old pid addr (WriteOf bytes.now)) tid.0 result) g.old g.new }
+    ensures passes { PassesOver G.Pages (WentBy (aim_over G.Pages t.old g.old pid addr (WriteOf bytes.now)) tid.0 result (G.store g.new).report) g.old g.new }
     ensures loans { G.loans g.new ≡ G.loans g.old }
 {
     g.sound();
@@ -159,7 +159,7 @@ pub(crate) fn read_access<G: Pages>(
     ensures keeps { KeepsOver G.Pages t.new g.new }
     ensures line { (G.store g.new).line ≡ (G.store g.old).line }
     ensures unpaged { G.unpaged ≡ true → (why : Why) → result ≡ threaded.Waiting why → ⊥ }
-    ensures passes { PassesOver G.Pages (TurnedBy (aim_over G.Pages t.old g.old pid addr (ReadOf len)) tid.0 result) g.old g.new }
+    ensures passes { PassesOver G.Pages (TurnedBy (aim_over G.Pages t.old g.old pid addr (ReadOf len)) tid.0 result (G.store g.new).report) g.old g.new }
     ensures loans { G.loans g.new ≡ G.loans g.old }
 {
     t.sound();
@@ -195,7 +195,7 @@ pub(crate) fn write_access<G: Pages>(
     ensures keeps { KeepsOver G.Pages t.new g.new }
     ensures line { (G.store g.new).line ≡ (G.store g.old).line }
     ensures unpaged { G.unpaged ≡ true → (why : Why) → result ≡ threaded.Waiting why → ⊥ }
-    ensures passes { PassesOver G.Pages (TurnedBy (aim_over G.Pages t.old g.old pid addr (WriteOf bytes.now)) tid.0 result) g.old g.new }
+    ensures passes { PassesOver G.Pages (TurnedBy (aim_over G.Pages t.old g.old pid addr (WriteOf bytes.now)) tid.0 result (G.store g.new).report) g.old g.new }
     ensures loans { G.loans g.new ≡ G.loans g.old }
 {
     t.sound();

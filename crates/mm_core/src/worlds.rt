@@ -29,15 +29,19 @@ pub struct World<G: Pages> {
 
 impl<G: Pages> World<G> {
     ghost use Rattle.mm_core.specs.Promise.{DecidesStep, Breaks, scene};
-    ghost use Rattle.mm_core.specs.Shown.{world, line_of, loans};
+    ghost use Rattle.mm_paging.specs.Lines.{Agrees};
+    ghost use Rattle.mm_core.specs.Shown.{world, report, behind, line_of, loans};
 
-    /// The world after the `machine` line, over a new store of that machine.
+    /// The world after the `machine` line, over a new store of that machine. Over one that pages its
+    /// report is that of the frames behind it.
     pub fn new(alloc: Global, machine: Machine, pages: G) -> World<G>
         requires new { IsNew machine (G.contents pages) (G.store pages) }
         ensures world { world result ≡ first_world machine }
         ensures pages { result.pages ≡ pages }
+        ensures agrees { G.unpaged ≡ false → Agrees (world result) (report result) (behind result) }
         ensures ready { result.spent ≡ false }
     {
+        pages.sound();
         World {
             tables: Tables::new(alloc, machine),
             pages,
@@ -77,8 +81,8 @@ impl<G: Pages> World<G> {
     /// pages are told beside it.
     ///
     /// `NoMemory` comes only from `process`, `file`, `alloc`, `create`, `createfile`, `open`,
-    /// `map`, `grow`, `stack`, a `protect` that asks for marks, and a `probe` that makes a stack
-    /// grow. Then the world is as it was, and no further line can be decided. A failed access and a
+    /// `map`, `grow`, `stack`, a `protect` that gives a page its first mark, and a `probe` that makes
+    /// a stack grow. Then the world is as it was, and no further line can be decided. A failed access and a
     /// `fault` come only where a device's count of faults rose in the line, or, of a `resume`,
     /// where the read that its thread waited for failed before.
     ///

@@ -144,14 +144,3 @@ pub(super) fn first_lines(alloc: Global, text: &str, n: usize) -> Result<String,
     }
     Ok(first)
 }
-
-/// How many lines of a script have begun, as the moves have it.
-pub(super) fn lines_begun(moves: &str) -> usize {
-    let mut begun: usize = 0;
-    for line in moves.lines() {
-        if line.starts_with("at ") {
-            begun = begun.saturating_add(1);
-        }
-    }
-    begun
-}

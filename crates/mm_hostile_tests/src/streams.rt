@@ -1,4 +1,4 @@
-use crate::runs::{Failing, NOTHING, assert_ended, first_lines, lines_begun, outcome};
+use crate::runs::{Failing, NOTHING, assert_ended, first_lines, outcome};
 use std::alloc::Global;
 use std::process::Abort;
 use std::test::Fail;
@@ -29,24 +29,61 @@ fn a_source_that_fails(rt: HostRuntime) -> Result<(), Fail> {
     Ok(())
 }
 
-/// Each answer is one write. After the last one nothing is written.
+/// The answers that are kept are one write, and the last text is another. After one that is not taken nothing is written.
 #[test]
 fn answers_that_are_not_taken(rt: HostRuntime) -> Result<(), Fail> {
     let alloc = rt.alloc();
-    for taken in 0..9u32 {
+    for (call, answers) in [(1, ""), (2, ANSWERS)] {
         let failing = Failing {
-            answers: &[taken + 1],
+            answers: &[call],
             ..NOTHING
         };
-        let ended = outcome(alloc, SCRIPT, failing)?;
-        let status = if taken < 8 { 5 } else { 0 };
-        let answers = first_lines(alloc, ANSWERS, taken as usize)?;
-        assert_ended(&rt, alloc, &ended, status, answers.as_str())?;
+        let script = format!(in alloc; "{SCRIPT}x\n")?;
+        let ended = outcome(alloc, script.as_str(), failing)?;
+        assert_ended(&rt, alloc, &ended, 5, answers)?;
     }
     Ok(())
 }
 
-/// Each move is one write. The line in which one is not taken has no answer.
+/// A script that takes two reads, and how many of its lines the first one gives.
+fn longer(alloc: Global) -> Result<(String, usize), Fail> {
+    let mut script = String::from_str(alloc, SCRIPT)?;
+    for _ in 0..600 {
+        script.push_str("charge\n")?;
+    }
+    let (first, _) = script
+        .as_str()
+        .split_at_checked(4096)
+        .ok_or("no second read")?;
+    let whole = first.bytes().filter(|byte| *byte == b'\n').count();
+    Ok((script, whole))
+}
+
+/// A line of a script that takes two reads has its move not taken: the answers of the first read alone are given on.
+#[test]
+fn moves_behind_a_flush(rt: HostRuntime) -> Result<(), Fail> {
+    let alloc = rt.alloc();
+    let (script, whole) = longer(alloc)?;
+    let mut answers = String::from_str(alloc, ANSWERS)?;
+    for _ in 0..600 {
+        answers.push_str("ok 1 8\n")?;
+    }
+    // The first eight lines make 18 moves, each later one makes one.
+    let behind = (whole.min(4_096) as u32).saturating_add(11);
+    for (call, told) in [(behind - 1, 0), (behind, whole), (behind + 9, whole)] {
+        let failing = Failing {
+            moves: &[call],
+            ..NOTHING
+        };
+        let ended = outcome(alloc, script.as_str(), failing)?;
+        let wanted = first_lines(alloc, answers.as_str(), told)?;
+        assert_eq!(rt; ended.status, 6);
+        assert_eq!(rt; ended.answers.as_str(), wanted.as_str());
+    }
+    Ok(())
+}
+
+/// Each move is one write. Where one is not taken, no answer since the last flush is given on, and all were read at once.
 #[test]
 fn moves_that_are_not_taken(rt: HostRuntime) -> Result<(), Fail> {
     let alloc = rt.alloc();
@@ -58,15 +95,8 @@ fn moves_that_are_not_taken(rt: HostRuntime) -> Result<(), Fail> {
         let ended = outcome(alloc, SCRIPT, failing)?;
         let moves = first_lines(alloc, MOVES, taken as usize)?;
         assert_eq!(rt; ended.moves.as_str(), moves.as_str());
-        let tried = first_lines(alloc, MOVES, taken as usize + 1)?;
-        let begun = lines_begun(tried.as_str());
-        let (status, told) = if taken < 18 {
-            (6, begun.saturating_sub(1))
-        } else {
-            (0, begun)
-        };
-        let answers = first_lines(alloc, ANSWERS, told)?;
-        assert_ended(&rt, alloc, &ended, status, answers.as_str())?;
+        let (status, answers) = if taken < 18 { (6, "") } else { (0, ANSWERS) };
+        assert_ended(&rt, alloc, &ended, status, answers)?;
     }
     Ok(())
 }

@@ -11,6 +11,7 @@ pub struct StdSource<R: Read + Drop> {
     reader: R,
     faults: u64,
     idle: u64,
+    last_idle: u64,
 }
 
 impl<R: Read + Drop> StdSource<R> {
@@ -19,6 +20,7 @@ impl<R: Read + Drop> StdSource<R> {
             reader,
             faults: 0,
             idle: 0,
+            last_idle: 0,
         }
     }
 }
@@ -30,6 +32,8 @@ impl<R: Read + Drop> Source for StdSource<R> {
 
     ghost idle = { λ s. s.idle };
 
+    ghost last_idle = { λ s. s.last_idle };
+
     ghost loans = { λ s. NoLoan };
 
     fn read(&mut self, buf: &mut [u8]) -> Result<usize, Failed> {
@@ -37,12 +41,16 @@ impl<R: Read + Drop> Source for StdSource<R> {
             Ok(n) => {
                 if n == 0 {
                     self.idle = self.idle.saturating_add(1);
+                    self.last_idle = 1;
+                } else {
+                    self.last_idle = 0;
                 }
                 Ok(n)
             }
             Err(_) => {
                 self.faults = self.faults.saturating_add(1);
                 self.idle = self.idle.saturating_add(1);
+                self.last_idle = 1;
                 Err(Failed)
             }
         }
@@ -65,6 +73,8 @@ impl<W: Write + Drop> StdSink<W> {
 
 impl<W: Write + Drop> Sink for StdSink<W> {
     ghost taken = { λ s. None };
+
+    ghost given = { λ s. None };
 
     ghost faults = { λ s. s.faults };
 

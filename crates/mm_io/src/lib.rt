@@ -1,7 +1,7 @@
 //! Sources and sinks of bytes: the traits, both in memory, and adapters of std's readers and writers.
 //!
-//! A source and a sink keep a count of faults. It never falls, and a call answers `Failed` only where it
-//! rose. What is not told (the bytes of a std reader or writer) has no bytes in its meanings.
+//! A source and a sink keep a count of faults. It never falls: a call answers `Failed` only where it rose, and leaves
+//! it as it was where it does not. What is not told (the bytes of a std reader or writer) has no bytes in its meanings.
 #![tactic(auto)]
 
 mod adapters;
@@ -9,9 +9,9 @@ mod mem_sink;
 mod mem_source;
 mod write;
 
-ghost use Rattle.std.specs.Prelude.{◌≡◌, ◌≤◌, ◌+◌, List, ℕ, Option};
-ghost use Rattle.mm_types.specs.Outside.{Loans, HasCause};
-ghost use Rattle.mm_io.specs.Io.{Reads, Takes, spare_read};
+ghost use Rattle.std.specs.Prelude.{◌≡◌, ◌≤◌, ◌+◌, List, ℕ, Option, OnOk};
+ghost use Rattle.mm_types.specs.Outside.{Loans};
+ghost use Rattle.mm_io.specs.Io.{CountsFaults, Reads, Takes, GivesOn, spare_read};
 
 pub use adapters::{StdSink, StdSource};
 pub use mem_sink::MemSink;
@@ -30,6 +30,9 @@ pub trait Source {
     /// How many reads gave no byte.
     ghost idle: { Self → ℕ };
 
+    /// 1 where the last read gave no byte.
+    ghost last_idle: { Self → ℕ };
+
     /// The references that it holds.
     ghost loans: { Self → Loans };
 
@@ -38,7 +41,8 @@ pub trait Source {
     fn read(&mut self, buf: &mut [u8]) -> Result<usize, Failed>
         ensures bytes { Reads (left self.old) (left self.new) buf.new result }
         ensures idle { idle self.new ≤ idle self.old + spare_read result }
-        ensures cause { HasCause (faults self.old) (faults self.new) result }
+        ensures last { last_idle self.new ≡ spare_read result }
+        ensures cause { CountsFaults (faults self.old) (faults self.new) result }
         ensures loans { loans self.new ≡ loans self.old };
 }
 
@@ -46,6 +50,9 @@ pub trait Source {
 pub trait Sink {
     /// The bytes taken, where told.
     ghost taken: { Self → Option (List ℕ) };
+
+    /// Those of them that it has given on, where told: the first ones. The others are still held here.
+    ghost given: { Self → Option (List ℕ) };
 
     /// How often it has failed.
     ghost faults: { Self → ℕ };
@@ -57,12 +64,15 @@ pub trait Sink {
     /// was taken.
     fn write(&mut self, buf: &[u8]) -> Result<usize, Failed>
         ensures bytes { Takes (taken self.old) (taken self.new) buf.now result }
-        ensures cause { HasCause (faults self.old) (faults self.new) result }
+        ensures given { GivesOn (given self.old) (given self.new) (taken self.old) (taken self.new) }
+        ensures cause { CountsFaults (faults self.old) (faults self.new) result }
         ensures loans { loans self.new ≡ loans self.old };
 
-    /// Hands on what was taken and is still held here. What was taken stays the same, whatever the result is.
+    /// Gives on what was taken and is still held here. What was taken stays the same, whatever the result is.
     fn flush(&mut self) -> Result<(), Failed>
         ensures taken { taken self.new ≡ taken self.old }
-        ensures cause { HasCause (faults self.old) (faults self.new) result }
+        ensures given { GivesOn (given self.old) (given self.new) (taken self.old) (taken self.new) }
+        ensures all { OnOk result (given self.new ≡ taken self.new) }
+        ensures cause { CountsFaults (faults self.old) (faults self.new) result }
         ensures loans { loans self.new ≡ loans self.old };
 }

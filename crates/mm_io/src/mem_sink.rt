@@ -1,6 +1,6 @@
-ghost use Rattle.std.specs.Prelude.{◌≡◌, ◌≤◌, ◌<◌, ◌+◌, ◌↔◌, ◌⊎◌, [], List, ℕ, Option, Some, length, vec_len, vec_capacity, Ok, IfOk, IsErr};
-ghost use Rattle.mm_types.specs.Outside.{Loans, NoLoan, HasCause};
-ghost use Rattle.mm_io.specs.Io.{Takes};
+ghost use Rattle.std.specs.Prelude.{◌≡◌, ◌≤◌, ◌<◌, ◌+◌, ◌↔◌, ◌⊎◌, [], List, ℕ, Option, Some, length, vec_len, vec_capacity, Ok, IfOk, OnOk, IsErr};
+ghost use Rattle.mm_types.specs.Outside.{Loans, NoLoan};
+ghost use Rattle.mm_io.specs.Io.{CountsFaults, Takes, GivesOn};
 ghost use Rattle.mm_io.specs.Calls.{NextFails, next_call};
 
 use crate::Sink;
@@ -8,8 +8,8 @@ use mm_types::{Failed, NoMemory};
 use std::alloc::Global;
 
 /// Room in memory, taken when the sink is made. A write fails exactly where its number, counted from 1, is
-/// in `fails` or the piece is longer than the room left. Any other write takes the whole piece. A flush does not
-/// fail, and is not counted.
+/// in `fails` or the piece is longer than the room left. Any other write takes the whole piece, and nothing is held
+/// back. A flush does not fail, and is not counted.
 #[derive(Drop)]
 pub struct MemSink {
     pub bytes: Vec<u8>,
@@ -49,13 +49,16 @@ impl MemSink {
 impl Sink for MemSink {
     ghost taken = { λ s. Some s.bytes.items };
 
+    ghost given = { λ s. Some s.bytes.items };
+
     ghost faults = { λ s. s.faults };
 
     ghost loans = { λ s. NoLoan };
 
     fn write(&mut self, buf: &[u8]) -> Result<usize, Failed>
         ensures bytes { Takes (Some self.old.bytes.items) (Some self.new.bytes.items) buf.now result }
-        ensures cause { HasCause self.old.faults self.new.faults result }
+        ensures given { GivesOn (Some self.old.bytes.items) (Some self.new.bytes.items) (Some self.old.bytes.items) (Some self.new.bytes.items) }
+        ensures cause { CountsFaults self.old.faults self.new.faults result }
         ensures loans { NoLoan ≡ NoLoan }
         ensures fails { IsErr result ↔ (NextFails self.old.fails.items self.old.calls ⊎ (self.old.room < length buf.now)) }
         ensures whole { IfOk result (λ n. n ≡ length buf.now) }
@@ -81,7 +84,9 @@ impl Sink for MemSink {
     /// Does nothing: what was taken stands in memory. It is no call that `fails` counts.
     fn flush(&mut self) -> Result<(), Failed>
         ensures taken { Some self.new.bytes.items ≡ Some self.old.bytes.items }
-        ensures cause { HasCause self.old.faults self.new.faults result }
+        ensures given { GivesOn (Some self.old.bytes.items) (Some self.new.bytes.items) (Some self.old.bytes.items) (Some self.new.bytes.items) }
+        ensures all { OnOk result (Some self.new.bytes.items ≡ Some self.new.bytes.items) }
+        ensures cause { CountsFaults self.old.faults self.new.faults result }
         ensures loans { NoLoan ≡ NoLoan }
         ensures same { self.new ≡ self.old }
         ensures ok { result ≡ Ok tt }

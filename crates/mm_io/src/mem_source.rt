@@ -1,6 +1,6 @@
 ghost use Rattle.std.specs.Prelude.{◌≡◌, ◌≤◌, ◌<◌, ◌+◌, ◌↔◌, List, ℕ, Option, Some, drop, take, length, IsErr};
-ghost use Rattle.mm_types.specs.Outside.{Loans, NoLoan, HasCause};
-ghost use Rattle.mm_io.specs.Io.{Reads, spare_read};
+ghost use Rattle.mm_types.specs.Outside.{Loans, NoLoan};
+ghost use Rattle.mm_io.specs.Io.{CountsFaults, Reads, spare_read};
 ghost use Rattle.mm_io.specs.Calls.{NextFails, next_call};
 
 use crate::Source;
@@ -15,6 +15,7 @@ pub struct MemSource {
     pub calls: u64,
     pub faults: u64,
     pub idle: u64,
+    pub last_idle: u64,
     ghost within: { at ≤ length bytes.items },
 }
 
@@ -32,6 +33,7 @@ impl MemSource {
             calls: 0,
             faults: 0,
             idle: 0,
+            last_idle: 0,
         }
     }
 }
@@ -54,12 +56,15 @@ impl Source for MemSource {
 
     ghost idle = { λ s. s.idle };
 
+    ghost last_idle = { λ s. s.last_idle };
+
     ghost loans = { λ s. NoLoan };
 
     fn read(&mut self, buf: &mut [u8]) -> Result<usize, Failed>
         ensures bytes { Reads (Some (drop self.old.at self.old.bytes.items)) (Some (drop self.new.at self.new.bytes.items)) buf.new result }
         ensures idle { self.new.idle ≤ self.old.idle + spare_read result }
-        ensures cause { HasCause self.old.faults self.new.faults result }
+        ensures last { self.new.last_idle ≡ spare_read result }
+        ensures cause { CountsFaults self.old.faults self.new.faults result }
         ensures loans { NoLoan ≡ NoLoan }
         ensures fails { IsErr result ↔ NextFails self.old.fails.items self.old.calls }
         ensures calls { self.new.calls ≡ next_call self.old.calls }
@@ -70,6 +75,7 @@ impl Source for MemSource {
         if self.fails.iter().any(|fail| u64::from(*fail) == call) {
             self.faults = self.faults.saturating_add(1);
             self.idle = self.idle.saturating_add(1);
+            self.last_idle = 1;
             return Err(Failed);
         }
         let n = buf.len().min(self.bytes.len() - self.at);
@@ -77,6 +83,9 @@ impl Source for MemSource {
         self.at += n;
         if n == 0 {
             self.idle = self.idle.saturating_add(1);
+            self.last_idle = 1;
+        } else {
+            self.last_idle = 0;
         }
         Ok(n)
     }

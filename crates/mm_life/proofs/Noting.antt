@@ -1,13 +1,13 @@
 -- How logs that grow compose.
 use Rattle.std.proofs.Common.{◌≡◌, ℕ, List, [], ◌∷◌, ◌++◌, Option, Some, None, refl, sym, ap, ◌∙◌, subst, inl, inr, arith, append_assoc}
 use Rattle.std.specs.Prelude.{Bool, true, false}
-use Rattle.mm_types.proofs.Bytes.{append_nil, rose_then, rose_later}
+use Rattle.mm_types.proofs.Bytes.{append_nil, appended_none, appended_then, rose_then, rose_later}
 use Rattle.mm_types.specs.declared.moves.Move.{Move}
 use Rattle.mm_life.specs.Life.{FrameLife}
 use Rattle.mm_life.specs.Legal.{IsLegal}
 use Rattle.mm_life.specs.Effect.{after_move}
 use Rattle.mm_life.specs.MoveText.{spelling_of_move, IsMove}
-use Rattle.mm_life.specs.Logs.{Log, Front, Told, Grew, Noted}
+use Rattle.mm_life.specs.Logs.{Log, Front, Told, IsFrontOf, GaveOn, Grew, Noted}
 use Rattle.mm_life.proofs.Replays.{replays_then, spelled-append, moves-append}
 
 front_then : (a b c s t : List ℕ) (p q r : Bool) → (p ≡ true → q ≡ true) → (q ≡ true → r ≡ true) → Front a b s p q → Front b c t q r → Front a c (s ++ t) p r
@@ -39,6 +39,26 @@ told_then (Some a) None c s t p q r pq qr u v = absurd u
 told_then (Some a) (Some b) None s t p q r pq qr u v = absurd v
 told_then (Some a) (Some b) (Some c) s t p q r pq qr u v = front_then a b c s t p q r pq qr u v
 
+front_of_same : (a : Option (List ℕ)) → IsFrontOf a a
+front_of_same a = ([], appended_none a)
+
+pub front_of_then : (a b c : Option (List ℕ)) → IsFrontOf a b → IsFrontOf b c → IsFrontOf a c
+front_of_then a b c p q = (p.0 ++ q.0, appended_then a b c p.0 q.0 p.1 q.1)
+
+pub gave_nothing : (a : Log) → GaveOn a a
+gave_nothing a = record { grows = front_of_same a.given; front = λ h. h }
+
+pub gave_then : (a b c : Log) → GaveOn a b → GaveOn b c → GaveOn a c
+gave_then a b c u v = record {
+  grows = front_of_then a.given b.given c.given u.grows v.grows;
+  front = λ h. v.front (u.front h);
+}
+
+-- a log that has not failed since had not failed before
+kept : (p q : Bool) → (p ≡ true → q ≡ true) → q ≡ false → p ≡ false
+kept false q h e = refl
+kept true q h e = let bad = h refl in cc
+
 -- one text, and then another
 pub grew_then : (a b c : Log) (s t : List ℕ) → Grew a b s → Grew b c t → Grew a c (s ++ t)
 grew_then a b c s t u v =
@@ -49,7 +69,9 @@ grew_then a b c s t u v =
         | inl q ↦ elim (u.cause q) [ inl p ↦ inl p | inr p ↦ inr (rose_then a.faults b.faults c.faults p v.later) ]
         | inr q ↦ inr (rose_later a.faults b.faults c.faults u.later q)
       ];
+      same = λ h. v.same h ∙ u.same (kept b.failed c.failed v.stays h);
       told = told_then a.bytes b.bytes c.bytes s t a.failed b.failed c.failed u.stays v.stays u.told v.told;
+      gave = gave_then a b c u.gave v.gave;
     }
 
 told_none : (a : Option (List ℕ)) (p : Bool) → Told a a [] p p
@@ -57,7 +79,7 @@ told_none None p = tt
 told_none (Some a) p = record { front = []; behind = []; whole = refl; written = sym (append_nil a); all = λ h. refl; none = λ h. refl }
 
 pub grew_nothing : (a : Log) → Grew a a []
-grew_nothing a = record { later = omega arith; stays = λ h. h; cause = λ h. inl h; told = told_none a.bytes a.failed }
+grew_nothing a = record { later = omega arith; stays = λ h. h; cause = λ h. inl h; same = λ h. refl; told = told_none a.bytes a.failed; gave = gave_nothing a }
 
 -- some moves, and then others
 pub noted_then : (a b c : Log) (l m n : FrameLife) → Noted a b l m → Noted b c m n → Noted a c l n

@@ -1,6 +1,5 @@
 ghost use Rattle.std.specs.Prelude.{◌≡◌, ◌≤◌, ◌<◌, ◌+◌, ◌-◌, ℕ, List, [], length, take, drop};
-ghost use Rattle.mm_types.specs.Outside.{HasCause};
-ghost use Rattle.mm_io.specs.Io.{spare_read};
+ghost use Rattle.mm_io.specs.Io.{CountsFaults, spare_read};
 ghost use Rattle.mm_lines.specs.Filling.{Filled, ReadOnce, Finds, FindsMore, spare_found, spare_more};
 ghost use Rattle.mm_lines.specs.Looking.{Looks};
 
@@ -87,8 +86,9 @@ impl Held {
         requires { length self.old ≤ 256 }
         ensures filled { Filled (S.left source.old) (S.left source.new) self.old self.new }
         ensures read { ReadOnce (S.left source.old) (S.left source.new) self.old self.new result }
-        ensures cause { HasCause (S.faults source.old) (S.faults source.new) result }
+        ensures cause { CountsFaults (S.faults source.old) (S.faults source.new) result }
         ensures idle { S.idle source.new ≤ S.idle source.old + (spare_read result) }
+        ensures last { S.last_idle source.new ≡ spare_read result }
         ensures loans { S.loans source.new ≡ S.loans source.old }
     {
         let n = self.end - self.start;
@@ -106,8 +106,9 @@ impl Held {
         requires { length self.old < 4096 }
         ensures filled { Filled (S.left source.old) (S.left source.new) self.old self.new }
         ensures finds { Finds result (S.left source.new) self.new }
-        ensures cause { HasCause (S.faults source.old) (S.faults source.new) result }
+        ensures cause { CountsFaults (S.faults source.old) (S.faults source.new) result }
         ensures idle { S.idle source.new ≤ S.idle source.old + (spare_found result) }
+        ensures last { spare_found result ≤ S.last_idle source.new }
         ensures loans { S.loans source.new ≡ S.loans source.old }
     {
         loop {
@@ -128,8 +129,9 @@ impl Held {
         requires { length self.old < 4096 }
         ensures filled { Filled (S.left source.old) (S.left source.new) self.old self.new }
         ensures finds { FindsMore result (S.left source.new) self.new }
-        ensures cause { HasCause (S.faults source.old) (S.faults source.new) result }
+        ensures cause { CountsFaults (S.faults source.old) (S.faults source.new) result }
         ensures idle { S.idle source.new ≤ S.idle source.old + spare_more result }
+        ensures last { spare_more result ≤ S.last_idle source.new }
         ensures loans { S.loans source.new ≡ S.loans source.old }
     {
         if self.start < self.end {

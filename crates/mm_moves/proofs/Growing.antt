@@ -4,8 +4,9 @@ use Rattle.std.proofs.Math.Seq.{take-length}
 use Rattle.std.proofs.lemmas.List.{take-append-drop}
 use Rattle.mm_types.specs.Outside.{Rose, Appended}
 use Rattle.mm_types.proofs.Bytes.{append_nil, appended_then}
-use Rattle.mm_io.specs.Io.{Wrote}
+use Rattle.mm_io.specs.Io.{Wrote, GivesOn}
 use Rattle.mm_life.specs.Logs.{Log, Told, Grew}
+use Rattle.mm_life.proofs.Noting.{gave_nothing}
 use Rattle.mm_moves.specs.Recorded.{IsCut, FailsExactly, WroteOrCut}
 
 no_more : (xs ys : List ℕ) → xs ≡ xs ++ ys → ys ≡ []
@@ -26,13 +27,31 @@ told_of (Some a) (Some b) text front rest failed whole written all = record {
 }
 
 -- a text was written, or a front of it
-pub grew_by : (a b : Option (List ℕ)) (m n : ℕ) (text : List ℕ) (failed : Bool) → Wrote a b text failed → m ≤ n → (failed ≡ true → Rose m n) → Grew (record { bytes = a; failed = false; faults = m }) (record { bytes = b; failed = failed; faults = n }) text
-grew_by a b m n text failed w later rose = record {
+grew_by : (a b c d : Option (List ℕ)) (m n : ℕ) (text : List ℕ) (failed : Bool) → Wrote a b text failed → GivesOn c d a b → m ≤ n → (failed ≡ true → Rose m n) → (failed ≡ false → n ≡ m)
+    → Grew (record { bytes = a; given = c; failed = false; faults = m }) (record { bytes = b; given = d; failed = failed; faults = n }) text
+grew_by a b c d m n text failed w gives later rose same = record {
   later = later;
   stays = λ h. cc;
   cause = λ h. inr (rose h);
+  same = same;
   told = told_of a b text w.front w.rest failed w.whole w.written w.all;
+  gave = record { grows = gives.grows; front = gives.front };
 }
+
+-- the same of a log that had not failed, and of a line that is this text: all of it, or a front of it
+module _ (a b c d : Option (List ℕ)) (m n : ℕ) (line text : List ℕ) (same : line ≡ text) (gives : GivesOn c d a b) (later : m ≤ n) where
+  abbrev log_at : Option (List ℕ) → Option (List ℕ) → Bool → ℕ → Log
+  log_at bytes given failed faults = record { bytes = bytes; given = given; failed = failed; faults = faults }
+
+  pub grew_whole : (was : Bool) → was ≡ false → WroteOrCut a b line false → n ≡ m
+      → Grew (record { bytes = a; given = c; failed = was; faults = m }) (record { bytes = b; given = d; failed = was; faults = n }) text
+  grew_whole false e w stays = subst (λ (t : List ℕ). Grew (log_at a c false m) (log_at b d false n) t) same (grew_by a b c d m n line false w.wrote gives later (λ h. cc) (λ h. stays))
+  grew_whole true e w stays = cc
+
+  pub grew_cut : (was : Bool) → was ≡ false → WroteOrCut a b line true → Rose m n
+      → Grew (record { bytes = a; given = c; failed = was; faults = m }) (record { bytes = b; given = d; failed = true; faults = n }) text
+  grew_cut false e w rose = subst (λ (t : List ℕ). Grew (log_at a c false m) (log_at b d true n) t) same (grew_by a b c d m n line true w.wrote gives later (λ h. rose) (λ h. cc))
+  grew_cut true e w rose = cc
 
 told_failed : (a : Option (List ℕ)) (text : List ℕ) → Told a a text true true
 told_failed None text = tt
@@ -81,8 +100,9 @@ line_cut a b line done rest e some written = record {
 
 -- ---- a recorder fails exactly where a line is cut
 
-pub exact_by : (a b : Option (List ℕ)) (m n : ℕ) (text : List ℕ) (failed : Bool) → WroteOrCut a b text failed → FailsExactly (record { bytes = a; failed = false; faults = m }) (record { bytes = b; failed = failed; faults = n }) text
-exact_by a b m n text failed w = record {
+pub exact_by : (a b c d : Option (List ℕ)) (m n : ℕ) (text : List ℕ) (failed : Bool) → WroteOrCut a b text failed
+    → FailsExactly (record { bytes = a; given = c; failed = false; faults = m }) (record { bytes = b; given = d; failed = failed; faults = n }) text
+exact_by a b c d m n text failed w = record {
   cut = w.cut;
   fresh = λ h. refl;
   whole = λ h. subst (λ (t : List ℕ). Appended a b t) (w.wrote.all h) w.wrote.written;
@@ -137,11 +157,13 @@ grew_failed a text e = record {
   later = omega arith;
   stays = λ h. h;
   cause = λ h. inl h;
+  same = λ h. refl;
   told = told_at a.failed e;
+  gave = gave_nothing a;
 }
   where
     told_at : (b : Bool) → b ≡ true → Told a.bytes a.bytes text b b
     told_at true e = told_failed a.bytes text
     told_at false e = cc
 
-pub ruleset growing = (grew_by, grew_failed, exact_by, exact_failed)
+pub ruleset growing = (grew_failed, exact_by, exact_failed)

@@ -1,5 +1,5 @@
 -- What numbers have in leaves, and what becomes of it where a place is written, leaves are added and a leaf gets its places.
-use Rattle.std.proofs.Common.{◌≡◌, ℕ, zero, suc, ◌+◌, ◌-◌, ◌/◌, ◌%◌, ◌<◌, ◌≤◌, true, false, cond, List, [], ◌∷◌, ◌++◌, length, get_or, set, take, replicate, Option, Some, None, refl, sym, ap, ◌∙◌, inl, inr, arith, ltb, get_or-set_same, get_or-set_other}
+use Rattle.std.proofs.Common.{◌≡◌, ℕ, zero, suc, ◌-◌, ◌/◌, ◌%◌, ◌<◌, ◌≤◌, true, false, cond, List, [], ◌∷◌, ◌++◌, length, get_or, set, take, replicate, Option, Some, None, refl, sym, ap, ◌∙◌, inl, inr, arith, ltb, get_or-set_same, get_or-set_other}
 use Rattle.std.specs.Prelude.{◌==◌, ◌↔◌, slice_get, slice_set, IsTrue, IsSome, is_some}
 use Rattle.std.specs.Vec.{with_item}
 use Rattle.std.specs.declared.vec.Vec.{Vec}

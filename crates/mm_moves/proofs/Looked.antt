@@ -1,15 +1,15 @@
 -- What stands on the lists, for the readers.
-use Rattle.std.proofs.Common.{◌≡◌, ℕ, zero, suc, ◌+◌, ◌<◌, ◌≤◌, Bool, true, false, List, [], ◌∷◌, length, Option, Some, None, refl, sym, ap, ◌∙◌, subst, arith, length-set}
+use Rattle.std.proofs.Common.{◌≡◌, ℕ, zero, suc, ◌+◌, ◌<◌, Bool, true, false, List, length, Option, Some, None, ap, subst, arith, length-set}
 use Rattle.std.specs.Prelude.{option_map, slice_get, slice_set}
 use Rattle.std.proofs.lemmas.List.Sums.{count_by-le-length}
 use Rattle.mm_types.specs.declared.frames.Record.{Record}
 use Rattle.mm_life.specs.Frames.{is_idle}
-use Rattle.mm_lists.specs.Lists.{ListsOf, list_at, number_at}
+use Rattle.mm_lists.specs.Lists.{ListsOf, number_at}
 use Rattle.mm_lists.proofs.Standing.{list_within}
 use Rattle.mm_slots.specs.Slots.{free_count}
 use Rattle.mm_slots.proofs.FlagLemmas.{count_changed}
 use Rattle.mm_moves.specs.Listed.{Kept, table_of, record_of}
-use Rattle.mm_moves.specs.Looking.{frames_on, frame_at, IsBehind}
+use Rattle.mm_moves.specs.Looking.{frames_on, IsBehind}
 use Rattle.mm_moves.specs.Slotted.{AreApartFrom}
 use Rattle.mm_moves.specs.Sound.{frame}
 use Rattle.mm_moves.specs.declared.four_lists.FrameList.{FrameList}

@@ -1,6 +1,7 @@
 ghost use Rattle.std.specs.Prelude.{◌≡◌, false, is_err};
-ghost use Rattle.mm_types.specs.Outside.{Loans, Loan, HasCause};
-ghost use Rattle.mm_life.specs.Logs.{Log, Grew};
+ghost use Rattle.mm_types.specs.Outside.{Loans, Loan};
+ghost use Rattle.mm_io.specs.Io.{CountsFaults, GivesOn};
+ghost use Rattle.mm_life.specs.Logs.{Log, Grew, Flushed};
 ghost use Rattle.mm_life.specs.MoveText.{spelling_of_move, IsMove};
 ghost use Rattle.mm_moves.specs.Recorded.{FailsExactly, WroteOrCut};
 
@@ -11,7 +12,7 @@ use mm_types::{Failed, Move};
 
 /// Takes note of moves, one after another.
 pub trait Moves {
-    /// The bytes written, where told; whether writing has failed; the count of faults, which never falls.
+    /// The bytes written and those that were given on, where told; whether writing has failed; the count of faults, which never falls.
     ghost log: { Self → Log };
 
     /// The references that it holds.
@@ -25,11 +26,10 @@ pub trait Moves {
         ensures in_range { IsMove m }
         ensures loans { loans self.new ≡ loans self.old };
 
-    /// Hands on the lines that were written. Where that fails the result alone says so: the bytes written stay,
+    /// Gives on the lines that were written. Where that fails the result alone says so: the bytes written stay,
     /// and so does whether a note failed.
     fn flush(&mut self) -> Result<(), Failed>
-        ensures stays { log self.new ≡ record (log self.old) { faults = (log self.new).faults } }
-        ensures cause { HasCause (log self.old).faults (log self.new).faults result }
+        ensures flushed { Flushed (log self.old) (log self.new) result }
         ensures loans { loans self.new ≡ loans self.old };
 
     /// Whether a note failed.
@@ -51,7 +51,8 @@ pub struct Recorder<'a, K: Sink> {
 #[tactic(auto, using(crate::proofs::Growing::growing))]
 fn write_line<K: Sink>(sink: &mut K, line: &[u8]) -> Result<(), Failed>
     ensures wrote { WroteOrCut (K.taken sink.old) (K.taken sink.new) line.now (is_err result) }
-    ensures cause { HasCause (K.faults sink.old) (K.faults sink.new) result }
+    ensures given { GivesOn (K.given sink.old) (K.given sink.new) (K.taken sink.old) (K.taken sink.new) }
+    ensures cause { CountsFaults (K.faults sink.old) (K.faults sink.new) result }
     ensures loans { K.loans sink.new ≡ K.loans sink.old }
 {
     let mut rest = line;
@@ -91,7 +92,7 @@ impl<'a, K: Sink> Recorder<'a, K> {
 }
 
 impl<'a, K: Sink> Moves for Recorder<'a, K> {
-    ghost log = { λ r. record { bytes = K.taken r.sink.now; failed = r.failed; faults = K.faults r.sink.now } };
+    ghost log = { λ r. record { bytes = K.taken r.sink.now; given = K.given r.sink.now; failed = r.failed; faults = K.faults r.sink.now } };
 
     ghost loans = { λ r. Loan r.sink.ghost_name };
 

@@ -11,15 +11,16 @@ use Rattle.mm_types.specs.declared.moves.Move.TheVariants as move
 use Rattle.mm_types.specs.declared.numbers.Place.{Place}
 use Rattle.mm_blocks.specs.declared.device_calls.DeviceCall.{DeviceCall}
 use Rattle.mm_blocks.specs.Traffic.{is_named}
-use Rattle.mm_blocks.specs.Devices.{Call}
+use Rattle.mm_blocks.specs.Devices.{Call, KeepsOthers}
 use Rattle.mm_blocks.proofs.Serving.{all_served_then, all_served_one, map-logged}
+use Rattle.mm_blocks.proofs.Holding.{keeps_same, keeps_then}
 use Rattle.mm_life.specs.Life.{FrameLife}
 use Rattle.mm_life.specs.Effect.{after_move}
 use Rattle.mm_life.specs.Logs.{Grew}
 use Rattle.mm_life.specs.Replay.{Replays}
 use Rattle.mm_life.proofs.Replays.{replays_then, spelled-append, moves-append}
 use Rattle.mm_life.proofs.Noting.{grew_then, grew_nothing}
-use Rattle.mm_pages.specs.Told.{Told, told_after, told_through, call_of, calls_of, in_slot, in_block, paging_traffic, file_traffic}
+use Rattle.mm_pages.specs.Told.{told_through, call_of, calls_of, in_slot, in_block, paging_traffic, file_traffic}
 use Rattle.mm_pages.proofs.Passed.{waits_then, ages_then}
 use Rattle.mm_walks.specs.Walks.{Walk, walked, walked_all, waits_through, ages_through}
 use Rattle.mm_moving.specs.Shown.{StateOf, CalledFor, backing_of_frame, Made}
@@ -52,6 +53,8 @@ does_nothing s = record {
   file_calls = [];
   files = refl;
   files_are = refl;
+  slots_kept = keeps_same [] s.slots s.slots refl;
+  blocks_kept = keeps_same [] s.blocks s.blocks refl;
 }
 
 pub does_then : (xs ys : List Move) (s y z : StateOf) → Does xs s y → Does ys y z → Does (xs ++ ys) s z
@@ -68,6 +71,8 @@ does_then xs ys s y z p q = record {
   file_calls = p.file_calls ++ q.file_calls;
   files = all_served_then p.file_calls q.file_calls _ _ _ p.files q.files;
   files_are = map-logged p.file_calls q.file_calls ∙ (λ i. p.files_are i ++ q.files_are i) ∙ sym (calls_then in_block xs ys s.life y.life p.replays);
+  slots_kept = subst (λ cs. KeepsOthers cs s.slots z.slots) (sym (calls_then in_slot xs ys s.life y.life p.replays)) (keeps_then _ _ s.slots y.slots z.slots p.slots_kept q.slots_kept);
+  blocks_kept = subst (λ cs. KeepsOthers cs s.blocks z.blocks) (sym (calls_then in_block xs ys s.life y.life p.replays)) (keeps_then _ _ s.blocks y.blocks z.blocks p.blocks_kept q.blocks_kept);
 }
 
 -- ---- one move
@@ -86,6 +91,8 @@ does_quiet x s z m p f e g = record {
   file_calls = [];
   files = f;
   files_are = sym g;
+  slots_kept = m.slots_kept;
+  blocks_kept = m.blocks_kept;
 }
 
 abbrev one_call : Direction → ℕ → Bool → Bool → Call
@@ -107,6 +114,8 @@ does_called w ok x (backing.Slot t) s z m c e g = record {
   file_calls = [];
   files = c.1;
   files_are = sym g;
+  slots_kept = m.slots_kept;
+  blocks_kept = m.blocks_kept;
 }
 does_called w ok x (backing.Block t) s z m c e g = record {
   in_range = m.in_range;
@@ -121,6 +130,8 @@ does_called w ok x (backing.Block t) s z m c e g = record {
   file_calls = one_call w t.0 ok (is_named w s.files.named) ∷ [];
   files = all_served_one _ s.files z.files c.0;
   files_are = sym g;
+  slots_kept = m.slots_kept;
+  blocks_kept = m.blocks_kept;
 }
 
 pub does_one : (x : Move) (s z : StateOf) → Made x s z → Does (x ∷ []) s z

@@ -9,13 +9,13 @@ use Rattle.mm_life.specs.Legal.{is_short}
 use Rattle.mm_life.specs.Logs.{Grew}
 use Rattle.mm_life.specs.MoveText.{AreMoves, spelled_moves}
 use Rattle.mm_life.specs.Replay.{Replays}
-use Rattle.mm_blocks.specs.Devices.{Call, AllServed, logged_call}
+use Rattle.mm_blocks.specs.Devices.{Call, AllServed, logged_call, KeepsOthers}
 use Rattle.mm_walks.specs.Walks.{Walk, Through, walked_all, waits_through, ages_through, is_wrote_move, is_read_move}
 use Rattle.mm_walks.specs.Searches.{SearchMove, Starved}
 use Rattle.mm_pages.specs.Told.{told_through, paging_traffic, file_traffic}
 use Rattle.mm_moving.specs.Shown.{StateOf, called, SomeFault}
 
--- these moves were made, noted and counted; each device's calls are those that they stand for
+-- these moves were made, noted and counted; each device's calls are those that they stand for, and a slot or a block that none of them wrote is as before
 pub record Does (moves : List Move) (s z : StateOf) : Type 0 where
   pub in_range : AreMoves moves
   pub grew : Grew s.log z.log (spelled_moves moves)
@@ -29,6 +29,8 @@ pub record Does (moves : List Move) (s z : StateOf) : Type 0 where
   pub file_calls : List Call
   pub files : AllServed file_calls s.files z.files
   pub files_are : map logged_call file_calls ≡ file_traffic s.life moves
+  pub slots_kept : KeepsOthers (paging_traffic s.life moves) s.slots z.slots
+  pub blocks_kept : KeepsOthers (file_traffic s.life moves) s.blocks z.blocks
 
 -- where a walk through the moves from here on begins
 abbrev pub walk_of : StateOf → Walk

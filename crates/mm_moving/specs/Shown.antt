@@ -1,7 +1,6 @@
 -- What a machine's joined state shows to the store of pages above it, and what its calls make of that.
 -- Profile, "Which frame moves, and when".
 use Rattle.std.specs.Prelude.{◌≡◌, ◌<◌, ◌⊎◌, ℕ, Bool, true, false, List, [], ◌∷◌, Option, Some, None}
-use Rattle.mm_types.specs.Outside.{Rose}
 use Rattle.mm_types.specs.declared.devices.Direction.{Direction}
 use Rattle.mm_types.specs.declared.devices.Direction.TheVariants as way
 use Rattle.mm_types.specs.declared.numbers.Frame.{Frame}
@@ -19,11 +18,11 @@ use Rattle.mm_life.specs.Effect.{after_move}
 use Rattle.mm_life.specs.Logs.{Log, Grew}
 use Rattle.mm_life.specs.MoveText.{AreMoves, spelled_moves}
 use Rattle.mm_blocks.specs.Traffic.{is_named}
-use Rattle.mm_blocks.specs.Devices.{DeviceOf, Serves}
+use Rattle.mm_blocks.specs.Devices.{DeviceOf, Serves, CallFailed, KeepsOthers}
 use Rattle.mm_walks.specs.Waits.{Waiting, waits_after, ages_after}
 use Rattle.mm_located.specs.Carried.{slots_written, blocks_written}
 use Rattle.mm_life.specs.Located.{BlockBytes}
-use Rattle.mm_pages.specs.Told.{Told, told_after, none_told}
+use Rattle.mm_pages.specs.Told.{Told, told_after, none_told, paging_traffic, file_traffic}
 use Rattle.mm_parts.specs.Shown.{is_own_line}
 use Rattle.mm_parts.specs.Moves.{aside_added, names_given}
 
@@ -89,6 +88,9 @@ pub record Made (x : Move) (s z : StateOf) : Type 0 where
   pub waits : z.waits ≡ waits_after x s.waits
   pub told : z.told ≡ told_after s.life x s.told
   pub calls : Calls x s z
+  -- a slot or a block that it did not write is as before
+  pub slots_kept : KeepsOthers (paging_traffic s.life (x ∷ [])) s.slots z.slots
+  pub blocks_kept : KeepsOthers (file_traffic s.life (x ∷ [])) s.blocks z.blocks
 
 -- the blocks of a device, where the write succeeded
 abbrev pub written_if : Bool → (BlockBytes → BlockBytes) → BlockBytes → BlockBytes
@@ -110,7 +112,7 @@ pub record Begins (x : Move) (s z : StateOf) : Type 0 where
   pub waits : z.waits ≡ waits_after x s.waits
   pub told : z.told ≡ none_told
 
--- a device that was asked to grow
+-- a device that was asked to grow, and failed
 abbrev pub asked_to_grow : DeviceOf → DeviceOf → DeviceOf
 asked_to_grow d e = record d { faults = e.faults }
 
@@ -159,6 +161,6 @@ MayMap s f place = owner_is is_shared (record_at s.life.frames f.0) ≡ true →
 abbrev pub CanBegin : StateOf → Type 0
 CanBegin s = is_own_line s.life.kind ≡ true → s.own ≡ None
 
--- a device failed
+-- a call of one of both devices failed
 abbrev pub SomeFault : StateOf → StateOf → Type 0
-SomeFault s z = Rose s.paging.faults z.paging.faults ⊎ Rose s.files.faults z.files.faults
+SomeFault s z = CallFailed s.paging z.paging ⊎ CallFailed s.files z.files

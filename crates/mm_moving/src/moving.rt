@@ -1,7 +1,7 @@
 ghost use Rattle.std.specs.Prelude.{◌≡◌, ◌≢◌, ◌≤◌, ◌<◌, ◌+◌, ◌-◌, ◌^◌, ◌==◌, ◌++◌, ◌∷◌, [], List, ℕ, Bool, true, false, Some, None, IsSome, IfSome, OnOk, OnErr, IsErrOf, is_some, is_ok, length, option_map, replicate, slice_get, slice_set, count_by, unwrap_or};
 ghost use Rattle.std.specs.Option.{MatchOption, ForSome};
 ghost use Rattle.mm_types.specs.Address.{first_user_page, end_of_user_pages};
-ghost use Rattle.mm_types.specs.Outside.{Loans, Rose, HasCause};
+ghost use Rattle.mm_types.specs.Outside.{Loans, Rose};
 ghost use Rattle.mm_types.specs.declared.devices.Device.TheVariants as device_of;
 ghost use Rattle.mm_types.specs.declared.devices.Direction.TheVariants as way;
 ghost use Rattle.mm_types.specs.declared.faults.GrowFault.TheVariants as grow_fault;
@@ -15,6 +15,7 @@ ghost use Rattle.mm_types.specs.declared.numbers.Key.TheVariants.{Private, Share
 ghost use Rattle.mm_types.specs.declared.numbers.Place.{Place};
 ghost use Rattle.mm_life.specs.Frames.{record_at, is_read, is_empty, is_on};
 ghost use Rattle.mm_life.specs.Life.{changed, same_key, same_place, counts_of, set_of};
+ghost use Rattle.mm_life.specs.Logs.{Flushed};
 ghost use Rattle.mm_life.specs.Legal.{IsLegal, is_at_max, is_above_min, has_depth};
 ghost use Rattle.mm_life.specs.Located.{zero_page};
 ghost use Rattle.mm_life.specs.Victims.{can_be_written};
@@ -75,7 +76,6 @@ pub trait Moving {
         requires alone { (shown self.old).aside ≡ None }
         ensures ok { OnOk result (Begins (move.At line (kind.Grow n)) (shown self.old) (shown self.new)) }
         ensures grown { OnOk result (shown self.new ≡ record (moved (shown self.old) (shown self.new)) {
-          paging = asked_to_grow (shown self.old).paging (shown self.new).paging;
           slots = (shown self.old).slots ++ replicate n zero_page;
         }) }
         ensures failed { IsErrOf result grow_fault.Failed → Begins (move.At line kind.Call) (shown self.old) (shown self.new) }
@@ -456,10 +456,9 @@ pub trait Moving {
     fn moves_failed(&self) -> bool
         ensures { result ≡ (shown self.now).log.failed };
 
-    /// Hands on the moves that were noted. `Failed` comes only where the sink's count of faults rose; the moves stay noted then,
-    /// and whether the sink has failed stays as it was.
+    /// Gives on the moves that were noted. Nothing else changes but the log's count of faults, where that fails.
     fn flush_moves(&mut self) -> Result<(), Failed>
-        ensures rest { shown self.new ≡ record (shown self.old) { log = record ((shown self.old).log) { faults = (shown self.new).log.faults } } }
-        ensures cause { HasCause (shown self.old).log.faults (shown self.new).log.faults result }
+        ensures rest { shown self.new ≡ record (shown self.old) { log = (shown self.new).log } }
+        ensures flushed { Flushed (shown self.old).log (shown self.new).log result }
         ensures loans { loans self.new ≡ loans self.old };
 }

@@ -1,7 +1,6 @@
 -- How a page gets its frame: a search, and then a frame that is taken.
-use Rattle.std.proofs.Common.{◌≡◌, ℕ, ◌≤◌, true, false, List, [], ◌∷◌, refl, sym, ap, ◌∙◌, subst, arith, inl, inr}
+use Rattle.std.proofs.Common.{◌≡◌, ℕ, ◌≤◌, true, false, List, refl, sym, ap, ◌∙◌, subst, arith, inl, inr}
 use Rattle.std.specs.Prelude.{Result, Ok, Err, IfOk, IfErr, OnOk, OnErr}
-use Rattle.mm_types.proofs.Bytes.{rose_later}
 use Rattle.mm_types.specs.declared.faults.PageFault.{PageFault}
 use Rattle.mm_types.specs.declared.faults.PageFault.TheVariants as fault
 use Rattle.mm_types.specs.declared.frames.Held.{Held}
@@ -11,13 +10,12 @@ use Rattle.mm_types.specs.declared.numbers.Frame.{Frame}
 use Rattle.mm_types.specs.declared.numbers.Key.{Key}
 use Rattle.mm_life.specs.Life.{FrameLife}
 use Rattle.mm_life.specs.Legal.{is_stored}
-use Rattle.mm_blocks.specs.Devices.{DeviceOf, Call, AllServed}
 use Rattle.mm_pages.specs.Accesses.{Aim, is_had}
 use Rattle.mm_moving.specs.Shown.{StateOf, SomeFault, called}
 use Rattle.mm_moving.specs.Doing.{Does}
 use Rattle.mm_paged.specs.Pieces.{Went, Stuck, Sought, Took, Missed, Begins, ReadsFor, Fails, Later}
 use Rattle.mm_paged.proofs.Doing.{sought_took, sought_missed}
-use Rattle.mm_blocks.proofs.Serving.{all_served_later}
+use Rattle.mm_blocks.proofs.Serving.{all_served_later, failed_later}
 
 pub went_more : (a : Aim) (m n : ℕ) (s z : StateOf) → m ≤ n → Went a m s z → Went a n s z
 went_more a m n s z h w = record {
@@ -53,8 +51,8 @@ pub does_later : (ms : List Move) (s z : StateOf) → Does ms s z → Later s z
 does_later ms s z d = record { paging = all_served_later d.paging_calls s.paging z.paging d.paging; files = all_served_later d.file_calls s.files z.files d.files }
 
 pub fault_later : (s t z : StateOf) → Later s t → SomeFault t z → SomeFault s z
-fault_later s t z l (inl h) = inl (rose_later s.paging.faults t.paging.faults z.paging.faults l.paging h)
-fault_later s t z l (inr h) = inr (rose_later s.files.faults t.files.faults z.files.faults l.files h)
+fault_later s t z l (inl h) = inl (failed_later s.paging t.paging z.paging l.paging h)
+fault_later s t z l (inr h) = inr (failed_later s.files t.files z.files l.files h)
 
 -- ---- a page that is read
 

@@ -46,6 +46,7 @@ use Rattle.mm_paged.specs.Shown.{OwnOf, Kept, store_of, report_of, behind_of}
 use Rattle.mm_paged.proofs.Keeping.{blocks_kept, fetched_by}
 use Rattle.mm_paged.proofs.Serving.{InLine, served_by}
 use Rattle.mm_paged.proofs.Shows.{passes_of}
+use Rattle.mm_blocks.proofs.Serving.{serves_failed}
 use Rattle.mm_paged.proofs.Unmoved.{none_passes}
 use Rattle.mm_types.proofs.Naturals.{less}
 
@@ -249,8 +250,8 @@ backed_write s f h w = ∥∥₁_elim h.reached (hlevel props) (λ r. (((reached
 
 fault_by : (w : Direction) (b : Backing) (s z : StateOf) → is_backed b ≡ true → Called w b false s z → SomeFault s z
 fault_by w backing.None s z h c = cc
-fault_by w (backing.Slot t) s z h c = inl (c.0.cause refl)
-fault_by w (backing.Block t) s z h c = inr (c.0.cause refl)
+fault_by w (backing.Slot t) s z h c = inl (serves_failed _ s.paging z.paging c.0 refl)
+fault_by w (backing.Block t) s z h c = inr (serves_failed _ s.files z.files c.0 refl)
 
 -- what one end tells, where the call succeeded and where it failed
 pub ok_told : (s z : StateOf) (f : Frame) → Made (ending (record_at s.life.frames f.0) f true) s z → failed_told z.told ≡ failed_told s.told
@@ -305,7 +306,7 @@ passes_one i ok s z o e = passes_of (Completes i ok) (ending (record_at s.life.f
     (record { frame = e.frame.0; found = e.found; one = refl; moved = record { waits = e.made.waits; ages = e.made.ages } })
 
 pub ended_passes : (i : ℕ) (r : Done) (s z : StateOf) (o : OwnOf) → EndsAs i r s z → Passes (CompletesAs i r) (store_of s o) (store_of z o) (behind_of s) (behind_of z)
-ended_passes i done.None s z o e = none_passes (CompletesAs i done.None) s z o o (e.0, record { none = refl; same = ap behind_of e.1 }) (ap (λ (x : StateOf). x.log) e.1) (ap (λ (x : StateOf). x.life) e.1) (ap (λ (x : StateOf). x.told) e.1) (ap (λ (x : StateOf). x.paging) e.1) (ap (λ (x : StateOf). x.files) e.1)
+ended_passes i done.None s z o e = none_passes (CompletesAs i done.None) s z o o (e.0, record { none = refl; same = ap behind_of e.1 }) (ap (λ (x : StateOf). x.log) e.1) (ap (λ (x : StateOf). x.life) e.1) (ap (λ (x : StateOf). x.told) e.1) (ap (λ (x : StateOf). x.paging) e.1) (ap (λ (x : StateOf). x.files) e.1) (ap (λ (x : StateOf). x.slots) e.1) (ap (λ (x : StateOf). x.blocks) e.1)
 ended_passes i done.Ok s z o e = passes_one i true s z o e
 ended_passes i done.Failed s z o e = passes_one i false s z o e
 

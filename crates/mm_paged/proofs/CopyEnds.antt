@@ -1,6 +1,6 @@
 -- What a copy leaves of the store, and how it ends.
 use Rattle.std.proofs.Common.{◌≡◌, ℕ, ◌≤◌, ◌+◌, Bool, true, false, List, Option, Some, None, refl, sym, ap, ◌∙◌, subst, arith, inl, inr, ◌⊎◌}
-use Rattle.std.specs.Prelude.{not, is_some, is_none, IsSome, ◌==◌, ◌||◌, if◌then◌else◌, option_map, unwrap_or, Ok, Err}
+use Rattle.std.specs.Prelude.{not, is_some, is_none, IsSome, ◌==◌, ◌||◌, option_map, unwrap_or, Ok, Err}
 use Rattle.mm_types.specs.Machine.{limit_of}
 use Rattle.mm_types.specs.declared.faults.PageFault.{PageFault}
 use Rattle.mm_types.specs.declared.faults.PageFault.TheVariants as fault
@@ -15,14 +15,14 @@ use Rattle.mm_life.specs.Life.{FrameLife, changed, same_place, key_of_place, is_
 use Rattle.mm_life.specs.Legal.{is_short, is_touch}
 use Rattle.mm_life.specs.Replay.{Replays}
 use Rattle.mm_laws.proofs.Owners.{key_or_not, changed_here, changed_else, same_key-self}
-use Rattle.mm_laws.proofs.PlaceCounts.{same_place-true}
 use Rattle.mm_world.specs.World.{Page}
 use Rattle.mm_world.specs.Failure.{same_key as same_in_world, still_needs_frame, search_failed}
 use Rattle.mm_world.specs.Report.{is_short as report_is_short}
 use Rattle.mm_pages.specs.Accesses.{Aim, Copies}
 use Rattle.mm_pages.specs.Conditions.{MayAccess, IsReady, copying}
 use Rattle.mm_pages.specs.Passing.{Passes}
-use Rattle.mm_pages.specs.Reports.{Ends, IsBegun, Served, fetched}
+use Rattle.mm_paged.proofs.Giving.{young_still}
+use Rattle.mm_pages.specs.Reports.{Ends, IsBegun, HasCauses, Served, fetched}
 use Rattle.mm_pages.specs.Standing.{where_of, block_at, backed_by}
 use Rattle.mm_pages.specs.Store.{StoreOf, Ready, own_key}
 use Rattle.mm_moving.specs.Shown.{StateOf, called}
@@ -108,16 +108,6 @@ failed_kept e k place s z o u h stuck life same none used = record {
   where
     none_ready : (r : Ready) → u.ready ≡ Some r → ⊥
     none_ready r t = let bad : None ≡ Some r = sym none ∙ t in cc
-
-young_still : {V : Type 0} (g : Place → V) (p : Place) (v : V) → g p ≡ v → g ≡ changed same_place g p v
-young_still {V} g p v e = λ i. λ q. at q i
-  where
-    by : (q : Place) (b : Bool) → same_place q p ≡ b → g q ≡ (if b then v else g q)
-    by q true h = ap g (same_place-true q p h) ∙ e
-    by q false h = refl
-
-    at : (q : Place) → g q ≡ changed same_place g p v q
-    at q = by q (same_place q p) refl
 
 few_of : (o : Option Frame) (n : ℕ) → n ≤ most_reads o → n ≤ 1
 few_of None n h = h
@@ -254,24 +244,31 @@ copied_ends k place s z o x g c some b =
       no_frame = λ h. cc;
     }
 
-pub failed_ends_copy : (why : PageFault) (k : Key) (place : Place) (s z : StateOf) (o : OwnOf) (x : Option Bool) → Holds z → z.contents (key_of_place place) ≡ None → FailsToCopy why k s z → IsBegun (report_of s o) → Ends {T = Unit {0}} (copying k place) (report_of z (told_by x)) (Err why)
-failed_ends_copy fault.Read k place s z o x g dead h b = record {
-  ok = tt;
-  had = tt;
+pub failed_causes_copy : (why : PageFault) (k : Key) (place : Place) (s z : StateOf) (x : Option Bool) → Holds z → z.contents (key_of_place place) ≡ None → FailsToCopy why k s z → HasCauses {T = Unit {0}} (copying k place) (report_of z (told_by x)) (Err why)
+failed_causes_copy fault.Read k place s z x g dead h = record {
   read = λ e. ap (λ (r : Option Key). unwrap_or (option_map (same_in_world k) r) false) (h.read refl) ∙ same_key-self k;
   no_frame = λ e. cc;
 }
+failed_causes_copy fault.NoFrame k place s z x g dead h = record {
+  read = λ e. cc;
+  no_frame = λ e. (
+    h.failed refl,
+    either_some _ _ (dead_where z.life (z.life.stands (key_of_place place)) (g.live (key_of_place place) ∙ ap is_some dead)),
+    short_counts true true true z.life.frames.zeroed z.life.frames.free z.life.frames.standby (h.short refl),
+  );
+}
+
+pub failed_ends_copy : (why : PageFault) (k : Key) (place : Place) (s z : StateOf) (o : OwnOf) (x : Option Bool) → Holds z → z.contents (key_of_place place) ≡ None → FailsToCopy why k s z → IsBegun (report_of s o) → Ends {T = Unit {0}} (copying k place) (report_of z (told_by x)) (Err why)
+failed_ends_copy fault.Read k place s z o x g dead h b = record { ok = tt; had = tt; read = (failed_causes_copy fault.Read k place s z x g dead h).read; no_frame = λ e. cc }
 failed_ends_copy fault.NoFrame k place s z o x g dead h b =
-    let still : still_needs_frame (copying k place) (report_of z (told_by x)) ≡ true =
-    either_some _ _ (dead_where z.life (z.life.stands (key_of_place place)) (g.live (key_of_place place) ∙ ap is_some dead)) in
+    let c = (failed_causes_copy fault.NoFrame k place s z x g dead h).no_frame refl in
     record {
       ok = tt;
       had = tt;
       read = λ e. cc;
       no_frame = λ e. (
         nothing_read k (report_of z (told_by x)) (h.kept refl ∙ b.no_failed_read),
-        search_failed_by z.told.search_writes.failed z.told.search_writes.succeeded _ _ (h.failed refl) (h.none refl b.no_failed_write) still
-            (short_counts true true true z.life.frames.zeroed z.life.frames.free z.life.frames.standby (h.short refl)),
+        search_failed_by z.told.search_writes.failed z.told.search_writes.succeeded _ _ c.0 (h.none refl b.no_failed_write) c.1 c.2,
       );
     }
 

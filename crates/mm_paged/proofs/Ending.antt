@@ -1,6 +1,6 @@
 -- What an access that faulted leaves, out of what its fault did.
 use Rattle.std.proofs.Common.{◌≡◌, ◌≤◌, ℕ, Bool, true, false, List, [], ◌∷◌, Option, Some, None, refl, sym, ap, ◌∙◌, subst, length}
-use Rattle.std.specs.Prelude.{is_some, if◌then◌else◌, IsSome, Result, Ok, Err, OnErr}
+use Rattle.std.specs.Prelude.{is_some, if◌then◌else◌, IsSome, Ok}
 use Rattle.mm_types.specs.declared.faults.PageFault.{PageFault}
 use Rattle.mm_types.specs.Machine.{MachineOf}
 use Rattle.mm_types.specs.declared.moves.Move.{Move}
@@ -31,7 +31,6 @@ use Rattle.mm_paged.proofs.Serving.{InLine, served_by}
 use Rattle.mm_life.specs.Legal.{is_thread}
 use Rattle.mm_pages.specs.Told.{Told}
 use Rattle.mm_paged.proofs.Quiet.{calm_through}
-use Rattle.mm_types.proofs.Options.{on_err}
 
 pub in_line : (a : Aim) (ms : List Move) (w : Walk) → Through (AccessMove a) w ms → InLine ms
 in_line a [] w h = tt

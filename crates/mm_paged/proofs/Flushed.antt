@@ -2,8 +2,7 @@
 use Rattle.std.proofs.Common.{◌≡◌, ◌≢◌, ℕ, zero, suc, ◌+◌, ◌-◌, ◌<◌, Bool, true, false, List, [], ◌∷◌, ◌++◌, Option, Some, None, refl, sym, ap, ◌∙◌, subst, arith, inl, inr, ◌⊎◌}
 use Rattle.std.proofs.Math.Logic.{∥∥₁_elim}
 use Rattle.std.proofs.Props.{props}
-use Rattle.std.specs.Cmp.{unsigned_Decides}
-use Rattle.std.specs.Prelude.{not, ◌&&◌, ◌||◌, ◌==◌, if◌then◌else◌, is_some, IsSome, length, min, slice_get, slice_set, slice_index_or, ◌^◌, Result, Ok, Err, OnOk, OnErr, is_ok}
+use Rattle.std.specs.Prelude.{not, ◌&&◌, ◌||◌, if◌then◌else◌, is_some, IsSome, length, min, slice_get, slice_set, slice_index_or, ◌^◌, Result, Ok, Err, OnOk, OnErr, is_ok}
 use Rattle.mm_types.specs.Machine.{MachineOf, limit_of}
 use Rattle.mm_types.specs.declared.devices.Direction.TheVariants as way
 use Rattle.mm_types.specs.declared.frames.Backing.{Backing}
@@ -22,7 +21,7 @@ use Rattle.mm_types.specs.declared.moves.Stored.TheVariants as stored
 use Rattle.mm_types.specs.declared.numbers.Block.{Block}
 use Rattle.mm_types.specs.declared.numbers.Frame.{Frame}
 use Rattle.mm_types.specs.declared.numbers.Key.{Key}
-use Rattle.mm_types.proofs.Bytes.{rose_later}
+use Rattle.mm_blocks.proofs.Serving.{later_same, later_then, serves_later, serves_failed, failed_later}
 use Rattle.mm_types.proofs.Cells.{get_set_other}
 use Rattle.mm_life.specs.Frames.{record_at, blank, is_read, is_write, is_again, has_request, write_done, without_slot, being_written}
 use Rattle.mm_life.specs.Life.{FrameLife, is_live, is_dead}
@@ -32,14 +31,13 @@ use Rattle.mm_life.specs.Frames.{is_on}
 use Rattle.mm_laws.specs.Settling.{ended_as}
 use Rattle.mm_laws.proofs.Deduced.{reached_sound}
 use Rattle.mm_laws.proofs.Settling.{wrote_settles}
-use Rattle.mm_walks.specs.Chores.{IsEndOf, FlushMoves, FlushedAt}
-use Rattle.mm_pages.specs.Housekeeping.{Flushes}
+use Rattle.mm_pages.specs.Flushing.{IsEndOf, IsWrittenNow, IsWrittenIf, IsEndedFirst, FlushesBy, FlushedAt, ends_lost}
+use Rattle.mm_pages.specs.Housekeeping.{FlushesPage as Flushes}
 use Rattle.mm_pages.specs.Passing.{Passes}
 use Rattle.mm_pages.specs.Reports.{wrote, Served}
 use Rattle.mm_pages.specs.Standing.{stored_of, backed_by, block_at, in_backing, is_on_device, bytes_at}
 use Rattle.mm_pages.specs.Shortage.{is_framed}
 use Rattle.mm_pages.specs.Store.{Ready}
-use Rattle.mm_blocks.specs.Devices.{DeviceOf}
 use Rattle.mm_pages.specs.Told.{Told, with_write}
 use Rattle.mm_parts.specs.Moves.{write_end, write_target, goes_to, lowest_free, own_after, own_ended}
 use Rattle.mm_walks.specs.Waits.{wait_of}
@@ -48,7 +46,7 @@ use Rattle.mm_moving.specs.Doing.{Does}
 use Rattle.mm_moving.specs.Holds.{Holds}
 use Rattle.mm_moving.proofs.Doing.{does_one, does_two, does_then, does_nothing}
 use Rattle.mm_located.specs.Carried.{blocks_written, slots_written}
-use Rattle.mm_paged.specs.Flushed.{Filed, WritesTo, WritesBack, EndsFlight, WritesChanged, FlushesFrame, FlushesPage}
+use Rattle.mm_paged.specs.Flushed.{Filed, WritesTo, WritesBack, EndedIf, WrittenIf, is_changed_then, EndsFlight, WritesChanged, FlushesFrame, FlushesPage}
 use Rattle.mm_paged.specs.Pieces.{LifeKept}
 use Rattle.mm_paged.specs.Shown.{OwnOf, Kept, store_of, report_of, behind_of}
 use Rattle.mm_paged.proofs.Quiet.{no_thread}
@@ -95,7 +93,7 @@ device_none b s z p f l k w t = record {
   waits = w;
   others = λ other n. ap (λ (x : List (List ℕ)). slice_get x other) k;
   told = subst (λ (x : Told). x ≡ record s.told { file_writes = x.file_writes; search_writes = x.search_writes }) (sym t) refl;
-  later = let e = ap (λ (x : DeviceOf). x.faults) f in omega (arith, e);
+  later = later_same s.files z.files f;
   quiet = λ e. ap (λ (x : Told). x.file_writes.failed) t;
   failed = λ e. cc;
   blamed = λ e. cc;
@@ -108,10 +106,10 @@ device_then b ok s y z p q = record {
   waits = q.waits ∙ p.waits;
   others = λ other n. q.others other n ∙ p.others other n;
   told = q.told ∙ ap (λ (t : Told). record t { file_writes = z.told.file_writes; search_writes = z.told.search_writes }) p.told;
-  later = let a = p.later in let c = q.later in omega (arith, a, c);
+  later = later_then s.files y.files z.files p.later q.later;
   quiet = λ e. q.quiet e ∙ p.quiet refl;
   failed = q.failed;
-  blamed = λ e. rose_later s.files.faults y.files.faults z.files.faults p.later (q.blamed e);
+  blamed = λ e. failed_later s.files y.files z.files p.later (q.blamed e);
 }
 
 slots_same : (b : Block) (page : List ℕ) (ok : Bool) (xs : List (List ℕ)) → written_if ok (slots_written (backing.Block b) page) xs ≡ xs
@@ -140,10 +138,10 @@ by_call b page ok s z t w c p = record {
   waits = w;
   others = λ other n. ap (λ (x : List (List ℕ)). slice_get x other) p.blocks_are ∙ others_same b page ok s.blocks other n;
   told = subst (λ (x : Told). x ≡ record s.told { file_writes = x.file_writes; search_writes = x.search_writes }) (sym t) refl;
-  later = c.0.later;
+  later = serves_later _ s.files z.files c.0;
   quiet = λ e. ap (λ (x : Told). x.file_writes.failed) t ∙ none_failed s.told b ok e;
   failed = λ e. subst (λ (x : Told). 0 < x.file_writes.failed) (sym t) (one_failed s.told b ok e);
-  blamed = λ e. c.0.cause e;
+  blamed = λ e. serves_failed _ s.files z.files c.0 e;
 }
 
 ended_device : (b : Block) (f : Frame) (page : List ℕ) (ok : Bool) (s z : StateOf) → backing_of_frame s f ≡ backing.Block b → Made (write_end ok f) s z → Wrote (backing_of_frame s f) page ok s z → WritesTo b ok s z
@@ -210,19 +208,42 @@ ended_still true f s z h m e = ∥∥₁_elim h.reached (hlevel props) (λ r.
 ended_still false f s z h m e = cc
 
 pub flight_none : (b : Block) (f : Frame) (s : StateOf) → backing_of_frame s f ≡ backing.Block b → is_write (record_at s.life.frames f.0).request ≡ false → EndsFlight b f true s s
-flight_none b f s e w = record { moves = []; are = inl refl; writes = writes_none b s; backed = e; still = λ q. w }
+flight_none b f s e w = record {
+  moves = [];
+  are = subst (λ (x : Bool). EndedIf x true f []) (sym w) (refl, refl);
+  writes = writes_none b s;
+  backed = e;
+  still = λ q. w;
+  changed = λ q. ap (λ (x : Bool). if x then is_again (record_at s.life.frames f.0).request else (record_at s.life.frames f.0).changed) (sym w);
+}
+
+-- a page that was written to during its write is changed after it, any other is not
+done_changed : (r : Record) → is_some r.owner ≡ true → r.changed ≡ true → (ended_as write_done r).changed ≡ is_again r.request
+done_changed r o c = at (is_some r.owner) (is_again r.request) o
+  where
+    at : (o a : Bool) → o ≡ true → (if o then (if a then record r { request = request.None; backing = without_slot r.backing } else record r { request = request.None; changed = false }) else blank).changed ≡ a
+    at true true q = c
+    at true false q = refl
+    at false a q = cc
+
+ended_changed : (ok : Bool) (f : Frame) (s z : StateOf) → Holds s → Made (write_end ok f) s z → is_some (record_at s.life.frames f.0).owner ≡ true → is_write (record_at s.life.frames f.0).request ≡ true → ok ≡ true → (record_at z.life.frames f.0).changed ≡ is_again (record_at s.life.frames f.0).request
+ended_changed true f s z h m o w e = ∥∥₁_elim h.reached (hlevel props) (λ r.
+    ap (λ (l : FrameLife). (record_at l.frames f.0).changed) m.life
+    ∙ ap (λ (t : Record). t.changed) (wrote_settles s.life (reached_sound s.life r) f m.legal).here
+    ∙ done_changed (record_at s.life.frames f.0) o (((reached_sound s.life r).standing f.0).fit.writing w).0)
+ended_changed false f s z h m o w e = cc
 
 -- what the end of a write tells of the page that is written
 abbrev pub WroteOf : Frame → Bool → StateOf → StateOf → Type 0
 WroteOf f ok s z = (k : Key) (page : List ℕ) → (record_at s.life.frames f.0).owner ≡ Some k → s.contents k ≡ Some page → Wrote (backing_of_frame s f) page ok s z
 
-pub flight_ended : (b : Block) (f : Frame) (ok : Bool) (s z : StateOf) → Holds s → Holds z → Filed f s → backing_of_frame s f ≡ backing.Block b → s.own ≡ None → Made (write_end ok f) s z → z ≡ record (called s z) { own = own_ended s.own f.0 } → WroteOf f ok s z → EndsFlight b f ok s z
-flight_ended b f ok s z h g i e o m r w =
+pub flight_ended : (b : Block) (f : Frame) (ok : Bool) (s z : StateOf) → Holds s → Holds z → Filed f s → backing_of_frame s f ≡ backing.Block b → s.own ≡ None → is_write (record_at s.life.frames f.0).request ≡ true → Made (write_end ok f) s z → z ≡ record (called s z) { own = own_ended s.own f.0 } → WroteOf f ok s z → EndsFlight b f ok s z
+flight_ended b f ok s z h g i e o v m r w =
     let same = called_by_write s z f.0 o r in
     let page = page_of s i.key f h i.stands in
     record {
       moves = write_end ok f ∷ [];
-      are = inr refl;
+      are = subst (λ (x : Bool). EndedIf x ok f (write_end ok f ∷ [])) (sym v) refl;
       writes = record {
         does = does_one (write_end ok f) s z m;
         life = life_end ok f s z m;
@@ -232,6 +253,8 @@ flight_ended b f ok s z h g i e o m r w =
       };
       backed = backed_after s z (write_end ok f ∷ []) i.key f b h g (does_one (write_end ok f) s z m) (life_end ok f s z m) (held_end ok f s z m) (ap (λ (x : StateOf). x.contents) same) i.stands e;
       still = ended_still ok f s z h m;
+      changed = λ q. ended_changed ok f s z h m (ap is_some (h.owner i.key f i.stands)) v q
+          ∙ ap (λ (x : Bool). if x then is_again (record_at s.life.frames f.0).request else (record_at s.life.frames f.0).changed) (sym v);
     }
 
 -- the page is in the same frame then
@@ -241,7 +264,7 @@ filed_after b f ok s z p i = record { key = i.key; stands = ap (λ (x : Key → 
 -- ---- a changed page is written
 
 pub changed_none : (b : Block) (f : Frame) (s : StateOf) → backing_of_frame s f ≡ backing.Block b → (record_at s.life.frames f.0).changed ≡ false → WritesChanged b f true s s
-changed_none b f s e c = record { moves = []; are = inl refl; writes = writes_none b s; backed = e; clean = λ q. c }
+changed_none b f s e c = record { moves = []; are = subst (λ (x : Bool). WrittenIf x true f []) (sym c) (refl, refl); writes = writes_none b s; backed = e; clean = λ q. c }
 
 pub target_is : (l : FrameLife) (f : Frame) (b : Block) → (record_at l.frames f.0).backing ≡ backing.Block b → write_target l f ≡ stored.Block b
 target_is l f b e = ap (λ (h : Backing). goes_to h (lowest_free l.free_slots)) e
@@ -319,10 +342,10 @@ own_done s y z f o k a e =
     ∙ ap (λ (x : StateOf). record (called x z) { own = None }) a
     ∙ ap (λ (x : Option Frame). record (called s z) { own = x }) (sym o)
 
-pub changed_written : (b : Block) (f : Frame) (to : Stored) (ok : Bool) (s y z : StateOf) → Holds s → Holds y → Holds z → Filed f s → backing_of_frame s f ≡ backing.Block b → s.own ≡ None → s.life.kind ≡ kind.Call
+pub changed_written : (b : Block) (f : Frame) (to : Stored) (ok : Bool) (s y z : StateOf) → Holds s → Holds y → Holds z → Filed f s → backing_of_frame s f ≡ backing.Block b → s.own ≡ None → s.life.kind ≡ kind.Call → (record_at s.life.frames f.0).changed ≡ true
     → to ≡ write_target s.life f → Made (move.Write f to) s y → y ≡ record (moved s y) { own = own_after s.life.kind s.own f }
     → Made (write_end ok f) y z → z ≡ record (called y z) { own = own_ended y.own f.0 } → WroteOf f ok y z → WritesChanged b f ok s z
-changed_written b f to ok s y z h hy g i e o k t n a m r w =
+changed_written b f to ok s y z h hy g i e o k c t n a m r w =
     let start : Made (move.Write f (stored.Block b)) s y = subst (λ (x : Stored). Made (move.Write f x) s y) (t ∙ target_is s.life f b e) n in
     let xs : List Move = move.Write f (stored.Block b) ∷ write_end ok f ∷ [] in
     let does = does_two (move.Write f (stored.Block b)) (write_end ok f) s y z start m in
@@ -334,7 +357,7 @@ changed_written b f to ok s y z h hy g i e o k t n a m r w =
     let page = page_of y i.key f hy at in
     record {
       moves = xs;
-      are = inr (stored.Block b, refl);
+      are = subst (λ (x : Bool). WrittenIf x ok f xs) (sym c) (stored.Block b, refl);
       writes = record {
         does = does;
         life = life;
@@ -353,27 +376,58 @@ end_is : (ok : Bool) (f : Frame) → IsEndOf f (write_end ok f)
 end_is true f = inl refl
 end_is false f = inr refl
 
+lost_is : (ok : Bool) (f : Frame) → ends_lost (write_end ok f ∷ []) ≡ not ok
+lost_is true f = refl
+lost_is false f = refl
+
+-- a write that failed was in flight
+lost_shape : (q : Request) (c : Bool) (f : Frame) (ms : List Move) → EndedIf (is_write q) false f ms → FlushesBy q c f ms
+lost_shape request.None c f ms e = let bad = e.1 in cc
+lost_shape request.Read c f ms e = let bad = e.1 in cc
+lost_shape request.Write c f ms e = subst (IsEndedFirst false f) (sym e) (inr (refl, refl))
+lost_shape request.WriteAgain c f ms e = subst (IsEndedFirst true f) (sym e) (inr (refl, refl))
+
+lost_end : (w : Bool) (f : Frame) (ms : List Move) → EndedIf w false f ms → ends_lost ms ≡ true
+lost_end true f ms e = ap ends_lost e
+lost_end false f ms e = let bad = e.1 in cc
+
 pub frame_lost : (b : Block) (f : Frame) (s z : StateOf) → EndsFlight b f false s z → FlushesFrame b f false s z
-frame_lost b f s z p = record { moves = p.moves; are = shape p.moves p.are; writes = p.writes; backed = p.backed; clean = λ e. cc }
-  where
-    shape : (ms : List Move) → (ms ≡ []) ⊎ (ms ≡ write_end false f ∷ []) → FlushMoves f ms
-    shape ms (inl e) = subst (FlushMoves f) (sym e) tt
-    shape ms (inr e) = subst (FlushMoves f) (sym e) (end_is false f)
+frame_lost b f s z p =
+    let r = record_at s.life.frames f.0 in
+    record { moves = p.moves; are = lost_shape r.request r.changed f p.moves p.are; ends = lost_end (is_write r.request) f p.moves p.are; writes = p.writes; backed = p.backed; clean = λ e. cc }
+
+written_shape : (c ok : Bool) (f : Frame) (ys : List Move) → WrittenIf c ok f ys → IsWrittenIf c f ys
+written_shape true ok f ys e = subst (IsWrittenNow f) (sym e.1) ((e.0, refl), end_is ok f)
+written_shape false ok f ys e = e.0
+
+-- then a page that is changed still is written
+then_written : (again ok : Bool) (f : Frame) (xs ys : List Move) → xs ≡ move.Wrote f ∷ [] → WrittenIf again ok f ys → IsEndedFirst again f (xs ++ ys)
+then_written again ok f xs ys e w = subst (λ (ms : List Move). IsEndedFirst again f (ms ++ ys)) (sym e) (inl (refl, written_shape again ok f ys w))
+
+flush_shape : (q : Request) (c d ok : Bool) (f : Frame) (xs ys : List Move) → EndedIf (is_write q) true f xs → d ≡ is_changed_then q c → WrittenIf d ok f ys → FlushesBy q c f (xs ++ ys)
+flush_shape request.None c d ok f xs ys e k w = subst (λ (ms : List Move). IsWrittenIf c f (ms ++ ys)) (sym e.0) (written_shape c ok f ys (subst (λ (x : Bool). WrittenIf x ok f ys) k w))
+flush_shape request.Read c d ok f xs ys e k w = subst (λ (ms : List Move). IsWrittenIf c f (ms ++ ys)) (sym e.0) (written_shape c ok f ys (subst (λ (x : Bool). WrittenIf x ok f ys) k w))
+flush_shape request.Write c d ok f xs ys e k w = then_written false ok f xs ys e (subst (λ (x : Bool). WrittenIf x ok f ys) k w)
+flush_shape request.WriteAgain c d ok f xs ys e k w = then_written true ok f xs ys e (subst (λ (x : Bool). WrittenIf x ok f ys) k w)
+
+flush_end : (v d ok : Bool) (f : Frame) (xs ys : List Move) → EndedIf v true f xs → WrittenIf d ok f ys → ends_lost (xs ++ ys) ≡ not ok
+flush_end true true ok f xs ys e w = ap (λ (ms : List Move). ends_lost (ms ++ ys)) e ∙ ap (λ (ms : List Move). ends_lost (move.Wrote f ∷ ms)) w.1 ∙ lost_is ok f
+flush_end true false ok f xs ys e w = ap (λ (ms : List Move). ends_lost (ms ++ ys)) e ∙ ap (λ (ms : List Move). ends_lost (move.Wrote f ∷ ms)) w.0 ∙ ap not (sym w.1)
+flush_end false true ok f xs ys e w = ap (λ (ms : List Move). ends_lost (ms ++ ys)) e.0 ∙ ap ends_lost w.1 ∙ lost_is ok f
+flush_end false false ok f xs ys e w = ap (λ (ms : List Move). ends_lost (ms ++ ys)) e.0 ∙ ap ends_lost w.0 ∙ ap not (sym w.1)
 
 pub frame_flushed : (b : Block) (f : Frame) (ok : Bool) (s y z : StateOf) → EndsFlight b f true s y → WritesChanged b f ok y z → FlushesFrame b f ok s z
-frame_flushed b f ok s y z p q = record {
-  moves = p.moves ++ q.moves;
-  are = shape p.moves q.moves p.are q.are;
-  writes = writes_then b ok p.moves q.moves s y z p.writes q.writes;
-  backed = q.backed;
-  clean = q.clean;
-}
-  where
-    shape : (xs ys : List Move) → (xs ≡ []) ⊎ (xs ≡ write_end true f ∷ []) → (ys ≡ []) ⊎ ((to : Stored) × (ys ≡ move.Write f to ∷ write_end ok f ∷ [])) → FlushMoves f (xs ++ ys)
-    shape xs ys (inl d) (inl e) = subst (λ (ms : List Move). FlushMoves f (ms ++ ys)) (sym d) (subst (FlushMoves f) (sym e) tt)
-    shape xs ys (inl d) (inr e) = subst (λ (ms : List Move). FlushMoves f (ms ++ ys)) (sym d) (subst (FlushMoves f) (sym e.1) ((e.0, refl), end_is ok f))
-    shape xs ys (inr d) (inl e) = subst (λ (ms : List Move). FlushMoves f (ms ++ ys)) (sym d) (subst (λ (ms : List Move). FlushMoves f (move.Wrote f ∷ ms)) (sym e) (inl refl))
-    shape xs ys (inr d) (inr e) = subst (λ (ms : List Move). FlushMoves f (ms ++ ys)) (sym d) (subst (λ (ms : List Move). FlushMoves f (move.Wrote f ∷ ms)) (sym e.1) (refl, (e.0, refl), end_is ok f))
+frame_flushed b f ok s y z p q =
+    let r = record_at s.life.frames f.0 in
+    let d = (record_at y.life.frames f.0).changed in
+    record {
+      moves = p.moves ++ q.moves;
+      are = flush_shape r.request r.changed d ok f p.moves q.moves p.are (p.changed refl) q.are;
+      ends = flush_end (is_write r.request) d ok f p.moves q.moves p.are q.are;
+      writes = writes_then b ok p.moves q.moves s y z p.writes q.writes;
+      backed = q.backed;
+      clean = q.clean;
+    }
 
 -- ---- a page is flushed
 
@@ -381,7 +435,8 @@ pub page_framed : (k : Key) (b : Block) (f : Frame) (ok : Bool) (s z : StateOf) 
 page_framed k b f ok s z e p = record {
   moves = p.moves;
   writes = p.writes;
-  page = subst (λ (h : Held). FlushedAt h p.moves) (sym e) p.are;
+  page = subst (λ (h : Held). FlushedAt s.life h p.moves) (sym e) p.are;
+  ends = p.ends;
   clean = λ q. ap (stored_of z.life) (ap (λ (x : Key → Held). x k) p.writes.stands ∙ e) ∙ (λ i. if p.clean q i then held.Dead else in_backing (p.backed i));
 }
 
@@ -396,7 +451,7 @@ home_is l held.Dead b n e = cc
 pub page_home : (k : Key) (b : Block) (s : StateOf) → is_framed (s.life.stands k) ≡ false → block_at (backed_by s.life (s.life.stands k)) ≡ Some b.0 → FlushesPage k b true s s
 page_home k b s n e =
     let h = home_is s.life (s.life.stands k) b n e in
-    record { moves = []; writes = writes_none b s; page = subst (λ (x : Held). FlushedAt x []) (sym h) refl; clean = λ q. ap (stored_of s.life) h }
+    record { moves = []; writes = writes_none b s; page = subst (λ (x : Held). FlushedAt s.life x []) (sym h) refl; ends = refl; clean = λ q. ap (stored_of s.life) h }
 
 -- ---- what the store shows then
 
@@ -473,33 +528,41 @@ end_in_line : (f : Frame) (m : Move) → IsEndOf f m → InLine (m ∷ [])
 end_in_line f m (inl e) = subst (λ (x : Move). InLine (x ∷ [])) (sym e) tt
 end_in_line f m (inr e) = subst (λ (x : Move). InLine (x ∷ [])) (sym e) tt
 
-flush_in_line : (f : Frame) (ms : List Move) → FlushMoves f ms → InLine ms
-flush_in_line f [] h = tt
-flush_in_line f (x ∷ []) h = end_in_line f x h
-flush_in_line f (x ∷ y ∷ []) h = subst (λ (m : Move). InLine (m ∷ y ∷ [])) (sym h.0.1) (end_in_line f y h.1)
-flush_in_line f (x ∷ y ∷ z ∷ []) h = subst (λ (m : Move). InLine (m ∷ y ∷ z ∷ [])) (sym h.0) (subst (λ (m : Move). InLine (m ∷ z ∷ [])) (sym h.1.1) (end_in_line f z h.2))
-flush_in_line f (x ∷ y ∷ z ∷ u ∷ ms) h = absurd h
+written_in_line : (c : Bool) (f : Frame) (ms : List Move) → IsWrittenIf c f ms → InLine ms
+written_in_line false f ms h = subst InLine (sym h) tt
+written_in_line true f [] h = absurd h
+written_in_line true f (x ∷ []) h = absurd h
+written_in_line true f (x ∷ y ∷ []) h = subst (λ (m : Move). InLine (m ∷ y ∷ [])) (sym h.0.1) (end_in_line f y h.1)
+written_in_line true f (x ∷ y ∷ z ∷ ms) h = absurd h
 
-flushed_in_line : (h : Held) (ms : List Move) → FlushedAt h ms → InLine ms
-flushed_in_line (held.Frame f) ms p = flush_in_line f ms p
-flushed_in_line (held.Slot s) ms p = subst InLine (sym p) tt
-flushed_in_line (held.Block b) ms p = subst InLine (sym p) tt
-flushed_in_line held.Zero ms p = subst InLine (sym p) tt
-flushed_in_line held.Dead ms p = subst InLine (sym p) tt
+ended_in_line : (again : Bool) (f : Frame) (ms : List Move) → IsEndedFirst again f ms → InLine ms
+ended_in_line again f [] h = absurd h
+ended_in_line again f (x ∷ ms) (inl h) = subst (λ (m : Move). InLine (m ∷ ms)) (sym h.0) (written_in_line again f ms h.1)
+ended_in_line again f (x ∷ ms) (inr h) = subst (λ (m : Move). InLine (m ∷ ms)) (sym h.0) (subst (λ (ns : List Move). InLine (move.Lost f ∷ ns)) (sym h.1) tt)
+
+flush_in_line : (q : Request) (c : Bool) (f : Frame) (ms : List Move) → FlushesBy q c f ms → InLine ms
+flush_in_line request.None c f ms h = written_in_line c f ms h
+flush_in_line request.Read c f ms h = written_in_line c f ms h
+flush_in_line request.Write c f ms h = ended_in_line false f ms h
+flush_in_line request.WriteAgain c f ms h = ended_in_line true f ms h
+
+flushed_in_line : (l : FrameLife) (h : Held) (ms : List Move) → FlushedAt l h ms → InLine ms
+flushed_in_line l (held.Frame f) ms p = flush_in_line (record_at l.frames f.0).request (record_at l.frames f.0).changed f ms p
+flushed_in_line l (held.Slot s) ms p = subst InLine (sym p) tt
+flushed_in_line l (held.Block b) ms p = subst InLine (sym p) tt
+flushed_in_line l held.Zero ms p = subst InLine (sym p) tt
+flushed_in_line l held.Dead ms p = subst InLine (sym p) tt
 
 pub flushed_served : (k : Key) (b : Block) (ok : Bool) (s z : StateOf) (o : OwnOf) → FlushesPage k b ok s z → Served (store_of s o) (store_of z o)
-flushed_served k b ok s z o p = served_by p.moves s z o o (flushed_in_line (s.life.stands k) p.moves p.page) p.writes.does
+flushed_served k b ok s z o p = served_by p.moves s z o o (flushed_in_line s.life (s.life.stands k) p.moves p.page) p.writes.does
 
 pub flushed_stored : (k : Key) (b : Block) (ok : Bool) (s z : StateOf) → Holds s → Holds z → FlushesPage k b ok s z → length z.blocks ≡ length s.blocks
 flushed_stored k b ok s z h g p = g.blocks ∙ ap (λ (n : MachineOf). n.blocks) p.writes.life.machine ∙ sym h.blocks
 
-append-nil : {A : Type 0} (xs : List A) → xs ≡ xs ++ []
-append-nil [] = refl
-append-nil (x ∷ xs) = ap (λ t. x ∷ t) (append-nil xs)
-
-pub flushed_passes : (k : Key) (b : Block) (ok : Bool) (s z : StateOf) (o : OwnOf) → FlushesPage k b ok s z → Passes (Flushes (k ∷ [])) (store_of s o) (store_of z o) (behind_of s) (behind_of z)
-flushed_passes k b ok s z o p = passes_of (Flushes (k ∷ [])) p.moves s z o o p.writes.does (record {
-  pages = (p.moves, ([], (append-nil p.moves, p.page, (λ e. refl), (λ e. refl))));
+pub flushed_passes : (k : Key) (b : Block) (ok : Bool) (s z : StateOf) (o : OwnOf) → FlushesPage k b ok s z → Passes (Flushes k ok) (store_of s o) (store_of z o) (behind_of s) (behind_of z)
+flushed_passes k b ok s z o p = passes_of (Flushes k ok) p.moves s z o o p.writes.does (record {
+  page = p.page;
+  ends = p.ends;
   moved = record { waits = p.writes.does.waits; ages = p.writes.does.ages };
   slots = p.writes.device.slots;
 })

@@ -28,6 +28,17 @@ place_twice {V} f p x v = λ i. λ q. at q i
     at : (q : Place) → changed same_place (changed same_place f p x) p v q ≡ changed same_place f p v q
     at q = by (same_place q p) (f q)
 
+-- changed to what it was
+pub young_still : {V : Type 0} (g : Place → V) (p : Place) (v : V) → g p ≡ v → g ≡ changed same_place g p v
+young_still {V} g p v e = λ i. λ q. at q i
+  where
+    by : (q : Place) (b : Bool) → same_place q p ≡ b → g q ≡ (if b then v else g q)
+    by q true h = ap g (same_place-true q p h) ∙ e
+    by q false h = refl
+
+    at : (q : Place) → g q ≡ changed same_place g p v q
+    at q = by q (same_place q p) refl
+
 named_at : (n : Place → Option Key) (p place : Place) (v : Option Key) → p ≡ place → changed same_place (changed same_place n p (Some (key_of_place p))) place v ≡ changed same_place n place v
 named_at n p place v e = ap (λ (q : Place). changed same_place (changed same_place n q (Some (key_of_place q))) place v) e ∙ place_twice n place (Some (key_of_place place)) v
 

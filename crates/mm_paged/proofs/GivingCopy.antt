@@ -1,5 +1,5 @@
 -- A copy comes to be beside the tables, and gets a frame.
-use Rattle.std.proofs.Common.{◌≡◌, ℕ, ◌+◌, Bool, true, false, List, [], ◌∷◌, Option, Some, None, refl, sym, ap, ◌∙◌, subst, arith, inl, inr}
+use Rattle.std.proofs.Common.{◌≡◌, ℕ, ◌+◌, Bool, true, false, [], ◌∷◌, Option, Some, None, refl, sym, ap, ◌∙◌, subst, arith, inl, inr}
 use Rattle.std.specs.Prelude.{length, is_some, option_map, unwrap_or, ◌<◌}
 use Rattle.mm_types.specs.Machine.{limit_of}
 use Rattle.mm_types.specs.declared.moves.Move.TheVariants as move

@@ -71,6 +71,8 @@ went_bytes a n s v c w = record {
     file_calls = w.does.file_calls;
     files = w.does.files;
     files_are = w.does.files_are;
+    slots_kept = w.does.slots_kept;
+    blocks_kept = w.does.blocks_kept;
   };
   each = w.each;
   fresh = w.fresh;

@@ -50,6 +50,9 @@ pub kept_unmap : (l : FrameLife) (p : Place) (o : Option Frame) → LifeKept l (
 kept_unmap l p None = kept_same l
 kept_unmap l p (Some f) = record { machine = refl; line = refl; kind = refl; paging = refl; keys = refl; pids = with_length l.sets p.pid.0 (λ n. n - 1); added = refl }
 
+pub kept_map : (l : FrameLife) (f : Frame) (p : Place) → LifeKept l (after_move l (move.Map f p))
+kept_map l f p = record { machine = refl; line = refl; kind = refl; paging = refl; keys = refl; pids = with_length l.sets p.pid.0 (λ n. n + 1); added = refl }
+
 kept_one : (a : Aim) (w : Walk) (m : Move) (ms : List Move) → a.need.copy ≡ None → AccessMove a w m ms → LifeKept w.life (after_move w.life m)
 kept_one a w (move.At n k) ms c h = absurd h
 kept_one a w (move.Add k None) ms c h = let bad : None ≡ Some k = sym c ∙ h.0 in cc
@@ -61,7 +64,7 @@ kept_one a w (move.Give f k) ms c h = record { machine = refl; line = refl; kind
 kept_one a w (move.Read f k) ms c h = record { machine = refl; line = refl; kind = refl; paging = refl; keys = refl; pids = refl; added = refl }
 kept_one a w (move.Got f) ms c h = record { machine = refl; line = refl; kind = refl; paging = refl; keys = refl; pids = refl; added = refl }
 kept_one a w (move.Bad f) ms c h = record { machine = refl; line = refl; kind = refl; paging = refl; keys = refl; pids = refl; added = refl }
-kept_one a w (move.Map f p) ms c h = record { machine = refl; line = refl; kind = refl; paging = refl; keys = refl; pids = with_length w.life.sets p.pid.0 (λ n. n + 1); added = refl }
+kept_one a w (move.Map f p) ms c h = kept_map w.life f p
 kept_one a w (move.Unmap p) ms c h = kept_unmap w.life p (w.life.valid p)
 kept_one a w (move.Soil f) ms c h = record { machine = refl; line = refl; kind = refl; paging = refl; keys = refl; pids = refl; added = refl }
 kept_one a w (move.Write f (stored.Slot s)) ms c h = record { machine = refl; line = refl; kind = refl; paging = refl; keys = refl; pids = refl; added = refl }

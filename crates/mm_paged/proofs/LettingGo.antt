@@ -1,10 +1,10 @@
 -- Places that are let go, page by page, and keys that are no more.
-use Rattle.std.proofs.Common.{◌≡◌, ℕ, zero, suc, ◌+◌, ◌-◌, ◌^◌, ◌≤◌, ◌<◌, Bool, true, false, List, [], ◌∷◌, Option, Some, None, refl, sym, ap, ◌∙◌, subst, arith, inl, inr, ◌⊎◌}
+use Rattle.std.proofs.Common.{◌≡◌, ℕ, zero, suc, ◌+◌, ◌-◌, ◌^◌, ◌≤◌, ◌<◌, Bool, true, false, List, [], ◌∷◌, Option, Some, None, refl, sym, ap, ◌∙◌, subst, arith, inl, inr}
 use Rattle.std.proofs.lemmas.Bool.{eqb-true, cases_lt}
 use Rattle.std.proofs.Math.Logic.{∥∥₁_elim}
 use Rattle.std.proofs.Props.{props}
 use Rattle.std.specs.Cmp.{unsigned_Decides}
-use Rattle.std.specs.Prelude.{not, is_some, ◌&&◌, ◌||◌, ◌==◌, nat_lt, if◌then◌else◌, option_map, unwrap_or, length}
+use Rattle.std.specs.Prelude.{not, is_some, ◌&&◌, ◌||◌, ◌==◌, if◌then◌else◌, option_map, unwrap_or, length}
 use Rattle.mm_types.specs.Address.{Range, holds_page}
 use Rattle.mm_types.specs.Machine.{limit_of}
 use Rattle.mm_types.specs.declared.frames.Held.{Held}
@@ -105,10 +105,10 @@ thins_then s y z p q = record {
 
 pub lets_one : (s z : StateOf) (p : Place) → Made (move.Unmap p) s z → z ≡ moved s z → (held : Place → Bool) (from to : ℕ) → held p ≡ true → from ≤ p.vpn.0 → p.vpn.0 < to → LetsGo held from to s z
 lets_one s z p m e held from to h low high o u = passes_of (Turns (Ends held from to)) (move.Unmap p ∷ []) s z o u (does_one (move.Unmap p) s z m)
-    (record { all = (h, tt); order = (low, high, tt); moved = record { waits = m.waits; ages = m.ages }; slots = ap (λ (x : StateOf). x.slots) e })
+    (record { turned = record { all = (h, tt); order = (low, high, tt); lowest = (tt, tt) }; moved = record { waits = m.waits; ages = m.ages }; slots = ap (λ (x : StateOf). x.slots) e })
 
 pub lets_none : (s : StateOf) (held : Place → Bool) (from to : ℕ) → LetsGo held from to s s
-lets_none s held from to o u = turns_still s s o u refl refl refl refl (Ends held from to)
+lets_none s held from to o u = turns_still s s o u refl refl refl refl refl (Ends held from to)
 
 pub lets_then : (s y z : StateOf) (held : Place → Bool) (from mid to : ℕ) → from ≤ mid → mid ≤ to → LetsGo held from mid s y → LetsGo held mid to y z → LetsGo held from to s z
 lets_then s y z held from mid to l h p q o u = ends_then false held from mid to (store_of s o) (store_of y o) (store_of z u) (behind_of s) (behind_of y) (behind_of z) l h (p o o) (q o u)
@@ -389,19 +389,31 @@ removed_store k s y z o h g f w p m e =
 pub removed_contents : (k : Key) (s y z : StateOf) → OwnLetGo k s y → IsDropped k y z → z.contents ≡ changed same_in_world s.contents k None
 removed_contents k s y z w e = ap (λ (x : StateOf). x.contents) e ∙ ap (λ (f : Key → Option (List ℕ)). changed same_key f k None) (ap (λ (x : StateOf). x.contents) (own_thins k s y w).same) ∙ changed_keys s.contents k None
 
-pub removed_passes : (k : Key) (s y z : StateOf) (o u : OwnOf) → OwnLetGo k s y → Made (move.Drop k) y z → IsDropped k y z → (held : Place → Bool) (from to : ℕ) → IsAmong held from to k
+-- a key without bytes is not live
+not_live : (s : StateOf) (k : Key) → Holds s → s.contents k ≡ None → is_live s.life k ≡ false
+not_live s k h e = h.live k ∙ ap is_some e
+
+pub removed_passes : (k : Key) (s y z : StateOf) (o u : OwnOf) → Holds s → OwnLetGo k s y → Made (move.Drop k) y z → IsDropped k y z → (held : Place → Bool) (from to : ℕ) → IsAmong s.contents held from to k
     → PassesIn false (Turns (Ends held from to)) (store_of s o) (store_of z u) (behind_of s) (behind_of z)
-removed_passes (Private pid vpn) s y z o u (Still e v) m w held from to h = subst (λ (x : StateOf). PassesIn false (Turns (Ends held from to)) (store_of x o) (store_of z u) (behind_of x) (behind_of z)) e
+removed_passes (Private pid vpn) s y z o u g (Still e v) m w held from to h = subst (λ (x : StateOf). PassesIn false (Turns (Ends held from to)) (store_of x o) (store_of z u) (behind_of x) (behind_of z)) e
     (passes_of (Turns (Ends held from to)) (move.Drop (Private pid vpn) ∷ []) y z o u (does_one (move.Drop (Private pid vpn)) y z m)
-    (record { all = (refl, tt); order = (h.1, h.2, tt); moved = record { waits = m.waits; ages = m.ages }; slots = ap (λ (x : StateOf). x.slots) w }))
-removed_passes (Private pid vpn) s y z o u (Gone n e) m w held from to h =
+    (record { turned = record { all = (refl, tt); order = (h.1, h.2, tt); lowest = (tt, tt) }; moved = record { waits = m.waits; ages = m.ages }; slots = ap (λ (x : StateOf). x.slots) w }))
+removed_passes (Private pid vpn) s y z o u g (Gone n e) m w held from to h =
     let place : Place = record { pid = pid; vpn = vpn } in
     let d = does_two (move.Unmap place) (move.Drop (Private pid vpn)) s y z n m in
     passes_of (Turns (Ends held from to)) (move.Unmap place ∷ move.Drop (Private pid vpn) ∷ []) s z o u d
-    (record { all = (h.0, (refl, tt)); order = (h.1, h.2, (omega arith, h.2, tt)); moved = record { waits = d.waits; ages = d.ages }; slots = ap (λ (x : StateOf). x.slots) w ∙ ap (λ (x : StateOf). x.slots) e })
-removed_passes (Shared area index) s y z o u e m w held from to h = subst (λ (x : StateOf). PassesIn false (Turns (Ends held from to)) (store_of x o) (store_of z u) (behind_of x) (behind_of z)) e
+    (record {
+      turned = record { all = (h.0, (refl, tt)); order = (h.1, h.2, (omega arith, h.2, tt)); lowest = (tt, (tt, tt)) };
+      moved = record { waits = d.waits; ages = d.ages };
+      slots = ap (λ (x : StateOf). x.slots) w ∙ ap (λ (x : StateOf). x.slots) e;
+    })
+removed_passes (Shared area index) s y z o u g e m w held from to h = subst (λ (x : StateOf). PassesIn false (Turns (Ends held from to)) (store_of x o) (store_of z u) (behind_of x) (behind_of z)) e
     (passes_of (Turns (Ends held from to)) (move.Drop (Shared area index) ∷ []) y z o u (does_one (move.Drop (Shared area index)) y z m)
-    (record { all = (refl, tt); order = tt; moved = record { waits = m.waits; ages = m.ages }; slots = ap (λ (x : StateOf). x.slots) w }))
+    (record {
+      turned = record { all = (refl, tt); order = tt; lowest = ((λ i l. ap (λ (x : StateOf). is_live x.life (Shared area i)) e ∙ not_live s (Shared area i) g (h i l)), tt) };
+      moved = record { waits = m.waits; ages = m.ages };
+      slots = ap (λ (x : StateOf). x.slots) w;
+    }))
 
 -- what the store keeps stays, in a line that accesses no page
 pub no_touch : (l : LineKind) → (is_call l || is_unbind l) ≡ true → is_touch l ≡ false
@@ -487,7 +499,7 @@ unbound_passes s y z o u pid range held from to w e = subst (λ (x : StateOf). P
       in_range = p.in_range;
       grew = p.grew;
       replays = p.replays;
-      that = record { all = p.that.all; order = p.that.order; moved = record { waits = p.that.moved.waits; ages = p.that.moved.ages }; slots = p.that.slots };
+      that = record { turned = p.that.turned; moved = record { waits = p.that.moved.waits; ages = p.that.moved.ages }; slots = p.that.slots };
       report = p.report;
       paging_calls = p.paging_calls;
       paging = p.paging;
@@ -495,4 +507,6 @@ unbound_passes s y z o u pid range held from to w e = subst (λ (x : StateOf). P
       file_calls = p.file_calls;
       files = p.files;
       files_are = p.files_are;
+      slots_kept = p.slots_kept;
+      blocks_kept = p.blocks_kept;
     }

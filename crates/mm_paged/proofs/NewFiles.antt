@@ -14,21 +14,23 @@ use Rattle.mm_types.specs.declared.moves.Move.TheVariants as move
 use Rattle.mm_types.specs.declared.numbers.Area.{Area}
 use Rattle.mm_types.specs.declared.numbers.Key.{Key}
 use Rattle.mm_types.specs.declared.numbers.Key.TheVariants.{Private, Shared}
-use Rattle.mm_types.proofs.Bytes.{rose_later, append_nil}
+use Rattle.mm_types.proofs.Bytes.{append_nil}
 use Rattle.mm_types.proofs.Cells.{same_or_not, get_set_same, get_set_other}
 use Rattle.mm_blocks.specs.declared.device_calls.DeviceCall.{DeviceCall}
-use Rattle.mm_blocks.specs.Devices.{DeviceOf, Call, AllServed, logged_call}
+use Rattle.mm_blocks.specs.Devices.{DeviceOf, Call, AllServed, logged_call, KeepsOthers}
 use Rattle.mm_blocks.specs.Traffic.{is_named}
-use Rattle.mm_blocks.proofs.Serving.{all_served_then, all_served_one, map-logged}
+use Rattle.mm_blocks.proofs.Serving.{all_served_then, all_served_one, map-logged, later_same, later_then, serves_later, serves_failed, failed_later}
+use Rattle.mm_blocks.proofs.Holding.{keeps_same, keeps_then, keeps_written}
 use Rattle.mm_life.specs.Life.{FrameLife, changed, same_key}
 use Rattle.mm_world.specs.Report.{Tally}
 use Rattle.mm_world.specs.World.{filled}
 use Rattle.mm_pages.specs.Behind.{Behind}
-use Rattle.mm_pages.specs.Housekeeping.{Turns, Makes, AllTurn}
+use Rattle.mm_pages.specs.Housekeeping.{Turns, Makes}
 use Rattle.mm_pages.specs.Passing.{Notes, writes_from}
 use Rattle.mm_pages.specs.Reports.{Served}
 use Rattle.mm_pages.specs.Tallies.{tallied}
 use Rattle.mm_pages.specs.Told.{Told, with_write}
+use Rattle.mm_pages.proofs.Passed.{made_behind, made_wider, turned_none}
 use Rattle.mm_pages.proofs.Served.{tallied_then, served_nothing, served_writes}
 use Rattle.mm_moving.specs.Shown.{StateOf, Made, Called, moved, written_if}
 use Rattle.mm_moving.proofs.Doing.{does_one, does_then, does_nothing}
@@ -60,18 +62,19 @@ blocks_none first byte s = record {
   calls = [];
   served = refl;
   are = refl;
-  most = omega arith;
   all = λ e. refl;
+  some = λ e. cc;
   none_read = λ t. refl;
   told = refl;
   rest = refl;
   written = λ e i h. absurd (omega (arith, h));
   others = λ block h. refl;
   long = refl;
-  later = omega arith;
+  later = later_same s.files s.files refl;
   quiet = λ e. refl;
   failed = λ e. cc;
   blamed = λ e. cc;
+  kept = keeps_same [] s.blocks s.blocks refl;
 }
 
 -- the call of the device that writes a block
@@ -113,6 +116,15 @@ module _ (first i byte : ℕ) (s y z : StateOf) (p : BlocksWritten first i byte 
   more_unread : (ok : Bool) (t : Tally) → tallied way.Read (p.calls ++ call_for y (first + i) ok ∷ []) t ≡ t
   more_unread ok t = tallied_then way.Read p.calls (call_for y (first + i) ok ∷ []) t ∙ p.none_read t
 
+  one_kept : (ok : Bool) → OneWritten (first + i) ((byte + i) % 256) ok y z → KeepsOthers (one_write ok (first + i) ∷ []) y.blocks z.blocks
+  one_kept true q = subst (λ (bs : List (List ℕ)). KeepsOthers (one_write true (first + i) ∷ []) y.blocks bs) (sym q.written) (keeps_written (first + i) y.blocks (replicate 4096 ((byte + i) % 256)))
+  one_kept false q = keeps_same (one_write false (first + i) ∷ []) y.blocks z.blocks q.written
+
+  more_kept : (ok : Bool) → OneWritten (first + i) ((byte + i) % 256) ok y z → KeepsOthers (map logged_call (p.calls ++ call_for y (first + i) ok ∷ [])) s.blocks z.blocks
+  more_kept ok q =
+      subst (λ (cs : List DeviceCall). KeepsOthers cs s.blocks z.blocks) (sym (map-logged p.calls (call_for y (first + i) ok ∷ [])))
+      (keeps_then (map logged_call p.calls) (one_write ok (first + i) ∷ []) s.blocks y.blocks z.blocks p.kept (one_kept ok q))
+
   more_rest : (ok : Bool) → OneWritten (first + i) ((byte + i) % 256) ok y z → z ≡ record s { told = z.told; files = z.files; blocks = z.blocks }
   more_rest ok q = q.rest ∙ ap (λ (x : StateOf). record x { told = z.told; files = z.files; blocks = z.blocks }) p.rest
 
@@ -122,18 +134,19 @@ module _ (first i byte : ℕ) (s y z : StateOf) (p : BlocksWritten first i byte 
     calls = p.calls ++ call_for y (first + i) true ∷ [];
     served = more_served true q;
     are = more_are true ∙ sym (writes-more first i) ∙ sym (append_nil (writes_from first (i + 1)));
-    most = omega arith;
     all = λ e. refl;
+    some = λ e. cc;
     none_read = more_unread true;
     told = more_told true q;
     rest = more_rest true q;
     written = λ e k h. at k h;
     others = others;
     long = ap (λ (bs : List (List ℕ)). length bs) q.written ∙ length-set y.blocks (first + i) (replicate 4096 ((byte + i) % 256)) ∙ p.long;
-    later = let a = p.later in let b = q.called.0.later in omega (arith, a, b);
+    later = later_then s.files y.files z.files p.later (serves_later _ y.files z.files q.called.0);
     quiet = λ e. ap (λ (t : Told). t.file_writes.failed) q.told ∙ p.quiet refl;
     failed = λ e. cc;
     blamed = λ e. cc;
+    kept = more_kept true q;
   }
     where
       at : (k : ℕ) → k < i + 1 → slice_get z.blocks (first + k) ≡ Some (filled ((byte + k) % 256))
@@ -160,18 +173,19 @@ module _ (first i byte : ℕ) (s y z : StateOf) (p : BlocksWritten first i byte 
     calls = p.calls ++ call_for y (first + i) false ∷ [];
     served = more_served false q;
     are = more_are false;
-    most = omega (arith, h);
     all = λ e. cc;
+    some = λ e. h;
     none_read = more_unread false;
     told = more_told false q;
     rest = more_rest false q;
     written = λ e k l. cc;
     others = λ block b. ap (λ (bs : List (List ℕ)). slice_get bs block) q.written ∙ p.others block (elim b [ inl low ↦ inl low | inr high ↦ inr (omega (arith, high, h)) ]);
     long = ap (λ (bs : List (List ℕ)). length bs) q.written ∙ p.long;
-    later = let a = p.later in let b = q.called.0.later in omega (arith, a, b);
+    later = later_then s.files y.files z.files p.later (serves_later _ y.files z.files q.called.0);
     quiet = λ e. cc;
     failed = λ e. subst (λ (t : Told). 0 < t.file_writes.failed) (sym q.told) (some_more y.told.file_writes.failed);
-    blamed = λ e. rose_later s.files.faults y.files.faults z.files.faults p.later (q.called.0.cause refl);
+    blamed = λ e. failed_later s.files y.files z.files p.later (serves_failed _ y.files z.files q.called.0 refl);
+    kept = more_kept false q;
   }
     where
       some_more : (k : ℕ) → 0 < min (k + 1) (2 ^ 64 - 1)
@@ -217,7 +231,7 @@ pub pages_none : (area first : ℕ) (s : StateOf) → PagesAdded area first 0 s 
 pages_none area first s = record {
   moves = [];
   does = does_nothing s;
-  adds = tt;
+  adds = record { all = tt; order = tt; lowest = tt };
   life = refl;
   stands = λ k. sym (with_none area (λ i. held.Block (record { 0 = first + i })) s.life.stands k);
   contents = λ k. sym (with_none area (λ i. slice_get s.blocks (first + i)) s.contents k);
@@ -226,10 +240,6 @@ pages_none area first s = record {
   waits = refl;
   same = refl;
 }
-
-all_makes : (xs ys : List Move) → AllTurn Makes xs → AllTurn Makes ys → AllTurn Makes (xs ++ ys)
-all_makes [] ys p q = q
-all_makes (x ∷ xs) ys p q = (p.0, all_makes xs ys p.1 q)
 
 -- the move with which page i comes to be
 abbrev adding : Area → ℕ → ℕ → Move
@@ -249,7 +259,7 @@ pub pages_more : (area : Area) (first i : ℕ) (s y z : StateOf) → PagesAdded 
 pages_more area first i s y z p m r = record {
   moves = p.moves ++ adding area first i ∷ [];
   does = does_then p.moves (adding area first i ∷ []) s y z p.does (does_one (adding area first i) y z m);
-  adds = all_makes p.moves (adding area first i ∷ []) p.adds (refl, tt);
+  adds = made_behind 0 i (i + 1) (omega arith) (omega arith) s.life y.life p.moves (adding area first i ∷ []) p.does.replays p.adds (record { all = (refl, tt); order = (omega arith, omega arith, tt); lowest = (tt, tt) });
   life = subst (λ (x : FrameLife). x ≡ record y.life { stands = x.stands; added = x.added }) (sym m.life) refl
       ∙ ap (λ (x : FrameLife). record x { stands = z.life.stands; added = z.life.added }) p.life;
   stands = λ k. ap (λ (x : FrameLife). x.stands k) m.life
@@ -289,6 +299,21 @@ module _ (area first n byte : ℕ) (s z : StateOf) (p : FileBuilt area first n b
       (ap (λ (t : Told). t.file_writes) (p.added.told ∙ p.wrote.told)) p.wrote.none_read (built_still (λ x. x.paging) refl refl)
       (ap (λ (t : Told). t.paging_reads) built_told) (ap (λ (t : Told). t.paging_writes) built_told) (ap (λ (t : Told). t.file_reads) built_told)
 
+  pub built_notes : n ≤ 2 ^ 32 → Notes (Turns Makes) (behind_of s) (behind_of z)
+  built_notes few =
+      let d = p.added.does in
+      subst (λ (b : Behind). Notes (Turns Makes) b (behind_of z)) (ap behind_of p.wrote.rest) (record {
+        moves = p.added.moves;
+        in_range = d.in_range;
+        grew = d.grew;
+        replays = d.replays;
+        that = record {
+          turned = made_wider p.mid.life 0 n 0 (2 ^ 32) (omega arith) few p.added.moves p.added.adds;
+          moved = record { waits = d.waits; ages = d.ages };
+          slots = ap (λ (x : StateOf). x.slots) p.added.same;
+        };
+      })
+
 -- ---- what it shows where no file was made
 
 pub unmade_served : (first n byte : ℕ) (e : MakeFault) (s z : StateOf) (o : OwnOf) → UnmadeAs first n byte e s z → Served (store_of s o) (store_of z o)
@@ -302,7 +327,7 @@ notes_none s z e = subst (λ (b : Behind). Notes (Turns Makes) (behind_of s) b) 
   in_range = tt;
   grew = (does_nothing s).grew;
   replays = refl;
-  that = record { all = tt; order = tt; moved = record { waits = refl; ages = refl }; slots = refl };
+  that = record { turned = turned_none Makes s.life; moved = record { waits = refl; ages = refl }; slots = refl };
 })
 
 pub unmade_notes : (first n byte : ℕ) (e : MakeFault) (s z : StateOf) → UnmadeAs first n byte e s z → Notes (Turns Makes) (behind_of s) (behind_of z)

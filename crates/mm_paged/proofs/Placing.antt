@@ -1,6 +1,6 @@
 -- A page becomes valid at a place.
 use Rattle.std.proofs.Common.{◌≡◌, ℕ, ◌≤◌, Bool, true, false, [], ◌∷◌, Option, Some, None, refl, sym, ap, ◌∙◌, subst, arith}
-use Rattle.std.specs.Prelude.{not, is_none, is_some, ◌-◌, option_map, unwrap_or, if◌then◌else◌}
+use Rattle.std.specs.Prelude.{is_none, is_some, ◌-◌, option_map, unwrap_or, if◌then◌else◌}
 use Rattle.std.proofs.Math.Logic.{∥∥₁_elim}
 use Rattle.std.proofs.Props.{props}
 use Rattle.mm_types.specs.declared.frames.Record.{Record}
@@ -67,6 +67,17 @@ placed_by k f place s z h i a m e = record {
   frame = record { stands = ap (λ (l : FrameLife). l.stands k) m.life ∙ i.stands; quiet = mapped_quiet s.life z.life f place m.life i.quiet };
   told = m.told;
   same = placed_same s z place (names_after_map s f place) a e;
+}
+
+-- so it is after another page was unmapped
+pub placed_after : (k : Key) (f : Frame) (place : Place) (p : Place) (s y z : StateOf) → y.life.kind ≡ s.life.kind → y.told ≡ s.told → y ≡ moved s y → Placed k f place y z → Placed k f place s z
+placed_after k f place p s y z kind told e q = record {
+  valid = q.valid;
+  names = q.names ∙ ap (λ (x : StateOf). changed same_place x.names place (Some k)) e;
+  kind = q.kind ∙ kind;
+  frame = q.frame;
+  told = q.told ∙ told;
+  same = q.same ∙ ap (λ (x : StateOf). record (called x z) { names = z.names }) e;
 }
 
 -- ---- the piece

@@ -1,5 +1,5 @@
 -- A copy becomes valid at its place, where the page that it is a copy of goes.
-use Rattle.std.proofs.Common.{◌≡◌, ℕ, ◌≤◌, true, false, [], ◌∷◌, Option, Some, None, refl, sym, ap, ◌∙◌, arith}
+use Rattle.std.proofs.Common.{subst, ◌≡◌, ℕ, ◌≤◌, true, false, [], ◌∷◌, Option, Some, None, refl, sym, ap, ◌∙◌, arith}
 use Rattle.std.specs.Prelude.{not, ◌-◌, option_map, unwrap_or}
 use Rattle.mm_types.specs.declared.frames.Held.{Held}
 use Rattle.mm_types.specs.declared.frames.Record.{Record}
@@ -20,9 +20,9 @@ use Rattle.mm_pages.specs.Conditions.{touch}
 use Rattle.mm_moving.specs.Shown.{StateOf, Made, MayMap, names_after_map}
 use Rattle.mm_moving.specs.Holds.{Holds}
 use Rattle.mm_moving.proofs.Doing.{does_one}
-use Rattle.mm_paged.specs.Pieces.{Went, InFrame}
+use Rattle.mm_paged.specs.Pieces.{Went, InFrame, LifeKept}
+use Rattle.mm_paged.proofs.Keeping.{kept_then, kept_unmap, kept_map}
 use Rattle.mm_paged.proofs.Doing.{went_then}
-use Rattle.mm_laws.proofs.PlaceCounts.{place_here}
 use Rattle.mm_paged.proofs.Placing.{own_test, map_legal, in_frame_then, kind_then, went_map}
 use Rattle.mm_paged.proofs.Records.{settled_record}
 use Rattle.mm_paged.proofs.Writing.{look_set}
@@ -91,3 +91,8 @@ put_look look same place f s y z u m g =
 pub put_names : (place : Place) (f : Frame) (s y z : StateOf) → Holds y → InFrame (key_of_place place) f y → y.names ≡ s.names → z.names ≡ names_after_map y f place → z.names ≡ changed same_place s.names place (Some (key_of_place place))
 put_names place f s y z g i n e =
     e ∙ ap (λ (o : Option Key). changed same_place y.names place o) (g.owner (key_of_place place) f i.stands) ∙ ap (λ (h : Place → Option Key). changed same_place h place (Some (key_of_place place))) n
+
+pub put_kept : (place : Place) (f : Frame) (s y z : StateOf) → Made (move.Unmap place) s y → Made (move.Map f place) y z → LifeKept s.life z.life
+put_kept place f s y z u m =
+    kept_then s.life y.life z.life (subst (λ (l : FrameLife). LifeKept s.life l) (sym u.life) (kept_unmap s.life place (s.life.valid place)))
+    (subst (λ (l : FrameLife). LifeKept y.life l) (sym m.life) (kept_map y.life f place))

@@ -1,5 +1,5 @@
 -- What the moves of an access leave alone in a thread's line: no device is called there, and no read ends.
-use Rattle.std.proofs.Common.{◌≡◌, ℕ, Bool, true, false, List, [], ◌∷◌, ◌++◌, Option, None, Some, refl, sym, ap, ◌∙◌}
+use Rattle.std.proofs.Common.{◌≡◌, ℕ, Bool, true, false, List, [], ◌∷◌, ◌++◌, None, Some, refl, sym, ap, ◌∙◌}
 use Rattle.std.specs.Bool.{IsTrue}
 use Rattle.std.specs.Prelude.{◌&&◌, ◌||◌, map}
 use Rattle.mm_types.specs.declared.moves.LineKind.{LineKind}
@@ -7,14 +7,12 @@ use Rattle.mm_types.specs.declared.moves.LineKind.TheVariants as kind
 use Rattle.mm_types.specs.declared.moves.Move.{Move}
 use Rattle.mm_types.specs.declared.moves.Move.TheVariants as move
 use Rattle.mm_types.specs.declared.moves.Stored.TheVariants as stored
-use Rattle.mm_types.specs.declared.numbers.Frame.{Frame}
-use Rattle.mm_types.specs.declared.numbers.Place.{Place}
 use Rattle.mm_blocks.specs.declared.device_calls.DeviceCall.{DeviceCall}
 use Rattle.mm_blocks.specs.Devices.{DeviceOf, Call, AllServed, logged_call}
 use Rattle.mm_life.specs.Frames.{record_at, is_read, is_write}
 use Rattle.mm_life.specs.Life.{FrameLife}
 use Rattle.mm_life.specs.Legal.{IsLegal, is_thread, is_touch, is_io, is_access, is_call}
-use Rattle.mm_life.specs.Effect.{after_move, after_unmap_at}
+use Rattle.mm_life.specs.Effect.{after_move}
 use Rattle.mm_life.specs.Replay.{Replays}
 use Rattle.mm_pages.specs.Accesses.{Aim, AccessMove}
 use Rattle.mm_pages.specs.Reports.{no_calls}

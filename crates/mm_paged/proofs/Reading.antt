@@ -7,7 +7,6 @@ use Rattle.mm_types.specs.declared.frames.Held.{Held}
 use Rattle.mm_types.specs.declared.frames.Held.TheVariants as held
 use Rattle.mm_types.specs.declared.numbers.Frame.{Frame}
 use Rattle.mm_types.specs.declared.numbers.Key.{Key}
-use Rattle.mm_types.specs.declared.numbers.Key.TheVariants as key
 use Rattle.mm_types.specs.declared.numbers.Place.{Place}
 use Rattle.mm_life.specs.Frames.{record_at, is_read, is_empty}
 use Rattle.mm_life.specs.Life.{FrameLife, changed, same_place}
@@ -15,7 +14,8 @@ use Rattle.mm_world.specs.Failure.{same_key, has_frame, still_needs_frame, read_
 use Rattle.mm_world.specs.Report.{is_short as report_is_short, Report, Tally, BeingRead, InFrame}
 use Rattle.mm_pages.specs.Accesses.{Aim, Touches}
 use Rattle.mm_pages.specs.Conditions.{touch, IsReady}
-use Rattle.mm_pages.specs.Reports.{Ends, IsBegun}
+use Rattle.mm_blocks.proofs.Holding.{keeps_same}
+use Rattle.mm_pages.specs.Reports.{Ends, IsBegun, HasCauses}
 use Rattle.mm_pages.specs.Shortage.{is_framed}
 use Rattle.mm_pages.specs.Standing.{where_of, framed_where}
 use Rattle.mm_pages.specs.Passing.{Passes}
@@ -72,23 +72,31 @@ pub search_failed_by : (f s : ℕ) (still short : Bool) → 1 ≤ f → s ≡ 0 
 search_failed_by f s still short a b c d = grind (arith, a, b, c, d)
 
 -- of an access that failed
-pub failed_ends : (why : PageFault) (k : Key) (s z : StateOf) (o u : OwnOf) → Fails why k s z → IsBegun (report_of s o) → Ends {T = Unit {0}} (touch k) (report_of z u) (Err why)
-failed_ends fault.Read k s z o u h b = record {
-  ok = tt;
-  had = tt;
+pub failed_causes : (why : PageFault) (k : Key) (s z : StateOf) (u : OwnOf) → Fails why k s z → HasCauses {T = Unit {0}} (touch k) (report_of z u) (Err why)
+failed_causes fault.Read k s z u h = record {
   read = λ e. ap (λ (x : Option Key). unwrap_or (option_map (same_key k) x) false) (h.read refl) ∙ same_key-self k;
   no_frame = λ e. cc;
 }
+failed_causes fault.NoFrame k s z u h = record {
+  read = λ e. cc;
+  no_frame = λ e. (
+    h.failed refl,
+    ap (λ (x : Bool). not x || false) (unframed_has z.life (z.life.stands k) (h.unframed refl)),
+    short_counts true true true z.life.frames.zeroed z.life.frames.free z.life.frames.standby (h.short refl),
+  );
+}
+
+pub failed_ends : (why : PageFault) (k : Key) (s z : StateOf) (o u : OwnOf) → Fails why k s z → IsBegun (report_of s o) → Ends {T = Unit {0}} (touch k) (report_of z u) (Err why)
+failed_ends fault.Read k s z o u h b = record { ok = tt; had = tt; read = (failed_causes fault.Read k s z u h).read; no_frame = λ e. cc }
 failed_ends fault.NoFrame k s z o u h b =
-    let still : still_needs_frame (touch k) (report_of z u) ≡ true = ap (λ (x : Bool). not x || false) (unframed_has z.life (z.life.stands k) (h.unframed refl)) in
+    let c = (failed_causes fault.NoFrame k s z u h).no_frame refl in
     record {
       ok = tt;
       had = tt;
       read = λ e. cc;
       no_frame = λ e. (
         nothing_read k (report_of z u) (h.kept refl ∙ b.no_failed_read),
-        search_failed_by z.told.search_writes.failed z.told.search_writes.succeeded _ _ (h.failed refl) (h.none refl (ap (λ (t : Tally). t.succeeded) b.no_failed_write)) still
-            (short_counts true true true z.life.frames.zeroed z.life.frames.free z.life.frames.standby (h.short refl)),
+        search_failed_by z.told.search_writes.failed z.told.search_writes.succeeded _ _ c.0 (h.none refl (ap (λ (t : Tally). t.succeeded) b.no_failed_write)) c.1 c.2,
       );
     }
 
@@ -113,6 +121,8 @@ valid_passes w k place s z o c v e = subst (λ (x : StateOf). Passes (Touches {T
       file_calls = [];
       files = refl;
       files_are = refl;
+      slots_kept = keeps_same [] s.slots s.slots refl;
+      blocks_kept = keeps_same [] s.blocks s.blocks refl;
     })
 
 pub read_valid_passes : (k : Key) (place : Place) (s z : StateOf) (o : OwnOf) → is_some (s.life.valid place) ≡ true → z ≡ record s { ages = changed same_place s.ages place 0 }
@@ -163,6 +173,8 @@ went_passes w k place s y z o u c IsNow none now went v e =
       file_calls = p.does.file_calls;
       files = p.does.files;
       files_are = p.does.files_are;
+      slots_kept = p.does.slots_kept;
+      blocks_kept = p.does.blocks_kept;
     })
 
 pub read_went_passes : (k : Key) (place : Place) (s y z : StateOf) (o u : OwnOf) (IsNow : Type 0) → s.life.valid place ≡ None → (IsNow → is_some (s.life.valid place) ≡ true)

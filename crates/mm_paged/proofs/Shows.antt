@@ -1,6 +1,10 @@
 -- What is told of moves, of the store's report and of what stands behind it.
-use Rattle.std.proofs.Common.{◌≡◌, ℕ, ◌+◌, Bool, List, [], ◌∷◌, ◌++◌, None, refl, sym, ap, ◌∙◌, subst, arith}
-use Rattle.std.specs.Prelude.{length}
+use Rattle.std.proofs.Common.{◌≡◌, ℕ, ◌+◌, ◌≤◌, ◌<◌, inl, inr, Bool, true, List, [], ◌∷◌, ◌++◌, None, refl, sym, ap, ◌∙◌, subst, arith}
+use Rattle.std.specs.Prelude.{length, Option}
+use Rattle.mm_types.specs.Machine.{limit_of}
+use Rattle.mm_types.specs.declared.frames.Held.{Held}
+use Rattle.mm_types.specs.declared.frames.Held.TheVariants as held
+use Rattle.mm_laws.proofs.Owners.{key_or_not, changed_here, changed_else}
 use Rattle.mm_types.specs.declared.moves.Move.{Move}
 use Rattle.mm_types.specs.declared.moves.Move.TheVariants as move
 use Rattle.mm_types.specs.declared.moves.LineKind.{LineKind}
@@ -11,18 +15,19 @@ use Rattle.mm_life.specs.Life.{FrameLife, same_key}
 use Rattle.mm_life.specs.Logs.{Log}
 use Rattle.mm_life.specs.Effect.{after_move}
 use Rattle.mm_world.specs.Failure.{same_key as same_in_world}
-use Rattle.mm_walks.specs.Waits.{Waiting, waits_after, ages_after}
+use Rattle.mm_walks.specs.Waits.{Waiting, waits_after, ages_after, wait_of}
 use Rattle.mm_types.specs.declared.numbers.Place.{Place}
 use Rattle.mm_pages.specs.Behind.{Behind}
 use Rattle.mm_pages.specs.Conditions.{IsLineKind, pid_after}
-use Rattle.mm_pages.specs.Housekeeping.{OneMove, Turns, Makes}
+use Rattle.mm_pages.specs.Housekeeping.{OneMove, Turns, MakesFrom, number_of}
 use Rattle.mm_pages.specs.Passing.{Passes}
-use Rattle.mm_pages.specs.Reports.{begun}
+use Rattle.mm_pages.specs.Reports.{begun, rearranged}
+use Rattle.mm_pages.specs.Standing.{block_at, backed_by}
 use Rattle.mm_pages.specs.Store.{changed}
 use Rattle.mm_pages.specs.Told.{Told, none_told}
 use Rattle.mm_moving.specs.Shown.{StateOf, Made, moved}
 use Rattle.mm_moving.specs.Doing.{Does}
-use Rattle.mm_paged.specs.Shown.{OwnOf, store_of, behind_of}
+use Rattle.mm_paged.specs.Shown.{OwnOf, report_of, store_of, behind_of}
 use Rattle.mm_moving.proofs.Doing.{does_one}
 
 pub passes_of : (That : Behind → List Move → Behind → Type 0) (moves : List Move) (s z : StateOf) (o u : OwnOf) → Does moves s z → That (behind_of s) moves (behind_of z) → Passes That (store_of s o) (store_of z u) (behind_of s) (behind_of z)
@@ -39,14 +44,17 @@ passes_of That moves s z o u d t = record {
   file_calls = d.file_calls;
   files = d.files;
   files_are = d.files_are;
+  slots_kept = d.slots_kept;
+  blocks_kept = d.blocks_kept;
 }
 
 -- one move that the store's call is
 pub one_passes : (x : Move) (s z : StateOf) (o u : OwnOf) → Made x s z → z.slots ≡ s.slots → Passes (OneMove x) (store_of s o) (store_of z u) (behind_of s) (behind_of z)
 one_passes x s z o u m e = passes_of (OneMove x) (x ∷ []) s z o u (does_one x s z m) (record { one = refl; moved = record { waits = m.waits; ages = m.ages }; slots = e })
 
-pub adds_passes : (k : Key) (s z : StateOf) (o u : OwnOf) → Made (move.Add k None) s z → z.slots ≡ s.slots → Passes (Turns Makes) (store_of s o) (store_of z u) (behind_of s) (behind_of z)
-adds_passes k s z o u m e = passes_of (Turns Makes) (move.Add k None ∷ []) s z o u (does_one (move.Add k None) s z m) (record { all = (refl, tt); order = tt; moved = record { waits = m.waits; ages = m.ages }; slots = e })
+pub adds_passes : (k : Key) (s z : StateOf) (o u : OwnOf) → Made (move.Add k None) s z → z.slots ≡ s.slots → (from to : ℕ) → from ≤ number_of k → number_of k < to → Passes (Turns (MakesFrom from to)) (store_of s o) (store_of z u) (behind_of s) (behind_of z)
+adds_passes k s z o u m e from to l h = passes_of (Turns (MakesFrom from to)) (move.Add k None ∷ []) s z o u (does_one (move.Add k None) s z m)
+    (record { turned = record { all = (refl, tt); order = (l, h, tt); lowest = (tt, tt) }; moved = record { waits = m.waits; ages = m.ages }; slots = e })
 
 -- ---- keys
 
@@ -61,6 +69,46 @@ changed_keys {V} f k v = λ i. λ q. at q i
   where
     at : (q : Key) → changed same_key f k v q ≡ changed same_in_world f k v q
     at q = ap (λ (same : Key → Key → Bool). changed same f k v q) (λ i. λ a. λ b. same_keys a b i)
+
+-- a key that comes to be has no block
+added_block : (s : StateOf) (k q : Key) → s.life.stands k ≡ held.Dead → block_at (backed_by s.life ((after_move s.life (move.Add k None)).stands q)) ≡ block_at (backed_by s.life (s.life.stands q))
+added_block s k q dead = elim (key_or_not q k) [
+  | inl e ↦ ap (λ (x : Key). block_at (backed_by s.life (changed same_key s.life.stands k held.Zero x))) e.0
+      ∙ ap (λ (h : Held). block_at (backed_by s.life h)) (changed_here s.life.stands k held.Zero)
+      ∙ ap (λ (h : Held). block_at (backed_by s.life h)) (sym dead)
+      ∙ ap (λ (x : Key). block_at (backed_by s.life (s.life.stands x))) (sym e.0)
+  | inr e ↦ ap (λ (h : Held). block_at (backed_by s.life h)) (changed_else s.life.stands k q held.Zero e.0)
+]
+
+pub added_store : (s z : StateOf) (o : OwnOf) (k : Key) (c : Key → Option (List ℕ)) (a : Option Place) → s.life.stands k ≡ held.Dead → Made (move.Add k None) s z → z ≡ record (moved s z) { contents = c; aside = a }
+    → store_of z o ≡ record (store_of s o) { paging = changed same_in_world s.life.paging k true; paging_keys = s.life.paging_keys + 1; report = rearranged (report_of s o) (report_of z o) }
+added_store s z o k c a dead m e =
+    ap (λ (x : StateOf). store_of x o) e
+    ∙ ap (λ (l : FrameLife). record (store_of s o) {
+      machine = l.machine;
+      room = limit_of l.machine;
+      paging = l.paging;
+      paging_keys = l.paging_keys;
+      block_of = λ q. block_at (backed_by l (l.stands q));
+      line = l.line;
+      kind = l.kind;
+      last_pid = length l.sets;
+      report = record (report_of z o) { counts = (report_of z o).counts; whereabouts = (report_of z o).whereabouts };
+    }) m.life
+    ∙ (λ i. record (store_of s o) {
+      paging = changed_keys s.life.paging k true i;
+      paging_keys = s.life.paging_keys + 1;
+      block_of = λ q. added_block s k q dead i;
+      report = record (rearranged (report_of s o) (report_of z o)) {
+        paging_reads = (m.told i).paging_reads;
+        paging_writes = (m.told i).paging_writes;
+        file_reads = (m.told i).file_reads;
+        file_writes = (m.told i).file_writes;
+        last_failed_read = (m.told i).last_failed_read;
+        search_writes = (m.told i).search_writes;
+        wait = λ tid. wait_of (m.waits i tid);
+      };
+    })
 
 -- ---- a line
 

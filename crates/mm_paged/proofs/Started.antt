@@ -17,7 +17,7 @@ use Rattle.mm_life.specs.Legal.{is_zero, is_stored, is_short, is_thread, is_acce
 use Rattle.mm_laws.proofs.Owners.{changed_here}
 use Rattle.mm_world.specs.Report.{Whereabouts, InFrame, BeingRead, AtZero, InStore, is_short as report_is_short}
 use Rattle.mm_world.specs.Failure.{is_being_read, is_in_store}
-use Rattle.mm_pages.specs.Accesses.{Aim, is_had}
+use Rattle.mm_pages.specs.Accesses.{Aim}
 use Rattle.mm_pages.specs.Conditions.{waits_at_once}
 use Rattle.mm_pages.specs.Shortage.{is_framed}
 use Rattle.mm_pages.specs.Standing.{where_of}

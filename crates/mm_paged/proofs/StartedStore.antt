@@ -1,6 +1,6 @@
 -- What the store shows once an access of a thread has begun.
 use Rattle.std.proofs.Common.{◌≡◌, ℕ, ◌≤◌, Bool, true, false, Option, Some, None, refl, sym, ap, ◌∙◌, subst, inl, inr, ◌⊎◌}
-use Rattle.std.specs.Prelude.{not, is_some, is_none, ◌&&◌, ◌||◌, ◌==◌, if◌then◌else◌}
+use Rattle.std.specs.Prelude.{not, is_some, is_none, ◌||◌, ◌==◌, if◌then◌else◌}
 use Rattle.mm_types.specs.Machine.{limit_of}
 use Rattle.mm_types.specs.declared.answers.Wait.{Wait}
 use Rattle.mm_types.specs.declared.answers.Why.{Why}
@@ -10,8 +10,8 @@ use Rattle.mm_types.specs.declared.moves.LineKind.{LineKind}
 use Rattle.mm_types.specs.declared.numbers.Key.{Key}
 use Rattle.mm_types.specs.declared.numbers.Place.{Place}
 use Rattle.mm_life.specs.Life.{counts_of}
-use Rattle.mm_life.specs.Legal.{is_thread, is_touch, is_access}
-use Rattle.mm_world.specs.Report.{Whereabouts}
+use Rattle.mm_life.specs.Legal.{is_thread, is_touch}
+use Rattle.mm_world.specs.Report.{Whereabouts, BeingRead, InFrame}
 use Rattle.mm_world.specs.Failure.{pending, still_needs_frame, has_frame}
 use Rattle.mm_pages.specs.Accesses.{Aim, Starts, wait_begun}
 use Rattle.mm_pages.specs.Conditions.{touch, copying, need_for, wait_after}
@@ -165,6 +165,12 @@ wait_is k (start.Pending why.Read) y h = ap (λ (d : Held). wait_of (wait_begun 
 wait_is k (start.Pending why.Frame) y h = refl
 wait_is k (start.Pending why.Full) y h = refl
 
+-- a page that is waited for is being read
+pub started_awaited : (n : Need) (k : Key) (place : Place) (r : Start) (s y z : StateOf) (w : ℕ → Waiting) (u : OwnOf) → Begun n k place r s y → z ≡ waiting y w → r ≡ start.Pending why.Read → (report_of z u).whereabouts k ≡ Some BeingRead
+started_awaited n k place r s y z w u h q e =
+    let read = h.reading e in
+    ap (λ (x : StateOf). (report_of x u).whereabouts k) q ∙ ap (where_of y.life) read.1 ∙ ap (λ (b : Bool). Some (if b then BeingRead else InFrame)) read.2
+
 wait_set : (b : Bool) (v : Waiting) (x : Wait) (p q : Waiting) → wait_of v ≡ x → p ≡ q → wait_of (if b then v else p) ≡ (if b then x else wait_of q)
 wait_set true v x p q e f = e
 wait_set false v x p q e f = ap wait_of f
@@ -209,6 +215,8 @@ started_passes writes n k place r tid s y z o u h q =
       file_calls = p.does.file_calls;
       files = p.does.files;
       files_are = p.does.files_are;
+      slots_kept = p.does.slots_kept;
+      blocks_kept = p.does.blocks_kept;
     })
 
 -- ---- what the store keeps

@@ -2,8 +2,8 @@
 use Rattle.std.proofs.Common.{◌≡◌, ℕ, Bool, true, false, List, [], ◌∷◌, ◌++◌, Option, Some, None, refl, sym, ap, ◌∙◌, subst, arith, inl, inr}
 use Rattle.std.specs.Bool.{IsTrue}
 use Rattle.std.specs.Cmp.{unsigned_Decides}
-use Rattle.mm_types.specs.Outside.{Rose}
-use Rattle.mm_blocks.specs.Devices.{DeviceOf}
+use Rattle.mm_blocks.proofs.Serving.{serves_failed}
+use Rattle.mm_blocks.specs.Devices.{DeviceOf, CallFailed}
 use Rattle.std.specs.Prelude.{◌&&◌, ◌||◌, if◌then◌else◌, Result, Ok, Err, IfOk, IfErr, OnErr}
 use Rattle.mm_types.specs.declared.faults.PageFault.{PageFault}
 use Rattle.mm_types.specs.declared.devices.Direction.TheVariants as way
@@ -26,7 +26,7 @@ use Rattle.mm_pages.specs.Accesses.{Aim, AccessMove}
 use Rattle.mm_walks.specs.Walks.{Walk, Through, walked}
 use Rattle.mm_moving.specs.Shown.{StateOf, Made, Called, SomeFault, called, moved}
 use Rattle.mm_moving.specs.Holds.{Holds}
-use Rattle.mm_parts.specs.Moves.{own_after, own_ended, front, front_for_read}
+use Rattle.mm_parts.specs.Moves.{read_end, own_after, own_ended, front, front_for_read}
 use Rattle.mm_parts.specs.Shown.{is_own_line}
 use Rattle.mm_paged.specs.Pieces.{Went, Stuck, Took, Missed, walk_at, IsFor, ReadsIn, ReadsFor, Fails, InFrame}
 use Rattle.mm_paged.proofs.Records.{got_quiet, read_begun}
@@ -227,8 +227,8 @@ stuck_bad a f k s z m o h = record {
 
 fault_of : (b : Backing) (s z : StateOf) → is_backed b ≡ true → Called way.Read b false s z → SomeFault s z
 fault_of backing.None s z h c = cc
-fault_of (backing.Slot t) s z h c = inl (c.0.cause refl)
-fault_of (backing.Block t) s z h c = inr (c.0.cause refl)
+fault_of (backing.Slot t) s z h c = inl (serves_failed _ s.paging z.paging c.0 refl)
+fault_of (backing.Block t) s z h c = inr (serves_failed _ s.files z.files c.0 refl)
 
 read_by : (a b : Bool) → IsTrue (a && b) → a ≡ true
 read_by true b h = refl
@@ -280,6 +280,9 @@ pub read_legal : (k : Key) (f : Frame) (s y : StateOf) → Holds y → Made (mov
 read_legal k f s y h m a = got_by (is_read (record_at y.life.frames f.0).request) (is_io y.life.kind) (is_access y.life.kind)
     (read_begun s.life y.life f k k m.life (h.owner k f (read_stands k f s y m))) (ap (λ (l : FrameLife). is_access l.kind) m.life ∙ a)
 
+pub reads_in : (k : Key) (f g : Frame) (ok : Bool) (s y z : StateOf) → f ≡ g → Holds y → Made (move.Read f k) s y → Made (read_end ok f) y z → ReadsIn k g ok s z
+reads_in k f g ok s y z e h m n = subst (λ (x : Frame). ReadsIn k x ok s z) e (record { mid = y; begins = m; ends = n; owner = h.owner k f (read_stands k f s y m) })
+
 -- the page is in its frame then
 pub in_frame_got : (k : Key) (f : Frame) (s z : StateOf) → s.life.stands k ≡ held.Frame f → Made (move.Got f) s z → InFrame k f z
 in_frame_got k f s z e m = record { stands = ap (λ (l : FrameLife). l.stands k) m.life ∙ e; quiet = got_quiet s.life z.life f m.life }
@@ -301,5 +304,5 @@ read_fails k f s y z h o m b n e = record {
 }
   where
     fault_from : (s y z : StateOf) → y.paging ≡ s.paging → y.files ≡ s.files → SomeFault y z → SomeFault s z
-    fault_from s y z p q (inl r) = inl (subst (λ (d : DeviceOf). Rose d.faults z.paging.faults) p r)
-    fault_from s y z p q (inr r) = inr (subst (λ (d : DeviceOf). Rose d.faults z.files.faults) q r)
+    fault_from s y z p q (inl r) = inl (subst (λ (d : DeviceOf). CallFailed d z.paging) p r)
+    fault_from s y z p q (inr r) = inr (subst (λ (d : DeviceOf). CallFailed d z.files) q r)

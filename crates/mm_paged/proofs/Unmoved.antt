@@ -18,6 +18,7 @@ use Rattle.mm_types.specs.declared.numbers.Key.{Key}
 use Rattle.mm_types.specs.declared.numbers.Pid.{Pid}
 use Rattle.mm_types.specs.declared.numbers.Place.{Place}
 use Rattle.mm_blocks.specs.Devices.{DeviceOf}
+use Rattle.mm_blocks.proofs.Holding.{keeps_same}
 use Rattle.mm_life.specs.Life.{FrameLife, is_dead}
 use Rattle.mm_life.specs.Effect.{after_move}
 use Rattle.mm_life.specs.Located.{zero_page}
@@ -44,13 +45,13 @@ use Rattle.mm_paged.specs.Shown.{OwnOf, store_of, report_of, behind_of}
 -- ---- calls that make no move
 
 -- pages neither come to be nor go
-pub turns_still : (s z : StateOf) (o u : OwnOf) → behind_of z ≡ behind_of s → z.told ≡ s.told → z.paging ≡ s.paging → z.files ≡ s.files → (turn : Turn) → PassesIn false (Turns turn) (store_of s o) (store_of z u) (behind_of s) (behind_of z)
-turns_still s z o u b t p f turn = turns_nothing false turn (store_of s o) (store_of z u) (behind_of s) (behind_of z) b t p f
+pub turns_still : (s z : StateOf) (o u : OwnOf) → behind_of z ≡ behind_of s → z.told ≡ s.told → z.paging ≡ s.paging → z.files ≡ s.files → z.blocks ≡ s.blocks → (turn : Turn) → PassesIn false (Turns turn) (store_of s o) (store_of z u) (behind_of s) (behind_of z)
+turns_still s z o u b t p f k turn = turns_nothing false turn (store_of s o) (store_of z u) (behind_of s) (behind_of z) b t p f k
 
-pub turns_either : {T E : Type 0} (r : Result T E) (s y z : StateOf) (o u : OwnOf) → OnOk r (z ≡ y) → OnErr r (z ≡ s) → behind_of y ≡ behind_of s → y.told ≡ s.told → y.paging ≡ s.paging → y.files ≡ s.files
+pub turns_either : {T E : Type 0} (r : Result T E) (s y z : StateOf) (o u : OwnOf) → OnOk r (z ≡ y) → OnErr r (z ≡ s) → behind_of y ≡ behind_of s → y.told ≡ s.told → y.paging ≡ s.paging → y.files ≡ s.files → y.blocks ≡ s.blocks
     → (turn : Turn) → PassesIn false (Turns turn) (store_of s o) (store_of z u) (behind_of s) (behind_of z)
-turns_either (Ok v) s y z o u a e b t p f turn = subst (λ (x : StateOf). PassesIn false (Turns turn) (store_of s o) (store_of x u) (behind_of s) (behind_of x)) (sym a) (turns_still s y o u b t p f turn)
-turns_either (Err v) s y z o u a e b t p f turn = subst (λ (x : StateOf). PassesIn false (Turns turn) (store_of s o) (store_of x u) (behind_of s) (behind_of x)) (sym e) (turns_still s s o u refl refl refl refl turn)
+turns_either (Ok v) s y z o u a e b t p f k turn = subst (λ (x : StateOf). PassesIn false (Turns turn) (store_of s o) (store_of x u) (behind_of s) (behind_of x)) (sym a) (turns_still s y o u b t p f k turn)
+turns_either (Err v) s y z o u a e b t p f k turn = subst (λ (x : StateOf). PassesIn false (Turns turn) (store_of s o) (store_of x u) (behind_of s) (behind_of x)) (sym e) (turns_still s s o u refl refl refl refl refl turn)
 
 -- what both ends leave alone
 pub either_same : {T E A : Type 0} (look : StateOf → A) (r : Result T E) (s y z : StateOf) → OnOk r (z ≡ y) → OnErr r (z ≡ s) → look y ≡ look s → look z ≡ look s
@@ -61,9 +62,9 @@ pub on_ok_store : {T E : Type 0} (r : Result T E) (s y z : StateOf) (o : OwnOf) 
 on_ok_store (Ok v) s y z o t a e = ap (λ (x : StateOf). store_of x o) a ∙ e
 on_ok_store (Err v) s y z o t a e = tt
 
-pub none_passes : (That : Behind → List Move → Behind → Type 0) (s z : StateOf) (o u : OwnOf) → That (behind_of s) [] (behind_of z) → z.log ≡ s.log → z.life ≡ s.life → z.told ≡ s.told → z.paging ≡ s.paging → z.files ≡ s.files
+pub none_passes : (That : Behind → List Move → Behind → Type 0) (s z : StateOf) (o u : OwnOf) → That (behind_of s) [] (behind_of z) → z.log ≡ s.log → z.life ≡ s.life → z.told ≡ s.told → z.paging ≡ s.paging → z.files ≡ s.files → z.slots ≡ s.slots → z.blocks ≡ s.blocks
     → Passes That (store_of s o) (store_of z u) (behind_of s) (behind_of z)
-none_passes That s z o u t g l d p f = record {
+none_passes That s z o u t g l d p f w k = record {
   moves = [];
   in_range = tt;
   grew = subst (λ (x : Log). Grew s.log x (spelled_moves [])) (sym g) (does_nothing s).grew;
@@ -76,6 +77,8 @@ none_passes That s z o u t g l d p f = record {
   file_calls = [];
   files = f;
   files_are = refl;
+  slots_kept = keeps_same [] s.slots z.slots w;
+  blocks_kept = keeps_same [] s.blocks z.blocks k;
 }
 
 -- ---- places
@@ -126,7 +129,7 @@ pub forgot_store : (s z : StateOf) (o : OwnOf) (t : ℕ) → z ≡ record s { wa
 forgot_store s z o t e = ap (λ (x : StateOf). store_of x o) e ∙ (λ i. record (store_of s o) { report = record (report_of s o) { wait = λ q. forgot_wait (q == t) (s.waits q) i } })
 
 pub forgot_passes : (s z : StateOf) (o : OwnOf) (t : ℕ) → z ≡ record s { waits = changed ◌==◌ s.waits t Idle } → Passes (Forgets t) (store_of s o) (store_of z o) (behind_of s) (behind_of z)
-forgot_passes s z o t e = none_passes (Forgets t) s z o o (record { none = refl; same = ap behind_of e }) (ap (λ (x : StateOf). x.log) e) (ap (λ (x : StateOf). x.life) e) (ap (λ (x : StateOf). x.told) e) (ap (λ (x : StateOf). x.paging) e) (ap (λ (x : StateOf). x.files) e)
+forgot_passes s z o t e = none_passes (Forgets t) s z o o (record { none = refl; same = ap behind_of e }) (ap (λ (x : StateOf). x.log) e) (ap (λ (x : StateOf). x.life) e) (ap (λ (x : StateOf). x.told) e) (ap (λ (x : StateOf). x.paging) e) (ap (λ (x : StateOf). x.files) e) (ap (λ (x : StateOf). x.slots) e) (ap (λ (x : StateOf). x.blocks) e)
 
 -- ---- lines
 
@@ -165,7 +168,7 @@ abbrev with_device : StateOf → DeviceOf → List (List ℕ) → StateOf
 with_device s paging slots = record s { paging = paging; slots = slots }
 
 -- what the store shows after it grew
-pub grown_store : (s z : StateOf) (o : OwnOf) (line n : ℕ) → Begins (move.At line (kind.Grow n)) s z → z ≡ record (moved s z) { paging = asked_to_grow s.paging z.paging; slots = s.slots ++ replicate n zero_page }
+pub grown_store : (s z : StateOf) (o : OwnOf) (line n : ℕ) → Begins (move.At line (kind.Grow n)) s z → z ≡ record (moved s z) { slots = s.slots ++ replicate n zero_page }
     → store_of z (grown_own o true) ≡ record (store_of s o) {
       machine = with_slots (store_of s o).machine n;
       room = (store_of z (grown_own o true)).room;
@@ -173,11 +176,10 @@ pub grown_store : (s z : StateOf) (o : OwnOf) (line n : ℕ) → Begins (move.At
       kind = kind.Grow n;
       ready = None;
       report = record (begun (report_of s o)) { counts = (report_of z (grown_own o true)).counts; extended = Some true };
-      paging_device = device_called s.paging z.paging;
     }
 grown_store s z o line n b e =
     let x = move.At line (kind.Grow n) in
-    let y = with_device s (asked_to_grow s.paging z.paging) (s.slots ++ replicate n zero_page) in
+    let y = with_device s s.paging (s.slots ++ replicate n zero_page) in
     subst (λ (q : StateOf). store_of q (grown_own o true) ≡ record (store_of s o) {
       machine = with_slots (store_of s o).machine n;
       room = (store_of q (grown_own o true)).room;
@@ -185,7 +187,6 @@ grown_store s z o line n b e =
       kind = kind.Grow n;
       ready = None;
       report = record (begun (report_of s o)) { counts = (report_of q (grown_own o true)).counts; extended = Some true };
-      paging_device = device_called s.paging z.paging;
     }) (sym (begun_as x s z y b e)) refl
 
 -- and after it could not
@@ -221,7 +222,7 @@ failed_notes s z line b e = begun_notes (OneMove (move.At line kind.Call)) (move
 pub memory_notes : (s z : StateOf) → z ≡ s → Notes NoMove (behind_of s) (behind_of z)
 memory_notes s z e = subst (λ (x : StateOf). Notes NoMove (behind_of s) (behind_of x)) (sym e) (record { moves = []; in_range = tt; grew = (does_nothing s).grew; replays = refl; that = record { none = refl; same = refl } })
 
-pub notes_by : {T : Type 0} (r : Result T GrowFault) (s z : StateOf) (line n : ℕ) → OnOk r (Begins (move.At line (kind.Grow n)) s z) → OnOk r (z ≡ record (moved s z) { paging = asked_to_grow s.paging z.paging; slots = s.slots ++ replicate n zero_page })
+pub notes_by : {T : Type 0} (r : Result T GrowFault) (s z : StateOf) (line n : ℕ) → OnOk r (Begins (move.At line (kind.Grow n)) s z) → OnOk r (z ≡ record (moved s z) { slots = s.slots ++ replicate n zero_page })
     → (IsErrOf r grow_fault.Failed → Begins (move.At line kind.Call) s z) → (IsErrOf r grow_fault.Failed → z ≡ record (moved s z) { paging = asked_to_grow s.paging z.paging }) → (IsErrOf r grow_fault.Memory → z ≡ s)
     → Notes (GrowsAs line n r) (behind_of s) (behind_of z)
 notes_by (Ok v) s z line n a e f k m = grown_notes s z line n a (ap (λ (x : StateOf). x.slots) e)

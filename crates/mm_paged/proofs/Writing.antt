@@ -24,7 +24,9 @@ use Rattle.mm_world.specs.Report.{BeingRead, InFrame}
 use Rattle.mm_pages.specs.Accesses.{Touches}
 use Rattle.mm_pages.specs.Conditions.{touch, IsReady}
 use Rattle.mm_pages.specs.Passing.{Passes}
-use Rattle.mm_pages.specs.Reports.{eased, IsBegun, Ends}
+use Rattle.mm_paged.proofs.Giving.{young_still}
+use Rattle.mm_pages.specs.Store.{StoreOf}
+use Rattle.mm_pages.specs.Reports.{fetched, eased, IsBegun, Ends}
 use Rattle.mm_pages.specs.Shortage.{is_framed}
 use Rattle.mm_pages.specs.Standing.{where_of, block_at, backed_by, in_backing}
 use Rattle.mm_pages.specs.Told.{Told}
@@ -178,6 +180,8 @@ wrote_passes k f place s y z o c v (Is m e) q =
       file_calls = d.file_calls;
       files = d.files;
       files_are = d.files_are;
+      slots_kept = d.slots_kept;
+      blocks_kept = d.blocks_kept;
     })
 
 soils_stands : (f : Frame) (s y : StateOf) → Soils f s y → y.life.stands ≡ s.life.stands
@@ -231,3 +235,8 @@ pub brought_written : (k : Key) (off : ℕ) (bytes : List ℕ) (s y z : StateOf)
     → z.contents ≡ changed same_in_world s.contents k (Some (written (unwrap_or (s.contents k) (filled 0)) off bytes))
 brought_written k off bytes s y z a c e r w =
     w ∙ ap (λ (g : Key → Option (List ℕ)). changed same_key g k (Some (overwritten (unwrap_or (g k) zero_page) off bytes))) (ap (λ (x : StateOf). x.contents) e) ∙ filled_in k off bytes s.contents
+
+-- what the store shows once a page was written that its place names already
+pub wrote_named : (k : Key) (place : Place) (s z : StoreOf) → z ≡ record s { report = eased s.report z.report } → s.names place ≡ Some k → z ≡ record (fetched s z) { names = changed same_place s.names place (Some k) }
+wrote_named k place s z e n = subst (λ (x : StoreOf). x ≡ record (fetched s x) { names = changed same_place s.names place (Some k) }) (sym e)
+    (ap (λ (names : Place → Option Key). record s { report = eased s.report z.report; names = names }) (young_still s.names place (Some k) n))

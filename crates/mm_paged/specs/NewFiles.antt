@@ -1,7 +1,6 @@
 -- A file that is made: its blocks are written, and its pages come to be.
 -- Profile, "Calls".
 use Rattle.std.specs.Prelude.{◌≡◌, ◌≤◌, ◌<◌, ◌⊎◌, ◌+◌, ◌%◌, ℕ, Bool, true, false, ◌==◌, ◌&&◌, nat_lt, if◌then◌else◌, List, ◌++◌, map, length, slice_get, Some, Result, Ok, Err}
-use Rattle.mm_types.specs.Outside.{Rose}
 use Rattle.mm_types.specs.declared.devices.Direction.TheVariants as way
 use Rattle.mm_types.specs.declared.faults.MakeFault.{MakeFault}
 use Rattle.mm_types.specs.declared.faults.MakeFault.TheVariants as make_fault
@@ -9,10 +8,10 @@ use Rattle.mm_types.specs.declared.frames.Held.TheVariants as held
 use Rattle.mm_types.specs.declared.moves.Move.{Move}
 use Rattle.mm_types.specs.declared.numbers.Key.{Key}
 use Rattle.mm_types.specs.declared.numbers.Key.TheVariants.{Private, Shared}
-use Rattle.mm_blocks.specs.Devices.{Call, AllServed, logged_call}
+use Rattle.mm_blocks.specs.Devices.{Call, AllServed, logged_call, CallFailed, IsLater, KeepsOthers}
 use Rattle.mm_world.specs.World.{filled}
 use Rattle.mm_world.specs.Report.{Tally}
-use Rattle.mm_pages.specs.Housekeeping.{Makes, AllTurn}
+use Rattle.mm_pages.specs.Housekeeping.{MakesFrom, Turned}
 use Rattle.mm_pages.specs.Passing.{writes_from, last_write}
 use Rattle.mm_pages.specs.Store.{changed}
 use Rattle.mm_pages.specs.Tallies.{tallied}
@@ -26,18 +25,19 @@ pub record BlocksWritten (first n byte : ℕ) (ok : Bool) (s z : StateOf) : Type
   pub calls : List Call
   pub served : AllServed calls s.files z.files
   pub are : map logged_call calls ≡ writes_from first whole ++ last_write ok (first + whole)
-  pub most : whole ≤ n
   pub all : ok ≡ true → whole ≡ n
+  pub some : ok ≡ false → whole < n
   pub none_read : (t : Tally) → tallied way.Read calls t ≡ t
   pub told : z.told ≡ record s.told { file_writes = tallied way.Write calls s.told.file_writes; search_writes = tallied way.Write calls s.told.search_writes }
   pub rest : z ≡ record s { told = z.told; files = z.files; blocks = z.blocks }
   pub written : ok ≡ true → (i : ℕ) → i < n → slice_get z.blocks (first + i) ≡ Some (filled ((byte + i) % 256))
   pub others : (block : ℕ) → (block < first) ⊎ (first + n ≤ block) → slice_get z.blocks block ≡ slice_get s.blocks block
   pub long : length z.blocks ≡ length s.blocks
-  pub later : s.files.faults ≤ z.files.faults
+  pub later : IsLater s.files z.files
   pub quiet : ok ≡ true → z.told.file_writes.failed ≡ s.told.file_writes.failed
   pub failed : ok ≡ false → 0 < z.told.file_writes.failed
-  pub blamed : ok ≡ false → Rose s.files.faults z.files.faults
+  pub blamed : ok ≡ false → CallFailed s.files z.files
+  pub kept : KeepsOthers (map logged_call calls) s.blocks z.blocks
 
 -- a function of keys, with these values for the first n pages of an area
 abbrev pub with_pages : {V : Type 0} → ℕ → ℕ → (ℕ → V) → (Key → V) → Key → V
@@ -48,7 +48,7 @@ with_pages area n value f (Shared a i) = if (a.0 == area) && nat_lt i n then val
 pub record PagesAdded (area first n : ℕ) (s z : StateOf) : Type 0 where
   pub moves : List Move
   pub does : Does moves s z
-  pub adds : AllTurn Makes moves
+  pub adds : Turned (MakesFrom 0 n) s.life moves
   pub life : z.life ≡ record s.life { stands = z.life.stands; added = z.life.added }
   pub stands : (k : Key) → z.life.stands k ≡ with_pages area n (λ i. held.Block (record { 0 = first + i })) s.life.stands k
   pub contents : (k : Key) → z.contents k ≡ with_pages area n (λ i. slice_get s.blocks (first + i)) s.contents k

@@ -17,6 +17,7 @@ use Rattle.mm_life.specs.Legal.{is_short}
 use Rattle.mm_walks.specs.Walks.{Walk, Through, walked_all, is_read_move, takes_frame, is_wrote_move}
 use Rattle.mm_walks.specs.Searches.{Starved}
 use Rattle.mm_walks.specs.Chores.{ending}
+use Rattle.mm_blocks.specs.Devices.{IsLater}
 use Rattle.mm_pages.specs.declared.outcomes.Done.{Done}
 use Rattle.mm_pages.specs.declared.outcomes.Done.TheVariants as done
 use Rattle.mm_pages.specs.Accesses.{Aim, AccessMove, is_had}
@@ -132,10 +133,10 @@ pub record ReadsIn (k : Key) (f : Frame) (ok : Bool) (s z : StateOf) : Type 0 wh
   pub ends : Made (read_end ok f) mid z
   pub owner : (record_at mid.life.frames f.0).owner ≡ Some k
 
--- faults never fall
+-- devices were called since
 pub record Later (s z : StateOf) : Type 0 where
-  pub paging : s.paging.faults ≤ z.paging.faults
-  pub files : s.files.faults ≤ z.files.faults
+  pub paging : IsLater s.paging z.paging
+  pub files : IsLater s.files z.files
 
 -- a page is valid at a place then, where it was not
 pub record Placed (k : Key) (f : Frame) (place : Place) (s z : StateOf) : Type 0 where

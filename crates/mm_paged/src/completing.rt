@@ -6,7 +6,7 @@ ghost use Rattle.mm_world.specs.Report.{failed_calls};
 ghost use Rattle.mm_pages.specs.declared.outcomes.Done.TheVariants as done;
 ghost use Rattle.mm_pages.specs.Housekeeping.{CompletesAs};
 ghost use Rattle.mm_pages.specs.Passing.{PassesIn};
-ghost use Rattle.mm_pages.specs.Reports.{completed, Served, SomeRose};
+ghost use Rattle.mm_pages.specs.Reports.{completed, Served, SomeFailed};
 ghost use Rattle.mm_moving.specs.Shown.{Made, called};
 ghost use Rattle.mm_paged.specs.Pieces.{EndsAs};
 
@@ -78,7 +78,7 @@ impl<T: Moving> Paged<T> {
         ensures some { (store self.old).report.counts.requests < i → result ≡ done.None }
         ensures ok { result ≡ done.Ok → failed_calls (store self.new).report ≡ failed_calls (store self.old).report }
         ensures failed { result ≡ done.Failed → 0 < failed_calls (store self.new).report }
-        ensures blamed { result ≡ done.Failed → SomeRose (store self.old) (store self.new) }
+        ensures blamed { result ≡ done.Failed → SomeFailed (store self.old) (store self.new) }
         ensures served { Served (store self.old) (store self.new) }
         ensures stored { length (store self.new).file_blocks ≡ length (store self.old).file_blocks }
         ensures passes { PassesIn false (CompletesAs i result) (store self.old) (store self.new) (behind self.old) (behind self.new) }

@@ -12,7 +12,7 @@ ghost use Rattle.mm_world.specs.Failure.{same_key};
 ghost use Rattle.mm_pages.specs.Accesses.{Aim, Copies};
 ghost use Rattle.mm_pages.specs.Conditions.{IsAt, MayAccess, IsReady, touch, copying};
 ghost use Rattle.mm_pages.specs.Passing.{PassesIn};
-ghost use Rattle.mm_pages.specs.Reports.{fetched, Served, SomeRose, Ends, IsBegun};
+ghost use Rattle.mm_pages.specs.Reports.{fetched, Served, SomeFailed, HasCauses, Ends, IsBegun};
 ghost use Rattle.mm_pages.specs.Store.{changed, same_place, own_key};
 ghost use Rattle.mm_moving.specs.Shown.{called, moved};
 ghost use Rattle.mm_paged.specs.Pieces.{Went, Stuck, Sought, Took, Fails, InFrame, LifeKept};
@@ -269,7 +269,8 @@ impl<T: Moving> Paged<T> {
         ensures served { Served (store self.old) (store self.new) }
         ensures stored { length (store self.new).file_blocks ≡ length (store self.old).file_blocks }
         ensures fault { IsBegun (store self.old).report → Ends (copying from place) (store self.new).report result }
-        ensures blamed { OnErr result (SomeRose (store self.old) (store self.new)) }
+        ensures causes { HasCauses (copying from place) (store self.new).report result }
+        ensures blamed { OnErr result (SomeFailed (store self.old) (store self.new)) }
         ensures was_ready { IsReady (store self.old) place (copying from place) → IsOk result }
         ensures ready { OnOk result (IsReady (store self.new) place (touch to)) }
         ensures passes { PassesIn false (Copies (record { place = place; need = copying from place; writes = true; start = (behind self.old).life }) (IsReady (store self.old) place (copying from place)) result) (store self.old) (store self.new) (behind self.old) (behind self.new) }

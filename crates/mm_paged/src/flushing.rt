@@ -1,10 +1,10 @@
-ghost use Rattle.std.specs.Prelude.{◌≡◌, ◌≢◌, ◌<◌, ℕ, false, Some, None, IsSome, OnOk, OnErr, [], ◌∷◌, length, slice_get, is_ok};
-ghost use Rattle.mm_types.specs.Outside.{Rose};
+ghost use Rattle.std.specs.Prelude.{◌≡◌, ◌≢◌, ◌<◌, ℕ, false, Some, None, IsSome, OnOk, OnErr, length, slice_get, is_ok};
+ghost use Rattle.mm_blocks.specs.Devices.{CallFailed};
 ghost use Rattle.mm_types.specs.declared.frames.Backing.TheVariants as backing;
 ghost use Rattle.mm_types.specs.declared.moves.LineKind.TheVariants as kind;
 ghost use Rattle.mm_types.specs.declared.numbers.Block.{Block};
 ghost use Rattle.mm_life.specs.Frames.{record_at, is_write};
-ghost use Rattle.mm_pages.specs.Housekeeping.{Flushes};
+ghost use Rattle.mm_pages.specs.Housekeeping.{FlushesPage as Flushes};
 ghost use Rattle.mm_pages.specs.Passing.{PassesIn};
 ghost use Rattle.mm_pages.specs.Reports.{wrote, Served};
 ghost use Rattle.mm_pages.specs.Standing.{backed_by, block_at};
@@ -113,9 +113,9 @@ impl<T: Moving> Paged<T> {
         ensures stored { length (store self.new).file_blocks ≡ length (store self.old).file_blocks }
         ensures quiet { OnOk result ((store self.new).report.file_writes.failed ≡ (store self.old).report.file_writes.failed) }
         ensures failed { OnErr result (0 < (store self.new).report.file_writes.failed) }
-        ensures blamed { OnErr result (Rose (store self.old).file_device.faults (store self.new).file_device.faults) }
+        ensures blamed { OnErr result (CallFailed (store self.old).file_device (store self.new).file_device) }
         ensures contents { contents self.new ≡ contents self.old }
-        ensures passes { PassesIn false (Flushes (key ∷ [])) (store self.old) (store self.new) (behind self.old) (behind self.new) }
+        ensures passes { PassesIn false (Flushes key (is_ok result)) (store self.old) (store self.new) (behind self.old) (behind self.new) }
         ensures loans { loans self.new ≡ loans self.old }
     {
         self.state.sound();

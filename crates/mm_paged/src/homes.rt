@@ -160,7 +160,6 @@ impl<T: Moving> Paged<T> {
           kind = kind.Grow n;
           ready = None;
           report = record (begun (store self.old).report) { counts = (store self.new).report.counts; extended = (store self.new).report.extended };
-          paging_device = called (store self.old).paging_device (store self.new).paging_device;
         }) }
         ensures extended { OnOk result (is_failed_extension (store self.new).report.extended ≡ false) }
         ensures later { (store self.old).room ≤ (store self.new).room }

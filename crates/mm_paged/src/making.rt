@@ -1,5 +1,5 @@
 ghost use Rattle.std.specs.Prelude.{◌≡◌, ◌≤◌, ◌<◌, ◌+◌, ◌%◌, ◌^◌, ◌==◌, ◌⊎◌, ℕ, false, Some, None, OnOk, OnErr, IsErrOf, length, slice_get};
-ghost use Rattle.mm_types.specs.Outside.{Rose};
+ghost use Rattle.mm_blocks.specs.Devices.{CallFailed};
 ghost use Rattle.mm_types.specs.declared.faults.MakeFault.TheVariants as make_fault;
 ghost use Rattle.mm_types.specs.declared.frames.Held.TheVariants as held;
 ghost use Rattle.mm_types.specs.declared.moves.LineKind.TheVariants as kind;
@@ -111,7 +111,7 @@ impl<T: Moving> Paged<T> {
         ensures stored { length (store self.new).file_blocks ≡ length (store self.old).file_blocks }
         ensures quiet { OnOk result ((store self.new).report.file_writes.failed ≡ (store self.old).report.file_writes.failed) }
         ensures failed { IsErrOf result make_fault.Write → 0 < (store self.new).report.file_writes.failed }
-        ensures blamed { IsErrOf result make_fault.Write → Rose (store self.old).file_device.faults (store self.new).file_device.faults }
+        ensures blamed { IsErrOf result make_fault.Write → CallFailed (store self.old).file_device (store self.new).file_device }
         ensures notes { NotesIn false (Turns Makes) (behind self.old) (behind self.new) }
         ensures file { FileMade first.0 n result (store self.old) (store self.new) }
         ensures loans { loans self.new ≡ loans self.old }

@@ -7,9 +7,9 @@ ghost use Rattle.mm_world.specs.World.{filled};
 ghost use Rattle.mm_world.specs.Failure.{same_key};
 ghost use Rattle.mm_pages.specs.Accesses.{Touches};
 ghost use Rattle.mm_pages.specs.Conditions.{IsLineKind, pid_after, HasHome, IsAt, MayAccess, IsReady, touch};
-ghost use Rattle.mm_pages.specs.Housekeeping.{Turns, Makes, OneMove};
+ghost use Rattle.mm_pages.specs.Housekeeping.{Turns, MakesFrom, number_of, OneMove};
 ghost use Rattle.mm_pages.specs.Passing.{Passes, PassesIn};
-ghost use Rattle.mm_pages.specs.Reports.{begun, rearranged, eased, fetched, no_calls, Served, SomeRose, Ends, IsBegun};
+ghost use Rattle.mm_pages.specs.Reports.{begun, rearranged, eased, fetched, no_calls, Served, SomeFailed, HasCauses, Ends, IsBegun};
 ghost use Rattle.mm_pages.specs.Store.{changed, same_place};
 ghost use Rattle.mm_paged.specs.Shown.{Kept, own_of, store_of, behind_of};
 
@@ -111,7 +111,7 @@ impl<T: Moving> Paged<T> {
           paging_keys = (store self.old).paging_keys + 1;
           report = rearranged (store self.old).report (store self.new).report;
         } }
-        ensures passes { PassesIn false (Turns Makes) (store self.old) (store self.new) (behind self.old) (behind self.new) }
+        ensures passes { (from to : ℕ) → from ≤ number_of key → number_of key < to → PassesIn false (Turns (MakesFrom from to)) (store self.old) (store self.new) (behind self.old) (behind self.new) }
         ensures loans { loans self.new ≡ loans self.old }
     {
         self.state.sound();
@@ -156,7 +156,8 @@ impl<T: Moving> Paged<T> {
         ensures served { Served (store self.old) (store self.new) }
         ensures stored { length (store self.new).file_blocks ≡ length (store self.old).file_blocks }
         ensures fault { IsBegun (store self.old).report → Ends (touch key) (store self.new).report result }
-        ensures blamed { OnErr result (SomeRose (store self.old) (store self.new)) }
+        ensures causes { HasCauses (touch key) (store self.new).report result }
+        ensures blamed { OnErr result (SomeFailed (store self.old) (store self.new)) }
         ensures ready { IsReady (store self.old) place (touch key) → ⊥ }
         ensures passes { Passes (Touches (record { place = place; need = touch key; writes = false; start = (behind self.old).life }) (IsReady (store self.old) place (touch key)) result) (store self.old) (store self.new) (behind self.old) (behind self.new) }
         ensures loans { loans self.new ≡ loans self.old }
@@ -192,7 +193,8 @@ impl<T: Moving> Paged<T> {
         ensures served { Served (store self.old) (store self.new) }
         ensures stored { length (store self.new).file_blocks ≡ length (store self.old).file_blocks }
         ensures fault { IsBegun (store self.old).report → Ends (touch key) (store self.new).report result }
-        ensures blamed { OnErr result (SomeRose (store self.old) (store self.new)) }
+        ensures causes { HasCauses (touch key) (store self.new).report result }
+        ensures blamed { OnErr result (SomeFailed (store self.old) (store self.new)) }
         ensures ready { IsReady (store self.old) place (touch key) → IsOk result }
         ensures eased { IsReady (store self.old) place (touch key) → (store self.new).report ≡ eased (store self.old).report (store self.new).report }
         ensures passes { PassesIn false (Touches (record { place = place; need = touch key; writes = false; start = (behind self.old).life }) (IsReady (store self.old) place (touch key)) result) (store self.old) (store self.new) (behind self.old) (behind self.new) }
@@ -244,7 +246,8 @@ impl<T: Moving> Paged<T> {
         ensures served { Served (store self.old) (store self.new) }
         ensures stored { length (store self.new).file_blocks ≡ length (store self.old).file_blocks }
         ensures fault { IsBegun (store self.old).report → Ends (touch key) (store self.new).report result }
-        ensures blamed { OnErr result (SomeRose (store self.old) (store self.new)) }
+        ensures causes { HasCauses (touch key) (store self.new).report result }
+        ensures blamed { OnErr result (SomeFailed (store self.old) (store self.new)) }
         ensures ready { IsReady (store self.old) place (touch key) → ⊥ }
         ensures passes { Passes (Touches (record { place = place; need = touch key; writes = true; start = (behind self.old).life }) (IsReady (store self.old) place (touch key)) result) (store self.old) (store self.new) (behind self.old) (behind self.new) }
         ensures loans { loans self.new ≡ loans self.old }
@@ -273,7 +276,8 @@ impl<T: Moving> Paged<T> {
         ensures served { Served (store self.old) (store self.new) }
         ensures stored { length (store self.new).file_blocks ≡ length (store self.old).file_blocks }
         ensures fault { IsBegun (store self.old).report → Ends (touch key) (store self.new).report result }
-        ensures blamed { OnErr result (SomeRose (store self.old) (store self.new)) }
+        ensures causes { HasCauses (touch key) (store self.new).report result }
+        ensures blamed { OnErr result (SomeFailed (store self.old) (store self.new)) }
         ensures ready { IsReady (store self.old) place (touch key) → IsOk result }
         ensures eased { IsReady (store self.old) place (touch key) → (store self.new).report ≡ eased (store self.old).report (store self.new).report }
         ensures passes { PassesIn false (Touches (record { place = place; need = touch key; writes = true; start = (behind self.old).life }) (IsReady (store self.old) place (touch key)) result) (store self.old) (store self.new) (behind self.old) (behind self.new) }

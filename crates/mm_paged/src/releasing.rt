@@ -115,7 +115,7 @@ impl<T: Moving> Paged<T> {
           paging_keys = (store self.old).paging_keys - 1;
           report = rearranged (store self.old).report (store self.new).report;
         } }
-        ensures passes { (held : Place → Bool) (from to : ℕ) → IsAmong held from to key → PassesIn false (Turns (Ending held from to)) (store self.old) (store self.new) (behind self.old) (behind self.new) }
+        ensures passes { (held : Place → Bool) (from to : ℕ) → IsAmong (contents self.old) held from to key → PassesIn false (Turns (Ending held from to)) (store self.old) (store self.new) (behind self.old) (behind self.new) }
         ensures loans { loans self.new ≡ loans self.old }
     {
         self.state.sound();

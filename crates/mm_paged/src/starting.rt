@@ -7,6 +7,7 @@ ghost use Rattle.mm_life.specs.Frames.{is_empty};
 ghost use Rattle.mm_life.specs.Life.{is_live, is_shared, key_of_place};
 ghost use Rattle.mm_life.specs.Legal.{is_zero, is_stored, is_short, is_thread, fits_place, has_depth};
 ghost use Rattle.mm_world.specs.Failure.{pending};
+ghost use Rattle.mm_world.specs.Report.{BeingRead};
 ghost use Rattle.mm_pages.specs.Accesses.{Starts, wait_begun};
 ghost use Rattle.mm_pages.specs.Conditions.{IsAt, IsReady, need_for, waits_at_once, wait_after};
 ghost use Rattle.mm_pages.specs.Passing.{PassesIn};
@@ -257,6 +258,7 @@ impl<T: Moving> Paged<T> {
         ensures ready { result ≡ start_of.Ready → IsReady (store self.new) place (need_for need key place) }
         ensures at_once { result ≡ start_of.Ready → waits_at_once (store self.old).machine.depth key (store self.old).report ≡ None }
         ensures pending { (why : Why) → result ≡ start_of.Pending why → pending (store self.old).machine.depth (need_for need key place) (store self.old).report (store self.new).report ≡ Some why }
+        ensures awaited { result ≡ start_of.Pending why.Read → (store self.new).report.whereabouts key ≡ Some BeingRead }
         ensures wait { (store self.new).report.wait ≡ changed ◌==◌ (store self.old).report.wait tid.0 (wait_after result) }
         ensures passes { (writes : Bool) → PassesIn false (Starts (record { place = place; need = need_for need key place; writes = writes; start = (behind self.old).life }) tid.0 result) (store self.old) (store self.new) (behind self.old) (behind self.new) }
         ensures loans { loans self.new ≡ loans self.old }

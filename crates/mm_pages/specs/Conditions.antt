@@ -175,7 +175,7 @@ pub record AreAmong (held : Place → Bool) (from to : ℕ) (pid : Pid) (range :
   pub first : from ≤ range.first
   pub last : range.first + range.count ≤ to
 
--- so is the page that a key is its own; of a shared key nothing is asked
-abbrev pub IsAmong : (Place → Bool) → ℕ → ℕ → Key → Type 0
-IsAmong held from to (key.Private pid vpn) = (held (record { pid = pid; vpn = vpn }) ≡ true) × (from ≤ vpn.0) × (vpn.0 < to)
-IsAmong held from to (key.Shared area index) = Unit {0}
+-- so is the page that a key is its own; of a shared key, none of its area below it lives
+abbrev pub IsAmong : (Key → Option Page) → (Place → Bool) → ℕ → ℕ → Key → Type 0
+IsAmong contents held from to (key.Private pid vpn) = (held (record { pid = pid; vpn = vpn }) ≡ true) × (from ≤ vpn.0) × (vpn.0 < to)
+IsAmong contents held from to (key.Shared area index) = (i : ℕ) → i < index → contents (key.Shared area i) ≡ None

@@ -1,6 +1,6 @@
 -- The moves that the other calls of a store make.
 -- Profile, "Which frame moves, and when".
-use Rattle.std.specs.Prelude.{◌≡◌, ◌≤◌, ◌<◌, ℕ, Option, None, ◌-◌, Bool, true, false, List, [], ◌∷◌, ◌++◌, length, min, replicate, slice_get, Some, Result, Ok, Err}
+use Rattle.std.specs.Prelude.{◌≡◌, ◌≤◌, ◌<◌, ℕ, Option, None, ◌-◌, Bool, true, false, not, List, [], ◌∷◌, ◌+◌, ◌^◌, ◌++◌, length, min, replicate, slice_get, Some, Result, Ok, Err}
 use Rattle.mm_types.specs.declared.moves.LineKind.TheVariants as kind
 use Rattle.mm_types.specs.declared.faults.GrowFault.{GrowFault}
 use Rattle.mm_types.specs.declared.faults.GrowFault.TheVariants as grow_fault
@@ -14,11 +14,13 @@ use Rattle.mm_types.specs.declared.numbers.Key.TheVariants as key
 use Rattle.mm_types.specs.declared.numbers.Pid.{Pid}
 use Rattle.mm_types.specs.declared.numbers.Place.{Place}
 use Rattle.mm_life.specs.Frames.{record_at}
-use Rattle.mm_life.specs.Life.{set_of}
+use Rattle.mm_life.specs.Effect.{after_move}
+use Rattle.mm_life.specs.Life.{FrameLife, set_of, is_live}
 use Rattle.mm_pages.specs.Behind.{Behind}
 use Rattle.mm_walks.specs.Walks.{Through, waits_through, ages_through}
-use Rattle.mm_walks.specs.Chores.{TrimMove, spare_of, all_aged, frame_of, clearings, writes_begun, ending, Flushing}
+use Rattle.mm_walks.specs.Chores.{TrimMove, spare_of, all_aged, frame_of, clearings, writes_begun, ending}
 use Rattle.mm_pages.specs.Accesses.{walk_from}
+use Rattle.mm_pages.specs.Flushing.{FlushedAt, ends_lost, Flushing}
 
 -- ages and waits are as these moves make them
 pub record ByMoves (b : Behind) (moves : List Move) (c : Behind) : Type 0 where
@@ -27,14 +29,24 @@ pub record ByMoves (b : Behind) (moves : List Move) (c : Behind) : Type 0 where
 
 -- ---- calls that make pages and calls that end them
 
--- pages come to be; or pages go: places among these are valid no more, page by page, from the first number to before the last
+-- pages come to be, from the first number to before the last; or those of a new stack do; or pages go: places among these are valid no more, page by
+-- page, from the first number to before the last
 pub data Turn : Type 0 where
-  Makes : Turn
+  MakesFrom : ℕ → ℕ → Turn
+  MakesStack : Turn
   Ends : (Place → Bool) → ℕ → ℕ → Turn
 
+-- whatever the number: pages and indices are below 2^32
+abbrev pub Makes : Turn
+Makes = MakesFrom 0 (2 ^ 32)
+
+abbrev pub is_add : Move → Bool
+is_add (move.Add k b) = true
+is_add _ = false
+
 abbrev pub is_turn : Turn → Move → Bool
-is_turn Makes (move.Add k b) = true
-is_turn Makes _ = false
+is_turn (MakesFrom from to) m = is_add m
+is_turn MakesStack m = is_add m
 is_turn (Ends held from to) (move.Unmap p) = held p
 is_turn (Ends held from to) (move.Drop k) = true
 is_turn (Ends held from to) _ = false
@@ -43,15 +55,46 @@ abbrev pub AllTurn : Turn → List Move → Type 0
 AllTurn t [] = Unit {0}
 AllTurn t (m ∷ ms) = (is_turn t m ≡ true) × AllTurn t ms
 
+-- ---- the order in which pages come to be
+
+-- of a private key its page, of a shared one its index
+abbrev pub number_of : Key → ℕ
+number_of (key.Private pid vpn) = vpn.0
+number_of (key.Shared area index) = index
+
+abbrev pub with_some : Option ℕ → List ℕ → List ℕ
+with_some None numbers = numbers
+with_some (Some number) numbers = number ∷ numbers
+
+abbrev pub number_made : Move → Option ℕ
+number_made (move.Add k b) = Some (number_of k)
+number_made _ = None
+
+abbrev pub numbers_made : List Move → List ℕ
+numbers_made [] = []
+numbers_made (m ∷ ms) = with_some (number_made m) (numbers_made ms)
+
+-- each greater than the one before, from one number to before another
+abbrev pub Climbs : ℕ → ℕ → List ℕ → Type 0
+Climbs from to [] = Unit {0}
+Climbs from to (n ∷ ns) = (from ≤ n) × (n < to) × Climbs (n + 1) to ns
+
+-- of a new stack: its pages above the guard page, and then the guard page
+pub record IsStack (ns : List ℕ) : Type 0 where
+  pub guard : ℕ
+  pub pages : List ℕ
+  pub last : List ℕ
+  pub whole : ns ≡ pages ++ last
+  pub above : Climbs (guard + 1) (2 ^ 32) pages
+  pub below : Climbs guard (guard + 1) last
+
+-- ---- the order in which pages go
+
 -- the page of a process that a move takes away: a place's, or that of a private key
 abbrev pub page_gone : Move → Option ℕ
 page_gone (move.Unmap p) = Some p.vpn.0
 page_gone (move.Drop (key.Private pid vpn)) = Some vpn.0
 page_gone _ = None
-
-abbrev pub with_some : Option ℕ → List ℕ → List ℕ
-with_some None pages = pages
-with_some (Some page) pages = page ∷ pages
 
 abbrev pub pages_gone : List Move → List ℕ
 pages_gone [] = []
@@ -62,13 +105,30 @@ abbrev pub Rises : ℕ → ℕ → List ℕ → Type 0
 Rises from to [] = Unit {0}
 Rises from to (page ∷ pages) = (from ≤ page) × (page < to) × Rises page to pages
 
+-- where a key of an area goes, none below it lives
+abbrev pub IsLowest : FrameLife → Move → Type 0
+IsLowest l (move.Drop (key.Shared area index)) = (i : ℕ) → i < index → is_live l (key.Shared area i) ≡ false
+IsLowest l _ = Unit {0}
+
+-- of each area the lowest key that lives goes first
+abbrev pub LowestFirst : FrameLife → List Move → Type 0
+LowestFirst l [] = Unit {0}
+LowestFirst l (m ∷ ms) = IsLowest l m × LowestFirst (after_move l m) ms
+
+-- ---- such calls
+
 abbrev pub IsInOrder : Turn → List Move → Type 0
-IsInOrder Makes ms = Unit {0}
+IsInOrder (MakesFrom from to) ms = Climbs from to (numbers_made ms)
+IsInOrder MakesStack ms = IsStack (numbers_made ms)
 IsInOrder (Ends held from to) ms = Rises from to (pages_gone ms)
 
-pub record Turns (t : Turn) (b : Behind) (moves : List Move) (c : Behind) : Type 0 where
+pub record Turned (t : Turn) (l : FrameLife) (moves : List Move) : Type 0 where
   pub all : AllTurn t moves
   pub order : IsInOrder t moves
+  pub lowest : LowestFirst l moves
+
+pub record Turns (t : Turn) (b : Behind) (moves : List Move) (c : Behind) : Type 0 where
+  pub turned : Turned t b.life moves
   pub moved : ByMoves b moves c
   pub slots : c.slots ≡ b.slots
 
@@ -136,6 +196,13 @@ GrowsAs line n (Err grow_fault.Failed) b moves c = OneMove (move.At line kind.Ca
 GrowsAs line n (Err grow_fault.Memory) b moves c = NoMove b moves c
 
 -- ---- `flush`
+
+-- of one page: where it failed, its last write was lost
+pub record FlushesPage (k : Key) (ok : Bool) (b : Behind) (moves : List Move) (c : Behind) : Type 0 where
+  pub page : FlushedAt b.life (b.life.stands k) moves
+  pub ends : ends_lost moves ≡ not ok
+  pub moved : ByMoves b moves c
+  pub slots : c.slots ≡ b.slots
 
 pub record Flushes (keys : List Key) (b : Behind) (moves : List Move) (c : Behind) : Type 0 where
   pub pages : Flushing b.life keys moves

@@ -6,6 +6,7 @@ pub mod Behind
 pub mod Told
 pub mod Shortage
 pub mod Accesses
+pub mod Flushing
 pub mod Housekeeping
 pub mod Standing
 pub mod Passing

@@ -1,5 +1,5 @@
 -- What a call of a store did: moves that replay, noted in order, and the device calls that they stand for.
-use Rattle.std.specs.Prelude.{◌≡◌, ◌≤◌, ℕ, zero, suc, ◌+◌, Bool, true, false, List, [], ◌∷◌, ◌++◌, map, Result, Ok, Err}
+use Rattle.std.specs.Prelude.{◌≡◌, ◌<◌, ℕ, zero, suc, ◌+◌, Bool, true, false, List, [], ◌∷◌, ◌++◌, map, Result, Ok, Err}
 use Rattle.mm_types.specs.declared.devices.Direction.TheVariants as way
 use Rattle.mm_types.specs.declared.faults.MakeFault.{MakeFault}
 use Rattle.mm_types.specs.declared.faults.MakeFault.TheVariants as make_fault
@@ -8,7 +8,7 @@ use Rattle.mm_types.specs.declared.moves.Move.{Move}
 use Rattle.mm_life.specs.Logs.{Grew}
 use Rattle.mm_life.specs.MoveText.{AreMoves, spelled_moves}
 use Rattle.mm_life.specs.Replay.{Replays}
-use Rattle.mm_blocks.specs.Devices.{Call, AllServed, logged_call}
+use Rattle.mm_blocks.specs.Devices.{Call, AllServed, logged_call, KeepsOthers}
 use Rattle.mm_pages.specs.Tallies.{tallied}
 use Rattle.mm_pages.specs.Store.{StoreOf}
 use Rattle.mm_pages.specs.Behind.{Behind}
@@ -30,6 +30,9 @@ pub record Passes (That : Behind → List Move → Behind → Type 0) (s z : Sto
   pub file_calls : List Call
   pub files : AllServed file_calls s.file_device z.file_device
   pub files_are : map logged_call file_calls ≡ file_traffic b.life moves
+  -- a slot or a block that none of them wrote is as before
+  pub slots_kept : KeepsOthers (paging_traffic b.life moves) b.slots c.slots
+  pub blocks_kept : KeepsOthers (file_traffic b.life moves) s.file_blocks z.file_blocks
 
 -- of any store: where it pages nothing, what stands behind it is as before
 abbrev pub PassesIn : Bool → (Behind → List Move → Behind → Type 0) → StoreOf → StoreOf → Behind → Behind → Type 0
@@ -64,8 +67,10 @@ pub record WritesFile (first n : ℕ) (ok : Bool) (s z : StoreOf) : Type 0 where
   pub calls : List Call
   pub served : AllServed calls s.file_device z.file_device
   pub are : map logged_call calls ≡ writes_from first whole ++ last_write ok (first + whole)
-  pub most : whole ≤ n
+  pub blocks_kept : KeepsOthers (map logged_call calls) s.file_blocks z.file_blocks
+  -- all were written, or the write of one of them failed
   pub all : ok ≡ true → whole ≡ n
+  pub some : ok ≡ false → whole < n
   pub report : z.report.file_writes ≡ tallied way.Write calls s.report.file_writes
   pub search : z.report.search_writes ≡ tallied way.Write calls s.report.search_writes
 

@@ -1,13 +1,12 @@
 -- How a store's report and its devices change in a call.
-use Rattle.std.specs.Prelude.{◌≡◌, ◌⊎◌, Bool, true, false, ◌++◌, List, [], ◌∷◌, None, Result, IsErrOf, OnOk}
+use Rattle.std.specs.Prelude.{◌≡◌, ◌⊎◌, ◌<◌, Bool, true, false, ◌++◌, List, [], ◌∷◌, None, Result, IsErrOf, OnOk}
 use Rattle.mm_blocks.specs.declared.device_calls.NamedCalls.{NamedCalls}
 use Rattle.mm_types.specs.declared.devices.Direction.TheVariants as way
 use Rattle.mm_types.specs.declared.faults.PageFault.{PageFault}
 use Rattle.mm_types.specs.declared.faults.PageFault.TheVariants as fault
-use Rattle.mm_types.specs.Outside.{Rose}
-use Rattle.mm_world.specs.Report.{Report, Tally}
+use Rattle.mm_world.specs.Report.{Report, Tally, is_short}
 use Rattle.mm_world.specs.Failure.{Need, access_fails, read_failed, search_failed, still_needs_frame}
-use Rattle.mm_blocks.specs.Devices.{DeviceOf, Call, AllServed}
+use Rattle.mm_blocks.specs.Devices.{DeviceOf, Call, AllServed, CallFailed}
 use Rattle.mm_pages.specs.Tallies.{tallied}
 use Rattle.mm_pages.specs.Store.{StoreOf}
 
@@ -40,7 +39,7 @@ rearranged old new = record old { counts = new.counts; whereabouts = new.whereab
 abbrev pub eased : Report → Report → Report
 eased old new = record old { counts = record (old.counts) { free_slots = new.counts.free_slots } }
 
--- the paging device was asked to grow
+-- the paging device was asked to grow, and failed
 abbrev pub called : DeviceOf → DeviceOf → DeviceOf
 called old new = record old { faults = new.faults }
 
@@ -103,9 +102,14 @@ pub record Served (old new : StoreOf) : Type 0 where
   pub file_reads : new.report.file_reads ≡ tallied way.Read file_calls old.report.file_reads
   pub file_writes : new.report.file_writes ≡ tallied way.Write file_calls old.report.file_writes
 
--- a device failed: its count of faults rose
-abbrev pub SomeRose : StoreOf → StoreOf → Type 0
-SomeRose old new = Rose old.paging_device.faults new.paging_device.faults ⊎ Rose old.file_device.faults new.file_device.faults
+-- a call of one of both devices failed
+abbrev pub SomeFailed : StoreOf → StoreOf → Type 0
+SomeFailed old new = CallFailed old.paging_device new.paging_device ⊎ CallFailed old.file_device new.file_device
+
+-- why an access failed, whatever the line did before: a read of the very key failed; or a write of its search did, and no frame is to be had
+pub record HasCauses {T : Type 0} (need : Need) (after : Report) (result : Result T PageFault) : Type 0 where
+  pub read : IsErrOf result fault.Read → read_failed need after ≡ true
+  pub no_frame : IsErrOf result fault.NoFrame → (0 < after.search_writes.failed) × (still_needs_frame need after ≡ true) × (is_short after ≡ true)
 
 -- how an access that is a line's first call of devices ends: it is refused exactly where the definition of worlds says
 -- that it fails, `Read` for a read of the very key that failed, else `NoFrame` for a search that found none

@@ -1,4 +1,4 @@
-ghost use Rattle.std.specs.Prelude.{◌≡◌, ◌≢◌, ◌≤◌, ◌<◌, ◌+◌, [], ◌∷◌, ◌-◌, ◌%◌, ◌^◌, ◌==◌, ◌⊎◌, ℕ, Bool, true, false, Option, Some, None, List, IsSome, IsErrOf, IsOk, OnOk, OnErr, IfOk, length, slice_get, take, drop, unwrap_or};
+ghost use Rattle.std.specs.Prelude.{◌≡◌, ◌≢◌, ◌≤◌, ◌<◌, ◌+◌, [], ◌∷◌, ◌-◌, ◌%◌, ◌^◌, ◌==◌, ◌⊎◌, ℕ, Bool, true, false, Option, Some, None, List, IsSome, IsErrOf, IsOk, is_ok, OnOk, OnErr, IfOk, length, slice_get, take, drop, unwrap_or};
 ghost use Rattle.mm_types.specs.declared.faults.GrowFault.TheVariants as grow_fault;
 ghost use Rattle.mm_types.specs.declared.faults.MakeFault.TheVariants as make_fault;
 ghost use Rattle.mm_types.specs.declared.devices.Device.TheVariants as device_of;
@@ -9,6 +9,7 @@ ghost use Rattle.mm_types.specs.declared.numbers.Key.TheVariants.{Private, Share
 ghost use Rattle.mm_types.specs.Address.{are_user_pages};
 ghost use Rattle.mm_types.specs.Machine.{limit_of};
 ghost use Rattle.mm_types.specs.Outside.{Loans, Rose};
+ghost use Rattle.mm_blocks.specs.Devices.{CallFailed};
 ghost use Rattle.mm_world.specs.World.{Page, filled};
 ghost use Rattle.mm_world.specs.Access.{written};
 ghost use Rattle.mm_world.specs.Failure.{same_key};
@@ -16,9 +17,10 @@ ghost use Rattle.mm_world.specs.Processes.{with_slots, most_slots};
 ghost use Rattle.mm_world.specs.Step.{is_failed_extension};
 ghost use Rattle.mm_types.specs.declared.moves.Move.TheVariants as move;
 ghost use Rattle.mm_types.specs.declared.answers.Why.{Why};
+ghost use Rattle.mm_types.specs.declared.answers.Why.TheVariants as why_of;
 ghost use Rattle.mm_types.specs.declared.answers.Wait.TheVariants as wait_of;
 ghost use Rattle.mm_world.specs.Failure.{pending};
-ghost use Rattle.mm_world.specs.Report.{failed_calls};
+ghost use Rattle.mm_world.specs.Report.{BeingRead, failed_calls};
 ghost use Rattle.mm_pages.specs.declared.outcomes.Need.TheVariants as wanted;
 ghost use Rattle.mm_pages.specs.declared.outcomes.Start.TheVariants as start_of;
 ghost use Rattle.mm_pages.specs.declared.outcomes.Done.TheVariants as done;
@@ -26,9 +28,9 @@ ghost use Rattle.mm_pages.specs.Behind.{Behind};
 ghost use Rattle.mm_pages.specs.Standing.{StandsIn};
 ghost use Rattle.mm_pages.specs.Passing.{PassesIn, NotesIn, FileMade};
 ghost use Rattle.mm_pages.specs.Accesses.{Touches, Copies, Starts, Forgets};
-ghost use Rattle.mm_pages.specs.Housekeeping.{Turn, Makes, Ends as Ending, Turns, OneMove, Trims, Ages, Clears, WritesOut, CompletesAs, GrowsAs, Flushes};
+ghost use Rattle.mm_pages.specs.Housekeeping.{Turn, Makes, MakesFrom, number_of, Ends as Ending, Turns, OneMove, Trims, Ages, Clears, WritesOut, CompletesAs, GrowsAs, FlushesPage};
 ghost use Rattle.mm_pages.specs.Store.{StoreOf, changed, changed_in, same_place, unnamed, own_key, with_file, with_blocks};
-ghost use Rattle.mm_pages.specs.Reports.{begun, rearranged, eased, called, with_named, with_named_paging, fetched, wrote, started, completed, IsBegun, Served, SomeRose, Ends};
+ghost use Rattle.mm_pages.specs.Reports.{begun, rearranged, eased, called, with_named, with_named_paging, fetched, wrote, started, completed, IsBegun, Served, SomeFailed, HasCauses, Ends};
 ghost use Rattle.mm_pages.specs.Conditions.{IsLineKind, pid_after, AllBound, MayUnbind, HasHome, MayRemove, IsAt, MayAccess, IsReady, MayName, touch, copying, place_at, need_for, waits_at_once, wait_after, AreAmong, IsAmong};
 
 use crate::outcomes::{Done, Need, Start};
@@ -169,7 +171,7 @@ pub trait Pages {
         ensures stored { length (store self.new).file_blocks ≡ length (store self.old).file_blocks }
         ensures quiet { OnOk result ((store self.new).report.file_writes.failed ≡ (store self.old).report.file_writes.failed) }
         ensures failed { IsErrOf result make_fault.Write → 0 < (store self.new).report.file_writes.failed }
-        ensures blamed { IsErrOf result make_fault.Write → Rose (store self.old).file_device.faults (store self.new).file_device.faults }
+        ensures blamed { IsErrOf result make_fault.Write → CallFailed (store self.old).file_device (store self.new).file_device }
         ensures notes { NotesIn unpaged (Turns Makes) (behind self.old) (behind self.new) }
         ensures file { unpaged ≡ false → FileMade first.0 n result (store self.old) (store self.new) }
         ensures loans { loans self.new ≡ loans self.old };
@@ -186,7 +188,7 @@ pub trait Pages {
           paging_keys = (store self.old).paging_keys + 1;
           report = rearranged (store self.old).report (store self.new).report;
         } }
-        ensures passes { PassesIn unpaged (Turns Makes) (store self.old) (store self.new) (behind self.old) (behind self.new) }
+        ensures passes { (from to : ℕ) → from ≤ number_of key → number_of key < to → PassesIn unpaged (Turns (MakesFrom from to)) (store self.old) (store self.new) (behind self.old) (behind self.new) }
         ensures loans { loans self.new ≡ loans self.old };
 
     /// A page-file key is no more, and its own place names nothing.
@@ -200,7 +202,7 @@ pub trait Pages {
           paging_keys = (store self.old).paging_keys - 1;
           report = rearranged (store self.old).report (store self.new).report;
         } }
-        ensures passes { (held : Place → Bool) (from to : ℕ) → IsAmong held from to key → PassesIn unpaged (Turns (Ending held from to)) (store self.old) (store self.new) (behind self.old) (behind self.new) }
+        ensures passes { (held : Place → Bool) (from to : ℕ) → IsAmong (contents self.old) held from to key → PassesIn unpaged (Turns (Ending held from to)) (store self.old) (store self.new) (behind self.old) (behind self.new) }
         ensures loans { loans self.new ≡ loans self.old };
 
     /// Reads up to 64 bytes of a key's page from `off` on, at a place that may use the key; the place then names it.
@@ -218,7 +220,8 @@ pub trait Pages {
         ensures served { Served (store self.old) (store self.new) }
         ensures stored { length (store self.new).file_blocks ≡ length (store self.old).file_blocks }
         ensures fault { IsBegun (store self.old).report → Ends (touch key) (store self.new).report result }
-        ensures blamed { OnErr result (SomeRose (store self.old) (store self.new)) }
+        ensures causes { HasCauses (touch key) (store self.new).report result }
+        ensures blamed { OnErr result (SomeFailed (store self.old) (store self.new)) }
         ensures ready { IsReady (store self.old) place (touch key) → IsOk result }
         ensures eased { IsReady (store self.old) place (touch key) → (store self.new).report ≡ eased (store self.old).report (store self.new).report }
         ensures unpaged { unpaged ≡ true → IsOk result }
@@ -238,7 +241,8 @@ pub trait Pages {
         ensures served { Served (store self.old) (store self.new) }
         ensures stored { length (store self.new).file_blocks ≡ length (store self.old).file_blocks }
         ensures fault { IsBegun (store self.old).report → Ends (touch key) (store self.new).report result }
-        ensures blamed { OnErr result (SomeRose (store self.old) (store self.new)) }
+        ensures causes { HasCauses (touch key) (store self.new).report result }
+        ensures blamed { OnErr result (SomeFailed (store self.old) (store self.new)) }
         ensures ready { IsReady (store self.old) place (touch key) → IsOk result }
         ensures eased { IsReady (store self.old) place (touch key) → (store self.new).report ≡ eased (store self.old).report (store self.new).report }
         ensures unpaged { unpaged ≡ true → IsOk result }
@@ -265,7 +269,8 @@ pub trait Pages {
         ensures served { Served (store self.old) (store self.new) }
         ensures stored { length (store self.new).file_blocks ≡ length (store self.old).file_blocks }
         ensures fault { IsBegun (store self.old).report → Ends (copying from place) (store self.new).report result }
-        ensures blamed { OnErr result (SomeRose (store self.old) (store self.new)) }
+        ensures causes { HasCauses (copying from place) (store self.new).report result }
+        ensures blamed { OnErr result (SomeFailed (store self.old) (store self.new)) }
         ensures was_ready { IsReady (store self.old) place (copying from place) → IsOk result }
         ensures ready { OnOk result (IsReady (store self.new) place (touch to)) }
         ensures unpaged { unpaged ≡ true → IsOk result }
@@ -284,9 +289,9 @@ pub trait Pages {
         ensures stored { length (store self.new).file_blocks ≡ length (store self.old).file_blocks }
         ensures quiet { OnOk result ((store self.new).report.file_writes.failed ≡ (store self.old).report.file_writes.failed) }
         ensures failed { OnErr result (0 < (store self.new).report.file_writes.failed) }
-        ensures blamed { OnErr result (Rose (store self.old).file_device.faults (store self.new).file_device.faults) }
+        ensures blamed { OnErr result (CallFailed (store self.old).file_device (store self.new).file_device) }
         ensures contents { contents self.new ≡ contents self.old }
-        ensures passes { PassesIn unpaged (Flushes (key ∷ [])) (store self.old) (store self.new) (behind self.old) (behind self.new) }
+        ensures passes { PassesIn unpaged (FlushesPage key (is_ok result)) (store self.old) (store self.new) (behind self.old) (behind self.new) }
         ensures loans { loans self.new ≡ loans self.old };
 
     /// Unmaps at most `n` places of an open process, the oldest first, and leaves the least number of its working set.
@@ -355,7 +360,6 @@ pub trait Pages {
           kind = kind.Grow n;
           ready = None;
           report = record (begun (store self.old).report) { counts = (store self.new).report.counts; extended = (store self.new).report.extended };
-          paging_device = called (store self.old).paging_device (store self.new).paging_device;
         }) }
         ensures extended { OnOk result (is_failed_extension (store self.new).report.extended ≡ false) }
         ensures later { (store self.old).room ≤ (store self.new).room }
@@ -385,6 +389,7 @@ pub trait Pages {
         ensures ready { result ≡ start_of.Ready → IsReady (store self.new) place (need_for need key place) }
         ensures at_once { result ≡ start_of.Ready → waits_at_once (store self.old).machine.depth key (store self.old).report ≡ None }
         ensures pending { (why : Why) → result ≡ start_of.Pending why → pending (store self.old).machine.depth (need_for need key place) (store self.old).report (store self.new).report ≡ Some why }
+        ensures awaited { result ≡ start_of.Pending why_of.Read → (store self.new).report.whereabouts key ≡ Some BeingRead }
         ensures wait { (store self.new).report.wait ≡ changed ◌==◌ (store self.old).report.wait tid.0 (wait_after result) }
         ensures unpaged { unpaged ≡ true → result ≡ start_of.Ready }
         ensures passes { (writes : Bool) → PassesIn unpaged (Starts (record { place = place; need = need_for need key place; writes = writes; start = (behind self.old).life }) tid.0 result) (store self.old) (store self.new) (behind self.old) (behind self.new) }
@@ -420,7 +425,7 @@ pub trait Pages {
         ensures some { (store self.old).report.counts.requests < i → result ≡ done.None }
         ensures ok { result ≡ done.Ok → failed_calls (store self.new).report ≡ failed_calls (store self.old).report }
         ensures failed { result ≡ done.Failed → 0 < failed_calls (store self.new).report }
-        ensures blamed { result ≡ done.Failed → SomeRose (store self.old) (store self.new) }
+        ensures blamed { result ≡ done.Failed → SomeFailed (store self.old) (store self.new) }
         ensures served { Served (store self.old) (store self.new) }
         ensures stored { length (store self.new).file_blocks ≡ length (store self.old).file_blocks }
         ensures passes { PassesIn unpaged (CompletesAs i result) (store self.old) (store self.new) (behind self.old) (behind self.new) }

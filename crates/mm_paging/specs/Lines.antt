@@ -1,6 +1,6 @@
 -- What a line does to the life of the frames, by the worlds and the reports before and after it.
 -- Profile, "Which frame moves, and when".
-use Rattle.std.specs.Prelude.{◌≡◌, ◌≢◌, ◌⊎◌, ℕ, ◌+◌, ◌-◌, ◌==◌, Bool, true, false, not, ◌&&◌, if◌then◌else◌, is_some, List, [], ◌∷◌, map, Option, Some, None, option_map, option_and_then, unwrap_or}
+use Rattle.std.specs.Prelude.{◌≡◌, ◌≤◌, ◌<◌, ◌⊎◌, ℕ, ◌+◌, ◌-◌, ◌==◌, Bool, true, false, not, if◌then◌else◌, is_some, List, [], ◌∷◌, ◌++◌, length, map, replicate, slice_get, Option, Some, None, option_map, option_and_then, unwrap_or}
 use Rattle.mm_types.specs.declared.answers.Answer.{Answer}
 use Rattle.mm_types.specs.declared.answers.Answer.TheVariants as answer
 use Rattle.mm_types.specs.declared.answers.Why.TheVariants as why
@@ -19,7 +19,6 @@ use Rattle.mm_types.specs.declared.views.View.{View}
 use Rattle.mm_types.specs.declared.views.Kind.{Kind}
 use Rattle.mm_types.specs.declared.views.Kind.TheVariants as view_kind
 use Rattle.mm_types.specs.Address.{Range, end_of_user_pages}
-use Rattle.mm_blocks.specs.declared.device_calls.DeviceCall.{DeviceCall}
 use Rattle.mm_life.specs.Frames.{record_at}
 use Rattle.mm_life.specs.Life.{FrameLife, is_live, numbers_from, counts_of}
 use Rattle.mm_life.specs.Effect.{after_move}
@@ -27,13 +26,13 @@ use Rattle.mm_life.specs.Logs.{Grew}
 use Rattle.mm_life.specs.MoveText.{AreMoves, spelled_moves}
 use Rattle.mm_life.specs.Replay.{Replays}
 use Rattle.mm_types.specs.declared.moves.LineKind.{LineKind}
-use Rattle.mm_world.specs.World.{Page, World, WorldOf, KeptOf, numbered, RegionOf, ProcessOf}
+use Rattle.mm_world.specs.World.{Page, filled, World, KeptOf, RegionOf}
 use Rattle.mm_world.specs.Find.{Found, process_of, area_at}
 use Rattle.mm_world.specs.Keys.{content_of, shared_key}
 use Rattle.mm_world.specs.Views.{flushed_view, flushed_range}
-use Rattle.mm_world.specs.Report.{Report}
+use Rattle.mm_world.specs.Report.{Report, BeingRead}
 use Rattle.mm_world.specs.Step.{kept_by}
-use Rattle.mm_blocks.specs.Devices.{DeviceOf, Call, AllServed, logged_call}
+use Rattle.mm_blocks.specs.Devices.{DeviceOf, Call, AllServed, logged_call, KeepsOthers}
 use Rattle.mm_pages.specs.Store.{changed, same_place}
 use Rattle.mm_pages.specs.Behind.{Behind}
 use Rattle.mm_walks.specs.Waits.{Waiting, Idle, ForFrame, wait_of}
@@ -41,10 +40,11 @@ use Rattle.mm_walks.specs.Walks.{waits_through, ages_through, walked_all}
 use Rattle.mm_pages.specs.Told.{told_of, told_through, paging_traffic, file_traffic}
 use Rattle.mm_walks.specs.Searches.{is_valid, Starved}
 use Rattle.mm_pages.specs.Accesses.{Aim, AccessMoves, walk_from}
-use Rattle.mm_walks.specs.Chores.{all_aged, clearings, writes_begun, Flushing}
-use Rattle.mm_pages.specs.Housekeeping.{Turn, Makes, Ends, AllTurn, IsInOrder, pages_gone, Trims, Completes}
-use Rattle.mm_pages.specs.Standing.{where_of}
-use Rattle.mm_paging.specs.Kinds.{row_key, kind_of_line, aim_of, lives}
+use Rattle.mm_walks.specs.Chores.{all_aged, clearings, writes_begun}
+use Rattle.mm_pages.specs.Flushing.{Flushing}
+use Rattle.mm_pages.specs.Housekeeping.{Makes, MakesStack, Ends, Turned, pages_gone, Trims, Completes}
+use Rattle.mm_pages.specs.Standing.{where_of, block_at, backed_by}
+use Rattle.mm_paging.specs.Kinds.{row_key, file_block_of, kind_of_line, aim_of, lives}
 
 -- ---- the state after a line
 
@@ -58,6 +58,11 @@ pub record Agrees (v : World) (after : Report) (c : Behind) : Type 0 where
   pub counts : after.counts ≡ counts_of c.life
   pub whereabouts : (k : Key) → after.whereabouts k ≡ where_of c.life (c.life.stands k)
   pub waits : (tid : ℕ) → after.wait tid ≡ wait_of (c.waits tid)
+  -- the machine is the world's, and has so many slots: after a `grow` answered `ok` so many more
+  pub machine : c.life.machine ≡ v.machine
+  pub slots : length c.slots ≡ v.machine.slots
+  -- the block of a live file key is its file's, and no other key has one
+  pub blocks : (k : Key) → block_at (backed_by c.life (c.life.stands k)) ≡ file_block_of v k
 
 -- ---- keys
 
@@ -83,10 +88,15 @@ abbrev pub is_failed : Answer → Bool
 is_failed (answer.Raised raise.InPageError) = true
 is_failed _ = false
 
--- what it leaves: a place that was had is valid; one that found no frame leaves hardly a place valid
+abbrev pub is_pending_read : Answer → Bool
+is_pending_read (answer.Pending why.Read) = true
+is_pending_read _ = false
+
+-- what it leaves: a place that was had is valid; one that found no frame leaves hardly a place valid; one that waits for a read has its page being read
 pub record Accesses (plain : Bool) (a : Aim) (r : Answer) (after : Report) (b : Behind) (moves : List Move) (c : Behind) : Type 0 where
   pub made : AccessMoves a b moves
   pub valid : is_had r ≡ true → is_valid c.life a.place ≡ true
+  pub awaited : is_pending_read r ≡ true → after.whereabouts a.need.key ≡ Some BeingRead
   pub starved : plain ≡ true → is_failed r ≡ true → after.last_failed_read ≡ None → Starved (c.life.valid a.place) (walked_all (walk_from b) moves)
 
 -- an access that is not permitted makes no move
@@ -96,10 +106,9 @@ AccessesBy plain (Some a) r after b moves c = Accesses plain a r after b moves c
 
 -- ---- calls
 
--- of a line that takes pages away: places among these are valid no more, and keys go, page by page in rising order
-pub record GivesUp (held : Place → Bool) (moves : List Move) : Type 0 where
-  pub all : AllTurn (Ends held 0 end_of_user_pages) moves
-  pub order : IsInOrder (Ends held 0 end_of_user_pages) moves
+-- of a line that takes pages away: places among these are valid no more, and keys go, page by page in rising order, of each area from the lowest on
+abbrev pub GivesUp : (Place → Bool) → FrameLife → List Move → Type 0
+GivesUp held l moves = Turned (Ends held 0 end_of_user_pages) l moves
 
 -- each place that is unmapped is no committed row after the line
 abbrev pub is_uncommitted : World → Place → Bool
@@ -145,15 +154,15 @@ Does w (line.Writer n) a v r b ms c = ms ≡ writes_begun n b.life b.life.frames
 Does w (line.Zeroer n) a v r b ms c = ms ≡ clearings n b.life
 Does w (line.Io i) a v r b ms c = Completing i a b ms c
 Does w (line.Flush pid addr size) a v r b ms c = Flushing b.life (flushed_keys w pid.0 addr size) ms
-Does w (line.Exit pid) a v r b ms c = GivesUp (is_uncommitted v) ms
-Does w (line.Free pid addr size type) a v r b ms c = GivesUp (is_uncommitted v) ms
-Does w (line.Unmap pid addr) a v r b ms c = GivesUp (is_uncommitted v) ms
-Does w (line.Close pid handle) a v r b ms c = GivesUp (λ _. false) ms × (pages_gone ms ≡ [])
-Does w (line.Alloc pid addr size type prot) a v r b ms c = AllTurn Makes ms
-Does w (line.Create pid size flags name) a v r b ms c = AllTurn Makes ms
-Does w (line.File name pages byte) a v r b ms c = AllTurn Makes ms
-Does w (line.Stack tid pid reserve commit) a v r b ms c = AllTurn Makes ms
-Does w (line.Probe tid addr) a v r b ms c = AllTurn Makes ms
+Does w (line.Exit pid) a v r b ms c = GivesUp (is_uncommitted v) b.life ms
+Does w (line.Free pid addr size type) a v r b ms c = GivesUp (is_uncommitted v) b.life ms
+Does w (line.Unmap pid addr) a v r b ms c = GivesUp (is_uncommitted v) b.life ms
+Does w (line.Close pid handle) a v r b ms c = GivesUp (λ _. false) b.life ms × (pages_gone ms ≡ [])
+Does w (line.Alloc pid addr size type prot) a v r b ms c = Turned Makes b.life ms
+Does w (line.Create pid size flags name) a v r b ms c = Turned Makes b.life ms
+Does w (line.File name pages byte) a v r b ms c = Turned Makes b.life ms
+Does w (line.Stack tid pid reserve commit) a v r b ms c = Turned MakesStack b.life ms
+Does w (line.Probe tid addr) a v r b ms c = Turned Makes b.life ms
 Does w _ a v r b ms c = ms ≡ []
 
 -- ---- ages and waits
@@ -178,10 +187,6 @@ awaited (Some a) l = unwrap_or (option_map ForFrame (frame_in (l.stands a.need.k
     frame_in held.Zero = None
     frame_in held.Dead = None
 
-abbrev pub is_pending_read : Answer → Bool
-is_pending_read (answer.Pending why.Read) = true
-is_pending_read _ = false
-
 abbrev pub keeps_for : Option KeptOf → Pid → Bool
 keeps_for None pid = false
 keeps_for (Some k) pid = k.pid == pid.0
@@ -200,14 +205,17 @@ waits_of_line w _ a b waits l t = waits t
 
 -- ---- devices
 
--- the calls that the moves stand for are those of the devices: each stands in its device's log, or was named
-pub record Traffic (l : FrameLife) (moves : List Move) (paging paging' files files' : DeviceOf) : Type 0 where
+-- the calls that the moves stand for are those of the devices: each stands in its device's log, or was named; and a slot or a block that none of them
+-- wrote is as before
+pub record Traffic (l : FrameLife) (moves : List Move) (paging paging' files files' : DeviceOf) (slots slots' blocks blocks' : List Page) : Type 0 where
   pub paging_calls : List Call
   pub paging_served : AllServed paging_calls paging paging'
   pub paging_are : map logged_call paging_calls ≡ paging_traffic l moves
   pub file_calls : List Call
   pub files_served : AllServed file_calls files files'
   pub files_are : map logged_call file_calls ≡ file_traffic l moves
+  pub slots_kept : KeepsOthers (paging_traffic l moves) slots slots'
+  pub blocks_kept : KeepsOthers (file_traffic l moves) blocks blocks'
 
 -- lines that ask devices for what is no move: a file's blocks are written, the paging device grows, calls are named
 abbrev pub asks_beside : Event → Bool
@@ -216,6 +224,14 @@ asks_beside (line.Grow n) = true
 asks_beside (line.Fail device direction k n) = true
 asks_beside _ = false
 
+-- after such a line: no slot was written; where the paging device grew, slots of zeros stand behind those before; blocks are written for a file alone
+abbrev pub HoldsBeside : World → Event → Answer → List Page → List Page → List Page → List Page → Type 0
+HoldsBeside w (line.File name pages byte) a slots slots' blocks blocks' = slots' ≡ slots
+HoldsBeside w (line.Grow n) (answer.Limit limit) slots slots' blocks blocks' = (slots' ≡ slots ++ replicate n (filled 0)) × (blocks' ≡ blocks)
+HoldsBeside w (line.Grow n) _ slots slots' blocks blocks' = (slots' ≡ slots) × (blocks' ≡ blocks)
+HoldsBeside w (line.Fail device direction k n) a slots slots' blocks blocks' = (slots' ≡ slots) × (blocks' ≡ blocks)
+HoldsBeside w _ a slots slots' blocks blocks' = Unit {0}
+
 -- ---- a line
 
 -- what stands behind a store once a line has begun
@@ -223,7 +239,7 @@ abbrev pub with_line : Move → Behind → Behind
 with_line m b = record b { life = after_move b.life m }
 
 -- A line, with its piece of the log: its `at`, and its moves after it.
-pub record Line (w : World) (before : Report) (b : Behind) (paging files : DeviceOf) (e : Event) (a : Answer) (piece : List Move) (v : World) (after : Report) (c : Behind) (paging' files' : DeviceOf) : Type 0 where
+pub record Line (w : World) (before : Report) (b : Behind) (paging files : DeviceOf) (blocks : List Page) (e : Event) (a : Answer) (piece : List Move) (v : World) (after : Report) (c : Behind) (paging' files' : DeviceOf) (blocks' : List Page) : Type 0 where
   pub moves : List Move
   pub begins : piece ≡ move.At (b.life.line + 1) (kind_of_line w e a) ∷ moves
   pub agrees : Agrees v after c
@@ -232,15 +248,16 @@ pub record Line (w : World) (before : Report) (b : Behind) (paging files : Devic
   pub ages : c.ages ≡ ages_of_line w e a b moves
   pub waits : c.waits ≡ waits_of_line w e a b (waits_through moves b.waits) c.life
   pub told : asks_beside e ≡ false → told_of after ≡ told_through b.life piece (told_of before)
-  pub traffic : asks_beside e ≡ false → Traffic b.life piece paging paging' files files'
+  pub traffic : asks_beside e ≡ false → Traffic b.life piece paging paging' files files' b.slots c.slots blocks blocks'
+  pub beside : HoldsBeside w e a b.slots c.slots blocks blocks'
 
 -- A line that was decided, of a store that pages: its piece of the log, by which the log grew, and which replays.
-pub record Noted (w : World) (before : Report) (b : Behind) (paging files : DeviceOf) (e : Event) (a : Answer) (v : World) (after : Report) (c : Behind) (paging' files' : DeviceOf) : Type 0 where
+pub record Noted (w : World) (before : Report) (b : Behind) (paging files : DeviceOf) (blocks : List Page) (e : Event) (a : Answer) (v : World) (after : Report) (c : Behind) (paging' files' : DeviceOf) (blocks' : List Page) : Type 0 where
   pub piece : List Move
   pub in_range : AreMoves piece
   pub grew : Grew b.log c.log (spelled_moves piece)
   pub replays : Replays piece b.life c.life
-  pub line : Line w before b paging files e a piece v after c paging' files'
+  pub line : Line w before b paging files blocks e a piece v after c paging' files' blocks'
 
 -- A line that ran out of memory: its `at` alone, of whatever kind, or none.
 pub record Broken (b c : Behind) : Type 0 where
@@ -248,4 +265,5 @@ pub record Broken (b c : Behind) : Type 0 where
   pub in_range : AreMoves piece
   pub grew : Grew b.log c.log (spelled_moves piece)
   pub replays : Replays piece b.life c.life
+  pub slots : c.slots ≡ b.slots
   pub at_most : (piece ≡ []) ⊎ ((k : LineKind) × (piece ≡ move.At (b.life.line + 1) k ∷ []))

@@ -1,4 +1,4 @@
--- What a run over a store that pages shows at a moment, its first move, and what its devices hold at its end.
+-- The first move of a run over a store that pages, and what its devices hold.
 -- Profile, "A run".
 use Rattle.std.specs.Prelude.{◌≡◌, true, List}
 use Rattle.mm_types.specs.declared.moves.Move.{Move}
@@ -8,20 +8,8 @@ use Rattle.mm_types.specs.Machine.{MachineOf}
 use Rattle.mm_life.specs.Life.{FrameLife}
 use Rattle.mm_world.specs.World.{Page, World}
 use Rattle.mm_world.specs.Keys.{content_of}
-use Rattle.mm_world.specs.Report.{Report}
-use Rattle.mm_blocks.specs.Devices.{DeviceOf}
 use Rattle.mm_pages.specs.Store.{kind_of_machine}
-use Rattle.mm_pages.specs.Behind.{Behind}
 use Rattle.mm_pages.specs.Standing.{stored_of, is_on_device, bytes_at}
-
--- a world over a store that pages, with what stands behind it
-pub record Scene : Type 0 where
-  pub world : World
-  pub report : Report
-  pub paging : DeviceOf
-  pub files : DeviceOf
-  pub blocks : List Page
-  pub behind : Behind
 
 abbrev pub first_move : MachineOf → Move
 first_move m = move.At 1 (kind_of_machine m)

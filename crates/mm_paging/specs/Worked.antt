@@ -1,18 +1,27 @@
 -- Worked lines.
 -- Profile, "Logs of moves".
-use Rattle.std.specs.Prelude.{ℕ, true, false, List, [], ◌∷◌, take, unwrap_or, Option, None, Some}
+use Rattle.std.specs.Prelude.{ℕ, true, List, [], ◌∷◌, take, unwrap_or, None}
 use Rattle.mm_types.specs.declared.numbers.Area.{Area}
+use Rattle.mm_types.specs.declared.numbers.Key.{Key}
+use Rattle.mm_types.specs.declared.numbers.Key.TheVariants.{Shared}
+use Rattle.mm_types.specs.declared.frames.Record.{Record}
+use Rattle.mm_types.specs.declared.frames.Request.TheVariants as request
+use Rattle.mm_types.specs.declared.moves.LineKind.TheVariants as kind
 use Rattle.mm_types.specs.declared.moves.Move.{Move}
 use Rattle.mm_types.specs.declared.moves.Move.TheVariants as move
+use Rattle.mm_life.specs.Frames.{given}
 use Rattle.mm_life.specs.Life.{FrameLife, unstarted}
 use Rattle.mm_life.specs.Replay.{replay_log}
-use Rattle.mm_life.specs.WorkedLogs.{rewritten_log, smallest_set_log, frame, place, private}
+use Rattle.mm_life.specs.WorkedLogs.{rewritten_log, smallest_set_log, pid, place, private}
 use Rattle.mm_pages.specs.Conditions.{touch}
 use Rattle.mm_pages.specs.Behind.{Behind, nothing_behind}
 use Rattle.mm_pages.specs.Accesses.{Aim}
 
 abbrev pub area : ℕ → Area
 area a = record { 0 = a }
+
+abbrev pub shared : ℕ → ℕ → Key
+shared a i = Shared (area a) i
 
 -- after so many moves of a log
 abbrev pub life_after : ℕ → List Move → FrameLife
@@ -28,3 +37,23 @@ second_write = record { place = place 1 16; need = touch (private 1 16); writes 
 -- the access of the smallest set's last line: its only page goes for the next
 abbrev pub next_page : Aim
 next_page = record { place = place 1 17; need = touch (private 1 17); writes = true; start = life_after 10 smallest_set_log }
+
+-- a section of two pages, and one page of a process beside it
+abbrev pub section_log : List Move
+section_log =
+    move.At 1 (kind.Machine 6 1 1 0)
+    ∷ move.At 2 (kind.Process (pid 1) 0 1)
+    ∷ move.At 3 kind.Call
+    ∷ move.Add (shared 0 0) None
+    ∷ move.Add (shared 0 1) None
+    ∷ move.At 4 kind.Call
+    ∷ move.Add (private 1 16) None
+    ∷ move.At 5 (kind.Unbind (pid 1))
+    ∷ []
+
+-- what is kept of a frame whose page is changed, and of one whose page was written to during its write
+abbrev pub changed_page : Record
+changed_page = given (private 1 16)
+
+abbrev pub page_written_to : Record
+page_written_to = record changed_page { request = request.WriteAgain }

@@ -2,13 +2,14 @@ ghost use Rattle.std.specs.Prelude.{◌≡◌, [], ◌∷◌, true, false, None,
 ghost use Rattle.mm_types.specs.declared.devices.Direction.TheVariants as way;
 ghost use Rattle.mm_types.specs.declared.moves.Move.TheVariants as move;
 ghost use Rattle.mm_types.specs.declared.moves.Stored.TheVariants as stored;
-ghost use Rattle.mm_types.specs.declared.numbers.Key.TheVariants.{Shared};
 ghost use Rattle.mm_life.specs.WorkedLogs.{rewritten_log, smallest_set_log, frame, slot, place, private};
 ghost use Rattle.mm_pages.specs.Accesses.{AccessMoves};
 ghost use Rattle.mm_walks.specs.Chores.{writes_begun, clearings};
 ghost use Rattle.mm_pages.specs.Told.{none_told, told_through, paging_traffic};
 ghost use Rattle.mm_paging.specs.Lines.{GivesUp};
-ghost use Rattle.mm_paging.specs.Worked.{area, life_after, behind_after, second_write, next_page};
+ghost use Rattle.mm_pages.specs.Flushing.{FlushMoves};
+ghost use Rattle.mm_pages.specs.Housekeeping.{Makes, MakesStack, Turned, LowestFirst};
+ghost use Rattle.mm_paging.specs.Worked.{changed_page, page_written_to, shared, section_log, life_after, behind_after, second_write, next_page};
 
 /// The page that was trimmed is written to the lowest slot; its write, completed, is a call of the paging device.
 pub fn page_written_out()
@@ -30,7 +31,25 @@ pub fn full_set()
     ensures { AccessMoves next_page (behind_after 10 smallest_set_log) (move.Clear (frame 1) ∷ move.Give (frame 1) (private 1 17) ∷ move.Unmap (place 1 16) ∷ move.Map (frame 1) (place 1 17) ∷ []) }
 {}
 
-/// Pages are given up one after another: the place of each, then its key; the key of a section's page goes at any time.
+/// Pages are given up one after another: the place of each, then its key. The keys of a section go from the lowest on, whenever they go.
 pub fn pages_given_up()
-    ensures { GivesUp (λ _. true) (move.Drop (Shared (area 0) 5) ∷ move.Unmap (place 1 16) ∷ move.Drop (private 1 16) ∷ move.Unmap (place 1 17) ∷ []) }
+    ensures rises { GivesUp (λ _. true) (life_after 8 section_log) (move.Drop (shared 0 0) ∷ move.Unmap (place 1 16) ∷ move.Drop (private 1 16) ∷ move.Drop (shared 0 1) ∷ move.Unmap (place 1 17) ∷ []) }
+    ensures falls { LowestFirst (life_after 8 section_log) (move.Drop (shared 0 1) ∷ move.Drop (shared 0 0) ∷ []) → ⊥ }
+{}
+
+/// Pages come to be in rising order; of a new stack the guard page, the lowest, comes last.
+pub fn pages_made()
+    ensures rises { Turned Makes (life_after 8 section_log) (move.Add (shared 0 4) None ∷ move.Add (shared 0 5) None ∷ []) }
+    ensures falls { Turned Makes (life_after 8 section_log) (move.Add (shared 0 5) None ∷ move.Add (shared 0 4) None ∷ []) → ⊥ }
+    ensures stack { Turned MakesStack (life_after 8 section_log) (move.Add (private 1 18) None ∷ move.Add (private 1 19) None ∷ move.Add (private 1 17) None ∷ []) }
+{}
+
+/// What a flush does with a page by its frame: a changed page is written, one that is being written is waited for first, and written again where it
+/// was written to meanwhile.
+pub fn page_flushed()
+    ensures changed { FlushMoves changed_page (frame 0) (move.Write (frame 0) (stored.Slot (slot 0)) ∷ move.Wrote (frame 0) ∷ []) }
+    ensures never_left { FlushMoves changed_page (frame 0) [] → ⊥ }
+    ensures again { FlushMoves page_written_to (frame 0) (move.Wrote (frame 0) ∷ move.Write (frame 0) (stored.Slot (slot 0)) ∷ move.Lost (frame 0) ∷ []) }
+    ensures lost { FlushMoves page_written_to (frame 0) (move.Lost (frame 0) ∷ []) }
+    ensures once { FlushMoves page_written_to (frame 0) (move.Wrote (frame 0) ∷ []) → ⊥ }
 {}

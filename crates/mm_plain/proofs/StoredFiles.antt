@@ -6,7 +6,9 @@ use Rattle.mm_types.specs.declared.devices.Direction.TheVariants as way
 use Rattle.mm_types.proofs.Cells.{same_or_not, get_set_same, get_set_other}
 use Rattle.mm_world.specs.Report.{Tally}
 use Rattle.mm_world.specs.World.{Page}
-use Rattle.mm_blocks.specs.Devices.{DeviceOf, Serves}
+use Rattle.std.specs.Prelude.{Result, Ok, Err, OnErr, is_ok}
+use Rattle.mm_blocks.specs.Devices.{DeviceOf, Serves, CallFailed}
+use Rattle.mm_blocks.proofs.Serving.{serves_failed}
 use Rattle.mm_pages.specs.Tallies.{with_outcome, tallied}
 use Rattle.mm_blocks.proofs.Serving.{all_served_then, all_served_one}
 use Rattle.mm_pages.proofs.Served.{tallied_then}
@@ -55,6 +57,11 @@ others_of first i n pages old new block s le h = s.others block (elim h [ inl lo
 
 pub wrote_none : (d : DeviceOf) (t : Tally) → Wrote d d t t
 wrote_none d t = record { calls = []; served = refl; counted = refl; none_read = λ r. refl }
+
+-- a write that did not succeed
+pub failed_write : {T E : Type 0} (r : Result T E) (block : ℕ) (named : Bool) (a b : DeviceOf) → Serves (record { way = way.Write; block = block; succeeded = is_ok r; named = named }) a b → OnErr r (CallFailed a b)
+failed_write (Ok v) block named a b h = tt
+failed_write (Err e) block named a b h = serves_failed _ a b h refl
 
 pub wrote_one : (a b : DeviceOf) (t u : Tally) (block : ℕ) (ok named : Bool) → Serves (record { way = way.Write; block = block; succeeded = ok; named = named }) a b → u ≡ with_outcome ok t → Wrote a b t u
 wrote_one a b t u block ok named s e = record {

@@ -1,8 +1,6 @@
 -- The pages of files in memory, and the writes of their blocks.
 use Rattle.std.specs.Prelude.{◌≡◌, ◌<◌, ◌≤◌, ◌⊎◌, ℕ, ◌+◌, ◌%◌, Bool, false, List, length, slice_get, Option, Some, None, unwrap_or}
 use Rattle.mm_types.specs.declared.devices.Direction.TheVariants as way
-use Rattle.mm_blocks.specs.declared.device_calls.DeviceCall.{DeviceCall}
-use Rattle.mm_blocks.specs.declared.device_calls.NamedCalls.{NamedCalls}
 use Rattle.mm_world.specs.Report.{Tally}
 use Rattle.mm_world.specs.World.{Page, filled}
 use Rattle.mm_blocks.specs.Devices.{DeviceOf, Call, AllServed}
@@ -29,10 +27,6 @@ changed_of (Some page) = Some page.changed
 
 abbrev pub page_in : List FilePage → ℕ → Page
 page_in pages block = unwrap_or (page_of (slice_get pages block)) (filled 0)
-
--- what is kept of a device, beside its blocks
-abbrev pub device_with : Option (List DeviceCall) → List NamedCalls → ℕ → DeviceOf
-device_with log named faults = record { log = log; named = named; faults = faults }
 
 -- some writes of a device, one after another, and its tally with them
 pub record Wrote (old new : DeviceOf) (before after : Tally) : Type 0 where

@@ -1,13 +1,12 @@
 -- What an unpaged store shows, out of what it holds.
 use Rattle.std.specs.Prelude.{◌+◌, length, Option}
 use Rattle.mm_types.specs.declared.numbers.Key.{Key}
-use Rattle.mm_blocks.specs.declared.Blocks.{Ghosts as DeviceGhosts}
+use Rattle.mm_blocks.specs.declared.Inject.{Ghosts as DeviceGhosts}
 use Rattle.mm_world.specs.World.{Page}
-use Rattle.mm_blocks.specs.Devices.{no_device}
+use Rattle.mm_blocks.specs.Devices.{no_device, device_with}
 use Rattle.mm_pages.specs.Store.{StoreOf}
 use Rattle.mm_plain.specs.declared.plain.Plain.{Plain}
 use Rattle.mm_plain.specs.Areas.{area_in, count_in}
-use Rattle.mm_plain.specs.Files.{device_with}
 use Rattle.mm_plain.specs.Places.{bound_in, names_in, pages_at, pages_in}
 use Rattle.mm_plain.specs.Processes.{is_open_in}
 use Rattle.mm_plain.specs.Shown.{contents_of, paging_of, blocks_of, sizes_of, ready_at, unpaged_report}

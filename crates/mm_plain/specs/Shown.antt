@@ -10,7 +10,7 @@ use Rattle.mm_world.specs.Report.{Report, Tally, Whereabouts, InFrame}
 use Rattle.mm_pages.specs.Conditions.{need_for}
 use Rattle.mm_plain.specs.declared.plain.Wanted.{Wanted}
 use Rattle.mm_pages.specs.Reports.{no_calls}
-use Rattle.mm_pages.specs.Store.{Ready, own_key}
+use Rattle.mm_pages.specs.Store.{Ready}
 use Rattle.mm_plain.specs.declared.areas.AreaPages.{AreaPages}
 use Rattle.mm_plain.specs.declared.file_pages.FilePage.{FilePage}
 use Rattle.mm_plain.specs.Areas.{size_of, page_at, block_at}

@@ -58,7 +58,7 @@ pub struct Plain<F: Inject> {
     kind: LineKind,
     last_pid: u8,
     ghost fits: { Fits places areas stock },
-    ghost files_fit: { FilesFit (area_in areas) file_pages.pages.items (F.Blocks.blocks files) machine.blocks },
+    ghost files_fit: { FilesFit (area_in areas) file_pages.pages.items (F.blocks files) machine.blocks },
     ghost numbers: { IsMachine machine },
 }
 
@@ -114,8 +114,8 @@ impl<F: Inject> Plain<F> {
     /// A new store of this machine, in line 1, with no process, no bound place, no key and no file, over a file device that
     /// was opened with the machine's blocks and names no call. It takes no memory yet.
     pub fn new(alloc: Global, machine: Machine, files: F) -> Result<Plain<F>, Unmade<F>>
-        requires opened { length (F.Blocks.blocks files) ≡ machine.blocks }
-        requires plain { F.Blocks.named files ≡ [] }
+        requires opened { length (F.blocks files) ≡ machine.blocks }
+        requires plain { F.named files ≡ [] }
         ensures new { IfOk result (λ s. IsNew machine (contents_in s) (store_in s)) }
         ensures no_room { IfOk result (λ s. (store_in s).room ≡ 0) }
         ensures device { IfOk result (λ s. s.files ≡ files) }
@@ -231,7 +231,7 @@ impl<F: Inject> Pages for Plain<F> {
 
     ghost behind = { λ s. nothing_behind };
 
-    ghost loans = { λ s. F.Blocks.loans s.files };
+    ghost loans = { λ s. F.loans s.files };
 
     ghost unpaged = { true };
 

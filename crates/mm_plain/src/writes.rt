@@ -1,15 +1,14 @@
 ghost use Rattle.std.specs.Prelude.{◌≡◌, ◌<◌, ◌≤◌, ◌+◌, ◌^◌, ◌⊎◌, ℕ, OnOk, OnErr, is_ok, length, slice_get, slice_set};
-ghost use Rattle.mm_types.specs.Outside.{Rose};
 ghost use Rattle.mm_types.specs.declared.devices.Direction.TheVariants as way;
 ghost use Rattle.mm_blocks.specs.Traffic.{is_named};
-ghost use Rattle.mm_blocks.specs.Devices.{Serves};
+ghost use Rattle.mm_blocks.specs.Devices.{Serves, CallFailed, device_with};
 ghost use Rattle.mm_pages.specs.Tallies.{with_outcome};
 ghost use Rattle.mm_pages.specs.Reports.{no_calls};
-ghost use Rattle.mm_plain.specs.Files.{device_with, Wrote, Stored};
+ghost use Rattle.mm_plain.specs.Files.{Wrote, Stored};
 
 use crate::boxes::PageBox;
 use crate::file_pages::FilePages;
-use mm_blocks::Blocks;
+use mm_blocks::Inject;
 use mm_types::Failed;
 use std::marker::Model;
 
@@ -53,7 +52,7 @@ impl Writes {
 }
 
 /// Writes a page to a block, and counts the write.
-pub(crate) fn write_block<F: Blocks>(
+pub(crate) fn write_block<F: Inject>(
     device: &mut F,
     writes: &mut Writes,
     block: u32,
@@ -64,8 +63,7 @@ pub(crate) fn write_block<F: Blocks>(
     ensures err { OnErr result (F.blocks device.new ≡ F.blocks device.old) }
     ensures serves { Serves (record { way = way.Write; block = block; succeeded = is_ok result; named = is_named way.Write (F.named device.old) }) (device_with (F.log device.old) (F.named device.old) (F.faults device.old)) (device_with (F.log device.new) (F.named device.new) (F.faults device.new)) }
     ensures writes { writes.new ≡ with_outcome (is_ok result) writes.old }
-    ensures later { F.faults device.old ≤ F.faults device.new }
-    ensures blamed { OnErr result (Rose (F.faults device.old) (F.faults device.new)) }
+    ensures blamed { OnErr result (CallFailed (device_with (F.log device.old) (F.named device.old) (F.faults device.old)) (device_with (F.log device.new) (F.named device.new) (F.faults device.new))) }
     ensures loans { F.loans device.new ≡ F.loans device.old }
 {
     let done = device.write(block, page.bytes());
@@ -74,7 +72,7 @@ pub(crate) fn write_block<F: Blocks>(
 }
 
 /// Writes the `n` pages of a new file to the blocks from `first` on, in order, up to the first write that fails.
-pub(crate) fn write_file<F: Blocks>(
+pub(crate) fn write_file<F: Inject>(
     device: &mut F,
     writes: &mut Writes,
     first: u32,
@@ -90,7 +88,7 @@ pub(crate) fn write_file<F: Blocks>(
     ensures wrote { Wrote (device_with (F.log device.old) (F.named device.old) (F.faults device.old)) (device_with (F.log device.new) (F.named device.new) (F.faults device.new)) writes.old writes.new }
     ensures quiet { OnOk result (writes.new.failed ≡ writes.old.failed) }
     ensures failed { OnErr result (0 < writes.new.failed) }
-    ensures blamed { OnErr result (Rose (F.faults device.old) (F.faults device.new)) }
+    ensures blamed { OnErr result (CallFailed (device_with (F.log device.old) (F.named device.old) (F.faults device.old)) (device_with (F.log device.new) (F.named device.new) (F.faults device.new))) }
     ensures loans { F.loans device.new ≡ F.loans device.old }
 {
     for i in 0..n {

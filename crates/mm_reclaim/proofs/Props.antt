@@ -1,5 +1,5 @@
 -- Equations and bounds that have one proof each.
-use Rattle.std.proofs.Common.{◌≡◌, ◌≤◌, ℕ, Option}
+use Rattle.std.proofs.Common.{◌≡◌, ℕ, Option}
 use Rattle.std.proofs.Props.{props}
 
 pub empty_prop : IsProp ⊥

@@ -2,7 +2,6 @@
 use Rattle.std.proofs.Common.{◌≡◌, ◌≢◌, ℕ, ◌+◌, ◌<◌, ◌≤◌, Bool, true, false, List, [], ◌∷◌, ◌++◌, length, Option, Some, None, refl, sym, ap, ◌∙◌, subst, inl, inr, arith}
 use Rattle.std.specs.Prelude.{◌&&◌, ◌||◌, ◌==◌, not, if◌then◌else◌}
 use Rattle.std.proofs.lemmas.Bool.{eqb-true}
-use Rattle.mm_types.specs.Outside.{Rose}
 use Rattle.mm_types.specs.declared.frames.Backing.{Backing}
 use Rattle.mm_types.specs.declared.frames.Backing.TheVariants as backing
 use Rattle.mm_types.specs.declared.numbers.Frame.{Frame}
@@ -12,7 +11,9 @@ use Rattle.mm_types.specs.declared.moves.Move.{Move}
 use Rattle.mm_types.specs.declared.moves.Move.TheVariants as move
 use Rattle.mm_life.specs.Frames.{record_at, is_on}
 use Rattle.mm_life.specs.Life.{FrameLife}
-use Rattle.mm_life.specs.Legal.{is_short, is_access}
+use Rattle.mm_types.specs.declared.moves.LineKind.{LineKind}
+use Rattle.mm_types.proofs.Naturals.{same_number}
+use Rattle.mm_life.specs.Legal.{is_short, is_access, is_call}
 use Rattle.mm_types.specs.Machine.{MachineOf}
 use Rattle.mm_life.specs.Victims.{can_be_written}
 use Rattle.mm_walks.specs.Walks.{Walk, Through, walked_all, is_wrote_move, is_read_move}
@@ -23,23 +24,23 @@ use Rattle.mm_pages.specs.Told.{Told, told_after}
 use Rattle.mm_room.specs.Room.{NoneMayGo}
 use Rattle.mm_room.specs.Searches.{lost_in, is_lost_of, failed_write, first_passing, is_untried, next_try}
 use Rattle.mm_room.proofs.Walks.{any_append, or_none}
-use Rattle.mm_parts.specs.Moves.{write_end}
+use Rattle.mm_parts.specs.Moves.{write_end, own_after, own_ended}
 use Rattle.mm_moving.specs.Shown.{StateOf, Made, Called, called, moved, backing_of_frame, SomeFault}
+use Rattle.mm_moving.specs.Holds.{Holds}
 use Rattle.mm_moving.specs.Doing.{Does, walk_of, IsFlightOf, Searched}
 use Rattle.mm_moving.proofs.Doing.{does_nothing, does_one, does_two, does_then, count-append, walked_here}
 use Rattle.mm_reclaim.specs.Seeking.{Begun, Tries, Seeks}
 use Rattle.std.proofs.Math.Logic.{∥∥₁_elim}
 use Rattle.std.proofs.Props.{props}
-use Rattle.mm_types.proofs.Bytes.{rose_later}
 use Rattle.mm_types.specs.declared.devices.Direction.TheVariants as way
 use Rattle.mm_types.specs.declared.frames.Record.{Record}
 use Rattle.mm_types.specs.declared.moves.Stored.TheVariants as stored
-use Rattle.mm_blocks.specs.Devices.{DeviceOf}
+use Rattle.mm_blocks.specs.Devices.{DeviceOf, CallFailed}
 use Rattle.mm_laws.specs.Reached.{Reached}
 use Rattle.mm_laws.proofs.Deduced.{reached_sound}
 use Rattle.mm_room.specs.Steps.{backing_to}
 use Rattle.mm_room.proofs.Writing.{write_record}
-use Rattle.mm_blocks.proofs.Serving.{all_served_later}
+use Rattle.mm_blocks.proofs.Serving.{serves_failed, failed_later, all_served_later}
 
 -- ---- which frame is next
 
@@ -96,42 +97,31 @@ backed_mid s mid f home r on m = record { backed = λ none. ∥∥₁_elim r emp
         by (stored.Slot t) e = cc
         by (stored.Block t) e = cc
 
--- one call of a device: counts never fall, and rise where it failed
-pub record CalledOne (ok : Bool) (s z : StateOf) : Type 0 where
-  pub paging : s.paging.faults ≤ z.paging.faults
-  pub files : s.files.faults ≤ z.files.faults
-  pub fault : ok ≡ false → SomeFault s z
+called_failed : (b : Backing) (s z : StateOf) → b ≢ backing.None → Called way.Write b false s z → SomeFault s z
+called_failed backing.None s z n c = absurd (n refl)
+called_failed (backing.Slot t) s z n c = inl (serves_failed _ s.paging z.paging c.0 refl)
+called_failed (backing.Block t) s z n c = inr (serves_failed _ s.files z.files c.0 refl)
 
-called_one : (ok : Bool) (b : Backing) (s z : StateOf) → b ≢ backing.None → Called way.Write b ok s z → CalledOne ok s z
-called_one ok backing.None s z n c = absurd (n refl)
-called_one ok (backing.Slot t) s z n c = record {
-  paging = c.0.later;
-  files = let e = ap (λ (d : DeviceOf). d.faults) c.1 in omega (arith, e);
-  fault = λ e. inl (c.0.cause e);
-}
-called_one ok (backing.Block t) s z n c = record {
-  paging = let e = ap (λ (d : DeviceOf). d.faults) c.1 in omega (arith, e);
-  files = c.0.later;
-  fault = λ e. inr (c.0.cause e);
-}
+fault_from : (s mid z : StateOf) → mid.paging ≡ s.paging → mid.files ≡ s.files → SomeFault mid z → SomeFault s z
+fault_from s mid z p q (inl x) = inl (subst (λ (d : DeviceOf). CallFailed d z.paging) p x)
+fault_from s mid z p q (inr x) = inr (subst (λ (d : DeviceOf). CallFailed d z.files) q x)
 
-one_called : (ok : Bool) (f : Frame) (s z : StateOf) → Made (write_end ok f) s z → Called way.Write (backing_of_frame s f) ok s z
-one_called true f s z m = m.calls
-one_called false f s z m = m.calls
+-- a write of a modified frame that failed is a device's failure
+pub write_fault : (f : Frame) (home : Stored) (ok : Bool) (s mid z : StateOf) → Holds s → is_on f.0 s.life.frames.modified ≡ true → Made (move.Write f home) s mid → Made (write_end ok f) mid z → ok ≡ false → SomeFault s z
+write_fault f home true s mid z h on b e lost = let bad : true ≡ false = lost in cc
+write_fault f home false s mid z h on b e lost =
+    fault_from s mid z b.calls.0 b.calls.1 (called_failed (backing_of_frame mid f) mid z (backed_mid s mid f home h.reached on b).backed e.calls)
 
-pub tries_called : (f : Frame) (ok : Bool) (s z : StateOf) → ∥ Reached s.life ∥₁ → is_on f.0 s.life.frames.modified ≡ true → (home : Stored) (mid : StateOf) → Made (move.Write f home) s mid → Made (write_end ok f) mid z → CalledOne ok s z
-tries_called f ok s z r on home mid b e =
-    let c = called_one ok (backing_of_frame mid f) mid z (backed_mid s mid f home r on b).backed (one_called ok f mid z e) in
-    let p = ap (λ (d : DeviceOf). d.faults) b.calls.0 in
-    let q = ap (λ (d : DeviceOf). d.faults) b.calls.1 in
-    record {
-      paging = let h = c.paging in omega (arith, h, p);
-      files = let h = c.files in omega (arith, h, q);
-      fault = λ no. elim (c.fault no) [
-        | inl x ↦ inl (subst (λ (n : ℕ). Rose n z.paging.faults) p x)
-        | inr x ↦ inr (subst (λ (n : ℕ). Rose n z.files.faults) q x)
-      ];
-    }
+-- the line's own request is over with the write
+own_back : (k : LineKind) (o : Option Frame) (f : Frame) → is_access k ≡ true → o ≡ None → own_ended (own_after k o f) f.0 ≡ o
+own_back k o f e n = ap (λ (b : Bool). own_ended (if b || is_call k then Some f else o) f.0) e ∙ ap (λ (b : Bool). if b then None else Some f) (same_number f.0) ∙ sym n
+
+pub tries_same : (f : Frame) (s mid z : StateOf) → Begun s → mid ≡ record (moved s mid) { own = own_after s.life.kind s.own f } → z ≡ record (called mid z) { own = own_ended mid.own f.0 } → z ≡ called s z
+tries_same f s mid z b a e =
+    e
+    ∙ ap (λ (x : StateOf). record (called mid z) { own = own_ended x.own f.0 }) a
+    ∙ ap (λ (x : Option Frame). record (called mid z) { own = x }) (own_back s.life.kind s.own f b.access b.done)
+    ∙ ap (λ (x : StateOf). record (called x z) { own = s.own }) a
 
 -- ---- what stays
 
@@ -212,8 +202,8 @@ module _ (pin : Option Frame) (s z : StateOf) (moves : List Move) (k : Seeks pin
     told_now = tries.ends.told ∙ ap (told_after tries.mid.life (move.Lost f)) tries.begins.told
 
     pub seeks_failed : 0 < y.told.search_writes.failed → y.told.search_writes.succeeded ≡ z.told.search_writes.succeeded → y.told.last_failed_read ≡ z.told.last_failed_read
-        → (z.paging.faults ≤ y.paging.faults) → (z.files.faults ≤ y.files.faults) → Seeks pin s y (moves ++ failed_write f tries.home)
-    seeks_failed failed none read p q = record {
+        → Seeks pin s y (moves ++ failed_write f tries.home)
+    seeks_failed failed none read = record {
       does = does_then moves (failed_write f tries.home) s z y k.does made_two;
       each = λ flight of. searches_then pin flight moves (failed_write f tries.home) (walk_of s) (k.each flight of) (writes_on false tries.home flight of);
       tried = λ g. ap (λ (x : Walk). is_on g x.tried) (walked_then moves (failed_write f tries.home) (walk_of s)) ∙ tried_now g ∙ sym (lost_then moves (failed_write f tries.home) g);
@@ -221,8 +211,8 @@ module _ (pin : Option Frame) (s z : StateOf) (moves : List Move) (k : Seeks pin
       reads = count-append is_read_move moves (failed_write f tries.home) ∙ ap (λ n. n + 0) k.reads;
       fails = λ g e. failed;
       fault = λ g e. elim (tries.fault refl) [
-        | inl h ↦ inl (rose_from s.paging.faults z.paging.faults y.paging.faults (later_paging k.does) h)
-        | inr h ↦ inr (rose_from s.files.faults z.files.faults y.files.faults (later_files k.does) h)
+        | inl h ↦ inl (failed_later s.paging z.paging y.paging (all_served_later k.does.paging_calls s.paging z.paging k.does.paging) h)
+        | inr h ↦ inr (failed_later s.files z.files y.files (all_served_later k.does.file_calls s.files z.files k.does.files) h)
       ];
       none = none ∙ k.none;
       read = read ∙ k.read;
@@ -233,15 +223,6 @@ module _ (pin : Option Frame) (s z : StateOf) (moves : List Move) (k : Seeks pin
       flight = stays.flight ∙ k.flight;
     }
       where
-        rose_from : (a b c : ℕ) → a ≤ b → Rose b c → Rose a c
-        rose_from a b c l r = rose_later a b c l r
-
-        later_paging : Does moves s z → s.paging.faults ≤ z.paging.faults
-        later_paging d = all_served_later d.paging_calls s.paging z.paging d.paging
-
-        later_files : Does moves s z → s.files.faults ≤ z.files.faults
-        later_files d = all_served_later d.file_calls s.files z.files d.files
-
         tried_now : (g : ℕ) → is_on g (walked_all (walked_all (walk_of s) moves) (failed_write f tries.home)).tried ≡ (lost_in moves g || lost_in (failed_write f tries.home) g)
         tried_now g = by (f.0 == g) (is_on g (walked_all (walk_of s) moves).tried) (lost_in moves g) (k.tried g)
           where
@@ -311,8 +292,8 @@ module _ (pin : Option Frame) (s z y : StateOf) (moves : List Move) (k : Seeks p
       lost_same g = lost_then moves (move.Unmap p ∷ []) g ∙ or_none (lost_in moves g)
 
       SomeFault-as : (s z y : StateOf) → SomeFault s z → y.paging ≡ z.paging → y.files ≡ z.files → SomeFault s y
-      SomeFault-as s z y (inl h) e g = inl (subst (λ (d : DeviceOf). Rose s.paging.faults d.faults) (sym e) h)
-      SomeFault-as s z y (inr h) e g = inr (subst (λ (d : DeviceOf). Rose s.files.faults d.faults) (sym g) h)
+      SomeFault-as s z y (inl h) e g = inl (subst (λ (d : DeviceOf). CallFailed s.paging d) (sym e) h)
+      SomeFault-as s z y (inr h) e g = inr (subst (λ (d : DeviceOf). CallFailed s.files d) (sym g) h)
 
   -- a frame came of it
   pub unmapped_found : is_short y.life ≡ false → Searched pin true s y

@@ -28,7 +28,7 @@ use Rattle.mm_pages.specs.Told.{Told, with_write}
 use Rattle.mm_moving.specs.Shown.{StateOf}
 use Rattle.mm_moving.specs.Doing.{Searched}
 use Rattle.mm_reclaim.specs.Seeking.{Tries, Seeks}
-use Rattle.mm_reclaim.proofs.Steps.{Target, Stays, seeks_failed, wrote_found, backed_mid, tries_called}
+use Rattle.mm_reclaim.proofs.Steps.{Target, Stays, seeks_failed, wrote_found, backed_mid}
 
 -- ---- what a write tells
 
@@ -134,9 +134,8 @@ target_of pin z moves f reached on next pinned = record {
 -- a write of it that failed, and one that succeeded
 pub failed_on : (pin : Option Frame) (s z y : StateOf) (moves : List Move) (k : Seeks pin s z moves) (f : Frame) → ∥ Reached z.life ∥₁ → Target pin z moves f → (t : Tries f false z y) → Seeks pin s y (moves ++ failed_write f t.home)
 failed_on pin s z y moves k f reached target t =
-    let c = tries_called f false z y reached target.on t.home t.mid t.begins t.ends in
     seeks_failed pin s z moves k f target y t (stays f z y t reached target.on) (shares_stay f z y t reached target.on pin k.pinned) (short_stays f z y t reached target.on k.short)
-    (told_rose f z y t reached target.on) (told_kept f z y t reached target.on) (read_kept f z y t reached target.on) c.paging c.files
+    (told_rose f z y t reached target.on) (told_kept f z y t reached target.on) (read_kept f z y t reached target.on)
 
 pub wrote_on : (pin : Option Frame) (s z y : StateOf) (moves : List Move) (k : Seeks pin s z moves) (f : Frame) → ∥ Reached z.life ∥₁ → Target pin z moves f → Tries f true z y → Searched pin true s y
 wrote_on pin s z y moves k f reached target t =

@@ -1,10 +1,8 @@
 -- Events decided one after another.
 use Rattle.std.proofs.Common.{◌≡◌, ◌⊎◌, ℕ, zero, suc, ◌+◌, take, drop, get_or, length-drop, ◌<◌, ◌≤◌, Bool, true, cond, List, [], ◌∷◌, ◌++◌, length, refl, sym, ap, ◌∙◌, subst, inl, inr, arith}
-use Rattle.std.specs.Prelude.{count_by, Result, Ok, Err, IfErr}
+use Rattle.std.specs.Prelude.{count_by, Result, Ok, Err, MatchResult}
 use Rattle.std.proofs.lemmas.List.{take_more, take-append-drop, take_all}
 use Rattle.std.proofs.lemmas.List.Sums.{sum_by_push, sum_by-cons, count_by-le-length}
-use Rattle.mm_types.specs.Outside.{Rose}
-use Rattle.mm_types.proofs.Bytes.{rose_later}
 use Rattle.mm_types.specs.Machine.{MachineOf, limit_of}
 use Rattle.mm_types.specs.declared.answers.Answer.{Answer}
 use Rattle.mm_types.specs.declared.answers.Answer.TheVariants as answer
@@ -19,7 +17,7 @@ use Rattle.mm_run.specs.Steps.{IsMade, Moved, Breaks}
 use Rattle.mm_run.specs.Answered.{DecidedLine, last_stage, answers_of}
 use Rattle.mm_run.specs.Ends.{BreaksOff}
 use Rattle.mm_run.specs.Bulk.{AreDecided, IsEventNext, ClosesEvents, Stops, events_of, begins_ok, is_none}
-use Rattle.mm_run.specs.Story.{IsBlamed, counts_with}
+use Rattle.mm_run.specs.Story.{Counts, IsBlamed}
 use Rattle.mm_run.specs.Batch.{Handled, Stopped, IsLater, AreLater}
 use Rattle.mm_run.proofs.Stories.{follows_here, last-append, line_answers-append}
 use Rattle.mm_run.proofs.Firsts.{first_answered}
@@ -109,12 +107,12 @@ stopped_here s es e (inl q) some = subst (λ (k : Ending). Stopped s es k s) (sy
 stopped_here s es e (inr q) some = subst (λ (k : Ending). Stopped s es k s) (sym q) (stopped_by s s [] es 0 0 (handled_none s) some ending.SetupFault s (inr (inr refl)) (follows_here s))
 
 -- how an event that was not noted stops the rest
-pub stopped_next : (s : Stage) (z y : Scene) (es left : List Event) (ok none : ℕ) (event : Event) (e : Ending) (failed : Type 0) → Handled s es ok none (Running z) → 0 < length left
-    → ((e ≡ ending.NoMemory) × Breaks z y) ⊎ ((e ≡ ending.MovesFault) × ((a : Answer) × Moved (Running z) event a (Running y)) × (y.behind.log.failed ≡ true) × failed) → Stopped s (es ++ left) e (Running y)
-stopped_next s z y es left ok none event e failed h some (inl b) =
+pub stopped_next : (s : Stage) (z y : Scene) (es left : List Event) (ok none : ℕ) (event : Event) (e : Ending) → Handled s es ok none (Running z) → 0 < length left
+    → ((e ≡ ending.NoMemory) × Breaks z y) ⊎ ((e ≡ ending.MovesFault) × ((a : Answer) × Moved (Running z) event a (Running y)) × (y.behind.log.failed ≡ true)) → Stopped s (es ++ left) e (Running y)
+stopped_next s z y es left ok none event e h some (inl b) =
     subst (λ (k : Ending). Stopped s (es ++ left) k (Running y)) (sym b.0)
     (stopped_memory s (Running z) es left ok none h some (Running y) (inr (record { before = Running z; follows = follows_here (Running z); breaks = b.1 })))
-stopped_next s z y es left ok none event e failed h some (inr m) =
+stopped_next s z y es left ok none event e h some (inr m) =
     subst (λ (k : Ending). Stopped s (es ++ left) k (Running y)) (sym m.0)
     (stopped_moves s (Running z) es left ok none h some (Running y) event m.1.0 m.1.1 m.2)
 
@@ -181,11 +179,11 @@ handled_on s z end events i ok none x y e a within at h m noted p q =
     (handled_more s z end (take i events) ok none e a h m noted)))
 
 -- so many events of a list were decided, and the next was not
-pub stopped_on : (s : Stage) (z y : Scene) (events : List Event) (i ok none : ℕ) (event : Event) (e : Ending) (failed : Type 0) → i < length events → Handled s (take i events) ok none (Running z)
-    → ((e ≡ ending.NoMemory) × Breaks z y) ⊎ ((e ≡ ending.MovesFault) × ((a : Answer) × Moved (Running z) event a (Running y)) × (y.behind.log.failed ≡ true) × failed) → Stopped s events e (Running y)
-stopped_on s z y events i ok none event e failed within h why =
+pub stopped_on : (s : Stage) (z y : Scene) (events : List Event) (i ok none : ℕ) (event : Event) (e : Ending) → i < length events → Handled s (take i events) ok none (Running z)
+    → ((e ≡ ending.NoMemory) × Breaks z y) ⊎ ((e ≡ ending.MovesFault) × ((a : Answer) × Moved (Running z) event a (Running y)) × (y.behind.log.failed ≡ true)) → Stopped s events e (Running y)
+stopped_on s z y events i ok none event e within h why =
     subst (λ (es : List Event). Stopped s es e (Running y)) (take-append-drop i events)
-    (stopped_next s z y (take i events) (drop i events) ok none event e failed h (omega (arith, length-drop i events)) why)
+    (stopped_next s z y (take i events) (drop i events) ok none event e h (omega (arith, length-drop i events)) why)
 
 pub handled_all : (s z : Stage) (events : List Event) (i ok none : ℕ) → length events ≤ i → Handled s (take i events) ok none z → Handled s events ok none z
 handled_all s z events i ok none all h = subst (λ (es : List Event). Handled s es ok none z) (take_all i events all) h
@@ -195,14 +193,7 @@ later_at [] i e h within = absurd (omega arith)
 later_at (x ∷ xs) zero e h within = h.0
 later_at (x ∷ xs) (suc i) e h within = later_at xs i e h.1 (omega arith)
 
-pub blamed_next : (z y : Scene) (event : Event) (e : Ending) (s o : ℕ) (opening : Type 0)
-    → ((e ≡ ending.NoMemory) × Breaks z y) ⊎ ((e ≡ ending.MovesFault) × ((a : Answer) × Moved (Running z) event a (Running y)) × (y.behind.log.failed ≡ true) × Rose z.behind.log.faults y.behind.log.faults)
-    → (k : ℕ) → k ≤ z.behind.log.faults → IsBlamed e opening (counts_with s o k) (counts_with s o y.behind.log.faults)
-blamed_next z y event e s o opening (inl b) k low = subst (λ (f : Ending). IsBlamed f opening (counts_with s o k) (counts_with s o y.behind.log.faults)) (sym b.0) tt
-blamed_next z y event e s o opening (inr m) k low =
-    subst (λ (f : Ending). IsBlamed f opening (counts_with s o k) (counts_with s o y.behind.log.faults)) (sym m.0) (rose_later k z.behind.log.faults y.behind.log.faults low m.3)
-
 -- with devices that were opened beside
-pub blamed_opened : {A : Type 0} (r : Result A Ending) (opening : Type 0) (m n : ℕ) → IfErr r (λ e. (s o : ℕ) → IsBlamed e ⊥ (counts_with s o m) (counts_with s o n)) → IfErr r (λ e. (s o : ℕ) → IsBlamed e opening (counts_with s o m) (counts_with s o n))
-blamed_opened (Ok x) opening m n h = h
-blamed_opened (Err e) opening m n h = λ s o. blamed_beside e opening (counts_with s o m) (counts_with s o n) (h s o)
+pub blamed_opened : {A : Type 0} (r : Result A Ending) (opening : Type 0) (c d : Counts) → MatchResult r (λ _. d ≡ c) (λ e. IsBlamed e ⊥ c d) → MatchResult r (λ _. d ≡ c) (λ e. IsBlamed e opening c d)
+blamed_opened (Ok x) opening c d h = h
+blamed_opened (Err e) opening c d h = blamed_beside e opening c d h

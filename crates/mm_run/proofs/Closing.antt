@@ -1,22 +1,27 @@
--- What a run did, from what it came to and how its last text was written.
-use Rattle.std.proofs.Common.{◌≡◌, ◌≢◌, ◌≤◌, ◌⊎◌, ℕ, ◌+◌, List, [], ◌++◌, length, Option, refl, sym, ap, ◌∙◌, subst, inl, inr, arith}
+-- What a run did, from what it came to and how it was closed.
+use Rattle.std.proofs.Common.{◌≡◌, ◌≢◌, ◌≤◌, ℕ, ◌+◌, true, false, List, [], ◌++◌, length, Option, refl, sym, ap, ◌∙◌, subst, inl, inr, arith, append_assoc}
 use Rattle.mm_types.specs.Outside.{Appended}
 use Rattle.mm_types.specs.Spelling.{Text}
-use Rattle.mm_types.proofs.Bytes.{appended_then}
+use Rattle.mm_types.specs.AnswerText.{spelled}
+use Rattle.mm_types.proofs.Bytes.{append_nil, appended_then}
+use Rattle.mm_life.specs.Logs.{Log, IsFrontOf}
+use Rattle.mm_life.proofs.Noting.{front_of_then, gave_nothing}
 use Rattle.mm_run.specs.declared.endings.Ending.{Ending}
 use Rattle.mm_run.specs.declared.endings.Ending.TheVariants as ending
-use Rattle.mm_types.specs.declared.answers.Answer.{Answer}
-use Rattle.mm_run.specs.Scenes.{Stage, NotBegun, Running, Follows, outset}
-use Rattle.mm_run.specs.Answered.{last_stage, answers_of, moves_of}
-use Rattle.mm_run.specs.Texts.{last_text, Ends, TornText, IsOrFlush, status_of}
-use Rattle.mm_run.specs.Story.{Comes, Settles, outside, stand}
-use Rattle.mm_life.specs.Logs.{Log}
-use Rattle.mm_run.specs.Ends.{Closes, Left, Leaves, IsLogLeft}
-use Rattle.mm_run.specs.Ran.{Around, Ran, begun_at}
-use Rattle.mm_run.proofs.Ends.{whole, torn}
-use Rattle.mm_run.proofs.Logs.{all_logged, log_ran, log_left, log_counted, holds_at_end}
+use Rattle.mm_run.specs.Scenes.{Stage, NotBegun, Running, Follows, outset, log_of}
+use Rattle.mm_run.specs.Answered.{DecidedLine, HoldMovesOf, last_stage, answers_of, moves_of}
+use Rattle.mm_run.specs.Texts.{last_text, status_of}
+use Rattle.mm_run.specs.Story.{CameFrom, Comes, Counts, IsBlamed, Settles, StandsAt, counts_with, outside, stand}
+use Rattle.mm_run.specs.Ends.{Closes, DeviceLeft, Left, Leaves, IsLeft, IsLogLeft}
+use Rattle.mm_run.specs.Closing.{SinkSeen, GaveMoves, Drops, Closed, is_over}
+use Rattle.mm_run.specs.Faults.{IsAccounted}
+use Rattle.mm_run.specs.Ran.{Around, Ran, Ends, begun_at}
+use Rattle.mm_run.proofs.Stories.{held_both, held_by_more, spelled_lines}
+use Rattle.mm_run.proofs.Ends.{stands_whole, out_stands, moves_stand, accounted_behind, accounted_out, accounted_moves, blamed_later}
+use Rattle.mm_run.proofs.Logs.{all_logged, bytes_left, log_ran, log_left, holds_at_end}
 use Rattle.mm_run.proofs.Failures.{faultless}
 use Rattle.mm_run.proofs.WatchesTold.{watches_told}
+use Rattle.mm_types.proofs.Bytes.{rose_later}
 
 follows_done : (e : Ending) (n : ℕ) (front : Text) (last end : Stage) → e ≡ ending.Done → Closes e n front last end → Follows last end
 follows_done ending.Done n front last end q h = h
@@ -29,98 +34,198 @@ follows_done ending.MovesFault n front last end q h = cc
 follows_done ending.SetupFault n front last end q h = cc
 follows_done (ending.TooLong l) n front last end q h = cc
 
-module _ (a b : Around) (took : Option Text) (e : Ending) (form : Type 0) (yes_form : form → e ≢ ending.Usage) (not_form : (form → ⊥) → e ≡ ending.Usage) (h : Comes (outside a.left a.took) (outside b.left took) (stand [] 0 (begun_at a.beside)) e b.beside) where
-  ran_by : (status : ℕ) (text : Text) → Appended took b.took text → Ends status e (answers_of h.came.decided.lines) (h.came.written ++ text) → Ran a b form status
-  ran_by status text w ends =
-      let d = h.came.decided in
-      let none : 0 + length d.lines ≡ length d.lines = omega arith in
-      let closes = subst (λ (k : ℕ). Closes e k d.front (last_stage (begun_at a.beside) d.lines) h.end) none d.closes in
-      record {
-        lines = d.lines;
-        answered = d.answered;
-        limit = let l = d.limit in omega arith;
-        watches = λ before after l at. watches_told (outset a.beside.paging.faults a.beside.files.faults a.beside.moves a.beside.moves_faults) d.lines d.answered before after l at;
-        e = e;
-        taken = d.taken;
-        front = d.front;
-        more = d.more;
-        read = d.read;
-        whole = d.whole;
-        settled = subst (λ (k : ℕ). Settles k d.front d.more b.left e) none d.settled;
-        few = d.few;
-        is_form = yes_form;
-        no_form = not_form;
-        written = h.came.written ++ text;
-        wrote = appended_then a.took took b.took h.came.written text h.came.wrote w;
-        ends = ends;
-        end = h.end;
-        closes = closes;
-        leaves = h.leaves;
-        log = log_left a.beside.moves a.beside.moves_faults (moves_of d.lines) e (last_stage (begun_at a.beside) d.lines) h.end b.beside h.leaves
-            (log_ran (begun_at a.beside) (last_stage (begun_at a.beside) d.lines) (moves_of d.lines) (all_logged 0 (begun_at a.beside) d.lines d.answered) refl refl e (length d.lines) d.front h.end closes);
-        holds = λ q. holds_at_end 0 (begun_at a.beside) d.lines h.end b.beside tt d.answered (follows_done e (length d.lines) d.front (last_stage (begun_at a.beside) d.lines) h.end q closes) h.leaves;
-        faultless = λ calm none unnamed. faultless a.beside b.beside e h.end h.leaves calm unnamed (length d.lines) d.front d.lines d.answered closes none;
-      }
+-- ---- the sink of moves, as the run is closed
 
-  pub ran_whole : (status : ℕ) → IsOrFlush status e → (e ≡ ending.OutFault → status ≡ 5) → Appended took b.took (last_text e) → Ran a b form status
-  ran_whole status q five w = ran_by status (last_text e) w (whole status e (answers_of h.came.decided.lines) h.came.written q five h.came.stands)
+-- what was given on may have grown, and the count of faults
+pub record MovesAfter (x y : Left) : Type 0 where
+  pub took_is : y.moves ≡ x.moves
+  pub grows : IsFrontOf x.gave y.gave
+  pub later : x.moves_faults ≤ y.moves_faults
+  pub paging_is : y.paging ≡ x.paging
+  pub files_is : y.files ≡ x.files
 
-  pub ran_torn : TornText took b.took (last_text e) → Ran a b form 5
-  ran_torn t = ran_by 5 t.front t.wrote (torn e (answers_of h.came.decided.lines) h.came.written t.front t.back t.whole h.came.stands)
+log_after : (log : Log) (x y : Left) → MovesAfter x y → IsLogLeft log x → IsLogLeft log y
+log_after log x y m h =
+    let f = h.faults_are in
+    let l = m.later in
+    record {
+      bytes_are = h.bytes_are ∙ sym m.took_is;
+      gave_more = front_of_then log.given x.gave y.gave h.gave_more m.grows;
+      faults_are = omega (arith, f, l);
+    }
 
-pub out_status : (e : Ending) (status : ℕ) → status ≡ status_of e → e ≡ ending.OutFault → status ≡ 5
-out_status e status q f = q ∙ ap status_of f
+pub leaves_after : (end : Stage) (x y : Left) → MovesAfter x y → Leaves end x → Leaves end y
+leaves_after (NotBegun o) x y m h = log_after o.log x y m h
+leaves_after (Running s) x y m h =
+    (log_after s.behind.log x y m h.0, subst (λ (d : DeviceLeft). IsLeft s.paging s.behind.slots d) (sym m.paging_is) h.1, subst (λ (d : DeviceLeft). IsLeft s.files s.blocks d) (sym m.files_is) h.2)
 
--- ---- both sinks were flushed at the end
+gave_left : (end : Stage) (x : Left) → Leaves end x → IsFrontOf (log_of end).given x.gave
+gave_left (NotBegun o) x h = h.gave_more
+gave_left (Running s) x h = h.0.gave_more
 
-flush_status : (status result : ℕ) (e : Ending) → (result ≡ status) ⊎ ((result ≡ 5) ⊎ (result ≡ 6)) → IsOrFlush status e → IsOrFlush result e
-flush_status status result e (inr flush) h = inr flush
-flush_status status result e (inl same) (inl own) = inl (same ∙ own)
-flush_status status result e (inl same) (inr (inl five)) = inr (inl (same ∙ five))
-flush_status status result e (inl same) (inr (inr six)) = inr (inr (same ∙ six))
+-- ---- the end of a run
 
-flush_ends : (status result : ℕ) (e : Ending) (answers : List Answer) (written : Text) → (result ≡ status) ⊎ ((result ≡ 5) ⊎ (result ≡ 6)) → (status ≡ 5 → result ≡ 5) → Ends status e answers written → Ends result e answers written
-flush_ends status result e answers written s first (inl whole) = inl (flush_status status result e s whole.0, whole.1, whole.2)
-flush_ends status result e answers written s first (inr torn) = inr (first torn.0, torn.1)
+module _ (a b : Around) (e : Ending) (form : Type 0) (yes_form : form → e ≢ ending.Usage) (not_form : (form → ⊥) → e ≡ ending.Usage) (o : Option Text) (kept : Text) (x : Left) (h : Comes (outside a.left a.took []) (outside b.left o kept) (stand [] 0 (begun_at a.beside)) e x) (status : ℕ) where
+  abbrev came : CameFrom [] (outside a.left a.took []) (outside b.left o kept) (stand [] 0 (begun_at a.beside)) e h.end
+  came = h.came [] (record { text_is = refl; noted = tt })
 
-log_later : (log : Log) (x : Left) (faults : ℕ) → x.moves_faults ≤ faults → IsLogLeft log x → IsLogLeft log (record x { moves_faults = faults })
-log_later log x faults l h = let f = h.faults_are in record { bytes_are = h.bytes_are; faults_are = omega (arith, l, f) }
+  module _ (moves : MovesAfter x b.beside) where
+    ran_by : (told still : List DecidedLine) (written : Text) → came.decided.lines ≡ told ++ still → HoldMovesOf told b.beside.gave → Appended a.took b.took written → Ends b status e told still written → Ran a b form status
+    ran_by told still written split gave wrote ends =
+        let d = came.decided in
+        let none : 0 + length d.lines ≡ length d.lines = omega arith in
+        let closes = subst (λ (k : ℕ). Closes e k d.front (last_stage (begun_at a.beside) d.lines) h.end) none d.closes in
+        let leaves = leaves_after h.end x b.beside moves h.leaves in
+        record {
+          lines = d.lines;
+          answered = d.answered;
+          limit = let l = d.limit in omega arith;
+          watches = λ before after l at. watches_told (outset a.beside.paging.faults a.beside.files.faults a.beside.moves a.beside.gave a.beside.moves_faults) d.lines d.answered before after l at;
+          e = e;
+          taken = d.taken;
+          front = d.front;
+          more = d.more;
+          read = d.read;
+          whole = d.whole;
+          settled = subst (λ (k : ℕ). Settles k d.front d.more b.left e) none d.settled;
+          few = d.few;
+          is_form = yes_form;
+          no_form = not_form;
+          told = told;
+          kept = still;
+          split = split;
+          gave = gave;
+          written = written;
+          wrote = wrote;
+          ends = ends;
+          end = h.end;
+          closes = closes;
+          leaves = leaves;
+          log = log_left a.beside.moves a.beside.moves_faults (moves_of d.lines) e (last_stage (begun_at a.beside) d.lines) h.end b.beside leaves
+              (log_ran (begun_at a.beside) (last_stage (begun_at a.beside) d.lines) (moves_of d.lines) (all_logged 0 (begun_at a.beside) d.lines d.answered) refl refl e (length d.lines) d.front h.end closes);
+          holds = λ q. holds_at_end 0 (begun_at a.beside) d.lines h.end b.beside tt d.answered (follows_done e (length d.lines) d.front (last_stage (begun_at a.beside) d.lines) h.end q closes) leaves;
+          faultless = λ calm. faultless a.beside b.beside e h.end leaves calm (length d.lines) d.front d.lines d.answered closes;
+        }
 
-leaves_flushed : (end : Stage) (x : Left) (faults : ℕ) → x.moves_faults ≤ faults → Leaves end x → Leaves end (record x { moves_faults = faults })
-leaves_flushed (NotBegun o) x faults l h = log_later o.log x faults l h
-leaves_flushed (Running s) x faults l h = (log_later s.behind.log x faults l h.0, h.1, h.2)
+    -- the told lines are those that were told before
+    gave_told : HoldMovesOf came.told b.beside.gave
+    gave_told = held_by_more came.told (log_of h.end).given b.beside.gave (front_of_then (log_of h.end).given x.gave b.beside.gave (gave_left h.end x h.leaves) moves.grows) came.gave
 
--- at the same bytes, and at another count of faults
-ran_counted : (a b : Around) (form : Type 0) (status result : ℕ) (faults : ℕ) → b.beside.moves_faults ≤ faults → (result ≡ status) ⊎ ((result ≡ 5) ⊎ (result ≡ 6)) → (status ≡ 5 → result ≡ 5) → Ran a b form status → Ran a (record b { beside = record (b.beside) { moves_faults = faults } }) form result
-ran_counted a b form status result faults l s first r = record {
-  lines = r.lines;
-  answered = r.answered;
-  limit = r.limit;
-  watches = r.watches;
-  e = r.e;
-  taken = r.taken;
-  front = r.front;
-  more = r.more;
-  read = r.read;
-  whole = r.whole;
-  settled = r.settled;
-  few = r.few;
-  is_form = r.is_form;
-  no_form = r.no_form;
-  written = r.written;
-  wrote = r.wrote;
-  ends = flush_ends status result r.e (answers_of r.lines) r.written s first r.ends;
-  end = r.end;
-  closes = r.closes;
-  leaves = leaves_flushed r.end b.beside faults l r.leaves;
-  log = log_counted a.beside.moves b.beside.moves a.beside.moves_faults b.beside.moves_faults faults (moves_of r.lines) r.e (last_stage (begun_at a.beside) r.lines) r.end l r.log;
-  holds = r.holds;
-  faultless = r.faultless;
-}
+    ran_some : b.took ≡ o → Ends b status e came.told came.still came.written → Ran a b form status
+    ran_some same ends = ran_by came.told came.still came.written came.split gave_told (subst (λ (t : Option Text). Appended a.took t came.written) (sym same) came.wrote) ends
 
-pub ran_flushed : (a b : Around) (form : Type 0) (status result : ℕ) (took moves : Option Text) (faults : ℕ) → took ≡ b.took → moves ≡ b.beside.moves → b.beside.moves_faults ≤ faults → (result ≡ status) ⊎ ((result ≡ 5) ⊎ (result ≡ 6)) → (status ≡ 5 → result ≡ 5) → Ran a b form status
-    → Ran a (record b { took = took; beside = record (b.beside) { moves = moves; moves_faults = faults } }) form result
-ran_flushed a b form status result took moves faults p q l s first r =
-    subst (λ (t : Option Text). Ran a (record b { took = t; beside = record (b.beside) { moves = moves; moves_faults = faults } }) form result) (sym p)
-    (subst (λ (m : Option Text). Ran a (record b { beside = record (b.beside) { moves = m; moves_faults = faults } }) form result) (sym q)
-    (ran_counted a b form status result faults l s first r))
+    -- all lines are told
+    module _ (goes : is_over e ≡ false) (all : b.beside.gave ≡ b.beside.moves) where
+      gave_all : HoldMovesOf (came.told ++ came.still) b.beside.gave
+      gave_all = held_both came.told came.still b.beside.gave gave_told
+          (subst (λ (t : Option Text). HoldMovesOf came.still t) (bytes_left h.end x h.leaves ∙ sym moves.took_is ∙ sym all) came.keeps.noted)
+
+      text_all : came.written ++ (kept ++ last_text e) ≡ spelled (answers_of (came.told ++ came.still)) ++ last_text e
+      text_all =
+          ap (λ t. t ++ (kept ++ last_text e)) (stands_whole e came.told came.still came.written goes came.stands)
+          ∙ ap (λ t. spelled (answers_of came.told) ++ (t ++ last_text e)) came.keeps.text_is
+          ∙ sym (append_assoc (spelled (answers_of came.told)) (spelled (answers_of came.still)) (last_text e))
+          ∙ ap (λ t. t ++ last_text e) (sym (spelled_lines came.told came.still))
+
+      ran_all : (text : Text) → Appended o b.took text → Ends b status e (came.told ++ came.still) [] (came.written ++ text) → Ran a b form status
+      ran_all text w ends =
+          ran_by (came.told ++ came.still) [] (came.written ++ text) (came.split ∙ sym (append_nil (came.told ++ came.still))) gave_all (appended_then a.took o b.took came.written text came.wrote w) ends
+
+  -- a sink had failed
+  ends_over : (f : Ending) (told still : List DecidedLine) (written : Text) → is_over f ≡ true → status ≡ status_of f → StandsAt f told still written → Ends b status f told still written
+  ends_over ending.OutFault told still written q s stands =
+      inr (inl (record {
+        status_is = s;
+        moves_stand = λ same. cc;
+        all_told = stands.0;
+        text = record { back = stands.1.back; whole = append_nil (spelled (answers_of told)) ∙ stands.1.whole };
+      }))
+  ends_over ending.MovesFault told still written q s stands = inr (inr (record { status_is = s; out_stands = λ same. cc; text = stands }))
+  ends_over ending.Done told still written q s stands = cc
+  ends_over ending.NoMemory told still written q s stands = cc
+  ends_over ending.Usage told still written q s stands = cc
+  ends_over (ending.Script l c) told still written q s stands = cc
+  ends_over ending.ReadFault told still written q s stands = cc
+  ends_over ending.SetupFault told still written q s stands = cc
+  ends_over (ending.TooLong l) told still written q s stands = cc
+
+abbrev sink_of_moves : Left → SinkSeen
+sink_of_moves x = record { took = x.moves; gave = x.gave; faults = x.moves_faults }
+
+module _ (x y : Left) (p : y.paging ≡ x.paging) (f : y.files ≡ x.files) where
+  moves_same : sink_of_moves y ≡ sink_of_moves x → MovesAfter x y
+  moves_same e = record {
+    took_is = ap (λ (s : SinkSeen). s.took) e;
+    grows = subst (λ (t : Option Text). IsFrontOf x.gave t) (sym (ap (λ (s : SinkSeen). s.gave) e)) (gave_nothing (record { bytes = x.gave; given = x.gave; failed = true; faults = 0 })).grows;
+    later = (let k = ap (λ (s : SinkSeen). s.faults) e in omega (arith, k));
+    paging_is = p;
+    files_is = f;
+  }
+
+  moves_gave : GaveMoves (sink_of_moves x) (sink_of_moves y) → MovesAfter x y
+  moves_gave g = record {
+    took_is = g.took_is;
+    grows = g.grows;
+    later = (let k = g.faults_are in omega (arith, k));
+    paging_is = p;
+    files_is = f;
+  }
+
+  moves_dropped : (o o' : SinkSeen) (e : Ending) (status : ℕ) → Drops o o' (sink_of_moves x) (sink_of_moves y) e status → MovesAfter x y
+  moves_dropped o o' e status d = record { took_is = d.moves_kept; grows = d.moves_gave; later = d.moves_later; paging_is = p; files_is = f }
+
+module _ (a b : Around) (e : Ending) (form : Type 0) (yes_form : form → e ≢ ending.Usage) (not_form : (form → ⊥) → e ≡ ending.Usage) (o : SinkSeen) (faults : ℕ) (kept : Text) (x : Left) (h : Comes (outside a.left a.took []) (outside b.left o.took kept) (stand [] 0 (begun_at a.beside)) e x) (p : b.beside.paging ≡ x.paging) (f : b.beside.files ≡ x.files) (status : ℕ) where
+  abbrev o' : SinkSeen
+  o' = record { took = b.took; gave = b.gave; faults = faults }
+
+  pub ran_closed : Closed o o' (sink_of_moves x) (sink_of_moves b.beside) e kept status → Ran a b form status
+  ran_closed (inl s) =
+      let c = came a b e form yes_form not_form o.took kept x h status in
+      ran_some a b e form yes_form not_form o.took kept x h status (moves_same x b.beside p f s.moves_same) (ap (λ (k : SinkSeen). k.took) s.out_same)
+      (ends_over a b e form yes_form not_form o.took kept x h status e c.told c.still c.written s.over s.status_is c.stands)
+  ran_closed (inr (inl d)) =
+      let c = came a b e form yes_form not_form o.took kept x h status in
+      ran_some a b e form yes_form not_form o.took kept x h status (moves_dropped x b.beside p f o o' e status d) (ap (λ (k : SinkSeen). k.took) d.out_same)
+      (inr (inr (record { status_is = d.status_is; out_stands = out_stands e d.goes; text = stands_whole e c.told c.still c.written d.goes c.stands })))
+  ran_closed (inr (inr (inl t))) =
+      let m = moves_gave x b.beside p f t.moves in
+      ran_all a b e form yes_form not_form o.took kept x h status m t.goes t.moves.gave_all (kept ++ last_text e) t.wrote
+      (inl (record {
+        status_is = t.status_is;
+        out_stands = out_stands e t.goes;
+        moves_stand = moves_stand e t.goes;
+        all_told = refl;
+        text = text_all a b e form yes_form not_form o.took kept x h status m t.goes t.moves.gave_all;
+        gave = record { answers = t.gave_all; moves = t.moves.gave_all };
+      }))
+  ran_closed (inr (inr (inr t))) =
+      let c = came a b e form yes_form not_form o.took kept x h status in
+      let m = moves_gave x b.beside p f t.moves in
+      ran_all a b e form yes_form not_form o.took kept x h status m t.goes t.moves.gave_all t.wrote.front t.wrote.wrote
+      (inr (inl (record {
+        status_is = t.status_is;
+        moves_stand = moves_stand e t.goes;
+        all_told = refl;
+        text = record {
+          back = t.wrote.back;
+          whole = sym (text_all a b e form yes_form not_form o.took kept x h status m t.goes t.moves.gave_all)
+              ∙ ap (λ (ts : Text). c.written ++ ts) t.wrote.whole ∙ sym (append_assoc c.written t.wrote.front t.wrote.back);
+        };
+      })))
+
+-- ---- the counts of faults
+
+module _ (opening : Type 0) (e : Ending) (s : ℕ) (o o' m m' : SinkSeen) (c : Counts) (kept : Text) (status : ℕ) (b : IsBlamed e opening c (counts_with s o.faults m.faults)) where
+  abbrev mid : Counts
+  mid = counts_with s o.faults m.faults
+
+  own : counts_with s o'.faults m'.faults ≡ mid → status ≡ status_of e → IsAccounted status opening c (counts_with s o'.faults m'.faults)
+  own same q = accounted_behind e opening c mid (counts_with s o'.faults m'.faults) status same q b
+
+  pub accounted_closed : Closed o o' m m' e kept status → IsAccounted status opening c (counts_with s o'.faults m'.faults)
+  accounted_closed (inl t) = own (λ i. counts_with s (t.out_same i).faults (t.moves_same i).faults) t.status_is
+  accounted_closed (inr (inl d)) =
+      accounted_moves opening c (counts_with s o'.faults m'.faults) status d.status_is (rose_later c.moves m.faults m'.faults (blamed_later opening c mid e d.goes b).1 d.rose)
+  accounted_closed (inr (inr (inl t))) = own (λ i. counts_with s (t.faults_are i) (t.moves.faults_are i)) t.status_is
+  accounted_closed (inr (inr (inr t))) =
+      accounted_out opening c (counts_with s o'.faults m'.faults) status t.status_is (rose_later c.out o.faults o'.faults (blamed_later opening c mid e t.goes b).0 t.rose)

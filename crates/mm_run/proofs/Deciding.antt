@@ -1,5 +1,5 @@
 -- A line of a world over a store that pages is decided as a run tells it.
-use Rattle.std.proofs.Common.{◌≡◌, Bool, true, false, Option, Some, None, refl, sym, ap, ◌∙◌}
+use Rattle.std.proofs.Common.{◌≡◌, Option, Some, None, refl, sym, ap, ◌∙◌}
 use Rattle.std.specs.Prelude.{is_some, unwrap_or}
 use Rattle.mm_types.specs.declared.numbers.Key.{Key}
 use Rattle.mm_life.specs.Life.{is_live}
@@ -9,7 +9,7 @@ use Rattle.mm_world.specs.Contents.{Tables, world_with}
 use Rattle.mm_world.proofs.Across.{holds_bytes}
 use Rattle.mm_pages.specs.Store.{StoreOf}
 use Rattle.mm_pages.specs.Behind.{Behind}
-use Rattle.mm_pages.specs.Standing.{Stands, StandsIn}
+use Rattle.mm_pages.specs.Standing.{Stands}
 use Rattle.mm_paging.specs.Runs.{DevicesHold}
 use Rattle.mm_tables.specs.Fits.{bytes_of}
 

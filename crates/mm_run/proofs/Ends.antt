@@ -1,72 +1,54 @@
 -- How a run ends.
-use Rattle.std.proofs.Common.{◌≡◌, ◌≤◌, ℕ, List, [], ◌∷◌, ◌++◌, Option, refl, sym, ap, ◌∙◌, subst, inl, inr, arith}
+use Rattle.std.proofs.Common.{◌≡◌, ◌≢◌, ◌≤◌, ◌⊎◌, ℕ, true, false, List, [], Option, refl, sym, ap, ◌∙◌, subst, inl, inr, arith}
 use Rattle.mm_types.specs.Outside.{Rose}
 use Rattle.mm_types.specs.Spelling.{Text}
 use Rattle.mm_types.specs.AnswerText.{spelled}
-use Rattle.mm_types.proofs.Bytes.{append_nil, rose_later}
 use Rattle.mm_lines.proofs.Fillings.{filled_none}
-use Rattle.mm_types.specs.declared.answers.Answer.{Answer}
 use Rattle.mm_run.specs.declared.endings.Ending.{Ending}
 use Rattle.mm_run.specs.declared.endings.Ending.TheVariants as ending
 use Rattle.mm_run.specs.Scenes.{Stage}
-use Rattle.mm_run.specs.Texts.{status_of, last_text, texts, IsTorn, IsOrFlush, StandsAt, Ends}
-use Rattle.mm_run.specs.Story.{Came, Counts, IsBlamed, outside, stand}
-use Rattle.mm_run.proofs.Stories.{concat-texts, follows_here}
+use Rattle.mm_run.specs.Answered.{DecidedLine, answers_of}
+use Rattle.mm_run.specs.Texts.{status_of}
+use Rattle.mm_run.specs.Closing.{is_over}
+use Rattle.mm_run.specs.Script.{IsFault}
+use Rattle.mm_run.specs.Faults.{IsAccounted}
+use Rattle.mm_run.specs.Story.{Came, Counts, IsBlamed, EndsAt, StandsAt, outside, stand}
+use Rattle.mm_run.proofs.Stories.{follows_here, grows_here}
 use Rattle.mm_run.proofs.Stops.{came_here}
 
-pub came_usage : (a t : Option Text) (w : Stage) → Came (outside a t) (outside a t) (stand [] 0 w) ending.Usage w
-came_usage a t w = came_here a a t [] [] 0 w w ending.Usage [] [] (filled_none a []) refl (omega arith) (refl, refl, refl) (omega arith) refl (follows_here w)
+pub came_usage : (a t : Option Text) (kept : Text) (w : Stage) → Came (outside a t kept) (outside a t kept) (stand [] 0 w) ending.Usage w
+came_usage a t kept w = came_here a a t kept [] [] 0 w w ending.Usage [] [] (filled_none a []) refl (omega arith) (refl, refl, refl) (omega arith) (λ ks. refl) (follows_here w) (grows_here w)
 
-behind : (xs ys last : Text) → xs ≡ ys → xs ++ last ≡ ys ++ last
-behind xs ys last e = ap (λ zs. zs ++ last) e
+-- what stands is what was told, unless a sink has failed
+pub stands_whole : (e : Ending) (told still : List DecidedLine) (written : Text) → is_over e ≡ false → StandsAt e told still written → written ≡ spelled (answers_of told)
+stands_whole ending.Done told still written q s = s
+stands_whole ending.NoMemory told still written q s = s
+stands_whole ending.Usage told still written q s = s
+stands_whole (ending.Script l c) told still written q s = s
+stands_whole ending.ReadFault told still written q s = s
+stands_whole ending.OutFault told still written q s = cc
+stands_whole ending.MovesFault told still written q s = cc
+stands_whole ending.SetupFault told still written q s = s
+stands_whole (ending.TooLong l) told still written q s = s
 
--- the last text was written whole
-pub whole : (status : ℕ) (e : Ending) (answers : List Answer) (written : Text) → IsOrFlush status e → (e ≡ ending.OutFault → status ≡ 5) → StandsAt e answers written → Ends status e answers (written ++ last_text e)
-whole status ending.OutFault answers written q five s = inr (five refl, inl (subst (λ (ws : Text). StandsAt ending.OutFault answers ws) (sym (append_nil written)) s))
-whole status ending.Done answers written q five s = inl (q, (λ p. cc), behind _ _ _ s)
-whole status ending.NoMemory answers written q five s = inl (q, (λ p. cc), behind _ _ _ s)
-whole status ending.Usage answers written q five s = inl (q, (λ p. cc), behind _ _ _ s)
-whole status (ending.Script l c) answers written q five s = inl (q, (λ p. cc), behind _ _ _ s)
-whole status ending.ReadFault answers written q five s = inl (q, (λ p. cc), behind _ _ _ s)
-whole status ending.MovesFault answers written q five s = inl (q, (λ p. cc), behind _ _ _ s)
-whole status (ending.TooLong l) answers written q five s = inl (q, (λ p. cc), behind _ _ _ s)
-whole status ending.SetupFault answers written q five s = inl (q, (λ p. cc), behind _ _ _ s)
+pub out_stands : (e : Ending) → is_over e ≡ false → e ≢ ending.OutFault
+out_stands e q same = let bad : true ≡ false = ap is_over (sym same) ∙ q in cc
 
-torn_last : (answers : List Answer) (written front back last : Text) → last ≡ front ++ back → written ≡ spelled answers → IsTorn (texts answers ++ last ∷ []) (written ++ front)
-torn_last answers written front back last e s = record {
-  before = texts answers;
-  piece = last;
-  front = front;
-  back = back;
-  pieces_are = refl;
-  piece_is = e;
-  stands = ap (λ xs. xs ++ front) (s ∙ sym (concat-texts answers));
-}
+pub moves_stand : (e : Ending) → is_over e ≡ false → e ≢ ending.MovesFault
+moves_stand e q same = let bad : true ≡ false = ap is_over (sym same) ∙ q in cc
 
-no_front : (front back : Text) → [] ≡ front ++ back → front ≡ []
-no_front [] back e = refl
-no_front (x ∷ front) back e = cc
-
--- the sink failed in it
-pub torn : (e : Ending) (answers : List Answer) (written front back : Text) → last_text e ≡ front ++ back → StandsAt e answers written → Ends 5 e answers (written ++ front)
-torn ending.OutFault answers written front back q s =
-    inr (refl, inl (subst (λ (ws : Text). StandsAt ending.OutFault answers ws) (sym (append_nil written) ∙ ap (λ xs. written ++ xs) (sym (no_front front back q))) s))
-torn ending.Done answers written front back q s = inr (refl, inr (torn_last answers written front back _ q s))
-torn ending.NoMemory answers written front back q s = inr (refl, inr (torn_last answers written front back _ q s))
-torn ending.Usage answers written front back q s = inr (refl, inr (torn_last answers written front back _ q s))
-torn (ending.Script l c) answers written front back q s = inr (refl, inr (torn_last answers written front back _ q s))
-torn ending.ReadFault answers written front back q s = inr (refl, inr (torn_last answers written front back _ q s))
-torn ending.MovesFault answers written front back q s = inr (refl, inr (torn_last answers written front back _ q s))
-torn (ending.TooLong l) answers written front back q s = inr (refl, inr (torn_last answers written front back _ q s))
-torn ending.SetupFault answers written front back q s = inr (refl, inr (torn_last answers written front back _ q s))
+-- ---- the counts of faults
 
 module _ (opening : Type 0) (c d : Counts) where
+  same_later : d ≡ c → (c.out ≤ d.out) × (c.moves ≤ d.moves)
+  same_later e = (let o = ap (λ (k : Counts). k.out) e in omega (arith, o), let m = ap (λ (k : Counts). k.moves) e in omega (arith, m))
+
   pub blamed_source : (e : Ending) → status_of e ≡ 4 → IsBlamed e opening c d → Rose c.source d.source
   blamed_source ending.Done q b = absurd (omega arith)
   blamed_source ending.NoMemory q b = absurd (omega arith)
   blamed_source ending.Usage q b = absurd (omega arith)
   blamed_source (ending.Script l k) q b = absurd (omega arith)
-  blamed_source ending.ReadFault q b = b
+  blamed_source ending.ReadFault q b = b.0
   blamed_source ending.OutFault q b = absurd (omega arith)
   blamed_source ending.MovesFault q b = absurd (omega arith)
   blamed_source ending.SetupFault q b = absurd (omega arith)
@@ -78,7 +60,7 @@ module _ (opening : Type 0) (c d : Counts) where
   blamed_out ending.Usage q b = absurd (omega arith)
   blamed_out (ending.Script l k) q b = absurd (omega arith)
   blamed_out ending.ReadFault q b = absurd (omega arith)
-  blamed_out ending.OutFault q b = b
+  blamed_out ending.OutFault q b = b.0
   blamed_out ending.MovesFault q b = absurd (omega arith)
   blamed_out ending.SetupFault q b = absurd (omega arith)
   blamed_out (ending.TooLong l) q b = absurd (omega arith)
@@ -90,7 +72,7 @@ module _ (opening : Type 0) (c d : Counts) where
   blamed_moves (ending.Script l k) q b = absurd (omega arith)
   blamed_moves ending.ReadFault q b = absurd (omega arith)
   blamed_moves ending.OutFault q b = absurd (omega arith)
-  blamed_moves ending.MovesFault q b = b
+  blamed_moves ending.MovesFault q b = b.0
   blamed_moves ending.SetupFault q b = absurd (omega arith)
   blamed_moves (ending.TooLong l) q b = absurd (omega arith)
 
@@ -102,29 +84,86 @@ module _ (opening : Type 0) (c d : Counts) where
   blamed_opening ending.ReadFault q b = absurd (omega arith)
   blamed_opening ending.OutFault q b = absurd (omega arith)
   blamed_opening ending.MovesFault q b = absurd (omega arith)
-  blamed_opening ending.SetupFault q b = b
+  blamed_opening ending.SetupFault q b = b.0
   blamed_opening (ending.TooLong l) q b = absurd (omega arith)
 
--- counts that were less before
-pub blamed_from : (e : Ending) (opening : Type 0) (c m d : Counts) → c.source ≤ m.source → c.out ≤ m.out → c.moves ≤ m.moves → IsBlamed e opening m d → IsBlamed e opening c d
-blamed_from ending.Done opening c m d s o v b = tt
-blamed_from ending.NoMemory opening c m d s o v b = tt
-blamed_from ending.Usage opening c m d s o v b = tt
-blamed_from (ending.Script l k) opening c m d s o v b = tt
-blamed_from ending.ReadFault opening c m d s o v b = rose_later c.source m.source d.source s b
-blamed_from ending.OutFault opening c m d s o v b = rose_later c.out m.out d.out o b
-blamed_from ending.MovesFault opening c m d s o v b = rose_later c.moves m.moves d.moves v b
-blamed_from ending.SetupFault opening c m d s o v b = b
-blamed_from (ending.TooLong l) opening c m d s o v b = tt
+  -- the status blames nothing
+  pub blamed_none : (e : Ending) → (IsFault (status_of e) → ⊥) → IsBlamed e opening c d → d ≡ c
+  blamed_none ending.Done q b = b
+  blamed_none ending.NoMemory q b = absurd (q (inl refl))
+  blamed_none ending.Usage q b = b
+  blamed_none (ending.Script l k) q b = b
+  blamed_none ending.ReadFault q b = absurd (q (inr (inl refl)))
+  blamed_none ending.OutFault q b = absurd (q (inr (inr (inl refl))))
+  blamed_none ending.MovesFault q b = absurd (q (inr (inr (inr (inl refl)))))
+  blamed_none ending.SetupFault q b = absurd (q (inr (inr (inr (inr refl)))))
+  blamed_none (ending.TooLong l) q b = b
+
+  -- no count fell
+  pub blamed_later : (e : Ending) → is_over e ≡ false → IsBlamed e opening c d → (c.out ≤ d.out) × (c.moves ≤ d.moves)
+  blamed_later ending.Done q b = same_later b
+  blamed_later ending.NoMemory q b = (let e = ap (λ (k : Counts). k.out) b.1 in omega (arith, e), b.0)
+  blamed_later ending.Usage q b = same_later b
+  blamed_later (ending.Script l k) q b = same_later b
+  blamed_later ending.ReadFault q b = (let e = ap (λ (k : Counts). k.out) b.1 in omega (arith, e), let e = ap (λ (k : Counts). k.moves) b.1 in omega (arith, e))
+  blamed_later ending.OutFault q b = cc
+  blamed_later ending.MovesFault q b = cc
+  blamed_later ending.SetupFault q b = same_later b.1
+  blamed_later (ending.TooLong l) q b = same_later b
+
+pub accounted : (e : Ending) (opening : Type 0) (c d : Counts) (status : ℕ) → status ≡ status_of e → IsBlamed e opening c d → IsAccounted status opening c d
+accounted e opening c d status q b = record {
+  read_fault = λ s. blamed_source opening c d e (sym q ∙ s) b;
+  out_fault = λ s. blamed_out opening c d e (sym q ∙ s) b;
+  moves_fault = λ s. blamed_moves opening c d e (sym q ∙ s) b;
+  setup_fault = λ s. blamed_opening opening c d e (sym q ∙ s) b;
+  no_fault = λ calm. blamed_none opening c d e (λ f. calm (subst IsFault (sym q) f)) b;
+}
+
+-- nothing failed behind it
+pub accounted_behind : (e : Ending) (opening : Type 0) (c m d : Counts) (status : ℕ) → d ≡ m → status ≡ status_of e → IsBlamed e opening c m → IsAccounted status opening c d
+accounted_behind e opening c m d status same q b = subst (λ (k : Counts). IsAccounted status opening c k) (sym same) (accounted e opening c m status q b)
+
+pub accounted_out : (opening : Type 0) (c d : Counts) (status : ℕ) → status ≡ 5 → Rose c.out d.out → IsAccounted status opening c d
+accounted_out opening c d status q rose = record {
+  read_fault = λ s. absurd (omega (arith, q, s));
+  out_fault = λ s. rose;
+  moves_fault = λ s. absurd (omega (arith, q, s));
+  setup_fault = λ s. absurd (omega (arith, q, s));
+  no_fault = λ calm. absurd (calm (inr (inr (inl q))));
+}
+
+pub accounted_moves : (opening : Type 0) (c d : Counts) (status : ℕ) → status ≡ 6 → Rose c.moves d.moves → IsAccounted status opening c d
+accounted_moves opening c d status q rose = record {
+  read_fault = λ s. absurd (omega (arith, q, s));
+  out_fault = λ s. absurd (omega (arith, q, s));
+  moves_fault = λ s. rose;
+  setup_fault = λ s. absurd (omega (arith, q, s));
+  no_fault = λ calm. absurd (calm (inr (inr (inr (inl q)))));
+}
+
+-- memory was refused, before anything else
+pub accounted_memory : (opening : Type 0) (c : Counts) (status : ℕ) → status ≡ 1 → IsAccounted status opening c c
+accounted_memory opening c status q = accounted ending.NoMemory opening c c status q (omega arith, refl)
+
+-- the input's end is no fault
+pub blamed_end : (n len : ℕ) (e : Ending) (opening : Type 0) (c d : Counts) → EndsAt n len e → d ≡ c → IsBlamed e opening c d
+blamed_end n len e opening c d (inl done) q = subst (λ (f : Ending). IsBlamed f opening c d) (sym done.2) q
+blamed_end n len e opening c d (inr cut) q = subst (λ (f : Ending). IsBlamed f opening c d) (sym cut.1) q
+
+-- a device was not opened
+pub blamed_open : (e : Ending) (opening : Type 0) (c : Counts) → (e ≡ ending.NoMemory) ⊎ (e ≡ ending.SetupFault) → (e ≡ ending.SetupFault → opening) → IsBlamed e opening c c
+blamed_open e opening c (inl memory) h = subst (λ (f : Ending). IsBlamed f opening c c) (sym memory) (omega arith, refl)
+blamed_open e opening c (inr setup) h = subst (λ (f : Ending). IsBlamed f opening c c) (sym setup) (h setup, refl)
 
 -- nothing is to be blamed on a device that was opened
 pub blamed_beside : (e : Ending) (opening : Type 0) (c d : Counts) → IsBlamed e ⊥ c d → IsBlamed e opening c d
-blamed_beside ending.Done opening c d b = tt
-blamed_beside ending.NoMemory opening c d b = tt
-blamed_beside ending.Usage opening c d b = tt
-blamed_beside (ending.Script l k) opening c d b = tt
+blamed_beside ending.Done opening c d b = b
+blamed_beside ending.NoMemory opening c d b = b
+blamed_beside ending.Usage opening c d b = b
+blamed_beside (ending.Script l k) opening c d b = b
 blamed_beside ending.ReadFault opening c d b = b
 blamed_beside ending.OutFault opening c d b = b
 blamed_beside ending.MovesFault opening c d b = b
-blamed_beside ending.SetupFault opening c d b = absurd b
-blamed_beside (ending.TooLong l) opening c d b = tt
+blamed_beside ending.SetupFault opening c d b = absurd b.0
+blamed_beside (ending.TooLong l) opening c d b = b

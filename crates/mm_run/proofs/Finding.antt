@@ -1,35 +1,31 @@
 -- A line is found in front, and then decided.
-use Rattle.std.proofs.Common.{◌≡◌, ℕ, [], Option, sym, add-zero}
 use Rattle.std.specs.Prelude.{MatchOption, MatchResult, Result, Ok, Err, Some, None}
-use Rattle.mm_types.specs.Spelling.{Text}
-use Rattle.mm_types.proofs.Bytes.{appended_none}
-use Rattle.mm_lines.specs.Filling.{Filled}
+use Rattle.std.proofs.Common.{◌≡◌, ℕ, Option, subst, ◌∙◌}
 use Rattle.mm_run.specs.declared.endings.Ending.{Ending}
-use Rattle.mm_run.specs.Scenes.{Stage, Follows}
-use Rattle.mm_run.specs.Story.{Went, Came, Outside, Stand, outside, stand}
-use Rattle.mm_run.proofs.Stories.{follows_here, went_then, went_came, flushed_came, flushed_either}
+use Rattle.mm_run.specs.Scenes.{Stage}
+use Rattle.mm_run.specs.Story.{Went, Came, Counts, IsBlamed, Outside, Stand}
+use Rattle.mm_run.proofs.Stories.{went_then, went_came}
 
--- bytes were read, and no line was decided
-pub went_filled : (a b t : Option Text) (x y : Text) (n : ℕ) (w : Stage) → Filled a b x y → Went (outside a t) (outside b t) (stand x n w) (stand y n w)
-went_filled a b t x y n w f = record {
-  lines = [];
-  taken = f.taken;
-  read = f.took;
-  whole = sym f.behind;
-  answered = tt;
-  stage = follows_here w;
-  count = sym (add-zero n);
-  wrote = appended_none t;
-}
-
--- sinks were flushed before a line was found
-pub flushed_found : (left t t' : Option Text) → t' ≡ t → (held : Text) (n : ℕ) (s z : Stage) → Follows s z → (b : Outside) (y : Stand) (end : Stage) (r : Result ℕ Ending)
-    → MatchResult r (λ _. Went (outside left t') b (stand held n z) y) (λ e. Came (outside left t') b (stand held n z) e end)
-    → MatchResult r (λ _. Went (outside left t) b (stand held n s) y) (λ e. Came (outside left t) b (stand held n s) e end)
-flushed_found left t t' same held n s z h b y end (Ok len) g = flushed_either left t t' same held n s z h b y end None g
-flushed_found left t t' same held n s z h b y end (Err e) g = flushed_came left t t' same held n s z h b e end g
+-- what went on first, and then a line that is found, or what makes the run end
+pub found_after : (a b c : Outside) (x y z : Stand) (end : Stage) → Went a b x y → (r : Result ℕ Ending) → MatchResult r (λ _. Went b c y z) (λ e. Came b c y e end)
+    → MatchResult r (λ _. Went a c x z) (λ e. Came a c x e end)
+found_after a b c x y z end g (Ok len) h = went_then a b c x y z g h
+found_after a b c x y z end g (Err e) h = went_came a b c x y end e g h
 
 -- the line that was found is decided, or makes the run end
 pub found_either : (a b c : Outside) (x y z : Stand) (end : Stage) → Went a b x y → (r : Option Ending) → MatchOption r (Went b c y z) (λ e. Came b c y e end) → MatchOption r (Went a c x z) (λ e. Came a c x e end)
 found_either a b c x y z end g None h = went_then a b c x y z g h
 found_either a b c x y z end g (Some e) h = went_came a b c x y end e g h
+
+-- ---- the counts of faults that stayed before
+
+pub blamed_then : (e : Ending) (opening : Type 0) (c m d : Counts) → m ≡ c → IsBlamed e opening m d → IsBlamed e opening c d
+blamed_then e opening c m d same b = subst (λ (k : Counts). IsBlamed e opening k d) same b
+
+pub counted_then : (opening : Type 0) (c m d : Counts) → m ≡ c → (r : Option Ending) → MatchOption r (d ≡ m) (λ e. IsBlamed e opening m d) → MatchOption r (d ≡ c) (λ e. IsBlamed e opening c d)
+counted_then opening c m d same None h = h ∙ same
+counted_then opening c m d same (Some e) h = blamed_then e opening c m d same h
+
+pub read_then : {A : Type 0} (opening : Type 0) (c m d : Counts) → m ≡ c → (r : Result A Ending) → MatchResult r (λ _. d ≡ m) (λ e. IsBlamed e opening m d) → MatchResult r (λ _. d ≡ c) (λ e. IsBlamed e opening c d)
+read_then opening c m d same (Ok x) h = h ∙ same
+read_then opening c m d same (Err e) h = blamed_then e opening c m d same h

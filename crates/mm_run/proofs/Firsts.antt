@@ -1,7 +1,6 @@
 -- The first line, and lines after it.
-use Rattle.std.proofs.Common.{◌≡◌, ◌<◌, ◌≤◌, ℕ, zero, suc, ◌+◌, List, [], ◌∷◌, take, drop, length, refl, sym, ap, ◌∙◌, subst, arith}
-use Rattle.std.specs.Prelude.{Option, Some, None, MatchOption, Result, Ok, Err, Bool, true, false}
-use Rattle.mm_types.specs.Outside.{Appended}
+use Rattle.std.proofs.Common.{◌≡◌, ◌<◌, ◌≤◌, ℕ, zero, suc, ◌+◌, List, [], ◌∷◌, ◌++◌, take, drop, length, refl, sym, ap, ◌∙◌, subst, arith}
+use Rattle.std.specs.Prelude.{Option, Result, Ok, Err, Bool, true, false}
 use Rattle.mm_types.specs.Spelling.{Text}
 use Rattle.mm_types.specs.AnswerText.{spelling}
 use Rattle.mm_lines.specs.Looking.{HasLine}
@@ -18,17 +17,15 @@ use Rattle.mm_world.specs.Charge.{charge, limit}
 use Rattle.mm_world.specs.System.{System, first_system}
 use Rattle.mm_paging.specs.Runs.{first_move}
 use Rattle.mm_types.specs.declared.moves.Move.{Move}
-use Rattle.mm_run.specs.declared.endings.Ending.{Ending}
 use Rattle.mm_run.specs.declared.endings.Ending.TheVariants as ending
 use Rattle.mm_system.specs.Lines.{is_machine}
 use Rattle.mm_run.specs.Reading.{reading, read_first, read_later, is_machine_word}
 use Rattle.mm_run.specs.Scenes.{Scene, Outset, Stage, NotBegun, Running, HasNoted, log_of}
 use Rattle.mm_run.specs.Steps.{IsDecided, IsMade}
-use Rattle.mm_run.specs.Texts.{TornText}
 use Rattle.mm_run.specs.Answered.{DecidedLine, IsNext}
 use Rattle.mm_run.specs.Story.{Went, Came, outside, stand}
 use Rattle.mm_run.proofs.Stories.{follows_here}
-use Rattle.mm_run.proofs.Stops.{is_line, went_to, came_torn, came_muted}
+use Rattle.mm_run.proofs.Stops.{is_line, went_to, came_muted}
 
 later_is : (b : Bool) (r : Result Event LineFault) (e : Event) → read_later b r ≡ Ok e → is_machine e ≡ false
 later_is b (Err f) e q = cc
@@ -65,28 +62,17 @@ first_answered m o s made n e = record {
   holds = made.holds;
 }
 
--- a decided line was answered, whole or torn, or was muted
+-- a decided line was answered, or was muted
 module _ (held : Text) (len n : ℕ) (h : HasLine held len) (small : n < 1000000) (behind : length held < len + 1 + 4096) where
-  module _ (a t t' : Option Text) (w w' : Stage) (event : Event) (said : Answer) (moves : List Move) (p : reading n (take len held) ≡ Ok event) (g : IsLineFor (take len held) event) (s : IsDecided w event said moves w') where
+  module _ (a t : Option Text) (kept : Text) (w w' : Stage) (event : Event) (said : Answer) (moves : List Move) (p : reading n (take len held) ≡ Ok event) (g : IsLineFor (take len held) event) (s : IsDecided w event said moves w') where
     abbrev one : DecidedLine
     one = record { text = take len held; event = event; answer = said; moves = moves; before = w; after = w' }
 
     next : IsNext n w one
     next = record { follows = follows_here w; says = record { is_line = is_line held len n h small behind; says = p; grammar = g }; decided = s }
 
-    pub told_muted : t' ≡ t → (log_of w').failed ≡ true → Came (outside a t) (outside a t') (stand held n w) ending.MovesFault w'
-    told_muted still failed = came_muted held len n h small behind a t t' w one refl next still failed
+    pub told_muted : (log_of w').failed ≡ true → Came (outside a t kept) (outside a t kept) (stand held n w) ending.MovesFault w'
+    told_muted failed = came_muted held len n h small behind a t kept w one refl next failed
 
-    module _ (noted : HasNoted w') (held' : Text) (rest : held' ≡ drop (len + 1) held) where
-      pub told_went : Appended t t' (spelling said) → Went (outside a t) (outside a t') (stand held n w) (stand held' (n + 1) w')
-      told_went u = went_to held len n h small behind a t t' w one refl next held' rest noted u
-
-      pub told_came : (e : Ending) → e ≡ ending.OutFault → TornText t t' (spelling said) → Came (outside a t) (outside a t') (stand held n w) e w'
-      told_came e f u =
-          subst (λ (k : Ending). Came (outside a t) (outside a t') (stand held n w) k w') (sym f)
-          (came_torn held len n h small behind a t t' w one refl next u.front u.back noted u.whole u.wrote)
-
-      pub told_either : (r : Option Ending) → MatchOption r (Appended t t' (spelling said)) (λ e. (e ≡ ending.OutFault) × TornText t t' (spelling said))
-          → MatchOption r (Went (outside a t) (outside a t') (stand held n w) (stand held' (n + 1) w')) (λ e. Came (outside a t) (outside a t') (stand held n w) e w')
-      told_either None u = told_went u
-      told_either (Some e) u = told_came e u.0 u.1
+    pub told_went : HasNoted w' → (kept' held' : Text) → held' ≡ drop (len + 1) held → kept' ≡ kept ++ spelling said → Went (outside a t kept) (outside a t kept') (stand held n w) (stand held' (n + 1) w')
+    told_went noted kept' held' rest u = went_to held len n h small behind a t kept w one refl next kept' held' rest noted u

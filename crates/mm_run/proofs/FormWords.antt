@@ -13,7 +13,7 @@ use Rattle.mm_forms.specs.Forms.{Says, SaysNone, is_dashed, texts}
 use Rattle.mm_run.specs.declared.forms.WordsForm.{WordsForm}
 use Rattle.mm_run.specs.declared.forms.WordsForm.TheVariants as form
 use Rattle.mm_run.specs.Bulk.{IsBulk, IsNoBulk, BulkRan, below_64, word_value}
-use Rattle.mm_run.specs.Ran.{Around, Ran}
+use Rattle.mm_run.specs.Ran.{Around, Ran, RanOrRefused}
 use Rattle.mm_run.specs.Story.{IsForm}
 use Rattle.mm_run.specs.WordForms.{SaysForm}
 
@@ -101,8 +101,8 @@ pub bulk_same : (a b : Around) (s n s' n' status : ℕ) → s ≡ s' → n ≡ n
 bulk_same a b s n s' n' status e f h = subst (λ (k : ℕ). BulkRan a b (script_of s' k) status) f (subst (λ (k : ℕ). BulkRan a b (script_of k n) status) e h)
 
 -- the same run, its form said in other words
-pub form_said : (a b : Around) (p q : Type 0) (status : ℕ) → (p → q) → (q → p) → Ran a b p status → Ran a b q status
-form_said a b p q status to back h = record {
+ran_said : (a b : Around) (p q : Type 0) (status : ℕ) → (p → q) → (q → p) → Ran a b p status → Ran a b q status
+ran_said a b p q status to back h = record {
   lines = h.lines;
   answered = h.answered;
   limit = h.limit;
@@ -117,6 +117,10 @@ form_said a b p q status to back h = record {
   few = h.few;
   is_form = λ x. h.is_form (back x);
   no_form = λ none. h.no_form (λ x. none (to x));
+  told = h.told;
+  kept = h.kept;
+  split = h.split;
+  gave = h.gave;
   written = h.written;
   wrote = h.wrote;
   ends = h.ends;
@@ -127,3 +131,7 @@ form_said a b p q status to back h = record {
   holds = h.holds;
   faultless = h.faultless;
 }
+
+pub form_said : (a b : Around) (p q : Type 0) (status : ℕ) → (p → q) → (q → p) → RanOrRefused a b p status → RanOrRefused a b q status
+form_said a b p q status to back (inl ran) = inl (ran_said a b p q status to back ran)
+form_said a b p q status to back (inr refused) = inr refused

@@ -1,6 +1,7 @@
 pub mod Ends
 pub mod Scripts
 pub mod Stops
+pub mod Writing
 pub mod Stories
 pub mod Failures
 pub mod Firsts
@@ -8,7 +9,6 @@ pub mod Later
 pub mod Finding
 pub mod Logs
 pub mod Lost
-pub mod Named
 pub mod Unpaged
 pub mod Deciding
 pub mod Closing

@@ -1,7 +1,7 @@
 -- What the sink of moves took in a run, and what its devices hold at the end.
 use Rattle.std.proofs.Common.{◌≡◌, ◌≢◌, ◌≤◌, ℕ, arith, List, [], ◌∷◌, ◌++◌, Option, Some, None, refl, sym, ap, ◌∙◌, subst, inl, inr, append_assoc}
 use Rattle.std.specs.Prelude.{Bool, true, false}
-use Rattle.mm_types.specs.Outside.{Appended, Rose}
+use Rattle.mm_types.specs.Outside.{Appended}
 use Rattle.mm_types.specs.Spelling.{Text}
 use Rattle.mm_types.specs.declared.moves.Move.{Move}
 use Rattle.mm_types.proofs.Bytes.{append_nil, appended_none, appended_then, rose_later, rose_then}
@@ -14,7 +14,7 @@ use Rattle.mm_world.specs.World.{Page}
 use Rattle.mm_paging.specs.Runs.{DevicesHold}
 use Rattle.mm_run.specs.declared.endings.Ending.{Ending}
 use Rattle.mm_run.specs.declared.endings.Ending.TheVariants as ending
-use Rattle.mm_run.specs.Scenes.{Stage, NotBegun, Running, Follows, HasNoted, with_faults, log_of, life_of}
+use Rattle.mm_run.specs.Scenes.{Stage, NotBegun, Running, Follows, HasNoted, with_flush, log_of, life_of}
 use Rattle.mm_run.specs.Steps.{Notes, HoldsUnchanged}
 use Rattle.mm_run.specs.Answered.{DecidedLine, AreAnswered, last_stage, moves_of}
 use Rattle.mm_run.specs.Texts.{TornText}
@@ -99,7 +99,7 @@ all_logged n old lines u = events_logged old lines (decided_of n old lines u)
 
 -- ---- the end
 
-bytes_left : (end : Stage) (x : Left) → Leaves end x → (log_of end).bytes ≡ x.moves
+pub bytes_left : (end : Stage) (x : Left) → Leaves end x → (log_of end).bytes ≡ x.moves
 bytes_left (NotBegun o) x h = h.bytes_are
 bytes_left (Running s) x h = h.0.bytes_are
 
@@ -190,12 +190,12 @@ holds_last : (old : Stage) (lines : List DecidedLine) → HoldsUnchanged old →
 holds_last old [] h u = h
 holds_last old (l ∷ ls) h u = holds_last l.after ls u.0.decided.holds u.2
 
-holds_with : (k : ℕ) (s : Stage) → HoldsUnchanged s → HoldsUnchanged (with_faults k s)
-holds_with k (NotBegun o) h = h
-holds_with k (Running s) h = h
+holds_with : (g : Option Text) (k : ℕ) (s : Stage) → HoldsUnchanged s → HoldsUnchanged (with_flush g k s)
+holds_with g k (NotBegun o) h = h
+holds_with g k (Running s) h = h
 
 holds_follows : (a b : Stage) → Follows a b → HoldsUnchanged a → HoldsUnchanged b
-holds_follows a b f h = subst HoldsUnchanged (sym f.same) (holds_with (log_of b).faults a h)
+holds_follows a b f h = subst HoldsUnchanged (sym f.same) (holds_with (log_of b).given (log_of b).faults a h)
 
 ends_holding : (end : Stage) (x : Left) → Leaves end x → HoldsUnchanged end → EndsHolding end x.paging.blocks x.files.blocks
 ends_holding (NotBegun o) x l h = tt

@@ -1,9 +1,8 @@
--- A read that a thread waits for fails only where a device did.
-use Rattle.std.proofs.Common.{◌≡◌, ◌⊎◌, ℕ, ◌≤◌, Bool, true, false, List, [], ◌∷◌, ◌++◌, Option, Some, None, refl, sym, ap, ◌∙◌, inl, inr, arith}
+-- A read that a thread waits for fails only where a call of a device did.
+use Rattle.std.proofs.Common.{◌≡◌, ◌⊎◌, ℕ, Bool, true, false, List, [], ◌∷◌, ◌++◌, Option, Some, None, refl, sym, ap, ◌∙◌, inl, inr}
+use Rattle.std.specs.List.{list_any}
 use Rattle.std.specs.Prelude.{map, if◌then◌else◌, is_some, ◌&&◌, ◌||◌, ◌==◌, not, unwrap_or, option_map}
-use Rattle.mm_types.specs.Outside.{Rose}
 use Rattle.mm_types.proofs.Booleans.{or_left, or_right}
-use Rattle.mm_types.proofs.Bytes.{rose_then, rose_later}
 use Rattle.mm_types.specs.declared.answers.Answer.{Answer}
 use Rattle.mm_types.specs.declared.events.Event.{Event}
 use Rattle.mm_types.specs.declared.events.Event.TheVariants as line
@@ -25,19 +24,20 @@ use Rattle.mm_laws.specs.Sound.{Sound}
 use Rattle.mm_laws.proofs.Kept.{keeps}
 use Rattle.mm_world.specs.Failure.{wait_failed}
 use Rattle.mm_blocks.specs.declared.device_calls.DeviceCall.{DeviceCall}
-use Rattle.mm_blocks.specs.Devices.{DeviceOf, Call, AllServed, logged_call}
+use Rattle.mm_blocks.specs.Devices.{DeviceOf, Call, AllServed, logged_call, CallFailed}
+use Rattle.mm_blocks.proofs.Serving.{all_served_failed}
 use Rattle.mm_walks.specs.Waits.{Waiting, Idle, ForFrame, Ended, wait_of, ended_by, waits_after}
 use Rattle.mm_walks.specs.Walks.{waits_through}
 use Rattle.mm_pages.specs.Told.{in_slot, in_block, call_of, calls_of, paging_traffic, file_traffic}
 use Rattle.mm_pages.specs.Housekeeping.{AllTurn, Makes}
 use Rattle.mm_pages.specs.Behind.{Behind}
 use Rattle.mm_pages.specs.Accesses.{Aim}
-use Rattle.mm_world.specs.World.{World}
+use Rattle.mm_world.specs.World.{Page, World}
 use Rattle.mm_world.specs.Report.{Report}
 use Rattle.mm_world.specs.Step.{kept_by}
 use Rattle.mm_paging.specs.Kinds.{aim_of}
 use Rattle.mm_paging.specs.Lines.{Line, Does, awaited, is_pending_read, keeps_for, wait_of_begin, waits_of_line, asks_beside}
-use Rattle.mm_core.specs.Serving.{OneRose}
+use Rattle.mm_core.specs.Serving.{OneFailed}
 
 -- ---- the read of a thread has failed
 
@@ -97,40 +97,34 @@ read_has request.WriteAgain e = refl
 backed_read : (r : Record) → Fit r → is_read r.request ≡ true → is_backed r.backing ≡ true
 backed_read r fit read = fit.clean (or_right (is_some r.owner) (has_request r.request) (read_has r.request read)) (fit.reading read).1
 
--- one of both devices failed in these moves
-abbrev pub OneFailed : FrameLife → List Move → Type 0
-OneFailed l ms = (any_failed (paging_traffic l ms) ≡ true) ⊎ (any_failed (file_traffic l ms) ≡ true)
+-- one of the calls that these moves stand for failed
+abbrev pub AnyFailed : FrameLife → List Move → Type 0
+AnyFailed l ms = (any_failed (paging_traffic l ms) ≡ true) ⊎ (any_failed (file_traffic l ms) ≡ true)
 
 bad_calls : (b : Backing) (ps fs : List DeviceCall) → is_backed b ≡ true → (any_failed (in_slot way.Read false b ++ ps) ≡ true) ⊎ (any_failed (in_block way.Read false b ++ fs) ≡ true)
 bad_calls backing.None ps fs e = cc
 bad_calls (backing.Slot s) ps fs e = inl refl
 bad_calls (backing.Block b) ps fs e = inr refl
 
-further : (m : Move) (l : FrameLife) (ms : List Move) → OneFailed (after_move l m) ms → OneFailed l (m ∷ ms)
+further : (m : Move) (l : FrameLife) (ms : List Move) → AnyFailed (after_move l m) ms → AnyFailed l (m ∷ ms)
 further m l ms h = elim h [
   | inl p ↦ inl (later_failed (call_of in_slot l m) (calls_of in_slot (after_move l m) ms) p)
   | inr f ↦ inr (later_failed (call_of in_block l m) (calls_of in_block (after_move l m) ms) f)
 ]
 
-bad_traffic : (ms : List Move) (l m : FrameLife) → Sound l → Replays ms l m → has_bad ms ≡ true → OneFailed l ms
+bad_traffic : (ms : List Move) (l m : FrameLife) → Sound l → Replays ms l m → has_bad ms ≡ true → AnyFailed l ms
 bad_traffic [] l m s r h = cc
 bad_traffic (move.Bad f ∷ ms) l m s r h =
     bad_calls (record_at l.frames f.0).backing (calls_of in_slot (after_move l (move.Bad f)) ms) (calls_of in_block (after_move l (move.Bad f)) ms)
     (backed_read (record_at l.frames f.0) (s.standing f.0).fit (and_first (is_read (record_at l.frames f.0).request) (is_io l.kind || is_access l.kind) r.0))
 bad_traffic (x ∷ ms) l m s r h = further x l ms (bad_traffic ms (after_move l x) m (keeps x l s r.0) r.1 h)
 
-served_later : (cs : List Call) (d z : DeviceOf) → AllServed cs d z → d.faults ≤ z.faults
-served_later [] d z h = let same = ap (λ (x : DeviceOf). x.faults) h in omega arith
-served_later (c ∷ cs) d z h = let i = h.1.0.later in let j = served_later cs h.0 z h.1.1 in omega arith
+any_call : (cs : List Call) → list_any (λ c. not c.succeeded) cs ≡ any_failed (map logged_call cs)
+any_call [] = refl
+any_call (c ∷ cs) = ap (λ b. not c.succeeded || b) (any_call cs)
 
-one_rose : (ok : Bool) (d m z : DeviceOf) (rest : Bool) → d.faults ≤ m.faults → m.faults ≤ z.faults → (ok ≡ false → Rose d.faults m.faults) → (rest ≡ true → Rose m.faults z.faults) → (not ok || rest) ≡ true → Rose d.faults z.faults
-one_rose false d m z rest l k cause more q = rose_then d.faults m.faults z.faults (cause refl) k
-one_rose true d m z rest l k cause more q = rose_later d.faults m.faults z.faults l (more q)
-
-failed_rose : (cs : List Call) (d z : DeviceOf) → AllServed cs d z → any_failed (map logged_call cs) ≡ true → Rose d.faults z.faults
-failed_rose [] d z h q = cc
-failed_rose (c ∷ cs) d z h q =
-    one_rose c.succeeded d h.0 z (any_failed (map logged_call cs)) h.1.0.later (served_later cs h.0 z h.1.1) h.1.0.cause (failed_rose cs h.0 z h.1.1) q
+one_failed : (cs : List Call) (d z : DeviceOf) → AllServed cs d z → any_failed (map logged_call cs) ≡ true → CallFailed d z
+one_failed cs d z h q = all_served_failed cs d z h (any_call cs ∙ q)
 
 makes_no_bad : (ms : List Move) → AllTurn Makes ms → has_bad ms ≡ false
 makes_no_bad [] u = refl
@@ -174,30 +168,30 @@ line_waits w (line.Exit pid) a b waits l t h = left_waits (keeps_for (kept_by w 
 line_waits w e a b waits l t h = h
 
 beside_no_bad : (w : World) (e : Event) (a : Answer) (v : World) (r : Report) (b : Behind) (ms : List Move) (c : Behind) → asks_beside e ≡ true → Does w e a v r b ms c → has_bad ms ≡ false
-beside_no_bad w (line.File name pages byte) a v r b ms c q d = makes_no_bad ms d
+beside_no_bad w (line.File name pages byte) a v r b ms c q d = makes_no_bad ms d.all
 beside_no_bad w (line.Grow n) a v r b ms c q d = ap has_bad d
 beside_no_bad w (line.Fail device direction k n) a v r b ms c q d = ap has_bad d
 beside_no_bad w e a v r b ms c q d = (let no_way : false ≡ true = q in cc)
 
-module _ (w : World) (before : Report) (b : Behind) (paging files : DeviceOf) (e : Event) (a : Answer) (piece : List Move) (v : World) (after : Report) (c : Behind) (paging' files' : DeviceOf) (l : Line w before b paging files e a piece v after c paging' files') (sound : Sound b.life) (replays : Replays piece b.life c.life) where
-  bad_rose : has_bad l.moves ≡ true → OneRose paging paging' files files'
-  bad_rose h = by_traffic (asks_beside e) refl
+module _ (w : World) (before : Report) (b : Behind) (paging files : DeviceOf) (blocks : List Page) (e : Event) (a : Answer) (piece : List Move) (v : World) (after : Report) (c : Behind) (paging' files' : DeviceOf) (blocks' : List Page) (l : Line w before b paging files blocks e a piece v after c paging' files' blocks') (sound : Sound b.life) (replays : Replays piece b.life c.life) where
+  bad_failed : has_bad l.moves ≡ true → OneFailed paging paging' files files'
+  bad_failed h = by_traffic (asks_beside e) refl
     where
       whole : has_bad piece ≡ true
       whole = ap has_bad l.begins ∙ h
 
-      by_traffic : (x : Bool) → asks_beside e ≡ x → OneRose paging paging' files files'
+      by_traffic : (x : Bool) → asks_beside e ≡ x → OneFailed paging paging' files files'
       by_traffic true q = let clash : false ≡ true = sym (beside_no_bad w e a v after _ l.moves c q l.does) ∙ h in cc
       by_traffic false q =
           let t = l.traffic q in
           elim (bad_traffic piece b.life c.life sound replays whole) [
-            | inl p ↦ inl (failed_rose t.paging_calls paging paging' t.paging_served (ap any_failed t.paging_are ∙ p))
-            | inr f ↦ inr (failed_rose t.file_calls files files' t.files_served (ap any_failed t.files_are ∙ f))
+            | inl p ↦ inl (one_failed t.paging_calls paging paging' t.paging_served (ap any_failed t.paging_are ∙ p))
+            | inr f ↦ inr (one_failed t.file_calls files files' t.files_served (ap any_failed t.files_are ∙ f))
           ]
 
-  pub lost_line : (t : ℕ) → is_lost (c.waits t) ≡ true → (is_lost (b.waits t) ≡ true) ⊎ OneRose paging paging' files files'
+  pub lost_line : (t : ℕ) → is_lost (c.waits t) ≡ true → (is_lost (b.waits t) ≡ true) ⊎ OneFailed paging paging' files files'
   lost_line t h =
       elim (lost_through l.moves b.waits t (line_waits w e a b (waits_through l.moves b.waits) c.life t (sym (ap (λ (f : ℕ → Waiting). is_lost (f t)) l.waits) ∙ h))) [
         | inl was ↦ inl was
-        | inr bad ↦ inr (bad_rose bad)
+        | inr bad ↦ inr (bad_failed bad)
       ]

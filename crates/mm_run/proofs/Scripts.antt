@@ -4,6 +4,7 @@ use Rattle.std.specs.Prelude.{Result, Ok, Err, map}
 use Rattle.mm_types.specs.Outside.{Appended, Took}
 use Rattle.mm_types.specs.Spelling.{Text}
 use Rattle.mm_types.specs.AnswerText.{spelled}
+use Rattle.mm_types.proofs.Bytes.{append_nil}
 use Rattle.mm_lines.specs.Lines.{NoFeed, IsLine, ended, joined}
 use Rattle.mm_types.specs.declared.events.Event.{Event}
 use Rattle.mm_run.specs.declared.endings.Ending.{Ending}
@@ -13,7 +14,7 @@ use Rattle.mm_run.specs.Scenes.{Stage}
 use Rattle.mm_run.specs.Answered.{DecidedLine, AreAnswered, texts_of, answers_of}
 use Rattle.mm_run.specs.Texts.{status_of, last_text}
 use Rattle.mm_run.specs.Story.{Settles, IsBad, IsOpen}
-use Rattle.mm_run.specs.Ran.{Around, Ran, begun_at}
+use Rattle.mm_run.specs.Ran.{Around, Ran, RanOrRefused, begun_at}
 use Rattle.mm_run.specs.Script.{Each, IsVerdict, IsScript, IsFault, IsComplete}
 
 -- Bytes without a line feed are no longer than the line in front.
@@ -219,11 +220,6 @@ usage_only ending.OutFault q = absurd (omega arith)
 usage_only ending.MovesFault q = absurd (omega arith)
 usage_only ending.SetupFault q = absurd (omega arith)
 
--- a sink's flush failed
-flushed_fault : (status : ℕ) → (status ≡ 5) ⊎ (status ≡ 6) → IsFault status
-flushed_fault status (inl q) = inr (inr (inl q))
-flushed_fault status (inr q) = inr (inr (inr (inl q)))
-
 -- a run that is a verdict is over the script
 module _ (a b : Around) (form : Type 0) (status : ℕ) (ran : Ran a b form status) where
   script_of : (text : Text) (left left' : Option Text) → left ≡ Some text → Took left left' ran.taken → Settles (length ran.lines) ran.front ran.more left' ran.e → IsVerdict ran.e → IsScript text 0 (texts_of ran.lines) ran.e
@@ -256,30 +252,43 @@ module _ (a b : Around) (form : Type 0) (status : ℕ) (ran : Ran a b form statu
         wrote = subst (λ (f : Ending). Appended a.took b.took (spelled (answers_of ran.lines) ++ last_text f)) one.1 w;
       }
 
-  pub exact : (text : Text) (lines : List Text) (e : Ending) → a.left ≡ Some text → form → IsScript text 0 lines e → IsComplete a b form lines e status ⊎ IsFault status
-  exact text lines e told words script = elim ran.ends [
-    | inr torn ↦ inr (flushed_fault status (inl torn.0))
-    | inl whole ↦ elim whole.0 [
-      | inr flush ↦ inr (flushed_fault status flush)
-      | inl own ↦ elim (verdict_or ran.e (ran.is_form words)) [
-        | inr fault ↦ inr (subst IsFault (sym own) fault)
-        | inl verdict ↦ inl (complete text lines e told script own verdict (subst (λ (ws : Text). Appended a.took b.took ws) whole.2 ran.wrote))
-      ]
+  exact_ran : (text : Text) (lines : List Text) (e : Ending) → a.left ≡ Some text → form → IsScript text 0 lines e → IsComplete a b form lines e status ⊎ IsFault status
+  exact_ran text lines e told words script = elim ran.ends [
+    | inl whole ↦ elim (verdict_or ran.e (ran.is_form words)) [
+      | inr fault ↦ inr (subst IsFault (sym whole.status_is) fault)
+      | inl verdict ↦ inl (complete text lines e told script whole.status_is verdict (subst (λ (ws : Text). Appended a.took b.took ws) (whole.text ∙ ap (λ ls. spelled (answers_of ls) ++ last_text ran.e) (all_told whole.all_told)) ran.wrote))
     ]
+    | inr (inl torn) ↦ inr (inr (inr (inl torn.status_is)))
+    | inr (inr some) ↦ inr (inr (inr (inr (inl some.status_is))))
+  ]
+    where
+      all_told : ran.kept ≡ [] → ran.told ≡ ran.lines
+      all_told none = sym (ran.split ∙ ap (λ ls. ran.told ++ ls) none ∙ append_nil ran.told)
+
+  usage_ran : (form → ⊥) → (status ≡ 2) ⊎ IsFault status
+  usage_ran no_words = elim ran.ends [
+    | inl whole ↦ inl (whole.status_is ∙ ap status_of (ran.no_form no_words))
+    | inr (inl torn) ↦ inr (inr (inr (inl torn.status_is)))
+    | inr (inr some) ↦ inr (inr (inr (inr (inl some.status_is))))
   ]
 
-  pub usage : (form → ⊥) → (status ≡ 2) ⊎ IsFault status
-  usage no_words = elim ran.ends [
-    | inr torn ↦ inr (flushed_fault status (inl torn.0))
-    | inl whole ↦ elim whole.0 [ inr flush ↦ inr (flushed_fault status flush) | inl own ↦ inl (own ∙ ap status_of (ran.no_form no_words)) ]
+  not_usage_ran : form → status ≢ 2
+  not_usage_ran words two = elim ran.ends [
+    | inl whole ↦ ran.is_form words (usage_only ran.e (sym whole.status_is ∙ two))
+    | inr (inl torn) ↦ (let five = torn.status_is in omega (arith, five, two))
+    | inr (inr some) ↦ (let six = some.status_is in omega (arith, six, two))
   ]
 
-  pub not_usage : form → status ≢ 2
-  not_usage words two = elim ran.ends [
-    | inr torn ↦ (let five = torn.0 in omega arith)
-    | inl whole ↦ elim whole.0 [
-      | inr (inl five) ↦ omega arith
-      | inr (inr six) ↦ omega arith
-      | inl own ↦ ran.is_form words (usage_only ran.e (sym own ∙ two))
-    ]
-  ]
+-- or memory was refused before anything else
+module _ (a b : Around) (form : Type 0) (status : ℕ) where
+  pub exact : RanOrRefused a b form status → (text : Text) (lines : List Text) (e : Ending) → a.left ≡ Some text → form → IsScript text 0 lines e → IsComplete a b form lines e status ⊎ IsFault status
+  exact (inl ran) text lines e told words script = exact_ran a b form status ran text lines e told words script
+  exact (inr refused) text lines e told words script = inr (inl refused.status_is)
+
+  pub usage : RanOrRefused a b form status → (form → ⊥) → (status ≡ 2) ⊎ IsFault status
+  usage (inl ran) no_words = usage_ran a b form status ran no_words
+  usage (inr refused) no_words = inr (inl refused.status_is)
+
+  pub not_usage : RanOrRefused a b form status → form → status ≢ 2
+  not_usage (inl ran) words two = not_usage_ran a b form status ran words two
+  not_usage (inr refused) words two = let one = refused.status_is in omega (arith, one, two)

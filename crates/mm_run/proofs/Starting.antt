@@ -1,9 +1,6 @@
 -- A machine begins over a new store of pages, as a run tells it.
-use Rattle.std.proofs.Common.{◌≡◌, ◌≤◌, ℕ, zero, suc, List, [], ◌∷◌, Option, None, true, false, length, replicate, slice_get, refl, sym, ap, ◌∙◌, subst, arith}
-use Rattle.std.specs.Prelude.{Bool, ◌&&◌, ◌+◌, ◌*◌, nat_le}
-use Rattle.std.proofs.lemmas.Bool.{le-leb}
-use Rattle.mm_types.proofs.Booleans.{both}
-use Rattle.mm_types.specs.Machine.{MachineOf, IsMachine}
+use Rattle.std.proofs.Common.{◌≡◌, ◌≤◌, ℕ, zero, suc, List, [], ◌∷◌, Option, None, true, false, length, replicate, slice_get, refl, sym, ap, ◌∙◌, subst}
+use Rattle.mm_types.specs.Machine.{MachineOf}
 use Rattle.mm_life.specs.Legal.{IsLegal}
 use Rattle.mm_types.specs.declared.numbers.Key.{Key}
 use Rattle.mm_life.specs.Life.{unstarted}
@@ -13,8 +10,8 @@ use Rattle.std.specs.Borrow.{GName}
 use Rattle.mm_types.specs.Outside.{Loan, Both}
 use Rattle.mm_blocks.specs.declared.device_calls.DeviceCall.{DeviceCall}
 use Rattle.mm_blocks.specs.declared.device_calls.NamedCalls.{NamedCalls}
-use Rattle.mm_blocks.specs.Devices.{DeviceOf}
-use Rattle.mm_blocks.specs.Traffic.{NoneLogged, empty_block, told_by}
+use Rattle.mm_blocks.specs.Devices.{DeviceOf, device_with}
+use Rattle.mm_blocks.specs.Traffic.{NoneLogged, empty_block}
 use Rattle.mm_world.specs.World.{Page}
 use Rattle.mm_world.specs.System.{System, first_system}
 use Rattle.mm_walks.specs.Waits.{Idle, wait_of}
@@ -26,8 +23,9 @@ use Rattle.mm_pages.specs.Behind.{Behind}
 use Rattle.mm_pages.specs.Told.{none_told}
 use Rattle.mm_pages.specs.Conditions.{IsNew}
 use Rattle.mm_moving.specs.Shown.{StateOf}
-use Rattle.mm_state.specs.Shown.{Starts, state_of, device_with}
+use Rattle.mm_state.specs.Shown.{Starts, state_of}
 use Rattle.mm_paged.specs.Shown.{OwnOf, own_of, store_of, behind_of}
+use Rattle.mm_paging.specs.Lines.{Agrees}
 use Rattle.mm_paging.specs.Runs.{first_move}
 use Rattle.mm_run.specs.Scenes.{Scene, Outset}
 use Rattle.mm_run.specs.Steps.{IsMade}
@@ -89,41 +87,53 @@ module _ (m : MachineOf) (o : Outset) (paging files : DeviceOf) (slots blocks : 
   abbrev scene_of : System → StoreOf → Behind → Scene
   scene_of y s b = record { system = y; report = s.report; paging = s.paging_device; files = s.file_device; blocks = s.file_blocks; behind = b }
 
-  made_at : (l : Log) → AreMoves (first_move m ∷ []) → Grew o.log l (spelled_moves (first_move m ∷ [])) → IsLegal (first_move m) unstarted → IsMade m o (scene_of (first_system m) (store_of (begun l) own) (behind_of (begun l)))
-  made_at l range grew legal = record {
+  made_at : (l : Log) → AreMoves (first_move m ∷ []) → Grew o.log l (spelled_moves (first_move m ∷ [])) → IsLegal (first_move m) unstarted → Agrees (first_system m).world (store_of (begun l) own).report (behind_of (begun l))
+      → IsMade m o (scene_of (first_system m) (store_of (begun l) own) (behind_of (begun l)))
+  made_at l range grew legal agrees = record {
     first = record {
       system = refl;
       slots = opened.slots_are;
       blocks = opened.blocks_are;
       paging = record { none_logged = opened.paging_logged; none_named = opened.paging_named; later = opened.paging_later };
       files = record { none_logged = opened.files_logged; none_named = opened.files_named; later = opened.files_later };
+      agrees = agrees;
+      told = refl;
+      extended = refl;
       idle = λ tid. (nobody_waits 256 tid, ap wait_of (nobody_waits 256 tid));
     };
     notes = record { in_range = range; grew = grew; replays = (legal, refl) };
     holds = λ k on. (let no_way : false ≡ true = on in cc);
   }
 
-  pub is_made : (log : Log) (z : StateOf) → log ≡ o.log → Starts m log paging files slots blocks z → IsLegal (first_move m) unstarted → (y : System) (s : StoreOf) (b : Behind) → y ≡ first_system m → s ≡ store_of z own → b ≡ behind_of z → IsMade m o (scene_of y s b)
-  is_made log z same h legal y s b ey es eb =
+  pub is_made : (log : Log) (z : StateOf) → log ≡ o.log → Starts m log paging files slots blocks z → IsLegal (first_move m) unstarted → (y : System) (s : StoreOf) (b : Behind) → y ≡ first_system m → s ≡ store_of z own → b ≡ behind_of z
+      → Agrees y.world s.report b → IsMade m o (scene_of y s b)
+  is_made log z same h legal y s b ey es eb agrees =
+      let there : Agrees (first_system m).world (store_of z own).report (behind_of z) =
+      subst (λ (x : System). Agrees x.world (store_of z own).report (behind_of z)) ey
+      (subst (λ (x : StoreOf). Agrees y.world x.report (behind_of z)) es
+      (subst (λ (x : Behind). Agrees y.world s.report x) eb agrees)) in
+      let begins : Agrees (first_system m).world (store_of (begun z.log) own).report (behind_of (begun z.log)) =
+      subst (λ (x : StateOf). Agrees (first_system m).world (store_of x own).report (behind_of x)) h.shows there in
       let here : IsMade m o (scene_of (first_system m) (store_of z own) (behind_of z)) =
-      subst (λ (x : StateOf). IsMade m o (scene_of (first_system m) (store_of x own) (behind_of x))) (sym h.shows) (made_at z.log h.in_range (subst (λ (l : Log). Grew l z.log (spelled_moves (first_move m ∷ []))) same h.grew) legal) in
+      subst (λ (x : StateOf). IsMade m o (scene_of (first_system m) (store_of x own) (behind_of x))) (sym h.shows)
+      (made_at z.log h.in_range (subst (λ (l : Log). Grew l z.log (spelled_moves (first_move m ∷ []))) same h.grew) legal begins) in
       subst (λ (x : System). IsMade m o (scene_of x s b)) (sym ey)
       (subst (λ (x : StoreOf). IsMade m o (scene_of (first_system m) x b)) (sym es)
       (subst (λ (x : Behind). IsMade m o (scene_of (first_system m) (store_of z own) x)) (sym eb) here))
 
--- two devices under injections that name nothing
-pub opened_of : (m : MachineOf) (o : Outset) (pn fn pp fp : List NamedCalls) (pl fl : Option (List DeviceCall)) (pf pk ff fk : ℕ) (slots blocks : List Page)
-    → slots ≡ replicate m.slots empty_block → blocks ≡ replicate m.blocks empty_block → NoneLogged pl → NoneLogged fl → pn ≡ [] → fn ≡ [] → pp ≡ [] → fp ≡ [] → o.paging ≤ pf → o.files ≤ ff
-    → Opened m o (device_with (told_by pn pl) pp (pf + pk)) (device_with (told_by fn fl) fp (ff + fk)) slots blocks
-opened_of m o pn fn pp fp pl fl pf pk ff fk slots blocks s b lp lf np nf ep ef kp kf = record {
+-- two devices that were opened, under injections that name nothing
+pub opened_of : (m : MachineOf) (o : Outset) (pp fp : List NamedCalls) (pl fl : Option (List DeviceCall)) (pf ff : ℕ) (slots blocks : List Page)
+    → slots ≡ replicate m.slots empty_block → blocks ≡ replicate m.blocks empty_block → NoneLogged pl → NoneLogged fl → pp ≡ [] → fp ≡ [] → o.paging ≤ pf → o.files ≤ ff
+    → Opened m o (device_with pl pp pf) (device_with fl fp ff) slots blocks
+opened_of m o pp fp pl fl pf ff slots blocks s b lp lf ep ef kp kf = record {
   slots_are = s;
   blocks_are = b;
-  paging_logged = subst (λ (ns : List NamedCalls). NoneLogged (told_by ns pl)) (sym np) lp;
-  files_logged = subst (λ (ns : List NamedCalls). NoneLogged (told_by ns fl)) (sym nf) lf;
+  paging_logged = lp;
+  files_logged = lf;
   paging_named = ep;
   files_named = ef;
-  paging_later = omega (arith, kp);
-  files_later = omega (arith, kf);
+  paging_later = kp;
+  files_later = kf;
 }
 
 -- three loans of references

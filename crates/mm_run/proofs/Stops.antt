@@ -1,8 +1,9 @@
 -- What a run comes to, at one line.
-use Rattle.std.proofs.Common.{◌≡◌, ◌⊎◌, ℕ, suc, ◌+◌, ◌<◌, ◌≤◌, [], ◌∷◌, ◌++◌, length, take, drop, Option, refl, sym, ap, ◌∙◌, subst, inl, inr, arith, append_assoc, length-append, add-zero, add-one, length-drop}
+use Rattle.std.proofs.Common.{◌≡◌, ◌⊎◌, ℕ, List, suc, ◌+◌, ◌<◌, ◌≤◌, [], ◌∷◌, ◌++◌, length, take, drop, Option, refl, sym, ap, ◌∙◌, subst, inl, inr, arith, append_assoc, length-append, add-zero, add-one, length-drop}
 use Rattle.std.proofs.lemmas.List.{length-take}
 use Rattle.std.specs.Prelude.{Ok, Err, true}
 use Rattle.mm_types.specs.Outside.{Appended, IsEnd}
+use Rattle.mm_life.specs.MoveText.{spelled_moves}
 use Rattle.mm_types.specs.Spelling.{Text}
 use Rattle.mm_types.specs.AnswerText.{spelling}
 use Rattle.mm_types.proofs.Bytes.{append_nil, took_none, appended_none}
@@ -17,18 +18,18 @@ use Rattle.mm_run.specs.declared.endings.Ending.TheVariants as ending
 use Rattle.mm_system.specs.Lines.{is_machine}
 use Rattle.mm_run.specs.Reading.{reading}
 use Rattle.mm_run.specs.Steps.{Breaks}
-use Rattle.mm_run.specs.Answered.{DecidedLine, IsNext}
+use Rattle.mm_run.specs.Answered.{DecidedLine, HoldMovesOf, IsNext}
 use Rattle.mm_script.specs.Grammar.{IsLine as IsLineFor}
-use Rattle.mm_run.specs.Texts.{StandsAt}
+use Rattle.mm_run.specs.Texts.{TornText}
 use Rattle.mm_run.specs.Ends.{Closes, BreaksOff, TakesMemory}
-use Rattle.mm_run.specs.Story.{IsMisplaced, Went, Came, Settles, EndsAt, outside, stand}
-use Rattle.mm_run.proofs.Stories.{follows_here}
+use Rattle.mm_run.specs.Story.{AreKept, IsMisplaced, Went, Came, Settles, StandsAt, EndsAt, outside, stand}
+use Rattle.mm_run.proofs.Stories.{LogGrows, follows_here, grows_here, grows_follows, grows_grew, grows_next, kept_more, kept_on}
 
--- No line more is decided.
-pub came_here : (a b t : Option Text) (x y : Text) (n : ℕ) (w end : Stage) (e : Ending) (front more : Text)
-    → Filled a b x y → y ≡ front ++ more → n ≤ 1000000 → Settles n front more b e → length more < 4096 → StandsAt e [] [] → Closes e n front w end
-    → Came (outside a t) (outside b t) (stand x n w) e end
-came_here a b t x y n w end e front more f q l s few stands closes = record {
+-- No line more is decided, and none is told.
+pub came_here : (a b t : Option Text) (kept x y : Text) (n : ℕ) (w end : Stage) (e : Ending) (front more : Text)
+    → Filled a b x y → y ≡ front ++ more → n ≤ 1000000 → Settles n front more b e → length more < 4096 → ((still : List DecidedLine) → StandsAt e [] still []) → Closes e n front w end → LogGrows w end
+    → Came (outside a t kept) (outside b t kept) (stand x n w) e end
+came_here a b t kept x y n w end e front more f q l s few stands closes grows ks k = record {
   decided = record {
     lines = [];
     taken = f.taken;
@@ -42,9 +43,15 @@ came_here a b t x y n w end e front more f q l s few stands closes = record {
     few = few;
     closes = subst (λ (k : ℕ). Closes e k front w end) (sym (add-zero n)) closes;
   };
+  told = [];
+  still = ks;
+  split = append_nil ks;
   written = [];
   wrote = appended_none t;
-  stands = stands;
+  stands = stands ks;
+  gave = tt;
+  keeps = kept_on ks kept w end grows k;
+  grows = grows.given;
 }
 
 -- the line in front
@@ -61,36 +68,40 @@ module _ (held : Text) (len n : ℕ) (h : HasLine held len) (small : n < 1000000
   width : length (ended (take len held)) ≤ 257
   width = let s = h.short in omega (arith, length-take len held, length-append (take len held) (10 ∷ []))
 
-  pub came_bad : (a t : Option Text) (w : Stage) (column : ℕ) → reading n (take len held) ≡ Err column → ((e : Event) → IsLineFor (take len held) e → IsMisplaced n e) → Came (outside a t) (outside a t) (stand held n w) (ending.Script (n + 1) column) w
-  came_bad a t w column p r =
-      came_here a a t held held n w w _ (ended (take len held)) _ (filled_none a held) split (omega arith)
-      (refl, small, inl (record { line = take len held; is_line = is_line; whole = refl; place = p; refused = r })) few refl (follows_here w)
+  pub came_bad : (a t : Option Text) (kept : Text) (w : Stage) (column : ℕ) → reading n (take len held) ≡ Err column → ((e : Event) → IsLineFor (take len held) e → IsMisplaced n e)
+      → Came (outside a t kept) (outside a t kept) (stand held n w) (ending.Script (n + 1) column) w
+  came_bad a t kept w column p r =
+      came_here a a t kept held held n w w _ (ended (take len held)) _ (filled_none a held) split (omega arith)
+      (refl, small, inl (record { line = take len held; is_line = is_line; whole = refl; place = p; refused = r })) few (λ ks. refl) (follows_here w) (grows_here w)
 
-  pub came_memory : (a t : Option Text) (w end : Stage) (event : Event) → reading n (take len held) ≡ Ok event → IsLineFor (take len held) event
-      → ((is_machine event ≡ true) × Follows w end) ⊎ (TakesMemory w event × BreaksOff w end) → Came (outside a t) (outside a t) (stand held n w) ending.NoMemory end
-  came_memory a t w end event says grammar broken =
-      came_here a a t held held n w end _ (ended (take len held)) _ (filled_none a held) split (omega arith) width few refl
-      (record { line = take len held; event = event; whole = refl; says = record { is_line = is_line; says = says; grammar = grammar }; broken = broken })
+  pub came_memory : (a t : Option Text) (kept : Text) (w end : Stage) (event : Event) → reading n (take len held) ≡ Ok event → IsLineFor (take len held) event
+      → ((is_machine event ≡ true) × Follows w end) ⊎ (TakesMemory w event × BreaksOff w end) → LogGrows w end → Came (outside a t kept) (outside a t kept) (stand held n w) ending.NoMemory end
+  came_memory a t kept w end event says grammar broken grows =
+      came_here a a t kept held held n w end _ (ended (take len held)) _ (filled_none a held) split (omega arith) width few (λ ks. refl)
+      (record { line = take len held; event = event; whole = refl; says = record { is_line = is_line; says = says; grammar = grammar }; broken = broken }) grows
 
-  pub came_broken : (a t : Option Text) (s z : Scene) (event : Event) → reading n (take len held) ≡ Ok event → IsLineFor (take len held) event → TakesMemory (Running s) event → Breaks s z
-      → Came (outside a t) (outside a t) (stand held n (Running s)) ending.NoMemory (Running z)
-  came_broken a t s z event says grammar takes b =
-      came_memory a t (Running s) (Running z) event says grammar (inr (takes, record { before = Running s; follows = follows_here (Running s); breaks = b }))
+  pub came_broken : (a t : Option Text) (kept : Text) (s z : Scene) (event : Event) → reading n (take len held) ≡ Ok event → IsLineFor (take len held) event → TakesMemory (Running s) event → Breaks s z
+      → Came (outside a t kept) (outside a t kept) (stand held n (Running s)) ending.NoMemory (Running z)
+  came_broken a t kept s z event says grammar takes b =
+      let p = b.broke.broken refl in
+      came_memory a t kept (Running s) (Running z) event says grammar (inr (takes, record { before = Running s; follows = follows_here (Running s); breaks = b }))
+      (grows_grew (Running s) (Running z) (spelled_moves p.piece) p.grew)
 
-  pub came_setup : (a t : Option Text) (w : Stage) (event : Event) → n ≡ 0 → reading 0 (take len held) ≡ Ok event → is_machine event ≡ true → Came (outside a t) (outside a t) (stand held n w) ending.SetupFault w
-  came_setup a t w event first p m =
-      came_here a a t held held n w w _ (ended (take len held)) _ (filled_none a held) split (omega arith)
-      (record { first = first; line = take len held; event = event; whole = refl; says = p; machine = m }) few refl (follows_here w)
+  pub came_setup : (a t : Option Text) (kept : Text) (w : Stage) (event : Event) → n ≡ 0 → reading 0 (take len held) ≡ Ok event → is_machine event ≡ true
+      → Came (outside a t kept) (outside a t kept) (stand held n w) ending.SetupFault w
+  came_setup a t kept w event first p m =
+      came_here a a t kept held held n w w _ (ended (take len held)) _ (filled_none a held) split (omega arith)
+      (record { first = first; line = take len held; event = event; whole = refl; says = p; machine = m }) few (λ ks. refl) (follows_here w) (grows_here w)
 
   whole_line : held ++ [] ≡ joined (take len held ∷ []) ++ drop (len + 1) held
   whole_line = append_nil held ∙ split ∙ ap (λ xs. xs ++ drop (len + 1) held) (sym (append_nil (ended (take len held))))
 
-  module _ (a t t' : Option Text) (w : Stage) (l : DecidedLine) (same : l.text ≡ take len held) (next : IsNext n w l) where
+  module _ (a t : Option Text) (kept : Text) (w : Stage) (l : DecidedLine) (same : l.text ≡ take len held) (next : IsNext n w l) where
     whole_text : held ++ [] ≡ joined (l.text ∷ []) ++ drop (len + 1) held
     whole_text = whole_line ∙ ap (λ (x : Text). joined (x ∷ []) ++ drop (len + 1) held) (sym same)
 
-    went_line : HasNoted l.after → Appended t t' (spelling l.answer) → Went (outside a t) (outside a t') (stand held n w) (stand (drop (len + 1) held) (n + 1) l.after)
-    went_line noted u = record {
+    went_line : (kept' : Text) → HasNoted l.after → kept' ≡ kept ++ spelling l.answer → Went (outside a t kept) (outside a t kept') (stand held n w) (stand (drop (len + 1) held) (n + 1) l.after)
+    went_line kept' noted u ks k = record {
       lines = l ∷ [];
       taken = [];
       read = took_none a;
@@ -98,83 +109,118 @@ module _ (held : Text) (len n : ℕ) (h : HasLine held len) (small : n < 1000000
       answered = (next, noted, tt);
       stage = follows_here l.after;
       count = omega arith;
-      wrote = subst (λ xs. Appended t t' xs) (sym (append_nil (spelling l.answer))) u;
+      told = [];
+      still = ks ++ l ∷ [];
+      split = refl;
+      wrote = appended_none t;
+      gave = tt;
+      keeps = kept_more ks kept kept' w l (grows_next n w l next) u k;
+      grows = (grows_next n w l next).given;
     }
 
-    pub went_to : (held' : Text) → held' ≡ drop (len + 1) held → HasNoted l.after → Appended t t' (spelling l.answer) → Went (outside a t) (outside a t') (stand held n w) (stand held' (n + 1) l.after)
-    went_to held' h noted u =
-        subst (λ (xs : Text). Went (outside a t) (outside a t') (stand held n w) (stand xs (n + 1) l.after)) (sym h) (went_line noted u)
+    pub went_to : (kept' held' : Text) → held' ≡ drop (len + 1) held → HasNoted l.after → kept' ≡ kept ++ spelling l.answer → Went (outside a t kept) (outside a t kept') (stand held n w) (stand held' (n + 1) l.after)
+    went_to kept' held' h noted u =
+        subst (λ (xs : Text). Went (outside a t kept) (outside a t kept') (stand held n w) (stand xs (n + 1) l.after)) (sym h) (went_line kept' noted u)
 
-    pub came_torn : (front back : Text) → HasNoted l.after → spelling l.answer ≡ front ++ back → Appended t t' front → Came (outside a t) (outside a t') (stand held n w) ending.OutFault l.after
-    came_torn front back noted r u = record {
+    -- its moves were not all written
+    pub came_muted : (log_of l.after).failed ≡ true → Came (outside a t kept) (outside a t kept) (stand held n w) ending.MovesFault l.after
+    came_muted failed =
+        came_here a a t kept held held n w l.after _ (ended (take len held)) _ (filled_none a held) split (omega arith) width few (λ ks. refl)
+        (inr (record { line = l; whole = ap ended (sym same); muted = record { next = next; failed = failed }; after = refl })) (grows_next n w l next)
+
+-- ---- between two lines
+
+module _ (a t : Option Text) (held : Text) (n : ℕ) (w z : Stage) (h : Follows w z) (l : n ≤ 1000000) (few : length held < 4096) where
+  -- the moves could not be given on
+  pub came_held_back : (kept : Text) → Came (outside a t kept) (outside a t kept) (stand held n w) ending.MovesFault z
+  came_held_back kept =
+      came_here a a t kept held held n w z ending.MovesFault [] held (filled_none a held) refl l (omega arith) few (λ ks. refl) (inl h) (grows_follows w z h)
+
+  module _ (kept kept' : Text) (none : kept' ≡ []) (all : (log_of z).given ≡ (log_of w).bytes) where
+    gave_kept : (ks : List DecidedLine) → AreKept ks kept w → HoldMovesOf ks (log_of z).given
+    gave_kept ks k = subst (λ (b : Option Text). HoldMovesOf ks b) (sym all) k.noted
+
+    none_kept : AreKept [] kept' z
+    none_kept = record { text_is = none; noted = tt }
+
+    -- they were, and then the answers
+    pub went_told : (t' : Option Text) → Appended t t' kept → Went (outside a t kept) (outside a t' kept') (stand held n w) (stand held n z)
+    went_told t' u ks k = record {
+      lines = [];
+      taken = [];
+      read = took_none a;
+      whole = append_nil held;
+      answered = tt;
+      stage = h;
+      count = sym (add-zero n);
+      told = ks;
+      still = [];
+      split = refl;
+      wrote = subst (λ (xs : Text). Appended t t' xs) k.text_is u;
+      gave = gave_kept ks k;
+      keeps = none_kept;
+      grows = h.gave.grows;
+    }
+
+    -- they were, and the answers could not all be written
+    pub came_torn : (t' : Option Text) → TornText t t' kept → Came (outside a t kept) (outside a t' kept') (stand held n w) ending.OutFault z
+    came_torn t' u ks k = record {
       decided = record {
-        lines = l ∷ [];
+        lines = [];
         taken = [];
         front = [];
-        more = drop (len + 1) held;
+        more = held;
         read = took_none a;
-        whole = whole_text;
-        answered = (next, noted, tt);
+        whole = append_nil held;
+        answered = tt;
         limit = omega arith;
         settled = refl;
         few = few;
-        closes = follows_here l.after;
+        closes = h;
       };
-      written = front;
-      wrote = u;
-      stands = inl (record { before = []; piece = spelling l.answer; front = front; back = back; pieces_are = refl; piece_is = r; stands = refl });
+      told = ks;
+      still = [];
+      split = refl;
+      written = u.front;
+      wrote = u.wrote;
+      stands = (refl, record { back = u.back; whole = sym k.text_is ∙ u.whole });
+      gave = gave_kept ks k;
+      keeps = none_kept;
+      grows = h.gave.grows;
     }
 
-    -- its moves were not all written
-    pub came_muted : t' ≡ t → (log_of l.after).failed ≡ true → Came (outside a t) (outside a t') (stand held n w) ending.MovesFault l.after
-    came_muted still failed =
-        subst (λ (k : Option Text). Came (outside a t) (outside a k) (stand held n w) ending.MovesFault l.after) (sym still)
-        (came_here a a t held held n w l.after _ (ended (take len held)) _ (filled_none a held) split (omega arith) width few refl
-        (inr (record { line = l; whole = ap ended (sym same); muted = record { next = next; failed = failed }; after = refl })))
-
--- a sink's flush failed between two lines
-pub came_unflushed : (a t t' : Option Text) (held : Text) (n : ℕ) (w end : Stage) (e : Ending) → (e ≡ ending.MovesFault) ⊎ (e ≡ ending.OutFault) → n ≤ 1000000 → length held < 4096 → t' ≡ t → Follows w end → Came (outside a t) (outside a t') (stand held n w) e end
-came_unflushed a t t' held n w end e which l few same h =
-    subst (λ (k : Option Text). Came (outside a t) (outside a k) (stand held n w) e end) (sym same)
-    (elim which [
-      | inl moves ↦ subst (λ (k : Ending). Came (outside a t) (outside a t) (stand held n w) k end) (sym moves)
-          (came_here a a t held held n w end ending.MovesFault [] held (filled_none a held) refl l (omega arith) few refl (inl h))
-      | inr out ↦ subst (λ (k : Ending). Came (outside a t) (outside a t) (stand held n w) k end) (sym out)
-          (came_here a a t held held n w end ending.OutFault [] held (filled_none a held) refl l refl few (inr refl) h)
-    ])
-
 -- the input's end
-module _ (a b t : Option Text) (x y : Text) (n : ℕ) (w : Stage) (f : Filled a b x y) where
+module _ (a b t : Option Text) (kept x y : Text) (n : ℕ) (w : Stage) (f : Filled a b x y) where
   empty : (xs : Text) → length xs ≡ 0 → xs ≡ []
   empty [] e = refl
   empty (x ∷ xs) e = absurd (omega arith)
 
-  pub came_end : (e : Ending) → n < 1000000 → IsLine y → IsEnd b → EndsAt n (length y) e → Came (outside a t) (outside b t) (stand x n w) e w
+  pub came_end : (e : Ending) → n < 1000000 → IsLine y → IsEnd b → EndsAt n (length y) e → Came (outside a t kept) (outside b t kept) (stand x n w) e w
   came_end e small l end s = elim s [
-    | inl d ↦ subst (λ (k : Ending). Came (outside a t) (outside b t) (stand x n w) k w) (sym d.2)
-        (came_here a b t x y n w w ending.Done [] [] f (empty y d.1) (omega arith) (d.0, refl, refl, end) (omega arith) refl (follows_here w))
-    | inr o ↦ subst (λ (k : Ending). Came (outside a t) (outside b t) (stand x n w) k w) (sym o.1)
-        (came_here a b t x y n w w (ending.Script (n + 1) (length y + 1)) y [] f (sym (append_nil y)) (omega arith)
-        (refl, small, inr (record { is_line = l; last = refl; at_end = end; some = o.0; place = refl })) (omega arith) refl (follows_here w))
+    | inl d ↦ subst (λ (k : Ending). Came (outside a t kept) (outside b t kept) (stand x n w) k w) (sym d.2)
+        (came_here a b t kept x y n w w ending.Done [] [] f (empty y d.1) (omega arith) (d.0, refl, refl, end) (omega arith) (λ ks. refl) (follows_here w) (grows_here w))
+    | inr o ↦ subst (λ (k : Ending). Came (outside a t kept) (outside b t kept) (stand x n w) k w) (sym o.1)
+        (came_here a b t kept x y n w w (ending.Script (n + 1) (length y + 1)) y [] f (sym (append_nil y)) (omega arith)
+        (refl, small, inr (record { is_line = l; last = refl; at_end = end; some = o.0; place = refl })) (omega arith) (λ ks. refl) (follows_here w) (grows_here w))
   ]
 
-  pub came_long : n < 1000000 → IsLong y → length y < 257 + 4096 → Came (outside a t) (outside b t) (stand x n w) (ending.TooLong (n + 1)) w
+  pub came_long : n < 1000000 → IsLong y → length y < 257 + 4096 → Came (outside a t kept) (outside b t kept) (stand x n w) (ending.TooLong (n + 1)) w
   came_long small l few =
       let m = l.many in
-      came_here a b t x y n w w _ l.front l.more f l.whole (omega arith) (refl, inl (l.many, l.no_feed)) (omega (arith, ap length l.whole, length-append l.front l.more)) refl (follows_here w)
+      came_here a b t kept x y n w w _ l.front l.more f l.whole (omega arith) (refl, inl (l.many, l.no_feed)) (omega (arith, ap length l.whole, length-append l.front l.more)) (λ ks. refl) (follows_here w) (grows_here w)
 
-  pub came_read : n ≤ 1000000 → IsLine y → Came (outside a t) (outside b t) (stand x n w) ending.ReadFault w
-  came_read small l = came_here a b t x y n w w _ y [] f (sym (append_nil y)) small (l, refl) (omega arith) refl (follows_here w)
+  pub came_read : n ≤ 1000000 → IsLine y → Came (outside a t kept) (outside b t kept) (stand x n w) ending.ReadFault w
+  came_read small l = came_here a b t kept x y n w w _ y [] f (sym (append_nil y)) small (l, refl) (omega arith) (λ ks. refl) (follows_here w) (grows_here w)
 
-  pub came_done : n ≡ 1000000 → y ≡ [] → IsEnd b → Came (outside a t) (outside b t) (stand x n w) ending.Done w
-  came_done full e end = came_here a b t x y n w w ending.Done [] [] f e (omega arith) (omega arith, refl, refl, end) (omega arith) refl (follows_here w)
+  pub came_done : n ≡ 1000000 → y ≡ [] → IsEnd b → Came (outside a t kept) (outside b t kept) (stand x n w) ending.Done w
+  came_done full e end = came_here a b t kept x y n w w ending.Done [] [] f e (omega arith) (omega arith, refl, refl, end) (omega arith) (λ ks. refl) (follows_here w) (grows_here w)
 
-  pub came_line : n ≡ 1000000 → 0 < length y → length y < 1 + 4096 → Came (outside a t) (outside b t) (stand x n w) (ending.TooLong (n + 1)) w
+  pub came_line : n ≡ 1000000 → 0 < length y → length y < 1 + 4096 → Came (outside a t kept) (outside b t kept) (stand x n w) (ending.TooLong (n + 1)) w
   came_line full some few = go y refl some few
     where
-      go : (ys : Text) → y ≡ ys → 0 < length ys → length ys < 1 + 4096 → Came (outside a t) (outside b t) (stand x n w) (ending.TooLong (n + 1)) w
+      go : (ys : Text) → y ≡ ys → 0 < length ys → length ys < 1 + 4096 → Came (outside a t kept) (outside b t kept) (stand x n w) (ending.TooLong (n + 1)) w
       go [] e s l = absurd (omega arith)
-      go (z ∷ zs) e s l = came_here a b t x y n w w _ (z ∷ []) zs f e (omega arith) (refl, inr (full, refl)) (omega arith) refl (follows_here w)
+      go (z ∷ zs) e s l = came_here a b t kept x y n w w _ (z ∷ []) zs f e (omega arith) (refl, inr (full, refl)) (omega arith) (λ ks. refl) (follows_here w) (grows_here w)
 
 pub line_of_none : (xs : Text) → xs ≡ [] → IsLine xs
 line_of_none xs e = subst IsLine (sym e) (record { no_feed = tt; short = omega arith })

@@ -1,22 +1,25 @@
 -- Lines decided one after another.
-use Rattle.std.proofs.Common.{◌≡◌, ◌≤◌, ℕ, suc, ◌+◌, List, [], ◌∷◌, ◌++◌, length, Option, refl, sym, ap, ◌∙◌, subst, inl, inr, arith, append_assoc, length-append, add-zero}
-use Rattle.std.specs.Prelude.{MatchOption, Some, None}
+use Rattle.std.specs.Prelude.{Result}
+use Rattle.std.proofs.Common.{◌≡◌, ℕ, suc, ◌+◌, Bool, List, [], ◌∷◌, ◌++◌, length, Option, Some, None, refl, sym, ap, ◌∙◌, subst, inl, inr, arith, append_assoc, length-append, add-zero}
 use Rattle.mm_types.specs.Outside.{Appended}
 use Rattle.mm_types.specs.Spelling.{Text}
 use Rattle.mm_types.specs.AnswerText.{spelling, spelled}
-use Rattle.mm_types.proofs.Bytes.{append_nil, took_then, took_none, appended_none, appended_then}
+use Rattle.mm_types.proofs.Bytes.{append_nil, took_then, appended_none, appended_then}
 use Rattle.mm_lines.specs.Lines.{ended, joined}
 use Rattle.mm_lines.specs.Filling.{Filled}
+use Rattle.mm_lines.proofs.Fillings.{filled_none}
 use Rattle.mm_types.specs.declared.answers.Answer.{Answer}
 use Rattle.mm_types.specs.declared.events.Event.{Event}
 use Rattle.mm_run.specs.declared.endings.Ending.{Ending}
 use Rattle.mm_run.specs.declared.endings.Ending.TheVariants as ending
-use Rattle.mm_run.specs.Scenes.{Scene, Outset, Stage, NotBegun, Running, Follows, with_faults, log_of, life_of}
-use Rattle.mm_run.specs.Answered.{DecidedLine, IsNext, AreAnswered, last_stage, texts_of, answers_of}
-use Rattle.mm_run.specs.Texts.{IsTorn, StandsAt, texts, concat}
-use Rattle.mm_life.specs.Logs.{Log}
+use Rattle.mm_run.specs.Scenes.{Scene, Outset, Stage, NotBegun, Running, Follows, with_flush, log_of, life_of}
+use Rattle.mm_run.specs.Answered.{DecidedLine, IsNext, AreAnswered, HoldMovesOf, last_stage, texts_of, answers_of}
+use Rattle.mm_run.specs.Texts.{IsFront}
+use Rattle.mm_life.specs.Logs.{Log, IsFrontOf, Told, Grew, Flushed}
+use Rattle.mm_life.specs.MoveText.{spelled_moves}
+use Rattle.mm_life.proofs.Noting.{front_of_then, gave_nothing, gave_then}
 use Rattle.mm_run.specs.Ends.{Closes, Left, IsLogLeft, TakesMemory}
-use Rattle.mm_run.specs.Story.{Went, Came, Comes, Settles, Outside, Stand, outside, stand}
+use Rattle.mm_run.specs.Story.{AreKept, Went, Came, Comes, Settles, StandsAt, Outside, Stand, outside, stand}
 
 pub joined-append : (xs ys : List Text) → joined (xs ++ ys) ≡ joined xs ++ joined ys
 joined-append [] ys = refl
@@ -25,18 +28,6 @@ joined-append (x ∷ xs) ys = ap (λ t. ended x ++ t) (joined-append xs ys) ∙ 
 pub spelled-append : (xs ys : List Answer) → spelled (xs ++ ys) ≡ spelled xs ++ spelled ys
 spelled-append [] ys = refl
 spelled-append (x ∷ xs) ys = ap (λ t. spelling x ++ t) (spelled-append xs ys) ∙ sym (append_assoc (spelling x) (spelled xs) (spelled ys))
-
-pub texts-append : (xs ys : List Answer) → texts (xs ++ ys) ≡ texts xs ++ texts ys
-texts-append [] ys = refl
-texts-append (x ∷ xs) ys = ap (λ t. spelling x ∷ t) (texts-append xs ys)
-
-pub concat-append : (xs ys : List Text) → concat (xs ++ ys) ≡ concat xs ++ concat ys
-concat-append [] ys = refl
-concat-append (x ∷ xs) ys = ap (λ t. x ++ t) (concat-append xs ys) ∙ sym (append_assoc x (concat xs) (concat ys))
-
-pub concat-texts : (xs : List Answer) → concat (texts xs) ≡ spelled xs
-concat-texts [] = refl
-concat-texts (x ∷ xs) = ap (λ t. spelling x ++ t) (concat-texts xs)
 
 -- ---- the lists of lines
 
@@ -61,43 +52,41 @@ answered_then n old (x ∷ xs) ys u v =
 -- ---- nothing changes between two lines
 
 pub follows_here : (s : Stage) → Follows s s
-follows_here (NotBegun o) = record { same = refl; later = omega arith }
-follows_here (Running s) = record { same = refl; later = omega arith }
+follows_here (NotBegun o) = record { same = refl; later = omega arith; gave = gave_nothing o.log }
+follows_here (Running s) = record { same = refl; later = omega arith; gave = gave_nothing s.behind.log }
 
-faults_with : (k : ℕ) (s : Stage) → (log_of (with_faults k s)).faults ≡ k
-faults_with k (NotBegun o) = refl
-faults_with k (Running s) = refl
-
-with_twice : (j k : ℕ) (s : Stage) → with_faults j (with_faults k s) ≡ with_faults j s
-with_twice j k (NotBegun o) = refl
-with_twice j k (Running s) = refl
+flush_twice : (p q : Option (List ℕ)) (j k : ℕ) (s : Stage) → with_flush p j (with_flush q k s) ≡ with_flush p j s
+flush_twice p q j k (NotBegun o) = refl
+flush_twice p q j k (Running s) = refl
 
 pub follows_then : (a b c : Stage) → Follows a b → Follows b c → Follows a c
 follows_then a b c u v = record {
-  same = v.same ∙ ap (λ (s : Stage). with_faults (log_of c).faults s) u.same ∙ with_twice (log_of c).faults (log_of b).faults a;
+  same = v.same ∙ ap (λ (s : Stage). with_flush (log_of c).given (log_of c).faults s) u.same
+      ∙ flush_twice (log_of c).given (log_of b).given (log_of c).faults (log_of b).faults a;
   later = let i = u.later in let j = v.later in omega arith;
+  gave = gave_then (log_of a) (log_of b) (log_of c) u.gave v.gave;
 }
 
-life_with : (k : ℕ) (s : Stage) → life_of (with_faults k s) ≡ life_of s
-life_with k (NotBegun o) = refl
-life_with k (Running s) = refl
+life_with : (g : Option (List ℕ)) (k : ℕ) (s : Stage) → life_of (with_flush g k s) ≡ life_of s
+life_with g k (NotBegun o) = refl
+life_with g k (Running s) = refl
 
-bytes_with : (k : ℕ) (s : Stage) → (log_of (with_faults k s)).bytes ≡ (log_of s).bytes
-bytes_with k (NotBegun o) = refl
-bytes_with k (Running s) = refl
+bytes_with : (g : Option (List ℕ)) (k : ℕ) (s : Stage) → (log_of (with_flush g k s)).bytes ≡ (log_of s).bytes
+bytes_with g k (NotBegun o) = refl
+bytes_with g k (Running s) = refl
 
-failed_with : (k : ℕ) (s : Stage) → (log_of (with_faults k s)).failed ≡ (log_of s).failed
-failed_with k (NotBegun o) = refl
-failed_with k (Running s) = refl
+failed_with : (g : Option (List ℕ)) (k : ℕ) (s : Stage) → (log_of (with_flush g k s)).failed ≡ (log_of s).failed
+failed_with g k (NotBegun o) = refl
+failed_with g k (Running s) = refl
 
 pub life_follows : (a b : Stage) → Follows a b → life_of b ≡ life_of a
-life_follows a b h = ap life_of h.same ∙ life_with (log_of b).faults a
+life_follows a b h = ap life_of h.same ∙ life_with (log_of b).given (log_of b).faults a
 
 pub bytes_follow : (a b : Stage) → Follows a b → (log_of b).bytes ≡ (log_of a).bytes
-bytes_follow a b h = ap (λ (s : Stage). (log_of s).bytes) h.same ∙ bytes_with (log_of b).faults a
+bytes_follow a b h = ap (λ (s : Stage). (log_of s).bytes) h.same ∙ bytes_with (log_of b).given (log_of b).faults a
 
 pub failed_follows : (a b : Stage) → Follows a b → (log_of b).failed ≡ (log_of a).failed
-failed_follows a b h = ap (λ (s : Stage). (log_of s).failed) h.same ∙ failed_with (log_of b).faults a
+failed_follows a b h = ap (λ (s : Stage). (log_of s).failed) h.same ∙ failed_with (log_of b).given (log_of b).faults a
 
 next_from : (n : ℕ) (a b : Stage) (l : DecidedLine) → Follows a b → IsNext n b l → IsNext n a l
 next_from n a b l h u = record { follows = follows_then a b l.before h u.follows; says = u.says; decided = u.decided }
@@ -110,12 +99,12 @@ last_from : (a b : Stage) (ys : List DecidedLine) → Follows a b → Follows (l
 last_from a b [] h = h
 last_from a b (y ∷ ys) h = follows_here (last_stage y.after ys)
 
-takes_with : (k : ℕ) (s : Stage) (event : Event) → TakesMemory (with_faults k s) event → TakesMemory s event
-takes_with k (NotBegun o) event h = h
-takes_with k (Running s) event h = h
+takes_with : (g : Option (List ℕ)) (k : ℕ) (s : Stage) (event : Event) → TakesMemory (with_flush g k s) event → TakesMemory s event
+takes_with g k (NotBegun o) event h = h
+takes_with g k (Running s) event h = h
 
 takes_from : (a b : Stage) (event : Event) → Follows a b → TakesMemory b event → TakesMemory a event
-takes_from a b event h t = takes_with (log_of b).faults a event (subst (λ (s : Stage). TakesMemory s event) h.same t)
+takes_from a b event h t = takes_with (log_of b).given (log_of b).faults a event (subst (λ (s : Stage). TakesMemory s event) h.same t)
 
 closes_from : (e : Ending) (n : ℕ) (front : Text) (a b end : Stage) → Follows a b → Closes e n front b end → Closes e n front a end
 closes_from ending.NoMemory n front a b end h c = record {
@@ -148,39 +137,94 @@ last_at : (old mid : Stage) (xs ys : List DecidedLine) → Follows (last_stage o
 last_at old mid xs ys q =
     subst (λ (s : Stage). Follows s (last_stage mid ys)) (sym (last-append old xs ys)) (last_from (last_stage old xs) mid ys q)
 
-spelled_lines : (xs ys : List DecidedLine) → spelled (answers_of (xs ++ ys)) ≡ spelled (answers_of xs) ++ spelled (answers_of ys)
+pub spelled_lines : (xs ys : List DecidedLine) → spelled (answers_of (xs ++ ys)) ≡ spelled (answers_of xs) ++ spelled (answers_of ys)
 spelled_lines xs ys = ap spelled (line_answers-append xs ys) ∙ spelled-append (answers_of xs) (answers_of ys)
 
--- ---- what stands on the sink
+-- ---- the bytes that hold the moves of lines
 
--- Whole pieces before a torn text.
-pub torn_more : (ps qs : List Text) (written : Text) → IsTorn qs written → IsTorn (ps ++ qs) (concat ps ++ written)
-torn_more ps qs written t = record {
-  before = ps ++ t.before;
-  piece = t.piece;
-  front = t.front;
-  back = t.back;
-  pieces_are = ap (λ xs. ps ++ xs) t.pieces_are ∙ sym (append_assoc ps t.before (t.piece ∷ []));
-  piece_is = t.piece_is;
-  stands = ap (λ xs. concat ps ++ xs) t.stands ∙ sym (append_assoc (concat ps) (concat t.before) t.front) ∙ ap (λ xs. xs ++ t.front) (sym (concat-append ps t.before));
+pub held_by_more : (ls : List DecidedLine) (bytes more : Option Text) → IsFrontOf bytes more → HoldMovesOf ls bytes → HoldMovesOf ls more
+held_by_more [] bytes more f h = tt
+held_by_more (l ∷ ls) bytes more f h = (front_of_then (log_of l.after).bytes bytes more h.0 f, held_by_more ls bytes more f h.1)
+
+pub held_both : (xs ys : List DecidedLine) (bytes : Option Text) → HoldMovesOf xs bytes → HoldMovesOf ys bytes → HoldMovesOf (xs ++ ys) bytes
+held_both [] ys bytes g h = h
+held_both (x ∷ xs) ys bytes g h = (g.0, held_both xs ys bytes g.1 h)
+
+-- the bytes of a log and those that were given on have grown
+pub record LogGrows (a b : Stage) : Type 0 where
+  pub bytes : IsFrontOf (log_of a).bytes (log_of b).bytes
+  pub given : IsFrontOf (log_of a).given (log_of b).given
+
+front_same : (a : Option Text) → IsFrontOf a a
+front_same a = ([], appended_none a)
+
+pub grows_here : (s : Stage) → LogGrows s s
+grows_here s = record { bytes = front_same (log_of s).bytes; given = front_same (log_of s).given }
+
+pub grows_then : (a b c : Stage) → LogGrows a b → LogGrows b c → LogGrows a c
+grows_then a b c u v = record {
+  bytes = front_of_then (log_of a).bytes (log_of b).bytes (log_of c).bytes u.bytes v.bytes;
+  given = front_of_then (log_of a).given (log_of b).given (log_of c).given u.given v.given;
 }
 
-whole_more : (xs ys : List Answer) (written : Text) → written ≡ spelled ys → spelled xs ++ written ≡ spelled (xs ++ ys)
-whole_more xs ys written e = ap (λ t. spelled xs ++ t) e ∙ sym (spelled-append xs ys)
+pub grows_follows : (a b : Stage) → Follows a b → LogGrows a b
+grows_follows a b h = record {
+  bytes = subst (λ (t : Option Text). IsFrontOf (log_of a).bytes t) (sym (bytes_follow a b h)) (front_same (log_of a).bytes);
+  given = h.gave.grows;
+}
 
-stands_more : (e : Ending) (xs ys : List Answer) (written : Text) → StandsAt e ys written → StandsAt e (xs ++ ys) (spelled xs ++ written)
-stands_more ending.OutFault xs ys written (inr w) = inr (whole_more xs ys written w)
-stands_more ending.OutFault xs ys written (inl s) =
-    inl (subst (λ (ps : List Text). IsTorn ps (spelled xs ++ written)) (sym (texts-append xs ys))
-    (subst (λ (front : Text). IsTorn (texts xs ++ texts ys) (front ++ written)) (concat-texts xs) (torn_more (texts xs) (texts ys) written s)))
-stands_more ending.Done xs ys written s = whole_more xs ys written s
-stands_more ending.NoMemory xs ys written s = whole_more xs ys written s
-stands_more ending.Usage xs ys written s = whole_more xs ys written s
-stands_more (ending.Script l c) xs ys written s = whole_more xs ys written s
-stands_more ending.ReadFault xs ys written s = whole_more xs ys written s
-stands_more (ending.TooLong l) xs ys written s = whole_more xs ys written s
-stands_more ending.MovesFault xs ys written s = whole_more xs ys written s
-stands_more ending.SetupFault xs ys written s = whole_more xs ys written s
+front_told : (a b : Option (List ℕ)) (text : List ℕ) (p q : Bool) → Told a b text p q → IsFrontOf a b
+front_told None None text p q t = ([], tt)
+front_told None (Some b) text p q t = absurd t
+front_told (Some a) None text p q t = absurd t
+front_told (Some a) (Some b) text p q t = (t.front, t.written)
+
+pub grows_grew : (a b : Stage) (text : List ℕ) → Grew (log_of a) (log_of b) text → LogGrows a b
+grows_grew a b text g = record {
+  bytes = front_told (log_of a).bytes (log_of b).bytes text (log_of a).failed (log_of b).failed g.told;
+  given = g.gave.grows;
+}
+
+pub grows_next : (n : ℕ) (w : Stage) (l : DecidedLine) → IsNext n w l → LogGrows w l.after
+grows_next n w l h = grows_then w l.before l.after (grows_follows w l.before h.follows) (grows_grew l.before l.after (spelled_moves l.moves) h.decided.notes.grew)
+
+-- the lines that are kept stay so
+pub kept_on : (ks : List DecidedLine) (text : Text) (a b : Stage) → LogGrows a b → AreKept ks text a → AreKept ks text b
+kept_on ks text a b g k = record { text_is = k.text_is; noted = held_by_more ks (log_of a).bytes (log_of b).bytes g.bytes k.noted }
+
+-- one line more is kept
+pub kept_more : (ks : List DecidedLine) (text text' : Text) (a : Stage) (l : DecidedLine) → LogGrows a l.after → text' ≡ text ++ spelling l.answer → AreKept ks text a → AreKept (ks ++ l ∷ []) text' l.after
+kept_more ks text text' a l g e k = record {
+  text_is = e ∙ ap (λ t. t ++ spelling l.answer) k.text_is ∙ ap (λ t. spelled (answers_of ks) ++ t) (sym (append_nil (spelling l.answer))) ∙ sym (spelled_lines ks (l ∷ []));
+  noted = held_both ks (l ∷ []) (log_of l.after).bytes (held_by_more ks (log_of a).bytes (log_of l.after).bytes g.bytes k.noted) (front_same (log_of l.after).bytes, tt);
+}
+
+-- ---- which lines are told
+
+-- some are told and others kept, and then more
+split_then : (ks ls ms told still told' still' : List DecidedLine) → ks ++ ls ≡ told ++ still → still ++ ms ≡ told' ++ still' → ks ++ (ls ++ ms) ≡ (told ++ told') ++ still'
+split_then ks ls ms told still told' still' e f =
+    sym (append_assoc ks ls ms) ∙ ap (λ xs. xs ++ ms) e ∙ append_assoc told still ms ∙ ap (λ xs. told ++ xs) f ∙ sym (append_assoc told told' still')
+
+whole_more : (xs ys : List DecidedLine) (written : Text) → written ≡ spelled (answers_of ys) → spelled (answers_of xs) ++ written ≡ spelled (answers_of (xs ++ ys))
+whole_more xs ys written e = ap (λ t. spelled (answers_of xs) ++ t) e ∙ sym (spelled_lines xs ys)
+
+front_more : (xs ys : List DecidedLine) (written : Text) → IsFront written (spelled (answers_of ys)) → IsFront (spelled (answers_of xs) ++ written) (spelled (answers_of (xs ++ ys)))
+front_more xs ys written f = record {
+  back = f.back;
+  whole = spelled_lines xs ys ∙ ap (λ t. spelled (answers_of xs) ++ t) f.whole ∙ sym (append_assoc (spelled (answers_of xs)) written f.back);
+}
+
+stands_more : (e : Ending) (xs ys still : List DecidedLine) (written : Text) → StandsAt e ys still written → StandsAt e (xs ++ ys) still (spelled (answers_of xs) ++ written)
+stands_more ending.OutFault xs ys still written s = (s.0, front_more xs ys written s.1)
+stands_more ending.Done xs ys still written s = whole_more xs ys written s
+stands_more ending.NoMemory xs ys still written s = whole_more xs ys written s
+stands_more ending.Usage xs ys still written s = whole_more xs ys written s
+stands_more (ending.Script l c) xs ys still written s = whole_more xs ys written s
+stands_more ending.ReadFault xs ys still written s = whole_more xs ys written s
+stands_more (ending.TooLong l) xs ys still written s = whole_more xs ys written s
+stands_more ending.MovesFault xs ys still written s = whole_more xs ys written s
+stands_more ending.SetupFault xs ys still written s = whole_more xs ys written s
 
 -- the text of some lines, and then of others
 chain : (x t u y z : Text) (ls ks : List DecidedLine) → x ++ t ≡ joined (texts_of ls) ++ y → y ++ u ≡ joined (texts_of ks) ++ z → x ++ (t ++ u) ≡ joined (texts_of (ls ++ ks)) ++ z
@@ -191,20 +235,31 @@ chain x t u y z ls ks e f =
 
 module _ (a b c : Outside) (x y z : Stand) where
   pub went_then : Went a b x y → Went b c y z → Went a c x z
-  went_then g h = record {
-    lines = g.lines ++ h.lines;
-    taken = g.taken ++ h.taken;
-    read = took_then a.left b.left c.left _ _ g.read h.read;
-    whole = chain x.held g.taken h.taken y.held z.held g.lines h.lines g.whole h.whole;
-    answered = answered_at x.n y.n x.stage y.stage g.lines h.lines g.answered g.count g.stage h.answered;
-    stage = follows_then (last_stage x.stage (g.lines ++ h.lines)) (last_stage y.stage h.lines) z.stage (last_at x.stage y.stage g.lines h.lines g.stage) h.stage;
-    count = let i = g.count in let j = h.count in omega (arith, length-append g.lines h.lines);
-    wrote = subst (λ xs. Appended a.took c.took xs) (sym (spelled_lines g.lines h.lines)) (appended_then a.took b.took c.took _ _ g.wrote h.wrote);
-  }
+  went_then went after kept k =
+      let g = went kept k in
+      let h = after g.still g.keeps in
+      record {
+        lines = g.lines ++ h.lines;
+        taken = g.taken ++ h.taken;
+        read = took_then a.left b.left c.left _ _ g.read h.read;
+        whole = chain x.held g.taken h.taken y.held z.held g.lines h.lines g.whole h.whole;
+        answered = answered_at x.n y.n x.stage y.stage g.lines h.lines g.answered g.count g.stage h.answered;
+        stage = follows_then (last_stage x.stage (g.lines ++ h.lines)) (last_stage y.stage h.lines) z.stage (last_at x.stage y.stage g.lines h.lines g.stage) h.stage;
+        count = let i = g.count in let j = h.count in omega (arith, length-append g.lines h.lines);
+        told = g.told ++ h.told;
+        still = h.still;
+        split = split_then kept g.lines h.lines g.told g.still h.told h.still g.split h.split;
+        wrote = subst (λ xs. Appended a.took c.took xs) (sym (spelled_lines g.told h.told)) (appended_then a.took b.took c.took _ _ g.wrote h.wrote);
+        gave = held_both g.told h.told (log_of z.stage).given (held_by_more g.told (log_of y.stage).given (log_of z.stage).given h.grows g.gave) h.gave;
+        keeps = h.keeps;
+        grows = front_of_then (log_of x.stage).given (log_of y.stage).given (log_of z.stage).given g.grows h.grows;
+      }
 
 module _ (a b c : Outside) (x y : Stand) (end : Stage) where
   pub went_came : (e : Ending) → Went a b x y → Came b c y e end → Came a c x e end
-  went_came e g h =
+  went_came e went came kept k =
+      let g = went kept k in
+      let h = came g.still g.keeps in
       let d = h.decided in
       let i : x.n + length (g.lines ++ d.lines) ≡ y.n + length d.lines = let j = g.count in omega (arith, length-append g.lines d.lines) in
       record {
@@ -222,31 +277,25 @@ module _ (a b c : Outside) (x y : Stand) (end : Stage) where
           closes = subst (λ (k : ℕ). Closes e k d.front (last_stage x.stage (g.lines ++ d.lines)) end) (sym i)
               (closes_from e (y.n + length d.lines) d.front (last_stage x.stage (g.lines ++ d.lines)) (last_stage y.stage d.lines) end (last_at x.stage y.stage g.lines d.lines g.stage) d.closes);
         };
-        written = spelled (answers_of g.lines) ++ h.written;
+        told = g.told ++ h.told;
+        still = h.still;
+        split = split_then kept g.lines d.lines g.told g.still h.told h.still g.split h.split;
+        written = spelled (answers_of g.told) ++ h.written;
         wrote = appended_then a.took b.took c.took _ _ g.wrote h.wrote;
-        stands = subst (λ (as_are : List Answer). StandsAt e as_are (spelled (answers_of g.lines) ++ h.written)) (sym (line_answers-append g.lines d.lines))
-            (stands_more e (answers_of g.lines) (answers_of d.lines) h.written h.stands);
+        stands = stands_more e g.told h.told h.still h.written h.stands;
+        gave = held_both g.told h.told (log_of end).given (held_by_more g.told (log_of y.stage).given (log_of end).given h.grows g.gave) h.gave;
+        keeps = h.keeps;
+        grows = front_of_then (log_of x.stage).given (log_of y.stage).given (log_of end).given g.grows h.grows;
       }
 
 -- More was read first.
-module _ (a b : Outside) (x y : Stand) (left : Option Text) (held : Text) (f : Filled left a.left held x.held) where
+module _ (a b : Outside) (x : Stand) (left : Option Text) (held : Text) (f : Filled left a.left held x.held) where
   regroup : (u w : Text) → x.held ++ u ≡ w → held ++ (f.taken ++ u) ≡ w
   regroup u w e = sym (append_assoc held f.taken u) ∙ ap (λ xs. xs ++ u) (sym f.behind) ∙ e
 
-  pub filled_went : Went a b x y → Went (record a { left = left }) b (record x { held = held }) y
-  filled_went g = record {
-    lines = g.lines;
-    taken = f.taken ++ g.taken;
-    read = took_then left a.left b.left _ _ f.took g.read;
-    whole = regroup g.taken _ g.whole;
-    answered = g.answered;
-    stage = g.stage;
-    count = g.count;
-    wrote = g.wrote;
-  }
-
   pub filled_came : (end : Stage) (e : Ending) → Came a b x e end → Came (record a { left = left }) b (record x { held = held }) e end
-  filled_came end e h =
+  filled_came end e came kept k =
+      let h = came kept k in
       let d = h.decided in
       record {
         decided = record {
@@ -262,62 +311,64 @@ module _ (a b : Outside) (x y : Stand) (left : Option Text) (held : Text) (f : F
           few = d.few;
           closes = d.closes;
         };
+        told = h.told;
+        still = h.still;
+        split = h.split;
         written = h.written;
         wrote = h.wrote;
         stands = h.stands;
+        gave = h.gave;
+        keeps = h.keeps;
+        grows = h.grows;
       }
 
   pub filled_comes : (x_left : Left) (e : Ending) → Comes a b x e x_left → Comes (record a { left = left }) b (record x { held = held }) e x_left
   filled_comes x_left e h = record { end = h.end; came = filled_came h.end e h.came; leaves = h.leaves }
 
-pub went_none : (a : Outside) (x y : Stand) → y ≡ x → Went a a x y
-went_none a x y e = subst (λ (z : Stand). Went a a x z) (sym e) (record {
-  lines = [];
-  taken = [];
-  read = took_none a.left;
-  whole = append_nil x.held;
-  answered = tt;
-  stage = follows_here x.stage;
-  count = sym (add-zero x.n);
-  wrote = appended_none a.took;
-})
+-- ---- nothing is decided
 
-pub log_left_at : (log : Log) (x : Left) → log.bytes ≡ x.moves → log.faults ≡ x.moves_faults → IsLogLeft log x
-log_left_at log x b f = record { bytes_are = b; faults_are = omega (arith, f) }
+-- bytes were read, and no line was decided
+pub went_filled : (a b t : Option Text) (kept x y : Text) (n : ℕ) (w : Stage) → Filled a b x y → Went (outside a t kept) (outside b t kept) (stand x n w) (stand y n w)
+went_filled a b t kept x y n w f ks k = record {
+  lines = [];
+  taken = f.taken;
+  read = f.took;
+  whole = sym f.behind;
+  answered = tt;
+  stage = follows_here w;
+  count = sym (add-zero n);
+  told = [];
+  still = ks;
+  split = append_nil ks;
+  wrote = appended_none t;
+  gave = tt;
+  keeps = k;
+  grows = (follows_here w).gave.grows;
+}
+
+pub went_none : (a : Outside) (x y : Stand) → y ≡ x → Went a a x y
+went_none a x y e = subst (λ (z : Stand). Went a a x z) (sym e) (went_filled a.left a.left a.took a.kept x.held x.held x.n x.stage (filled_none a.left x.held))
+
+pub log_left_at : (log : Log) (x : Left) → log.bytes ≡ x.moves → log.given ≡ x.gave → log.faults ≡ x.moves_faults → IsLogLeft log x
+log_left_at log x b g f = record {
+  bytes_are = b;
+  gave_more = subst (λ (t : Option Text). IsFrontOf log.given t) g (gave_nothing log).grows;
+  faults_are = omega (arith, f);
+}
 
 -- nothing was decided, and nothing was noted
-pub comes_here : (a b : Outside) (x : Stand) (e : Ending) (o : Outset) (left : Left) → o.log.bytes ≡ left.moves → o.log.faults ≡ left.moves_faults → Came a b x e (NotBegun o) → Comes a b x e left
-comes_here a b x e o left q f h = record { end = NotBegun o; came = h; leaves = log_left_at o.log left q f }
+pub comes_here : (a b : Outside) (x : Stand) (e : Ending) (o : Outset) (left : Left) → o.log.bytes ≡ left.moves → o.log.given ≡ left.gave → o.log.faults ≡ left.moves_faults
+    → Came a b x e (NotBegun o) → Comes a b x e left
+comes_here a b x e o left q g f h = record { end = NotBegun o; came = h; leaves = log_left_at o.log left q g f }
 
--- no line more, at a stage that follows
-pub went_on : (a : Outside) (held : Text) (n : ℕ) (s z : Stage) → Follows s z → Went a a (stand held n s) (stand held n z)
-went_on a held n s z h = record {
-  lines = [];
-  taken = [];
-  read = took_none a.left;
-  whole = append_nil held;
-  answered = tt;
-  stage = h;
-  count = sym (add-zero n);
-  wrote = appended_none a.took;
-}
-
-pub scene_follows : (s z : Scene) → z.system ≡ s.system → z.report ≡ s.report → z.paging ≡ s.paging → z.files ≡ s.files → z.blocks ≡ s.blocks
-    → z.behind ≡ record (s.behind) { log = record (s.behind.log) { faults = z.behind.log.faults } } → s.behind.log.faults ≤ z.behind.log.faults → Follows (Running s) (Running z)
-scene_follows s z w r p f b h l = record {
-  same = λ i. Running (record { system = w i; report = r i; paging = p i; files = f i; blocks = b i; behind = h i });
-  later = l;
-}
-
--- sinks were flushed first
-module _ (left t t' : Option Text) (same : t' ≡ t) (held : Text) (n : ℕ) (s z : Stage) (h : Follows s z) (b : Outside) where
-  flushed : Went (outside left t) (outside left t') (stand held n s) (stand held n z)
-  flushed = subst (λ (k : Option Text). Went (outside left t) (outside left k) (stand held n s) (stand held n z)) (sym same) (went_on (outside left t) held n s z h)
-
-  pub flushed_came : (e : Ending) (end : Stage) → Came (outside left t') b (stand held n z) e end → Came (outside left t) b (stand held n s) e end
-  flushed_came e end c = went_came (outside left t) (outside left t') b (stand held n s) (stand held n z) end e flushed c
-
-  pub flushed_either : (y : Stand) (end : Stage) (r : Option Ending) → MatchOption r (Went (outside left t') b (stand held n z) y) (λ e. Came (outside left t') b (stand held n z) e end)
-      → MatchOption r (Went (outside left t) b (stand held n s) y) (λ e. Came (outside left t) b (stand held n s) e end)
-  flushed_either y end None g = went_then (outside left t) (outside left t') b (stand held n s) (stand held n z) y flushed g
-  flushed_either y end (Some e) c = flushed_came e end c
+-- a system whose log was flushed
+pub scene_follows : {T E : Type 0} (s z : Scene) (r : Result T E) → z.system ≡ s.system → z.report ≡ s.report → z.paging ≡ s.paging → z.files ≡ s.files → z.blocks ≡ s.blocks
+    → z.behind ≡ record (s.behind) { log = z.behind.log } → Flushed s.behind.log z.behind.log r → Follows (Running s) (Running z)
+scene_follows s z r w p f g b h l =
+    let log : z.behind ≡ record (s.behind) { log = record (s.behind.log) { given = z.behind.log.given; faults = z.behind.log.faults } } =
+    h ∙ ap (λ (k : Log). record (s.behind) { log = k }) l.stays in
+    record {
+      same = λ i. Running (record { system = w i; report = p i; paging = f i; files = g i; blocks = b i; behind = log i });
+      later = l.later;
+      gave = l.gave;
+    }

@@ -1,6 +1,6 @@
 -- What each `watch` of a run gave is what the lines before it tell.
-use Rattle.std.proofs.Common.{◌≡◌, ℕ, zero, suc, Bool, true, false, cond, Some, None, List, [], ◌∷◌, ◌++◌, refl, sym, ap, ◌∙◌, subst}
-use Rattle.std.specs.Prelude.{◌-◌, ◌==◌, ◌||◌, map, replicate, slice_index_or}
+use Rattle.std.proofs.Common.{◌≡◌, ℕ, zero, suc, true, cond, Option, Some, None, List, [], ◌∷◌, ◌++◌, refl, sym, ap, ◌∙◌, subst}
+use Rattle.std.specs.Prelude.{◌-◌, map, replicate, slice_index_or}
 use Rattle.mm_types.specs.declared.answers.Answer.{Answer}
 use Rattle.mm_types.specs.declared.answers.Answer.TheVariants as answer
 use Rattle.mm_types.specs.declared.events.Event.{Event}
@@ -8,16 +8,14 @@ use Rattle.mm_types.specs.declared.events.Event.TheVariants as line
 use Rattle.mm_types.specs.declared.moves.Move.{Move}
 use Rattle.mm_types.specs.Machine.{MachineOf}
 use Rattle.mm_world.specs.World.{World, Page, filled}
-use Rattle.mm_world.specs.Alloc.{alloc, is_reserving}
+use Rattle.mm_world.specs.Alloc.{alloc}
 use Rattle.mm_world.specs.Outcome.{OutcomeOf, done}
 use Rattle.mm_world.specs.Report.{Report}
 use Rattle.mm_world.specs.System.{System, first_system, outcome, is_watched_type, reserved_range}
-use Rattle.mm_watch.proofs.Apart.{equals}
 use Rattle.mm_system.specs.Live.{are_live}
 use Rattle.mm_system.specs.Writes.{writes_of, write_of}
-use Rattle.mm_types.proofs.Booleans.{or_right}
 use Rattle.mm_system.proofs.Reserving.{makes_apart, in_alloc}
-use Rattle.mm_run.specs.Scenes.{Scene, Outset, Stage, NotBegun, Running, Follows, with_faults, log_of}
+use Rattle.mm_run.specs.Scenes.{Scene, Outset, Stage, NotBegun, Running, Follows, with_flush, log_of}
 use Rattle.mm_run.specs.Steps.{AreWatched, Begins, Decides, Stepped}
 use Rattle.mm_run.specs.Written.{AnsweredLine, Marks, marks_after, marks_over, unmarked, GivesWritten}
 use Rattle.mm_run.specs.Answered.{DecidedLine, IsNext, AreAnswered, last_stage, told_of}
@@ -41,12 +39,12 @@ abbrev AgreesAt : (ℕ → ℕ → Marks) → Stage → Type 0
 AgreesAt m (NotBegun o) = (pid page : ℕ) → m pid page ≡ unmarked
 AgreesAt m (Running s) = Agrees m s.system.watches (writes_of s.system.world) × AreWatched s.system
 
-agrees_with : (m : ℕ → ℕ → Marks) (k : ℕ) (s : Stage) → AgreesAt m s → AgreesAt m (with_faults k s)
-agrees_with m k (NotBegun o) h = h
-agrees_with m k (Running s) h = h
+agrees_with : (m : ℕ → ℕ → Marks) (g : Option (List ℕ)) (k : ℕ) (s : Stage) → AgreesAt m s → AgreesAt m (with_flush g k s)
+agrees_with m g k (NotBegun o) h = h
+agrees_with m g k (Running s) h = h
 
 agrees_follows : (m : ℕ → ℕ → Marks) (a b : Stage) → Follows a b → AgreesAt m a → AgreesAt m b
-agrees_follows m a b f h = subst (AgreesAt m) (sym f.same) (agrees_with m (log_of b).faults a h)
+agrees_follows m a b f h = subst (AgreesAt m) (sym f.same) (agrees_with m (log_of b).given (log_of b).faults a h)
 
 abbrev next : (ℕ → ℕ → Marks) → Event → Answer → ℕ → ℕ → Marks
 next m e a pid page = marks_after pid page (m pid page) (record { event = e; answer = a })

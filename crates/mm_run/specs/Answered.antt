@@ -1,18 +1,18 @@
 -- The lines of a run, one after another.
 -- Profile, "A run".
-use Rattle.std.specs.Prelude.{◌≡◌, ℕ, suc, true, List, [], ◌∷◌, map, Ok}
+use Rattle.std.specs.Prelude.{◌≡◌, ◌⊎◌, ℕ, suc, true, List, [], ◌∷◌, Option, map, Ok}
 use Rattle.std.specs.List.{flat_map}
 use Rattle.mm_types.specs.Spelling.{Text}
 use Rattle.mm_types.specs.declared.answers.Answer.{Answer}
-use Rattle.mm_types.specs.declared.answers.Answer.TheVariants as answer
 use Rattle.mm_types.specs.declared.events.Event.{Event}
-use Rattle.mm_types.specs.declared.events.Event.TheVariants as line
 use Rattle.mm_types.specs.declared.moves.Move.{Move}
+use Rattle.mm_life.specs.Logs.{IsFrontOf}
 use Rattle.mm_lines.specs.Lines.{IsLine}
 use Rattle.mm_script.specs.Grammar.{IsLine as IsLineFor}
+use Rattle.mm_blocks.specs.Devices.{NamedMade}
 use Rattle.mm_core.specs.Serving.{IsFailure}
 use Rattle.mm_run.specs.Reading.{reading}
-use Rattle.mm_run.specs.Scenes.{Stage, HasNoted, Follows, log_of}
+use Rattle.mm_run.specs.Scenes.{Stage, Running, HasNoted, Follows, log_of}
 use Rattle.mm_run.specs.Steps.{IsDecided}
 use Rattle.mm_run.specs.Written.{AnsweredLine}
 
@@ -50,7 +50,7 @@ pub record IsNext (n : ℕ) (old : Stage) (l : DecidedLine) : Type 0 where
   pub says : Says n l.text l.event
   pub decided : IsDecided l.before l.event l.answer l.moves l.after
 
--- Each line is decided from what the one before it left, and its moves were all written, before its answer.
+-- Each line is decided from what the one before it left, and its moves were all written.
 abbrev pub AreAnswered : ℕ → Stage → List DecidedLine → Type 0
 AreAnswered n old [] = Unit {0}
 AreAnswered n old (l ∷ ls) = IsNext n old l × HasNoted l.after × AreAnswered (suc n) l.after ls
@@ -59,6 +59,11 @@ abbrev pub last_stage : Stage → List DecidedLine → Stage
 last_stage old [] = old
 last_stage old (l ∷ ls) = last_stage l.after ls
 
+-- These bytes begin with the log as it stood after each of these lines: they hold the moves of all of them.
+abbrev pub HoldMovesOf : List DecidedLine → Option Text → Type 0
+HoldMovesOf [] bytes = Unit {0}
+HoldMovesOf (l ∷ ls) bytes = IsFrontOf (log_of l.after).bytes bytes × HoldMovesOf ls bytes
+
 -- A line that was decided and not answered, since its moves could not all be written.
 pub record IsMuted (n : ℕ) (old : Stage) (l : DecidedLine) : Type 0 where
   pub next : IsNext n old l
@@ -66,16 +71,12 @@ pub record IsMuted (n : ℕ) (old : Stage) (l : DecidedLine) : Type 0 where
 
 -- ---- failures
 
--- no line that names device calls was answered `ok`
-abbrev pub NamesNone : Event → Answer → Type 0
-NamesNone (line.Fail device direction k n) answer.Ok = ⊥
-NamesNone _ _ = Unit {0}
+-- a call of a device was made that a `fail` line had named
+abbrev pub MadeNamed : Stage → Stage → Type 0
+MadeNamed (Running s) (Running z) = NamedMade s.paging z.paging ⊎ NamedMade s.files z.files
+MadeNamed _ _ = ⊥
 
-abbrev pub NoneNames : List DecidedLine → Type 0
-NoneNames [] = Unit {0}
-NoneNames (l ∷ ls) = NamesNone l.event l.answer × NoneNames ls
-
--- no answer is `fault` or the status of a failed access
-abbrev pub NoneFails : List DecidedLine → Type 0
-NoneFails [] = Unit {0}
-NoneFails (l ∷ ls) = (IsFailure l.answer → ⊥) × NoneFails ls
+-- up to the first line in which such a call was made no answer is `fault` or the status of a failed access
+abbrev pub AreFaultless : List DecidedLine → Type 0
+AreFaultless [] = Unit {0}
+AreFaultless (l ∷ ls) = (MadeNamed l.before l.after → ⊥) → ((IsFailure l.answer → ⊥) × AreFaultless ls)

@@ -17,10 +17,10 @@ use Rattle.mm_run.specs.declared.endings.Ending.{Ending}
 use Rattle.mm_run.specs.declared.endings.Ending.TheVariants as ending
 use Rattle.mm_run.specs.Scenes.{Stage, NotBegun, Running, Follows, HasNoted, log_of}
 use Rattle.mm_run.specs.Steps.{IsDecided}
-use Rattle.mm_run.specs.Answered.{DecidedLine, last_stage, answers_of, moves_of, NoneNames, NoneFails}
-use Rattle.mm_run.specs.Texts.{status_of}
+use Rattle.mm_run.specs.Answered.{DecidedLine, last_stage, answers_of, moves_of, AreFaultless}
+use Rattle.mm_run.specs.Texts.{IsFront, status_of}
 use Rattle.mm_run.specs.Ends.{BreaksOff, Leaves}
-use Rattle.mm_run.specs.Ran.{Around, IsRefused, LogRan, EndsHolding, NoneNamed, SomeRose, begun_at}
+use Rattle.mm_run.specs.Ran.{Around, GaveAll, IsRefused, LogRan, EndsHolding, SomeRose, begun_at}
 
 -- ---- the words
 
@@ -105,17 +105,12 @@ four_lines lines ok none charge limit =
 abbrev pub bulk_text : List Answer → Stage → Text
 bulk_text answers end = four_lines (length answers) (count_by begins_ok answers) (count_by is_none answers) (charge_at end) (limit_at end)
 
--- these bytes are a front of a text
-pub record IsFront (front text : Text) : Type 0 where
-  pub back : Text
-  pub whole : text ≡ front ++ back
-
--- Where all events were decided the four lines stand whole, with status 0, or a front of them, with status 5, or the moves could not be given on: status 6.
--- Else nothing stands.
-abbrev pub BulkEnds : ℕ → Ending → Text → Text → Type 0
-BulkEnds status e text written =
-    ((status ≡ 0) × (e ≡ ending.Done) × (written ≡ text))
-    ⊎ (((status ≡ 5) × (e ≡ ending.Done) × IsFront written text)
+-- Where all events were decided and all moves given on, the four lines stand whole, with status 0, and are given on, or a front of them stands,
+-- with status 5; or the moves could not be given on: status 6. Then nothing stands, nor where not all were decided.
+abbrev pub BulkEnds : Around → ℕ → Ending → Text → Text → Type 0
+BulkEnds b status e text written =
+    ((status ≡ 0) × (e ≡ ending.Done) × (written ≡ text) × GaveAll b)
+    ⊎ (((status ≡ 5) × (e ≡ ending.Done) × IsFront written text × (b.beside.gave ≡ b.beside.moves))
     ⊎ (((status ≡ 6) ⊎ ((status ≡ status_of e) × (e ≢ ending.Done))) × (written ≡ [])))
 
 -- ---- the run
@@ -132,13 +127,13 @@ pub record BulkRan (a b : Around) (events : List Event) (status : ℕ) : Type 0 
   pub end : Stage
   pub written : Text
   pub wrote : Appended a.took b.took written
-  pub ends : BulkEnds status e (bulk_text (answers_of lines) end) written
+  pub ends : BulkEnds b status e (bulk_text (answers_of lines) end) written
   -- What happened after the last event, and what the end leaves, as `Ran` has it.
   pub closes : ClosesEvents e (last_stage (begun_at a.beside) lines) end
   pub leaves : Leaves end b.beside
   pub log : LogRan a.beside.moves b.beside.moves a.beside.moves_faults b.beside.moves_faults (moves_of lines) e (last_stage (begun_at a.beside) lines) end
   pub holds : e ≡ ending.Done → EndsHolding end b.beside.paging.blocks b.beside.files.blocks
-  pub faultless : (SomeRose a.beside b.beside → ⊥) → NoneNames lines → (e ≡ ending.MovesFault → NoneNamed end) → NoneFails lines
+  pub faultless : (SomeRose a.beside b.beside → ⊥) → AreFaultless lines
 
 abbrev pub BulkRanOrRefused : Around → Around → List Event → ℕ → Type 0
 BulkRanOrRefused a b events status = BulkRan a b events status ⊎ IsRefused a b status

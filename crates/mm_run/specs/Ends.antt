@@ -1,15 +1,13 @@
 -- How the end of a run stands to its last answered line, and what is left then on devices and in the log of moves.
 -- Profile, "A run".
-use Rattle.std.specs.Prelude.{◌≡◌, ◌⊎◌, ◌≤◌, ℕ, true, List, [], Option}
+use Rattle.std.specs.Prelude.{◌≡◌, ◌⊎◌, ◌≤◌, ℕ, true, List, Option}
 use Rattle.mm_types.specs.Spelling.{Text}
 use Rattle.mm_types.specs.declared.events.Event.{Event}
 use Rattle.mm_lines.specs.Lines.{ended}
-use Rattle.mm_life.specs.Logs.{Log}
+use Rattle.mm_life.specs.Logs.{Log, IsFrontOf}
 use Rattle.mm_world.specs.World.{Page, filled}
 use Rattle.mm_blocks.specs.declared.device_calls.DeviceCall.{DeviceCall}
-use Rattle.mm_blocks.specs.declared.device_calls.NamedCalls.{NamedCalls}
 use Rattle.mm_blocks.specs.Devices.{DeviceOf}
-use Rattle.mm_blocks.specs.Traffic.{told_by}
 use Rattle.mm_core.specs.Built.{takes_memory}
 use Rattle.mm_system.specs.Lines.{is_machine}
 use Rattle.mm_run.specs.declared.endings.Ending.{Ending}
@@ -66,29 +64,31 @@ pub record DeviceLeft : Type 0 where
   pub blocks : List Page
   pub faults : ℕ
 
-abbrev pub device_left : List NamedCalls → Option (List DeviceCall) → List Page → ℕ → DeviceLeft
-device_left named log blocks faults = record { log = told_by named log; blocks = blocks; faults = faults }
+abbrev pub device_left : Option (List DeviceCall) → List Page → ℕ → DeviceLeft
+device_left log blocks faults = record { log = log; blocks = blocks; faults = faults }
 
--- Its log, where told, and what it holds are those of the stage; while no call of it was named, so is its count of faults.
+-- Its log, where told, what it holds, and its count of faults are those of the stage.
 pub record IsLeft (d : DeviceOf) (blocks : List Page) (x : DeviceLeft) : Type 0 where
   pub log_is : d.log ≡ x.log
   pub blocks_are : blocks ≡ x.blocks
-  pub faults_are : d.named ≡ [] → d.faults ≡ x.faults
+  pub faults_are : d.faults ≡ x.faults
 
--- What a run leaves: the bytes that the sink of moves took, where told, its count of faults, and both devices.
+-- What a run leaves: the bytes that the sink of moves took and those that it gave on, where told, its count of faults, and both devices.
 pub record Left : Type 0 where
   pub moves : Option Text
+  pub gave : Option Text
   pub moves_faults : ℕ
   pub paging : DeviceLeft
   pub files : DeviceLeft
 
-abbrev pub left_with : Option Text → ℕ → DeviceLeft → DeviceLeft → Left
-left_with moves faults paging files = record { moves = moves; moves_faults = faults; paging = paging; files = files }
+abbrev pub left_with : Option Text → Option Text → ℕ → DeviceLeft → DeviceLeft → Left
+left_with moves gave faults paging files = record { moves = moves; gave = gave; moves_faults = faults; paging = paging; files = files }
 
--- The log of moves as it is left: its bytes, where told, are those of the stage, and its count of faults is at least that one, since a flush may
--- fail at the end.
+-- The log of moves as it is left: its bytes, where told, are those of the stage; as it is flushed at the end more of them may be given on, and
+-- its count of faults may rise.
 pub record IsLogLeft (log : Log) (x : Left) : Type 0 where
   pub bytes_are : log.bytes ≡ x.moves
+  pub gave_more : IsFrontOf log.given x.gave
   pub faults_are : log.faults ≤ x.moves_faults
 
 -- Before the first line was decided nothing was noted; devices may have been opened.

@@ -12,3 +12,5 @@ pub mod Bulk
 pub mod WordForms
 pub mod Batch
 pub mod Seen
+pub mod Closing
+pub mod Faults

@@ -1,11 +1,12 @@
 -- What a run did: the promise of `run`, on one page.
 -- Profile, "A run".
 --
--- It speaks of what stands around a run, before it and after it: the bytes left in the source, those that both sinks took, and both
--- devices. What is not told of these has no bytes (`None`), and nothing is said of it.
+-- It speaks of what stands around a run, before it and after it: the bytes left in the source, those
+-- that both sinks took and gave on, and both devices. What is not told of these has no bytes (`None`), and nothing is said of it.
 use Rattle.std.specs.Prelude.{◌≡◌, ◌≢◌, ◌⊎◌, ℕ, ◌<◌, ◌≤◌, List, ◌∷◌, ◌++◌, [], length, Option}
 use Rattle.mm_types.specs.Outside.{Took, Appended, Rose}
 use Rattle.mm_types.specs.Spelling.{Text}
+use Rattle.mm_types.specs.AnswerText.{spelled}
 use Rattle.mm_types.specs.declared.moves.Move.{Move}
 use Rattle.mm_life.specs.Life.{unstarted}
 use Rattle.mm_life.specs.MoveText.{AreMoves, spelled_moves}
@@ -16,9 +17,9 @@ use Rattle.mm_paging.specs.Runs.{DevicesHold}
 use Rattle.mm_run.specs.declared.endings.Ending.{Ending}
 use Rattle.mm_run.specs.declared.endings.Ending.TheVariants as ending
 use Rattle.mm_run.specs.Scenes.{Stage, NotBegun, Running, outset, life_of}
-use Rattle.mm_run.specs.Answered.{DecidedLine, AreAnswered, last_stage, texts_of, answers_of, moves_of, told_of, NoneNames, NoneFails}
+use Rattle.mm_run.specs.Answered.{DecidedLine, AreAnswered, HoldMovesOf, last_stage, texts_of, answers_of, moves_of, told_of, AreFaultless}
 use Rattle.mm_run.specs.Written.{GivesWritten}
-use Rattle.mm_run.specs.Texts.{Ends, TornText}
+use Rattle.mm_run.specs.Texts.{IsFront, TornText, status_of, last_text}
 use Rattle.mm_run.specs.Story.{Settles, most_lines}
 use Rattle.mm_run.specs.Ends.{Left, Leaves, Closes}
 
@@ -26,14 +27,48 @@ use Rattle.mm_run.specs.Ends.{Left, Leaves, Closes}
 pub record Around : Type 0 where
   pub left : Option Text  -- the bytes left in the source
   pub took : Option Text  -- those that the sink of answers took
-  pub beside : Left  -- those that the sink of moves took, and both devices
+  pub gave : Option Text  -- those of them that it gave on
+  pub beside : Left  -- those that the sink of moves took and gave on, and both devices
 
-abbrev pub around : Option Text → Option Text → Left → Around
-around left took beside = record { left = left; took = took; beside = beside }
+abbrev pub around : Option Text → Option Text → Option Text → Left → Around
+around left took gave beside = record { left = left; took = took; gave = gave; beside = beside }
 
 -- Before its first line.
 abbrev pub begun_at : Left → Stage
-begun_at x = NotBegun (outset x.paging.faults x.files.faults x.moves x.moves_faults)
+begun_at x = NotBegun (outset x.paging.faults x.files.faults x.moves x.gave x.moves_faults)
+
+-- Both sinks gave on all that they took.
+pub record GaveAll (b : Around) : Type 0 where
+  pub answers : b.gave ≡ b.took
+  pub moves : b.beside.gave ≡ b.beside.moves
+
+-- The status is the ending's own: all answers and its last text stand, and all was given on.
+pub record TellsAll (b : Around) (status : ℕ) (e : Ending) (told kept : List DecidedLine) (written : Text) : Type 0 where
+  pub status_is : status ≡ status_of e
+  pub out_stands : e ≢ ending.OutFault
+  pub moves_stand : e ≢ ending.MovesFault
+  pub all_told : kept ≡ []
+  pub text : written ≡ spelled (answers_of told) ++ last_text e
+  pub gave : GaveAll b
+
+-- With status 5, as the sink of answers failed, a front of all that stands.
+pub record TellsFront (status : ℕ) (e : Ending) (told kept : List DecidedLine) (written : Text) : Type 0 where
+  pub status_is : status ≡ 5
+  pub moves_stand : e ≢ ending.MovesFault
+  pub all_told : kept ≡ []
+  pub text : IsFront written (spelled (answers_of told) ++ last_text e)
+
+-- With status 6, as the sink of moves failed, the answers up to the last flush stand, and no last
+-- text.
+pub record TellsSome (status : ℕ) (e : Ending) (told : List DecidedLine) (written : Text) : Type 0 where
+  pub status_is : status ≡ 6
+  pub out_stands : e ≢ ending.OutFault
+  pub text : written ≡ spelled (answers_of told)
+
+abbrev pub Ends : Around → ℕ → Ending → List DecidedLine → List DecidedLine → Text → Type 0
+Ends b status e told kept written =
+    TellsAll b status e told kept written
+    ⊎ (TellsFront status e told kept written ⊎ TellsSome status e told written)
 
 -- The count of faults of a device rose.
 abbrev pub SomeRose : Left → Left → Type 0
@@ -57,16 +92,10 @@ abbrev pub EndsHolding : Stage → List Page → List Page → Type 0
 EndsHolding (NotBegun o) slots blocks = Unit {0}
 EndsHolding (Running s) slots blocks = DevicesHold s.system.world s.behind.life slots blocks
 
--- No call of a device is named.
-abbrev pub NoneNamed : Stage → Type 0
-NoneNamed (NotBegun o) = Unit {0}
-NoneNamed (Running s) = (s.paging.named ≡ []) × (s.files.named ≡ [])
-
 pub record Ran (a b : Around) (form : Type 0) (status : ℕ) : Type 0 where
   -- The lines that were decided and answered, one after another: each with its text, event, answer and moves, and what stands after it.
   -- Each is in the grammar (`Says`), and decided from what the one before it left (`IsDecided`): its answer and the new system are the
-  -- definitions' step by the reports before and after it; its charge is within the limit; its moves are its piece of the log, noted before its
-  -- answer was written.
+  -- definitions' step by the reports before and after it; its charge is within the limit; its moves are its piece of the log.
   pub lines : List DecidedLine
   pub answered : AreAnswered 0 (begun_at a.beside) lines
   pub limit : length lines ≤ most_lines
@@ -84,22 +113,27 @@ pub record Ran (a b : Around) (form : Type 0) (status : ℕ) : Type 0 where
   pub few : length more < 4096
   pub is_form : form → e ≢ ending.Usage
   pub no_form : (form → ⊥) → e ≡ ending.Usage
-  -- What the sink of answers took: their texts and the last text of the status.
+  -- An answer is given on only after its moves were. The lines that were told, whose moves the sink of
+  -- moves has given on, and those that were not, none but with status 6; what the sink of answers took:
+  -- the answers of the told ones and the last text of the status.
+  pub told : List DecidedLine
+  pub kept : List DecidedLine
+  pub split : lines ≡ told ++ kept
+  pub gave : HoldMovesOf told b.beside.gave
   pub written : Text
   pub wrote : Appended a.took b.took written
-  pub ends : Ends status e (answers_of lines) written
+  pub ends : Ends b status e told kept written
   -- What happened after the last answer, and what the end leaves: the log of moves, the devices.
   pub end : Stage
   pub closes : Closes e (length lines) front (last_stage (begun_at a.beside) lines) end
   pub leaves : Leaves end b.beside
   pub log : LogRan a.beside.moves b.beside.moves a.beside.moves_faults b.beside.moves_faults (moves_of lines) e (last_stage (begun_at a.beside) lines) end
   pub holds : e ≡ ending.Done → EndsHolding end b.beside.paging.blocks b.beside.files.blocks
-  -- If no `fail` line was answered `ok`, nor named calls as the line without an answer, an answer tells of a failure only where a
-  -- device's count of faults rose.
-  pub faultless : (SomeRose a.beside b.beside → ⊥) → NoneNames lines → (e ≡ ending.MovesFault → NoneNamed end) → NoneFails lines
+  -- Unless a device's count of faults rose, an answer tells of a failure only behind a call that a `fail` line named.
+  pub faultless : (SomeRose a.beside b.beside → ⊥) → AreFaultless lines
 
--- Memory was refused as the words were read, before anything else: the status is 1, and everything
--- stands as it stood.
+-- Memory was refused as the words were read or as the room for answers was taken, before anything
+-- else: the status is 1, and everything stands as it stood.
 pub record IsRefused (a b : Around) (status : ℕ) : Type 0 where
   pub status_is : status ≡ 1
   pub stands : b ≡ a

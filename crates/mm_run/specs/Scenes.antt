@@ -2,7 +2,7 @@
 -- Profile, "A run".
 use Rattle.std.specs.Prelude.{◌≡◌, ◌≤◌, ℕ, false, List, Option}
 use Rattle.mm_life.specs.Life.{FrameLife, unstarted}
-use Rattle.mm_life.specs.Logs.{Log}
+use Rattle.mm_life.specs.Logs.{Log, GaveOn}
 use Rattle.mm_world.specs.World.{Page}
 use Rattle.mm_world.specs.Report.{Report}
 use Rattle.mm_world.specs.System.{System}
@@ -39,8 +39,12 @@ pub record Outset : Type 0 where
   pub files : ℕ
   pub log : Log
 
-abbrev pub outset : ℕ → ℕ → Option (List ℕ) → ℕ → Outset
-outset paging files taken faults = record { paging = paging; files = files; log = record { bytes = taken; failed = false; faults = faults } }
+abbrev pub outset : ℕ → ℕ → Option (List ℕ) → Option (List ℕ) → ℕ → Outset
+outset paging files taken given faults = record {
+  paging = paging;
+  files = files;
+  log = record { bytes = taken; given = given; failed = false; faults = faults };
+}
 
 -- Before its first line a run has an outset; after it, a scene.
 pub data Stage : Type 0 where
@@ -61,14 +65,17 @@ log_of (Running s) = s.behind.log
 abbrev pub HasNoted : Stage → Type 0
 HasNoted s = (log_of s).failed ≡ false
 
-abbrev pub with_faults : ℕ → Stage → Stage
-with_faults k (NotBegun o) = NotBegun (record o { log = record (o.log) { faults = k } })
-with_faults k (Running s) = Running (record s { behind = record (s.behind) { log = record (s.behind.log) { faults = k } } })
+-- after a flush of the moves: these bytes were given on, and so often it has failed
+abbrev pub with_flush : Option (List ℕ) → ℕ → Stage → Stage
+with_flush given k (NotBegun o) = NotBegun (record o { log = record (o.log) { given = given; faults = k } })
+with_flush given k (Running s) =
+    Running (record s { behind = record (s.behind) { log = record (s.behind.log) { given = given; faults = k } } })
 
--- Nothing has changed between two lines, but that a flush of the moves may have failed.
+-- Nothing has changed between two lines, but that a flush may have given on moves, or may have failed.
 pub record Follows (old mid : Stage) : Type 0 where
-  pub same : mid ≡ with_faults (log_of mid).faults old
+  pub same : mid ≡ with_flush (log_of mid).given (log_of mid).faults old
   pub later : (log_of old).faults ≤ (log_of mid).faults
+  pub gave : GaveOn (log_of old) (log_of mid)
 
 module _ {G : Type 0} {g : PagesGhosts G} where
   abbrev pub scene : Kept G g → Scene

@@ -1,6 +1,6 @@
 -- What one line does.
 -- Profile, "A run".
-use Rattle.std.specs.Prelude.{◌≡◌, ◌≤◌, ℕ, Bool, true, false, List, [], ◌∷◌, replicate, unwrap_or}
+use Rattle.std.specs.Prelude.{◌≡◌, ◌≤◌, ℕ, Bool, true, false, List, [], ◌∷◌, None, replicate, unwrap_or}
 use Rattle.mm_types.specs.Machine.{MachineOf, limit_of}
 use Rattle.mm_types.specs.declared.answers.Answer.{Answer}
 use Rattle.mm_types.specs.declared.answers.Answer.TheVariants as answer
@@ -20,6 +20,8 @@ use Rattle.mm_world.specs.System.{System, first_system, beside, plain_line, syst
 use Rattle.mm_blocks.specs.Traffic.{NoneLogged, empty_block}
 use Rattle.mm_blocks.specs.Devices.{DeviceOf}
 use Rattle.mm_walks.specs.Waits.{Idle}
+use Rattle.mm_pages.specs.Told.{told_of, none_told}
+use Rattle.mm_paging.specs.Lines.{Agrees}
 use Rattle.mm_paging.specs.Runs.{DevicesHold, first_move}
 use Rattle.mm_core.specs.Stepping.{asks_frames}
 use Rattle.mm_core.specs.Promise.{Told, Breaks as WorldBreaks}
@@ -37,13 +39,17 @@ pub record IsUnused (faults : ℕ) (d : DeviceOf) : Type 0 where
   pub none_named : d.named ≡ []
   pub later : faults ≤ d.faults
 
--- A machine has begun: its system is the first, its devices hold zeros and were not asked for one yet, and no thread waits.
+-- A machine has begun: its system is the first, its devices hold zeros and were not asked for one yet, its report tells of the frames, of no call
+-- and of no growing device, and no thread waits.
 pub record IsFirst (m : MachineOf) (o : Outset) (s : Scene) : Type 0 where
   pub system : s.system ≡ first_system m
   pub slots : s.behind.slots ≡ replicate m.slots empty_block
   pub blocks : s.blocks ≡ replicate m.blocks empty_block
   pub paging : IsUnused o.paging s.paging
   pub files : IsUnused o.files s.files
+  pub agrees : Agrees s.system.world s.report s.behind
+  pub told : told_of s.report ≡ none_told
+  pub extended : s.report.extended ≡ None
   pub idle : (tid : ℕ) → (s.behind.waits tid ≡ Idle) × (s.report.wait tid ≡ wait.None)
 
 -- The first line, which names the machine.

@@ -1,6 +1,7 @@
 -- What stands at each moment of a run, and what makes it end.
 -- Profile, "A run".
 use Rattle.std.specs.Prelude.{◌≡◌, ◌⊎◌, ℕ, ◌+◌, ◌<◌, ◌≤◌, List, [], ◌∷◌, ◌++◌, length, Option, Ok, Err, map, codes, String, string_bytes, true, nat_lt}
+use Rattle.mm_life.specs.Logs.{IsFrontOf}
 use Rattle.std.specs.declared.alloc.Global.{Global}
 use Rattle.mm_types.specs.Outside.{Took, IsEnd, Appended, Rose}
 use Rattle.mm_types.specs.Spelling.{Text}
@@ -12,19 +13,21 @@ use Rattle.mm_run.specs.declared.endings.Ending.{Ending}
 use Rattle.mm_run.specs.declared.endings.Ending.TheVariants as ending
 use Rattle.mm_system.specs.Lines.{is_machine}
 use Rattle.mm_run.specs.Reading.{reading}
-use Rattle.mm_run.specs.Scenes.{Stage, Follows}
-use Rattle.mm_run.specs.Answered.{DecidedLine, AreAnswered, last_stage, texts_of, answers_of}
-use Rattle.mm_run.specs.Texts.{StandsAt}
+use Rattle.mm_run.specs.Scenes.{Stage, Follows, log_of}
+use Rattle.mm_run.specs.Answered.{DecidedLine, AreAnswered, HoldMovesOf, last_stage, texts_of, answers_of}
+use Rattle.mm_run.specs.Texts.{IsFront}
 use Rattle.mm_run.specs.Ends.{Left, Leaves, Closes}
 
 -- the most lines of a script
 abbrev pub most_lines : ℕ
 most_lines = 1000000
 
--- What the outside shows: the bytes left in the source and those that the sink of answers took, where told.
+-- What stands around the lines: the bytes left in the source and those that the sink of answers took,
+-- where told, and the answers that are kept for it.
 pub record Outside : Type 0 where
   pub left : Option Text
   pub took : Option Text
+  pub kept : Text
 
 -- Where a run stands: the bytes that were taken and not used yet, how many lines were decided, and its stage.
 pub record Stand : Type 0 where
@@ -32,8 +35,8 @@ pub record Stand : Type 0 where
   pub n : ℕ
   pub stage : Stage
 
-abbrev pub outside : Option Text → Option Text → Outside
-outside left took = record { left = left; took = took }
+abbrev pub outside : Option Text → Option Text → Text → Outside
+outside left took kept = record { left = left; took = took; kept = kept }
 
 abbrev pub stand : Text → ℕ → Stage → Stand
 stand held n stage = record { held = held; n = n; stage = stage }
@@ -80,8 +83,15 @@ Settles n front more left ending.MovesFault = length front ≤ 257
 Settles n front more left ending.SetupFault = IsMachineLine n front
 Settles n front more left (ending.TooLong line) = (line ≡ n + 1) × (((length front ≡ 257) × NoFeed front) ⊎ ((n ≡ most_lines) × (length front ≡ 1)))
 
--- So many more lines were read, decided and answered.
-pub record Went (a b : Outside) (x y : Stand) : Type 0 where
+-- This text is the answers of these lines, kept until the moves of all of them are given on; the log
+-- has taken these.
+pub record AreKept (lines : List DecidedLine) (text : Text) (s : Stage) : Type 0 where
+  pub text_is : text ≡ spelled (answers_of lines)
+  pub noted : HoldMovesOf lines (log_of s).bytes
+
+-- So many more lines were read, decided and answered. Of those that were kept before and of these,
+-- the first were told: their moves were given on, and then their answers. The others are kept.
+pub record WentFrom (kept : List DecidedLine) (a b : Outside) (x y : Stand) : Type 0 where
   pub lines : List DecidedLine
   pub taken : Text
   pub read : Took a.left b.left taken
@@ -89,7 +99,16 @@ pub record Went (a b : Outside) (x y : Stand) : Type 0 where
   pub answered : AreAnswered x.n x.stage lines
   pub stage : Follows (last_stage x.stage lines) y.stage
   pub count : y.n ≡ x.n + length lines
-  pub wrote : Appended a.took b.took (spelled (answers_of lines))
+  pub told : List DecidedLine
+  pub still : List DecidedLine
+  pub split : kept ++ lines ≡ told ++ still
+  pub wrote : Appended a.took b.took (spelled (answers_of told))
+  pub gave : HoldMovesOf told (log_of y.stage).given
+  pub keeps : AreKept still b.kept y.stage
+  pub grows : IsFrontOf (log_of x.stage).given (log_of y.stage).given
+
+abbrev pub Went : Outside → Outside → Stand → Stand → Type 0
+Went a b x y = (kept : List DecidedLine) → AreKept kept a.kept x.stage → WentFrom kept a b x y
 
 -- The lines that were decided and answered, what the run then came to, and at which stage it ended. Fewer than 4,096 bytes were
 -- taken after the byte that decided it.
@@ -106,12 +125,27 @@ pub record Decided (left left' : Option Text) (x : Stand) (e : Ending) (end : St
   pub few : length more < 4096
   pub closes : Closes e (x.n + length lines) front (last_stage x.stage lines) end
 
--- The same, with the answers' text.
-pub record Came (a b : Outside) (x : Stand) (e : Ending) (end : Stage) : Type 0 where
+-- What stands on the sink of answers once a run has come to this, before the last text: the answers
+-- of the told lines, or where a call of the sink failed, a front of them, and then none is kept.
+abbrev pub StandsAt : Ending → List DecidedLine → List DecidedLine → Text → Type 0
+StandsAt ending.OutFault told still written = (still ≡ []) × IsFront written (spelled (answers_of told))
+StandsAt _ told still written = written ≡ spelled (answers_of told)
+
+-- The same, with the answers that were told and those that are kept.
+pub record CameFrom (kept : List DecidedLine) (a b : Outside) (x : Stand) (e : Ending) (end : Stage) : Type 0 where
   pub decided : Decided a.left b.left x e end
+  pub told : List DecidedLine
+  pub still : List DecidedLine
+  pub split : kept ++ decided.lines ≡ told ++ still
   pub written : Text
   pub wrote : Appended a.took b.took written
-  pub stands : StandsAt e (answers_of decided.lines) written
+  pub stands : StandsAt e told still written
+  pub gave : HoldMovesOf told (log_of end).given
+  pub keeps : AreKept still b.kept end
+  pub grows : IsFrontOf (log_of x.stage).given (log_of end).given
+
+abbrev pub Came : Outside → Outside → Stand → Ending → Stage → Type 0
+Came a b x e end = (kept : List DecidedLine) → AreKept kept a.kept x.stage → CameFrom kept a b x e end
 
 -- The same, with what is left on devices and in the log of moves.
 pub record Comes (a b : Outside) (x : Stand) (e : Ending) (left : Left) : Type 0 where
@@ -128,13 +162,16 @@ pub record Counts : Type 0 where
 abbrev pub counts_with : ℕ → ℕ → ℕ → Counts
 counts_with source out moves = record { source = source; out = out; moves = moves }
 
--- The faults that an ending is to blame on: of the source, of a sink, of a device that was opened.
+-- The faults that an ending is to blame on: of the source, of a sink, of a device that was opened. No
+-- other count is another than before, but that of the moves where a line ran out of memory, whose `at`
+-- may not have been written.
 abbrev pub IsBlamed : Ending → Type 0 → Counts → Counts → Type 0
-IsBlamed ending.ReadFault opening c d = Rose c.source d.source
-IsBlamed ending.OutFault opening c d = Rose c.out d.out
-IsBlamed ending.MovesFault opening c d = Rose c.moves d.moves
-IsBlamed ending.SetupFault opening c d = opening
-IsBlamed _ opening c d = Unit {0}
+IsBlamed ending.ReadFault opening c d = Rose c.source d.source × (d ≡ record c { source = d.source })
+IsBlamed ending.OutFault opening c d = Rose c.out d.out × (d ≡ record c { out = d.out })
+IsBlamed ending.MovesFault opening c d = Rose c.moves d.moves × (d ≡ record c { moves = d.moves })
+IsBlamed ending.NoMemory opening c d = (c.moves ≤ d.moves) × (d ≡ record c { moves = d.moves })
+IsBlamed ending.SetupFault opening c d = opening × (d ≡ c)
+IsBlamed _ opening c d = d ≡ c
 
 -- What the input's end is, after n lines and so many bytes.
 abbrev pub EndsAt : ℕ → ℕ → Ending → Type 0

@@ -1,5 +1,6 @@
 ghost use Rattle.std.specs.Prelude.{◌≡◌, ◌≢◌, ◌<◌, ◌≤◌, ◌+◌, ◌*◌, ◌⊎◌, ℕ, true, false, [], ◌∷◌, ◌++◌, List, Option, length, replicate, Ok, Err, IfOk, IfErr, OnOk, MatchResult, cond};
-ghost use Rattle.mm_types.specs.Outside.{Appended, Rose};
+ghost use Rattle.mm_types.specs.Outside.{Appended};
+ghost use Rattle.mm_io.specs.Io.{CountsFaults};
 ghost use Rattle.mm_types.specs.declared.events.Event.TheVariants as event;
 ghost use Rattle.mm_blocks.specs.Traffic.{NoneLogged, empty_block};
 ghost use Rattle.mm_make.specs.Generated.{script_of};
@@ -9,9 +10,10 @@ ghost use Rattle.mm_run.specs.Steps.{IsMade, Moved, Breaks};
 ghost use Rattle.mm_run.specs.Texts.{TornText};
 ghost use Rattle.mm_run.specs.Ran.{around};
 ghost use Rattle.mm_run.specs.Story.{IsBlamed, counts_with};
+ghost use Rattle.mm_run.specs.Faults.{IsAccounted};
 ghost use Rattle.mm_run.specs.Bulk.{BulkRan, begins_ok, is_none, four_lines};
 ghost use Rattle.mm_run.specs.Batch.{IsLater, AreLater, Handled, Stopped, Finished, BatchRan};
-ghost use Rattle.mm_run.specs.Seen.{left_seen, outset_seen};
+ghost use Rattle.mm_run.specs.Seen.{left_seen, open_failed, outset_seen};
 
 use crate::decisions::decide;
 use crate::endings::Ending;
@@ -90,9 +92,11 @@ fn decide_event<G: FlushesMoves>(
     requires noted { (behind system.old).log.failed ≡ false }
     ensures decided { IfOk result (λ a. Moved (Running (scene system.old)) event.now a (Running (scene system.new))) }
     ensures ends { IfErr result (λ e. ((e ≡ Ending.NoMemory) × Breaks (scene system.old) (scene system.new))
-        ⊎ ((e ≡ Ending.MovesFault) × ((a : Answer) × Moved (Running (scene system.old)) event.now a (Running (scene system.new))) × ((behind system.new).log.failed ≡ true) × Rose (behind system.old).log.faults (behind system.new).log.faults)) }
+        ⊎ ((e ≡ Ending.MovesFault) × ((a : Answer) × Moved (Running (scene system.old)) event.now a (Running (scene system.new))) × ((behind system.new).log.failed ≡ true))) }
     ensures noted { OnOk result ((behind system.new).log.failed ≡ false) }
-    ensures later { (behind system.old).log.faults ≤ (behind system.new).log.faults }
+    ensures faults { (s o : ℕ) → MatchResult result
+        (λ _. counts_with s o (behind system.new).log.faults ≡ counts_with s o (behind system.old).log.faults)
+        (λ e. IsBlamed e ⊥ (counts_with s o (behind system.old).log.faults) (counts_with s o (behind system.new).log.faults)) }
     ensures line { OnOk result (line_of system.new ≡ n) }
     ensures ready { OnOk result (system.new.spent ≡ false) }
     ensures loans { loans system.new ≡ loans system.old }
@@ -124,8 +128,9 @@ fn decide_later<G: FlushesMoves>(
         (λ r. Handled (Running (scene system.old)) events.now r.0 r.1 (Running (scene system.new)))
         (λ e. Stopped (Running (scene system.old)) events.now e (Running (scene system.new))) }
     ensures few { IfOk result (λ r. (r.0 ≤ length events.now) × (r.1 ≤ length events.now)) }
-    ensures blame { IfErr result (λ e. (s o : ℕ) → IsBlamed e ⊥ (counts_with s o (behind system.old).log.faults) (counts_with s o (behind system.new).log.faults)) }
-    ensures later { (behind system.old).log.faults ≤ (behind system.new).log.faults }
+    ensures faults { (s o : ℕ) → MatchResult result
+        (λ _. counts_with s o (behind system.new).log.faults ≡ counts_with s o (behind system.old).log.faults)
+        (λ e. IsBlamed e ⊥ (counts_with s o (behind system.old).log.faults) (counts_with s o (behind system.new).log.faults)) }
     ensures loans { loans system.new ≡ loans system.old }
 {
     let mut n = 1u32;
@@ -157,8 +162,9 @@ fn decide_events<G: FlushesMoves>(
     requires ready { system.old.spent ≡ false }
     requires paged { G.unpaged ≡ false }
     ensures came { (o : Outset) → IsMade machine o (scene system.old) → Finished (NotBegun o) (event.Machine machine ∷ events.now) result (Running (scene system.new)) }
-    ensures blame { (o : Outset) → IsMade machine o (scene system.old) → o.log.failed ≡ false → IfErr result (λ e. (s k : ℕ) → IsBlamed e ⊥ (counts_with s k o.log.faults) (counts_with s k (behind system.new).log.faults)) }
-    ensures later { (behind system.old).log.faults ≤ (behind system.new).log.faults }
+    ensures faults { (o : Outset) → IsMade machine o (scene system.old) → o.log.failed ≡ false → (s k : ℕ) → MatchResult result
+        (λ _. counts_with s k (behind system.new).log.faults ≡ counts_with s k o.log.faults)
+        (λ e. IsBlamed e ⊥ (counts_with s k o.log.faults) (counts_with s k (behind system.new).log.faults)) }
     ensures loans { loans system.new ≡ loans system.old }
 {
     if system.world.pages.moves_failed() {
@@ -194,11 +200,10 @@ fn run_events<M: Sink, P: Blocks, F: Blocks>(
     requires blocks { F.blocks files.old ≡ replicate machine.blocks empty_block }
     requires paging_logged { NoneLogged (P.log paging.old) }
     requires files_logged { NoneLogged (F.log files.old) }
-    requires paging_named { P.named paging.old ≡ [] }
-    requires files_named { F.named files.old ≡ [] }
-    ensures came { (p f : ℕ) → p ≤ P.faults paging.old → f ≤ F.faults files.old → BatchRan (NotBegun (outset p f (M.taken moves.old) (M.faults moves.old))) (event.Machine machine ∷ events.now) result (left_seen M.Sink P.Blocks F.Blocks moves.new paging.new files.new) }
-    ensures blame { IfErr result (λ e. (s o : ℕ) → IsBlamed e ⊥ (counts_with s o (M.faults moves.old)) (counts_with s o (M.faults moves.new))) }
-    ensures moves_later { M.faults moves.old ≤ M.faults moves.new }
+    ensures came { (p f : ℕ) → p ≤ P.faults paging.old → f ≤ F.faults files.old → BatchRan (NotBegun (outset p f (M.taken moves.old) (M.given moves.old) (M.faults moves.old))) (event.Machine machine ∷ events.now) result (left_seen M.Sink P.Blocks F.Blocks moves.new paging.new files.new) }
+    ensures faults { (s o : ℕ) → MatchResult result
+        (λ _. counts_with s o (M.faults moves.new) ≡ counts_with s o (M.faults moves.old))
+        (λ e. IsBlamed e ⊥ (counts_with s o (M.faults moves.old)) (counts_with s o (M.faults moves.new))) }
 {
     let made = State::new(
         alloc,
@@ -237,11 +242,10 @@ fn start_events<M: Sink, P: Blocks, F: Blocks>(
 ) -> Result<Tally, Ending>
     requires later { AreLater events.now }
     requires few { length events.now < 1000000 }
-    requires paging_named { P.named paging.old ≡ [] }
-    requires files_named { F.named files.old ≡ [] }
     ensures came { BatchRan (NotBegun (outset_seen M.Sink P.Blocks F.Blocks moves.old paging.old files.old)) (event.Machine machine ∷ events.now) result (left_seen M.Sink P.Blocks F.Blocks moves.new paging.new files.new) }
-    ensures blame { IfErr result (λ e. (s o : ℕ) → IsBlamed e (Rose (P.faults paging.old) (P.faults paging.new) ⊎ Rose (F.faults files.old) (F.faults files.new)) (counts_with s o (M.faults moves.old)) (counts_with s o (M.faults moves.new))) }
-    ensures moves_later { M.faults moves.old ≤ M.faults moves.new }
+    ensures faults { (s o : ℕ) → MatchResult result
+        (λ _. counts_with s o (M.faults moves.new) ≡ counts_with s o (M.faults moves.old))
+        (λ e. IsBlamed e (open_failed P.Blocks F.Blocks paging.old paging.new files.old files.new) (counts_with s o (M.faults moves.old)) (counts_with s o (M.faults moves.new))) }
 {
     match open_devices(machine, paging, files) {
         Ok(()) => run_events(alloc, machine, events, moves, paging, files),
@@ -259,11 +263,10 @@ fn decide_script<M: Sink, P: Blocks, F: Blocks>(
     files: &mut F,
 ) -> Result<Tally, Ending>
     requires few { count ≤ 100000 }
-    requires paging_named { P.named paging.old ≡ [] }
-    requires files_named { F.named files.old ≡ [] }
     ensures came { BatchRan (NotBegun (outset_seen M.Sink P.Blocks F.Blocks moves.old paging.old files.old)) (script_of seed count) result (left_seen M.Sink P.Blocks F.Blocks moves.new paging.new files.new) }
-    ensures blame { IfErr result (λ e. (s o : ℕ) → IsBlamed e (Rose (P.faults paging.old) (P.faults paging.new) ⊎ Rose (F.faults files.old) (F.faults files.new)) (counts_with s o (M.faults moves.old)) (counts_with s o (M.faults moves.new))) }
-    ensures moves_later { M.faults moves.old ≤ M.faults moves.new }
+    ensures faults { (s o : ℕ) → MatchResult result
+        (λ _. counts_with s o (M.faults moves.new) ≡ counts_with s o (M.faults moves.old))
+        (λ e. IsBlamed e (open_failed P.Blocks F.Blocks paging.old paging.new files.old files.new) (counts_with s o (M.faults moves.old)) (counts_with s o (M.faults moves.new))) }
 {
     let events = match script(alloc, seed, count) {
         Ok(events) => events,
@@ -297,24 +300,21 @@ fn spell_tally(tally: Tally) -> LineBuf
     text
 }
 
-/// Writes the four lines of a tally and hands them on, and says with which status the run ends.
-fn tell_tally<O: Sink>(out: &mut O, tally: Tally) -> u8
-    ensures told { ((result ≡ 0) × Appended (O.taken out.old) (O.taken out.new) (four_lines tally.lines tally.ok tally.none tally.charge tally.limit))
-        ⊎ ((result ≡ 5) × TornText (O.taken out.old) (O.taken out.new) (four_lines tally.lines tally.ok tally.none tally.charge tally.limit)) }
-    ensures out_fault { result ≡ 5 → Rose (O.faults out.old) (O.faults out.new) }
+/// Writes the four lines of a tally, and has the sink give them on.
+fn tell_tally<O: Sink>(out: &mut O, tally: Tally) -> Result<(), Failed>
+    ensures told { MatchResult result
+        (λ _. Appended (O.taken out.old) (O.taken out.new) (four_lines tally.lines tally.ok tally.none tally.charge tally.limit) × (O.given out.new ≡ O.taken out.new))
+        (λ _. TornText (O.taken out.old) (O.taken out.new) (four_lines tally.lines tally.ok tally.none tally.charge tally.limit)) }
+    ensures cause { CountsFaults (O.faults out.old) (O.faults out.new) result }
 {
     let text = spell_tally(tally);
     match write_all(out, text.as_slice()) {
-        Ok(()) => {}
-        Err(_) => return 5,
-    }
-    match out.flush() {
-        Ok(()) => 0,
-        Err(_) => 5,
+        Ok(()) => out.flush(),
+        Err(e) => Err(e),
     }
 }
 
-/// Runs a generated script: decides its events, hands on their moves, and then writes the four lines.
+/// Runs a generated script: decides its events, gives on their moves, and then the four lines.
 pub(crate) fn bulk<O: Sink, M: Sink, P: Blocks, F: Blocks>(
     alloc: Global,
     seed: u64,
@@ -325,13 +325,8 @@ pub(crate) fn bulk<O: Sink, M: Sink, P: Blocks, F: Blocks>(
     files: &mut F,
 ) -> u8
     requires few { count ≤ 100000 }
-    requires paging_named { P.named paging.old ≡ [] }
-    requires files_named { F.named files.old ≡ [] }
-    ensures ran { (left : Option (List ℕ)) → BulkRan (around left (O.taken out.old) (left_seen M.Sink P.Blocks F.Blocks moves.old paging.old files.old)) (around left (O.taken out.new) (left_seen M.Sink P.Blocks F.Blocks moves.new paging.new files.new)) (script_of seed count) result }
-    ensures read_fault { result ≢ 4 }
-    ensures out_fault { result ≡ 5 → Rose (O.faults out.old) (O.faults out.new) }
-    ensures moves_fault { result ≡ 6 → Rose (M.faults moves.old) (M.faults moves.new) }
-    ensures setup_fault { result ≡ 7 → Rose (P.faults paging.old) (P.faults paging.new) ⊎ Rose (F.faults files.old) (F.faults files.new) }
+    ensures ran { (left : Option (List ℕ)) → BulkRan (around left (O.taken out.old) (O.given out.old) (left_seen M.Sink P.Blocks F.Blocks moves.old paging.old files.old)) (around left (O.taken out.new) (O.given out.new) (left_seen M.Sink P.Blocks F.Blocks moves.new paging.new files.new)) (script_of seed count) result }
+    ensures faults { (s : ℕ) → IsAccounted result (open_failed P.Blocks F.Blocks paging.old paging.new files.old files.new) (counts_with s (O.faults out.old) (M.faults moves.old)) (counts_with s (O.faults out.new) (M.faults moves.new)) }
 {
     let decided = decide_script(alloc, seed, count, moves, paging, files);
     match moves.flush() {
@@ -339,7 +334,10 @@ pub(crate) fn bulk<O: Sink, M: Sink, P: Blocks, F: Blocks>(
         Err(_) => return 6,
     }
     match decided {
-        Ok(tally) => tell_tally(out, tally),
+        Ok(tally) => match tell_tally(out, tally) {
+            Ok(()) => Ending::Done.status(),
+            Err(_) => Ending::OutFault.status(),
+        },
         Err(ending) => ending.status(),
     }
 }

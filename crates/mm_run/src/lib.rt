@@ -1,6 +1,7 @@
 //! The top call: a script in, answers out, from bytes to bytes.
 #![tactic(auto)]
 
+mod answers;
 mod bulk;
 mod decisions;
 mod endings;

@@ -9,8 +9,9 @@ ghost use Rattle.mm_run.specs.Reading.{reading};
 ghost use Rattle.mm_run.specs.Scenes.{Outset, NotBegun, Running, outset, scene};
 ghost use Rattle.mm_run.specs.Steps.{IsMade};
 ghost use Rattle.mm_run.specs.Story.{Came, Comes, IsBlamed, stand, counts_with};
-ghost use Rattle.mm_run.specs.Seen.{counts_seen, left_seen, outset_seen, outside_seen};
+ghost use Rattle.mm_run.specs.Seen.{counts_seen, left_seen, open_failed, outset_seen, outside_seen};
 
+use crate::answers::Kept;
 use crate::decisions::{at_end, decide_rest, tell};
 use crate::endings::Ending;
 use crate::readings::read_first;
@@ -46,10 +47,8 @@ pub(crate) fn open_devices<P: Blocks, F: Blocks>(
     ensures blocks { OnOk result (F.blocks files.new ≡ replicate machine.blocks empty_block) }
     ensures paging_logged { OnOk result (NoneLogged (P.log paging.new)) }
     ensures files_logged { OnOk result (NoneLogged (F.log files.new)) }
-    ensures paging_named { P.named paging.new ≡ P.named paging.old }
-    ensures files_named { F.named files.new ≡ F.named files.old }
     ensures ends { IfErr result (λ e. (e ≡ Ending.NoMemory) ⊎ (e ≡ Ending.SetupFault)) }
-    ensures blame { IfErr result (λ e. e ≡ Ending.SetupFault → Rose (P.faults paging.old) (P.faults paging.new) ⊎ Rose (F.faults files.old) (F.faults files.new)) }
+    ensures blame { IfErr result (λ e. e ≡ Ending.SetupFault → open_failed P.Blocks F.Blocks paging.old paging.new files.old files.new) }
     ensures paging_later { P.faults paging.old ≤ P.faults paging.new }
     ensures files_later { F.faults files.old ≤ F.faults files.new }
 {
@@ -63,39 +62,36 @@ pub(crate) fn open_devices<P: Blocks, F: Blocks>(
     }
 }
 
-/// Answers the first line, once its move is written, and decides the others.
+/// Keeps the answer of the first line, once its move is written, and decides the others.
 fn answer_all<G: FlushesMoves, S: Source, O: Sink>(
     alloc: Global,
     held: &mut Held,
     len: usize,
     machine: Machine,
     system: &mut System<G>,
+    kept: &mut Kept,
     source: &mut S,
     out: &mut O,
 ) -> Ending
     requires line { HasLine held.old len }
+    requires room { length kept.old + 256 ≤ 65536 }
     requires behind { length held.old < len + 1 + 4096 }
     requires says { reading 0 (take len held.old) ≡ Ok (event.Machine machine) }
     requires grammar { IsLineFor (take len held.old) (event.Machine machine) }
     requires count { line_of system.old ≡ 1 }
     requires ready { system.old.spent ≡ false }
     requires paged { G.unpaged ≡ false }
-    ensures came { (o : Outset) → IsMade machine o (scene system.old) → Came (outside_seen S.Source O.Sink source.old out.old) (outside_seen S.Source O.Sink source.new out.new) (stand held.old 0 (NotBegun o)) result (Running (scene system.new)) }
-    ensures blame { (o : Outset) → IsMade machine o (scene system.old) → o.log.failed ≡ false → IsBlamed result ⊥ (counts_with (S.faults source.old) (O.faults out.old) o.log.faults) (counts_with (S.faults source.new) (O.faults out.new) (behind system.new).log.faults) }
-    ensures idle { S.idle source.new ≤ S.idle source.old + 1 }
-    ensures source_later { S.faults source.old ≤ S.faults source.new }
-    ensures out_later { O.faults out.old ≤ O.faults out.new }
+    ensures came { (o : Outset) → IsMade machine o (scene system.old) → Came (outside_seen S.Source O.Sink source.old out.old kept.old) (outside_seen S.Source O.Sink source.new out.new kept.new) (stand held.old 0 (NotBegun o)) result (Running (scene system.new)) }
+    ensures faults { (o : Outset) → IsMade machine o (scene system.old) → o.log.failed ≡ false → IsBlamed result ⊥ (counts_with (S.faults source.old) (O.faults out.old) o.log.faults) (counts_with (S.faults source.new) (O.faults out.new) (behind system.new).log.faults) }
+    ensures idle { S.idle source.new ≤ S.idle source.old + S.last_idle source.new }
     ensures form { result ≢ Ending.Usage }
-    ensures moves_later { (behind system.old).log.faults ≤ (behind system.new).log.faults }
     ensures loans { loans system.new ≡ loans system.old }
 {
     if system.world.pages.moves_failed() {
         return Ending::MovesFault;
     }
-    match tell(held, len, &Answer::Limit(machine.limit()), out) {
-        Some(ending) => ending,
-        None => decide_rest(alloc, held, system, source, out),
-    }
+    tell(held, len, &Answer::Limit(machine.limit()), kept);
+    decide_rest(alloc, held, system, kept, source, out)
 }
 
 /// Runs a machine over devices that were opened for it.
@@ -104,6 +100,7 @@ fn run_machine<S: Source, O: Sink, M: Sink, P: Blocks, F: Blocks>(
     held: &mut Held,
     len: usize,
     machine: Machine,
+    kept: &mut Kept,
     source: &mut S,
     out: &mut O,
     moves: &mut M,
@@ -111,6 +108,7 @@ fn run_machine<S: Source, O: Sink, M: Sink, P: Blocks, F: Blocks>(
     files: &mut F,
 ) -> Ending
     requires line { HasLine held.old len }
+    requires room { length kept.old + 256 ≤ 65536 }
     requires behind { length held.old < len + 1 + 4096 }
     requires says { reading 0 (take len held.old) ≡ Ok (event.Machine machine) }
     requires grammar { IsLineFor (take len held.old) (event.Machine machine) }
@@ -118,14 +116,9 @@ fn run_machine<S: Source, O: Sink, M: Sink, P: Blocks, F: Blocks>(
     requires blocks { F.blocks files.old ≡ replicate machine.blocks empty_block }
     requires paging_logged { NoneLogged (P.log paging.old) }
     requires files_logged { NoneLogged (F.log files.old) }
-    requires paging_named { P.named paging.old ≡ [] }
-    requires files_named { F.named files.old ≡ [] }
-    ensures came { (p f : ℕ) → p ≤ P.faults paging.old → f ≤ F.faults files.old → Comes (outside_seen S.Source O.Sink source.old out.old) (outside_seen S.Source O.Sink source.new out.new) (stand held.old 0 (NotBegun (outset p f (M.taken moves.old) (M.faults moves.old)))) result (left_seen M.Sink P.Blocks F.Blocks moves.new paging.new files.new) }
-    ensures blame { IsBlamed result ⊥ (counts_seen S.Source O.Sink M.Sink source.old out.old moves.old) (counts_seen S.Source O.Sink M.Sink source.new out.new moves.new) }
-    ensures idle { S.idle source.new ≤ S.idle source.old + 1 }
-    ensures source_later { S.faults source.old ≤ S.faults source.new }
-    ensures out_later { O.faults out.old ≤ O.faults out.new }
-    ensures moves_later { M.faults moves.old ≤ M.faults moves.new }
+    ensures came { (p f : ℕ) → p ≤ P.faults paging.old → f ≤ F.faults files.old → Comes (outside_seen S.Source O.Sink source.old out.old kept.old) (outside_seen S.Source O.Sink source.new out.new kept.new) (stand held.old 0 (NotBegun (outset p f (M.taken moves.old) (M.given moves.old) (M.faults moves.old)))) result (left_seen M.Sink P.Blocks F.Blocks moves.new paging.new files.new) }
+    ensures faults { IsBlamed result ⊥ (counts_seen S.Source O.Sink M.Sink source.old out.old moves.old) (counts_seen S.Source O.Sink M.Sink source.new out.new moves.new) }
+    ensures idle { S.idle source.new ≤ S.idle source.old + S.last_idle source.new }
     ensures form { result ≢ Ending.Usage }
 {
     let made = State::new(
@@ -146,7 +139,7 @@ fn run_machine<S: Source, O: Sink, M: Sink, P: Blocks, F: Blocks>(
         }
     };
     let mut system = System::new(alloc, machine, Paged::over(state));
-    let ending = answer_all(alloc, held, len, machine, &mut system, source, out);
+    let ending = answer_all(alloc, held, len, machine, &mut system, kept, source, out);
     let (paging, files, moves) = system.finish().finish().finish();
     let _ = paging.finish();
     let _ = files.finish();
@@ -160,6 +153,7 @@ fn start_machine<S: Source, O: Sink, M: Sink, P: Blocks, F: Blocks>(
     held: &mut Held,
     len: usize,
     machine: Machine,
+    kept: &mut Kept,
     source: &mut S,
     out: &mut O,
     moves: &mut M,
@@ -167,21 +161,21 @@ fn start_machine<S: Source, O: Sink, M: Sink, P: Blocks, F: Blocks>(
     files: &mut F,
 ) -> Ending
     requires line { HasLine held.old len }
+    requires room { length kept.old + 256 ≤ 65536 }
     requires behind { length held.old < len + 1 + 4096 }
     requires says { reading 0 (take len held.old) ≡ Ok (event.Machine machine) }
     requires grammar { IsLineFor (take len held.old) (event.Machine machine) }
-    requires paging_named { P.named paging.old ≡ [] }
-    requires files_named { F.named files.old ≡ [] }
-    ensures came { Comes (outside_seen S.Source O.Sink source.old out.old) (outside_seen S.Source O.Sink source.new out.new) (stand held.old 0 (NotBegun (outset_seen M.Sink P.Blocks F.Blocks moves.old paging.old files.old))) result (left_seen M.Sink P.Blocks F.Blocks moves.new paging.new files.new) }
-    ensures blame { IsBlamed result (Rose (P.faults paging.old) (P.faults paging.new) ⊎ Rose (F.faults files.old) (F.faults files.new)) (counts_seen S.Source O.Sink M.Sink source.old out.old moves.old) (counts_seen S.Source O.Sink M.Sink source.new out.new moves.new) }
-    ensures idle { S.idle source.new ≤ S.idle source.old + 1 }
-    ensures source_later { S.faults source.old ≤ S.faults source.new }
-    ensures out_later { O.faults out.old ≤ O.faults out.new }
-    ensures moves_later { M.faults moves.old ≤ M.faults moves.new }
+    ensures came { Comes (outside_seen S.Source O.Sink source.old out.old kept.old) (outside_seen S.Source O.Sink source.new out.new kept.new) (stand held.old 0 (NotBegun (outset_seen M.Sink P.Blocks F.Blocks moves.old paging.old files.old))) result (left_seen M.Sink P.Blocks F.Blocks moves.new paging.new files.new) }
+    ensures faults { IsBlamed result (open_failed P.Blocks F.Blocks paging.old paging.new files.old files.new) (counts_seen S.Source O.Sink M.Sink source.old out.old moves.old) (counts_seen S.Source O.Sink M.Sink source.new out.new moves.new) }
+    ensures idle { S.idle source.new ≤ S.idle source.old + S.last_idle source.new }
     ensures form { result ≢ Ending.Usage }
 {
     match open_devices(machine, paging, files) {
-        Ok(()) => { run_machine(alloc, held, len, machine, source, out, moves, paging, files) }
+        Ok(()) => {
+            run_machine(
+                alloc, held, len, machine, kept, source, out, moves, paging, files,
+            )
+        }
         Err(ending) => ending,
     }
 }
@@ -191,6 +185,7 @@ fn decide_first<S: Source, O: Sink, M: Sink, P: Blocks, F: Blocks>(
     alloc: Global,
     held: &mut Held,
     len: usize,
+    kept: &mut Kept,
     source: &mut S,
     out: &mut O,
     moves: &mut M,
@@ -198,15 +193,11 @@ fn decide_first<S: Source, O: Sink, M: Sink, P: Blocks, F: Blocks>(
     files: &mut F,
 ) -> Ending
     requires line { HasLine held.old len }
+    requires room { length kept.old + 256 ≤ 65536 }
     requires behind { length held.old < len + 1 + 4096 }
-    requires paging_named { P.named paging.old ≡ [] }
-    requires files_named { F.named files.old ≡ [] }
-    ensures came { Comes (outside_seen S.Source O.Sink source.old out.old) (outside_seen S.Source O.Sink source.new out.new) (stand held.old 0 (NotBegun (outset_seen M.Sink P.Blocks F.Blocks moves.old paging.old files.old))) result (left_seen M.Sink P.Blocks F.Blocks moves.new paging.new files.new) }
-    ensures blame { IsBlamed result (Rose (P.faults paging.old) (P.faults paging.new) ⊎ Rose (F.faults files.old) (F.faults files.new)) (counts_seen S.Source O.Sink M.Sink source.old out.old moves.old) (counts_seen S.Source O.Sink M.Sink source.new out.new moves.new) }
-    ensures idle { S.idle source.new ≤ S.idle source.old + 1 }
-    ensures source_later { S.faults source.old ≤ S.faults source.new }
-    ensures out_later { O.faults out.old ≤ O.faults out.new }
-    ensures moves_later { M.faults moves.old ≤ M.faults moves.new }
+    ensures came { Comes (outside_seen S.Source O.Sink source.old out.old kept.old) (outside_seen S.Source O.Sink source.new out.new kept.new) (stand held.old 0 (NotBegun (outset_seen M.Sink P.Blocks F.Blocks moves.old paging.old files.old))) result (left_seen M.Sink P.Blocks F.Blocks moves.new paging.new files.new) }
+    ensures faults { IsBlamed result (open_failed P.Blocks F.Blocks paging.old paging.new files.old files.new) (counts_seen S.Source O.Sink M.Sink source.old out.old moves.old) (counts_seen S.Source O.Sink M.Sink source.new out.new moves.new) }
+    ensures idle { S.idle source.new ≤ S.idle source.old + S.last_idle source.new }
     ensures form { result ≢ Ending.Usage }
 {
     let event = match read_first(&held.bytes()[..len]) {
@@ -216,36 +207,35 @@ fn decide_first<S: Source, O: Sink, M: Sink, P: Blocks, F: Blocks>(
     match &event {
         Event::Machine(machine) => {
             start_machine(
-                alloc, held, len, *machine, source, out, moves, paging, files,
+                alloc, held, len, *machine, kept, source, out, moves, paging, files,
             )
         }
         _ => unreachable!(),
     }
 }
 
-/// Decides the lines of a source, and writes the answers.
+/// Decides the lines of a source, and gives on or keeps their answers.
 pub(crate) fn decide_all<S: Source, O: Sink, M: Sink, P: Blocks, F: Blocks>(
     alloc: Global,
+    kept: &mut Kept,
     source: &mut S,
     out: &mut O,
     moves: &mut M,
     paging: &mut P,
     files: &mut F,
 ) -> Ending
-    requires paging_named { P.named paging.old ≡ [] }
-    requires files_named { F.named files.old ≡ [] }
-    ensures came { Comes (outside_seen S.Source O.Sink source.old out.old) (outside_seen S.Source O.Sink source.new out.new) (stand [] 0 (NotBegun (outset_seen M.Sink P.Blocks F.Blocks moves.old paging.old files.old))) result (left_seen M.Sink P.Blocks F.Blocks moves.new paging.new files.new) }
-    ensures blame { IsBlamed result (Rose (P.faults paging.old) (P.faults paging.new) ⊎ Rose (F.faults files.old) (F.faults files.new)) (counts_seen S.Source O.Sink M.Sink source.old out.old moves.old) (counts_seen S.Source O.Sink M.Sink source.new out.new moves.new) }
-    ensures idle { S.idle source.new ≤ S.idle source.old + 1 }
-    ensures source_later { S.faults source.old ≤ S.faults source.new }
-    ensures out_later { O.faults out.old ≤ O.faults out.new }
-    ensures moves_later { M.faults moves.old ≤ M.faults moves.new }
+    requires room { length kept.old + 256 ≤ 65536 }
+    ensures came { Comes (outside_seen S.Source O.Sink source.old out.old kept.old) (outside_seen S.Source O.Sink source.new out.new kept.new) (stand [] 0 (NotBegun (outset_seen M.Sink P.Blocks F.Blocks moves.old paging.old files.old))) result (left_seen M.Sink P.Blocks F.Blocks moves.new paging.new files.new) }
+    ensures faults { IsBlamed result (open_failed P.Blocks F.Blocks paging.old paging.new files.old files.new) (counts_seen S.Source O.Sink M.Sink source.old out.old moves.old) (counts_seen S.Source O.Sink M.Sink source.new out.new moves.new) }
+    ensures idle { S.idle source.new ≤ S.idle source.old + S.last_idle source.new }
     ensures form { result ≢ Ending.Usage }
 {
     let mut held = Held::new();
     match held.next(source) {
         Ok(Found::Line(len)) => {
-            decide_first(alloc, &mut held, len, source, out, moves, paging, files)
+            decide_first(
+                alloc, &mut held, len, kept, source, out, moves, paging, files,
+            )
         }
         Ok(Found::Long) => Ending::TooLong(1),
         Ok(Found::End) => at_end(0, held.bytes().len()),

@@ -1,15 +1,19 @@
-ghost use Rattle.std.specs.Prelude.{◌≡◌, ◌≢◌, ◌≤◌, ◌+◌, ◌⊎◌, true, ℕ, List, Some, [], is_err, length, ◌++◌};
+ghost use Rattle.std.specs.Prelude.{◌≡◌, ◌≢◌, ◌≤◌, ◌+◌, ◌⊎◌, true, ℕ, List, Some, [], MatchResult, length, ◌++◌};
 ghost use Rattle.mm_types.specs.Spelling.{decimal};
-ghost use Rattle.mm_types.specs.Outside.{Rose, HasCause};
+ghost use Rattle.mm_types.specs.Outside.{Appended};
+ghost use Rattle.mm_io.specs.Io.{CountsFaults};
 ghost use Rattle.mm_run.specs.Script.{IsScript, IsComplete, IsFault};
-ghost use Rattle.mm_run.specs.Story.{Comes, IsBlamed, IsForm, outside, stand};
+ghost use Rattle.mm_run.specs.Story.{Comes, IsBlamed, IsForm, stand};
 ghost use Rattle.mm_run.specs.Scenes.{NotBegun};
-ghost use Rattle.mm_run.specs.Ran.{Ran, RanOrRefused};
-ghost use Rattle.mm_run.specs.Texts.{last_text, WroteLast};
+ghost use Rattle.mm_run.specs.Ran.{RanOrRefused};
+ghost use Rattle.mm_run.specs.Texts.{TornText, last_text};
+ghost use Rattle.mm_run.specs.Closing.{Closed, is_over};
+ghost use Rattle.mm_run.specs.Faults.{IsAccounted};
 ghost use Rattle.mm_make.specs.Generated.{script_of};
 ghost use Rattle.mm_run.specs.Bulk.{IsBulk, IsNoBulk, BulkRanOrRefused};
-ghost use Rattle.mm_run.specs.Seen.{counts_seen, left_seen, outset_seen, outside_seen, seen};
+ghost use Rattle.mm_run.specs.Seen.{counts_seen, left_seen, open_failed, outset_seen, outside_seen, seen, sink_seen};
 
+use crate::answers::Kept;
 use crate::bulk::bulk;
 use crate::endings::Ending;
 use crate::forms::{WordsForm, words_form};
@@ -53,96 +57,84 @@ fn spell_last(ending: Ending) -> LineBuf
     text
 }
 
-/// Writes the text after the answers.
-fn write_last<O: Sink>(out: &mut O, ending: Ending) -> Result<(), Failed>
-    ensures wrote { WroteLast (O.taken out.old) (O.taken out.new) ending (is_err result) }
-    ensures cause { HasCause (O.faults out.old) (O.faults out.new) result }
+/// Writes one text and then another.
+fn write_both<O: Sink>(out: &mut O, first: &[u8], second: &[u8]) -> Result<(), Failed>
+    ensures wrote { MatchResult result
+        (λ _. Appended (O.taken out.old) (O.taken out.new) (first.now ++ second.now))
+        (λ _. TornText (O.taken out.old) (O.taken out.new) (first.now ++ second.now)) }
+    ensures cause { CountsFaults (O.faults out.old) (O.faults out.new) result }
 {
-    let text = spell_last(ending);
-    write_all(out, text.as_slice())
+    match write_all(out, first) {
+        Ok(()) => write_all(out, second),
+        Err(e) => Err(e),
+    }
 }
 
-/// What a run comes to, with its answers written. Where its words are no form, to usage.
+/// Writes the answers that are kept and the last text, and has the sink give all on.
+fn tell_end<O: Sink>(kept: &Kept, out: &mut O, ending: Ending) -> Result<(), Failed>
+    ensures told { MatchResult result
+        (λ _. Appended (O.taken out.old) (O.taken out.new) (kept.now ++ last_text ending) × (O.given out.new ≡ O.taken out.new))
+        (λ _. TornText (O.taken out.old) (O.taken out.new) (kept.now ++ last_text ending)) }
+    ensures cause { CountsFaults (O.faults out.old) (O.faults out.new) result }
+{
+    let text = spell_last(ending);
+    match write_both(out, kept.bytes(), text.as_slice()) {
+        Ok(()) => out.flush(),
+        Err(e) => Err(e),
+    }
+}
+
+/// What a run comes to. Where its words are no form, to usage.
 fn come_to<S: Source, O: Sink, M: Sink, P: Blocks, F: Blocks>(
     alloc: Global,
     is_form: bool,
+    kept: &mut Kept,
     source: &mut S,
     out: &mut O,
     moves: &mut M,
     paging: &mut P,
     files: &mut F,
 ) -> Ending
-    requires paging_named { P.named paging.old ≡ [] }
-    requires files_named { F.named files.old ≡ [] }
-    ensures came { Comes (outside_seen S.Source O.Sink source.old out.old) (outside_seen S.Source O.Sink source.new out.new) (stand [] 0 (NotBegun (outset_seen M.Sink P.Blocks F.Blocks moves.old paging.old files.old))) result (left_seen M.Sink P.Blocks F.Blocks moves.new paging.new files.new) }
+    requires room { length kept.old + 256 ≤ 65536 }
+    ensures came { Comes (outside_seen S.Source O.Sink source.old out.old kept.old) (outside_seen S.Source O.Sink source.new out.new kept.new) (stand [] 0 (NotBegun (outset_seen M.Sink P.Blocks F.Blocks moves.old paging.old files.old))) result (left_seen M.Sink P.Blocks F.Blocks moves.new paging.new files.new) }
     ensures form { is_form ≡ true → result ≢ Ending.Usage }
     ensures no_form { (is_form ≡ true → ⊥) → result ≡ Ending.Usage }
-    ensures blame { IsBlamed result (Rose (P.faults paging.old) (P.faults paging.new) ⊎ Rose (F.faults files.old) (F.faults files.new)) (counts_seen S.Source O.Sink M.Sink source.old out.old moves.old) (counts_seen S.Source O.Sink M.Sink source.new out.new moves.new) }
-    ensures idle { S.idle source.new ≤ S.idle source.old + 1 }
-    ensures source_later { S.faults source.old ≤ S.faults source.new }
-    ensures out_later { O.faults out.old ≤ O.faults out.new }
-    ensures moves_later { M.faults moves.old ≤ M.faults moves.new }
+    ensures faults { IsBlamed result (open_failed P.Blocks F.Blocks paging.old paging.new files.old files.new) (counts_seen S.Source O.Sink M.Sink source.old out.old moves.old) (counts_seen S.Source O.Sink M.Sink source.new out.new moves.new) }
+    ensures idle { S.idle source.new ≤ S.idle source.old + S.last_idle source.new }
 {
     if is_form {
-        decide_all(alloc, source, out, moves, paging, files)
+        decide_all(alloc, kept, source, out, moves, paging, files)
     } else {
         Ending::Usage
     }
 }
 
-/// Hands on what both sinks hold, at the end of a run with this status, and says with which status it ends then.
-fn give_on<O: Sink, M: Sink>(moves: &mut M, out: &mut O, status: u8) -> u8
-    ensures taken { O.taken out.new ≡ O.taken out.old }
-    ensures moves_taken { M.taken moves.new ≡ M.taken moves.old }
-    ensures status { (result ≡ status) ⊎ ((result ≡ 5) ⊎ (result ≡ 6)) }
-    ensures out_fault { result ≡ 5 → (status ≡ 5) ⊎ Rose (O.faults out.old) (O.faults out.new) }
-    ensures moves_fault { result ≡ 6 → (status ≡ 6) ⊎ Rose (M.faults moves.old) (M.faults moves.new) }
-    ensures first { status ≡ 5 → result ≡ 5 }
-    ensures out_later { O.faults out.old ≤ O.faults out.new }
-    ensures moves_later { M.faults moves.old ≤ M.faults moves.new }
+/// Whether a sink has failed: nothing more is asked of it then, nor of the other one.
+fn is_over(ending: Ending) -> bool
+    ensures { result ≡ is_over ending }
 {
-    let noted = moves.flush();
-    let told = out.flush();
-    if status == 5 || status == 6 {
-        return status;
-    }
-    match (noted, told) {
-        (Err(_), _) => 6,
-        (Ok(()), Err(_)) => 5,
-        (Ok(()), Ok(())) => status,
-    }
+    matches!(ending, Ending::OutFault | Ending::MovesFault)
 }
 
-/// Writes the last text too.
-fn finish<S: Source, O: Sink, M: Sink, P: Blocks, F: Blocks>(
-    alloc: Global,
-    is_form: bool,
-    source: &mut S,
-    out: &mut O,
-    moves: &mut M,
-    paging: &mut P,
-    files: &mut F,
-) -> u8
-    requires paging_named { P.named paging.old ≡ [] }
-    requires files_named { F.named files.old ≡ [] }
-    ensures ran { Ran (seen S.Source O.Sink M.Sink P.Blocks F.Blocks source.old out.old moves.old paging.old files.old) (seen S.Source O.Sink M.Sink P.Blocks F.Blocks source.new out.new moves.new paging.new files.new) (is_form ≡ true) result }
-    ensures read_fault { result ≡ 4 → Rose (S.faults source.old) (S.faults source.new) }
-    ensures out_fault { result ≡ 5 → Rose (O.faults out.old) (O.faults out.new) }
-    ensures moves_fault { result ≡ 6 → Rose (M.faults moves.old) (M.faults moves.new) }
-    ensures setup_fault { result ≡ 7 → Rose (P.faults paging.old) (P.faults paging.new) ⊎ Rose (F.faults files.old) (F.faults files.new) }
-    ensures idle { S.idle source.new ≤ S.idle source.old + 1 }
-    ensures out_later { O.faults out.old ≤ O.faults out.new }
-    ensures moves_later { M.faults moves.old ≤ M.faults moves.new }
+/// Gives on the moves, and then the answers that are kept with the last text, and says with which status the run ends.
+fn close<O: Sink, M: Sink>(moves: &mut M, kept: &Kept, out: &mut O, ending: Ending) -> u8
+    ensures closed { Closed (sink_seen O.Sink out.old) (sink_seen O.Sink out.new) (sink_seen M.Sink moves.old) (sink_seen M.Sink moves.new) ending kept.now result }
 {
-    let ending = come_to(alloc, is_form, source, out, moves, paging, files);
-    match write_last(out, ending) {
+    if is_over(ending) {
+        return ending.status();
+    }
+    match moves.flush() {
+        Ok(()) => {}
+        Err(_) => return 6,
+    }
+    match tell_end(kept, out, ending) {
         Ok(()) => ending.status(),
         Err(_) => 5,
     }
 }
 
-/// Flushes both sinks at last.
-fn end<S: Source, O: Sink, M: Sink, P: Blocks, F: Blocks>(
+/// Runs a script, or says the usage.
+fn run_lines<S: Source, O: Sink, M: Sink, P: Blocks, F: Blocks>(
     alloc: Global,
     is_form: bool,
     source: &mut S,
@@ -151,17 +143,16 @@ fn end<S: Source, O: Sink, M: Sink, P: Blocks, F: Blocks>(
     paging: &mut P,
     files: &mut F,
 ) -> u8
-    requires paging_named { P.named paging.old ≡ [] }
-    requires files_named { F.named files.old ≡ [] }
-    ensures ran { Ran (seen S.Source O.Sink M.Sink P.Blocks F.Blocks source.old out.old moves.old paging.old files.old) (seen S.Source O.Sink M.Sink P.Blocks F.Blocks source.new out.new moves.new paging.new files.new) (is_form ≡ true) result }
-    ensures read_fault { result ≡ 4 → Rose (S.faults source.old) (S.faults source.new) }
-    ensures out_fault { result ≡ 5 → Rose (O.faults out.old) (O.faults out.new) }
-    ensures moves_fault { result ≡ 6 → Rose (M.faults moves.old) (M.faults moves.new) }
-    ensures setup_fault { result ≡ 7 → Rose (P.faults paging.old) (P.faults paging.new) ⊎ Rose (F.faults files.old) (F.faults files.new) }
-    ensures idle { S.idle source.new ≤ S.idle source.old + 1 }
+    ensures ran { RanOrRefused (seen S.Source O.Sink M.Sink P.Blocks F.Blocks source.old out.old moves.old paging.old files.old) (seen S.Source O.Sink M.Sink P.Blocks F.Blocks source.new out.new moves.new paging.new files.new) (is_form ≡ true) result }
+    ensures faults { IsAccounted result (open_failed P.Blocks F.Blocks paging.old paging.new files.old files.new) (counts_seen S.Source O.Sink M.Sink source.old out.old moves.old) (counts_seen S.Source O.Sink M.Sink source.new out.new moves.new) }
+    ensures idle { S.idle source.new ≤ S.idle source.old + S.last_idle source.new }
 {
-    let status = finish(alloc, is_form, source, out, moves, paging, files);
-    give_on(moves, out, status)
+    let mut kept = match Kept::new(alloc) {
+        Ok(kept) => kept,
+        Err(NoMemory) => return Ending::NoMemory.status(),
+    };
+    let ending = come_to(alloc, is_form, &mut kept, source, out, moves, paging, files);
+    close(moves, &kept, out, ending)
 }
 
 /// Runs a script from the bytes of its source to the bytes of its answers, and says how it ended: 0 where every
@@ -172,8 +163,9 @@ fn end<S: Source, O: Sink, M: Sink, P: Blocks, F: Blocks>(
 /// Where the words are `bulk SEED COUNT` the lines are the events of `mm_make`'s script of these two numbers, and nothing is read; their answers are
 /// not written, but how many there are, how many of them begin with `ok`, how many are `none`, and the charge at the end with its limit.
 ///
-/// At the first line, `machine`, it opens `paging` with the slots and then `files` with the blocks; neither names calls to fail by itself.
-/// Each line's moves are written to `moves` before its answer to `out`.
+/// At the first line, `machine`, it opens `paging` with the slots and then `files` with the blocks.
+/// An answer is given on only after its moves were: the answers of lines are kept, and before more is read, when their room is full and at the end
+/// `moves` is flushed, then they are written to `out`, then `out` is flushed. So with status 6 the answers since the last flush do not stand.
 pub fn run<S: Source, O: Sink, M: Sink, P: Blocks, F: Blocks>(
     alloc: Global,
     words: &[String],
@@ -183,8 +175,6 @@ pub fn run<S: Source, O: Sink, M: Sink, P: Blocks, F: Blocks>(
     paging: &mut P,
     files: &mut F,
 ) -> u8
-    requires paging_plain { P.named paging.old ≡ [] }
-    requires files_plain { F.named files.old ≡ [] }
     // Which lines were decided, with which answers and moves, what the run then came to, what was written, and what is left on devices. Or
     // memory was refused as the words were read, before anything else: status 1, and everything stands as it stood.
     ensures ran { IsNoBulk words.now → RanOrRefused
@@ -208,12 +198,9 @@ pub fn run<S: Source, O: Sink, M: Sink, P: Blocks, F: Blocks>(
     ensures usage { (IsForm words.now → ⊥) → IsNoBulk words.now → (result ≡ 2) ⊎ IsFault result }
     ensures form { IsForm words.now → result ≢ 2 }
 
-    // Each read but the last took a byte.
-    ensures idle { S.idle source.new ≤ S.idle source.old + 1 }
-    ensures read_fault { result ≡ 4 → Rose (S.faults source.old) (S.faults source.new) }
-    ensures out_fault { result ≡ 5 → Rose (O.faults out.old) (O.faults out.new) }
-    ensures moves_fault { result ≡ 6 → Rose (M.faults moves.old) (M.faults moves.new) }
-    ensures setup_fault { result ≡ 7 → Rose (P.faults paging.old) (P.faults paging.new) ⊎ Rose (F.faults files.old) (F.faults files.new) }
+    // A read that took no byte is the last one.
+    ensures idle { S.idle source.new ≤ S.idle source.old + S.last_idle source.new }
+    ensures faults { IsAccounted result (open_failed P.Blocks F.Blocks paging.old paging.new files.old files.new) (counts_seen S.Source O.Sink M.Sink source.old out.old moves.old) (counts_seen S.Source O.Sink M.Sink source.new out.new moves.new) }
 {
     let form = match words_form(alloc, words) {
         Ok(form) => form,
@@ -224,8 +211,8 @@ pub fn run<S: Source, O: Sink, M: Sink, P: Blocks, F: Blocks>(
             WordsForm::Bulk { seed, count } => {
                 bulk(alloc, seed, count, out, moves, paging, files)
             }
-            WordsForm::Run => end(alloc, true, source, out, moves, paging, files),
+            WordsForm::Run => run_lines(alloc, true, source, out, moves, paging, files),
         },
-        None => end(alloc, false, source, out, moves, paging, files),
+        None => run_lines(alloc, false, source, out, moves, paging, files),
     }
 }

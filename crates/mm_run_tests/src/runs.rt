@@ -170,26 +170,27 @@ fn failing_source_and_sink(rt: HostRuntime) -> Result<(), Fail> {
     let (status, text) = failing_reads(alloc, &[2])?;
     assert_eq!(rt; status, 4);
     assert_eq!(rt; text.as_slice(), SMALLEST_ANSWERS);
-    for (call, whole) in [(1, 0), (2, 5), (3, 10), (4, 24), (5, 35), (6, 38)] {
-        let (status, text) = failing_writes(alloc, &[call])?;
-        assert_eq!(rt; status, 5);
-        assert_eq!(rt; text.len(), whole);
-        assert_eq!(rt; SMALLEST_ANSWERS.starts_with(text.as_slice()), true);
-    }
+    // The answers of all lines are one write.
+    let (status, text) = failing_writes(alloc, &[1])?;
+    assert_eq!(rt; status, 5);
+    assert_eq!(rt; text.is_empty(), true);
+    let (status, text) = failing_writes(alloc, &[2])?;
+    assert_eq!(rt; status, 0);
+    assert_eq!(rt; text.as_slice(), SMALLEST_ANSWERS);
     Ok(())
 }
 
-// The fourth note is the first page of the third line.
+// The fourth note is the first page of the third line. The answers of the lines before it are not given on.
 #[test]
 fn failing_moves(rt: HostRuntime) -> Result<(), Fail> {
-    for (call, answers) in [(1, b"".as_slice()), (4, b"ok 2\nok 1\n".as_slice())] {
+    for call in [1, 4] {
         let moves = Failing {
             moves: &[call],
             ..NOTHING
         };
         let (status, text) = outcome(rt.alloc(), "run", SMALLEST, 4096, moves)?;
         assert_eq!(rt; status, 6);
-        assert_eq!(rt; text.as_slice(), answers);
+        assert_eq!(rt; text.is_empty(), true);
     }
     Ok(())
 }

@@ -7,7 +7,7 @@ ghost use Rattle.mm_world.specs.World.{Page};
 ghost use Rattle.mm_world.specs.Find.{set_stack};
 ghost use Rattle.mm_world.specs.Contents.{blank};
 ghost use Rattle.mm_world.specs.Stack.{stack};
-ghost use Rattle.mm_pages.specs.Housekeeping.{Turn, Turns, Makes};
+ghost use Rattle.mm_pages.specs.Housekeeping.{Turn, Turns, MakesStack};
 ghost use Rattle.mm_pages.specs.Passing.{PassesIn};
 ghost use Rattle.mm_pages.specs.Store.{StoreOf};
 ghost use Rattle.mm_tables.specs.Fits.{Fits, Called, beside};
@@ -69,7 +69,7 @@ pub fn stack<G: Pages>(
     ensures err { OnErr result ((t.new ≡ t.old) × (G.contents g.new ≡ G.contents g.old)) }
     ensures fits { Fits t.new (G.contents g.new) (G.store g.new) }
     ensures beside { G.store g.new ≡ beside (G.store g.old) (G.store g.new) }
-    ensures passes { PassesIn G.unpaged (Turns Makes) (G.store g.old) (G.store g.new) (G.behind g.old) (G.behind g.new) }
+    ensures passes { PassesIn G.unpaged (Turns MakesStack) (G.store g.old) (G.store g.new) (G.behind g.old) (G.behind g.new) }
     ensures idle { OnErr result ((turn : Turn) → PassesIn G.unpaged (Turns turn) (G.store g.old) (G.store g.new) (G.behind g.old) (G.behind g.new)) }
     ensures loans { G.loans g.new ≡ G.loans g.old }
 {

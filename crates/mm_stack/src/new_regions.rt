@@ -1,4 +1,4 @@
-ghost use Rattle.std.specs.Prelude.{◌≡◌, ◌≤◌, ◌+◌, ◌-◌, ◌%◌, true, is_some, Some, OnOk, OnErr};
+ghost use Rattle.std.specs.Prelude.{◌≡◌, ◌≤◌, ◌+◌, ◌-◌, ◌%◌, ◌^◌, ℕ, true, is_some, Some, OnOk, OnErr};
 ghost use Rattle.mm_types.specs.Address.{is_free, end_of, end_of_user_pages};
 ghost use Rattle.mm_types.specs.declared.moves.LineKind.TheVariants as line_kind;
 ghost use Rattle.mm_world.specs.World.{ProcessOf};
@@ -7,9 +7,10 @@ ghost use Rattle.mm_world.specs.Charge.{charge, limit};
 ghost use Rattle.mm_world.specs.Contents.{blank};
 ghost use Rattle.mm_world.specs.Rows.{is_protection_among, private_protections, commit, change_rows};
 ghost use Rattle.mm_world.specs.Stack.{stack_region};
-ghost use Rattle.mm_pages.specs.Housekeeping.{Turn, Turns, Makes};
+ghost use Rattle.mm_pages.specs.Housekeeping.{Turn, Turns, MakesFrom, MakesStack};
 ghost use Rattle.mm_pages.specs.Passing.{PassesIn};
 ghost use Rattle.mm_tables.specs.Fits.{Fits, Settled};
+ghost use Rattle.mm_tables.specs.Ranges.{StandsFrom};
 ghost use Rattle.mm_stack.specs.Regions.{IsUncommitted, IsReserved, reserved_region};
 
 use mm_pages::Pages;
@@ -29,7 +30,9 @@ fn commit_new<G: Pages>(t: &mut Tables, g: &mut G, pid: Pid, range: PageRange, p
     ensures changed { (h : IsUncommitted t.old pid.0 range) → t.new ≡ set_region t.old pid.0 h.process h.region.place (change_rows (commit tt prot) range h.region.thing) }
     ensures later { (G.store g.old).room ≤ (G.store g.new).room }
     ensures settled { Settled t.new (G.contents g.old) (G.contents g.new) (G.store g.old) (G.store g.new) }
-    ensures passes { PassesIn G.unpaged (Turns Makes) (G.store g.old) (G.store g.new) (G.behind g.old) (G.behind g.new) }
+    ensures among { StandsFrom 0 (2 ^ 32) range }
+    ensures passes { (from to : ℕ) → StandsFrom from to range →
+        PassesIn G.unpaged (Turns (MakesFrom from to)) (G.store g.old) (G.store g.new) (G.behind g.old) (G.behind g.new) }
     ensures loans { G.loans g.new ≡ G.loans g.old }
 {
     let n = range.count;
@@ -40,7 +43,6 @@ fn commit_new<G: Pages>(t: &mut Tables, g: &mut G, pid: Pid, range: PageRange, p
 
 /// Commits the top `top` pages of a region of which no page is committed, and makes the page below them its guard page; there is room
 /// for them.
-#[tactic(auto, using(mm_pages::proofs::Passed::makes_then))]
 fn commit_ends<G: Pages>(t: &mut Tables, g: &mut G, pid: Pid, range: PageRange, top: u32)
     requires fits { Fits t.old (G.contents g.old) (G.store g.old) }
     requires kind { (G.store g.old).kind ≡ line_kind.Call }
@@ -51,7 +53,7 @@ fn commit_ends<G: Pages>(t: &mut Tables, g: &mut G, pid: Pid, range: PageRange, 
     requires room { charge t.old + (top + 1) ≤ (G.store g.old).room }
     ensures changed { (h : IsReserved t.old pid.0 range) → t.new ≡ set_region t.old pid.0 h.process h.place (stack_region blank range.first range.count top) }
     ensures settled { Settled t.new (G.contents g.old) (G.contents g.new) (G.store g.old) (G.store g.new) }
-    ensures passes { PassesIn G.unpaged (Turns Makes) (G.store g.old) (G.store g.new) (G.behind g.old) (G.behind g.new) }
+    ensures passes { PassesIn G.unpaged (Turns MakesStack) (G.store g.old) (G.store g.new) (G.behind g.old) (G.behind g.new) }
     ensures loans { G.loans g.new ≡ G.loans g.old }
 {
     t.sound();
@@ -89,8 +91,7 @@ fn reserve_region<G: Pages>(
     ensures room { OnOk result (charge t.old + n ≤ (G.store g.new).room) }
     ensures err { OnErr result ((t.new ≡ t.old) × (G.contents g.new ≡ G.contents g.old)) }
     ensures settled { Settled t.new (G.contents g.old) (G.contents g.new) (G.store g.old) (G.store g.new) }
-    ensures passes { PassesIn G.unpaged (Turns Makes) (G.store g.old) (G.store g.new) (G.behind g.old) (G.behind g.new) }
-    ensures idle { OnErr result ((turn : Turn) → PassesIn G.unpaged (Turns turn) (G.store g.old) (G.store g.new) (G.behind g.old) (G.behind g.new)) }
+    ensures passes { (turn : Turn) → PassesIn G.unpaged (Turns turn) (G.store g.old) (G.store g.new) (G.behind g.old) (G.behind g.new) }
     ensures loans { G.loans g.new ≡ G.loans g.old }
 {
     let (charge, _) = t.charge();
@@ -108,7 +109,7 @@ fn reserve_region<G: Pages>(
 
 /// Makes the region of a stack of free pages: the top `top` of them are committed, and the page below these, its guard page. The
 /// limit allows them. After `NoMemory` tables and bytes are as before.
-#[tactic(auto, using(mm_pages::proofs::Passed::makes_then))]
+#[tactic(auto, using(mm_pages::proofs::Passed::idle_before))]
 pub(crate) fn make_region<G: Pages>(
     alloc: Global,
     t: &mut Tables,
@@ -128,7 +129,7 @@ pub(crate) fn make_region<G: Pages>(
     ensures ok { OnOk result ((p : ProcessOf (Unit {0})) → process_of t.old pid.0 ≡ Some p → t.new ≡ set_regions t.old pid.0 p (add_region (stack_region blank range.first range.count top) p.regions)) }
     ensures err { OnErr result ((t.new ≡ t.old) × (G.contents g.new ≡ G.contents g.old)) }
     ensures settled { Settled t.new (G.contents g.old) (G.contents g.new) (G.store g.old) (G.store g.new) }
-    ensures passes { PassesIn G.unpaged (Turns Makes) (G.store g.old) (G.store g.new) (G.behind g.old) (G.behind g.new) }
+    ensures passes { PassesIn G.unpaged (Turns MakesStack) (G.store g.old) (G.store g.new) (G.behind g.old) (G.behind g.new) }
     ensures idle { OnErr result ((turn : Turn) → PassesIn G.unpaged (Turns turn) (G.store g.old) (G.store g.new) (G.behind g.old) (G.behind g.new)) }
     ensures loans { G.loans g.new ≡ G.loans g.old }
 {

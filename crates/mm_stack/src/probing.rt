@@ -44,7 +44,7 @@ fn total_with_one(t: &Tables) -> u32
 
 /// Commits the page below the guard page of a stack with its guard on, and takes the guard of the guard page off. After `NoMemory` tables and bytes
 /// are as before.
-#[tactic(auto, using(mm_pages::proofs::Passed::makes_then))]
+#[tactic(auto, using(mm_pages::proofs::Passed::idle_before))]
 fn grow<G: Pages>(t: &mut Tables, g: &mut G, stack: &ThreadStack) -> Result<(), NoMemory>
     requires fits { Fits t.old (G.contents g.old) (G.store g.old) }
     requires kind { (G.store g.old).kind ≡ line_kind.Call }

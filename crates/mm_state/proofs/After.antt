@@ -9,9 +9,6 @@ use Rattle.mm_types.specs.declared.numbers.Place.{Place}
 use Rattle.mm_types.specs.declared.frames.Record.{Record}
 use Rattle.mm_types.specs.declared.frames.Request.{Request}
 use Rattle.mm_types.specs.declared.frames.Request.TheVariants as request
-use Rattle.mm_types.specs.declared.frames.Held.{Held}
-use Rattle.mm_types.specs.declared.frames.Held.TheVariants as held
-use Rattle.mm_laws.specs.Fits.{is_backed}
 use Rattle.mm_types.specs.declared.moves.Move.TheVariants as move
 use Rattle.mm_life.specs.declared.sets.ResidentSet.{ResidentSet}
 use Rattle.mm_life.specs.Frames.{blank, record_at, is_read, is_write, is_again, is_first, is_empty, has_request, shared, unshared, soiled, read_done, without_slot}

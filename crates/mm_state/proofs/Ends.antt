@@ -1,11 +1,12 @@
 -- The end of a read or of a write, well or not: bytes, what is told, and which device is called.
-use Rattle.std.proofs.Common.{◌≡◌, ℕ, ◌<◌, Bool, true, false, List, [], Some, None, refl, sym, ap, ◌∙◌, subst, arith, map}
+use Rattle.std.proofs.Common.{◌≡◌, ℕ, ◌<◌, Bool, true, false, List, [], ◌∷◌, ◌++◌, Some, None, refl, sym, ap, ◌∙◌, subst, arith, map}
 use Rattle.std.specs.Prelude.{◌||◌, is_some}
 use Rattle.std.specs.Bool.{OnTrue}
 use Rattle.std.proofs.lemmas.Bool.{and_parts}
 use Rattle.mm_types.specs.declared.devices.Direction.{Direction}
 use Rattle.mm_types.specs.declared.devices.Direction.TheVariants as way
-use Rattle.mm_blocks.specs.Devices.{DeviceOf}
+use Rattle.mm_blocks.specs.Devices.{DeviceOf, KeepsOthers}
+use Rattle.mm_blocks.proofs.Holding.{keeps_same, keeps_written}
 use Rattle.mm_types.specs.declared.numbers.Frame.{Frame}
 use Rattle.mm_types.specs.declared.numbers.Place.{Place}
 use Rattle.mm_types.specs.declared.frames.Backing.{Backing}
@@ -22,7 +23,7 @@ use Rattle.mm_laws.proofs.Requests.{read_has, write_has}
 use Rattle.mm_flight.specs.Requests.{ended}
 use Rattle.mm_flight.specs.declared.flights.Waiting.{Waiting as Wait}
 use Rattle.mm_walks.specs.Waits.{Waiting, waits_after, ages_after}
-use Rattle.mm_pages.specs.Told.{Told, told_after, with_write}
+use Rattle.mm_pages.specs.Told.{Told, told_after, with_write, in_slot, in_block, paging_traffic, file_traffic}
 use Rattle.mm_parts.specs.Moves.{read_end, write_end, page_filled}
 use Rattle.mm_located.specs.Carried.{Carries, slots_written, blocks_written}
 use Rattle.mm_located.proofs.Carrying.{carries_got, carries_bad, carries_wrote, carries_lost}
@@ -112,6 +113,27 @@ write_tells false l f t = refl
 pub write_calls : (ok : Bool) (f : Frame) (s z : StateOf) → Called way.Write (backing_of_frame s f) ok s z → Calls (write_end ok f) s z
 write_calls true f s z h = h
 write_calls false f s z h = h
+
+-- a write changes the slot or the block that it is made to, and no other
+write_keeps_slots : (ok : Bool) (b : Backing) (page : List ℕ) (slots : BlockBytes) → KeepsOthers (in_slot way.Write ok b ++ []) slots (written_if ok (slots_written b page) slots)
+write_keeps_slots false b page slots = keeps_same _ slots slots refl
+write_keeps_slots true backing.None page slots = keeps_same _ slots slots refl
+write_keeps_slots true (backing.Slot s) page slots = keeps_written s.0 slots page
+write_keeps_slots true (backing.Block b) page slots = keeps_same _ slots slots refl
+
+write_keeps_blocks : (ok : Bool) (b : Backing) (page : List ℕ) (blocks : BlockBytes) → KeepsOthers (in_block way.Write ok b ++ []) blocks (written_if ok (blocks_written b page) blocks)
+write_keeps_blocks false b page blocks = keeps_same _ blocks blocks refl
+write_keeps_blocks true backing.None page blocks = keeps_same _ blocks blocks refl
+write_keeps_blocks true (backing.Slot s) page blocks = keeps_same _ blocks blocks refl
+write_keeps_blocks true (backing.Block b) page blocks = keeps_written b.0 blocks page
+
+pub slots_by_write : (ok : Bool) (l : FrameLife) (f : Frame) (page : List ℕ) (slots : BlockBytes) → KeepsOthers (paging_traffic l (write_end ok f ∷ [])) slots (written_if ok (slots_written (record_at l.frames f.0).backing page) slots)
+slots_by_write true l f page slots = write_keeps_slots true (record_at l.frames f.0).backing page slots
+slots_by_write false l f page slots = write_keeps_slots false (record_at l.frames f.0).backing page slots
+
+pub blocks_by_write : (ok : Bool) (l : FrameLife) (f : Frame) (page : List ℕ) (blocks : BlockBytes) → KeepsOthers (file_traffic l (write_end ok f ∷ [])) blocks (written_if ok (blocks_written (record_at l.frames f.0).backing page) blocks)
+blocks_by_write true l f page blocks = write_keeps_blocks true (record_at l.frames f.0).backing page blocks
+blocks_by_write false l f page blocks = write_keeps_blocks false (record_at l.frames f.0).backing page blocks
 
 pub write_calm : (l : FrameLife) (f : Frame) → IsLegal (move.Wrote f) l → is_read (record_at l.frames f.0).request ≡ false
 write_calm l f legal = write_not_read (record_at l.frames f.0).request (is_writing l f legal)

@@ -10,17 +10,18 @@ use Rattle.mm_life.specs.Located.{BlockBytes, contents_of, BytesLocated}
 use Rattle.mm_parts.specs.Reading.{waits_of}
 use Rattle.mm_life.specs.Logs.{Log, Grew}
 use Rattle.mm_life.specs.MoveText.{IsMove, spelling_of_move, spelled_moves}
-use Rattle.mm_blocks.specs.Devices.{DeviceOf}
+use Rattle.mm_blocks.specs.Devices.{DeviceOf, KeepsOthers}
+use Rattle.mm_blocks.proofs.Holding.{keeps_same}
 use Rattle.mm_walks.specs.Waits.{Waiting, waits_after, ages_after}
-use Rattle.mm_pages.specs.Told.{Told, told_after}
+use Rattle.mm_pages.specs.Told.{Told, told_after, paging_traffic, file_traffic}
 use Rattle.mm_parts.specs.Shown.{PartsOf}
 use Rattle.mm_located.specs.Carried.{Carries}
-use Rattle.mm_moving.specs.Shown.{StateOf, Made, Calls, asked_to_grow}
+use Rattle.mm_moving.specs.Shown.{StateOf, Made, Calls}
 use Rattle.mm_state.specs.Shown.{state_of}
 
 pub made_by : (x : Move) (s z : StateOf) → IsLegal x s.life → IsMove x → Grew s.log z.log (spelling_of_move x) → z.life ≡ after_move s.life x → z.ages ≡ ages_after x s.ages → z.waits ≡ waits_after x s.waits
-    → z.told ≡ told_after s.life x s.told → Calls x s z → Made x s z
-made_by x s z legal range grew life ages waits told calls = record {
+    → z.told ≡ told_after s.life x s.told → Calls x s z → KeepsOthers (paging_traffic s.life (x ∷ [])) s.slots z.slots → KeepsOthers (file_traffic s.life (x ∷ [])) s.blocks z.blocks → Made x s z
+made_by x s z legal range grew life ages waits told calls slots blocks = record {
   legal = legal;
   life = life;
   in_range = (range, tt);
@@ -29,7 +30,15 @@ made_by x s z legal range grew life ages waits told calls = record {
   waits = waits;
   told = told;
   calls = calls;
+  slots_kept = slots;
+  blocks_kept = blocks;
 }
+
+-- a move that calls no device
+pub made_quiet : (x : Move) (s z : StateOf) → IsLegal x s.life → IsMove x → Grew s.log z.log (spelling_of_move x) → z.life ≡ after_move s.life x → z.ages ≡ ages_after x s.ages → z.waits ≡ waits_after x s.waits
+    → z.told ≡ told_after s.life x s.told → Calls x s z → z.slots ≡ s.slots → z.blocks ≡ s.blocks → Made x s z
+made_quiet x s z legal range grew life ages waits told calls slots blocks =
+    made_by x s z legal range grew life ages waits told calls (keeps_same _ s.slots z.slots slots) (keeps_same _ s.blocks z.blocks blocks)
 
 -- the parts show this, and the keys have these contents
 pub rest_of : (v w : PartsOf) (log : Log) (told : Told) (paging files : DeviceOf) (slots blocks : BlockBytes) (contents : Key → Option (List ℕ)) → v ≡ w → contents_of v.life v.bytes slots blocks ≡ contents
@@ -122,7 +131,7 @@ pub rest_waits : (v w : PartsOf) (log : Log) (told : Told) (paging files : Devic
 rest_waits v w log told paging files slots blocks waits e we = λ i. record (state_of (e i) log told paging files slots blocks) { waits = λ t. we t i }
 
 -- the paging device was asked to grow
-pub rest_grown : (v w : PartsOf) (log : Log) (told : Told) (was now files : DeviceOf) (slots blocks slots2 : BlockBytes) (contents : Key → Option (List ℕ)) → v ≡ w → now.log ≡ was.log → now.named ≡ was.named → slots ≡ slots2
+pub rest_grown : (v w : PartsOf) (log : Log) (told : Told) (now paging files : DeviceOf) (slots blocks slots2 : BlockBytes) (contents : Key → Option (List ℕ)) → v ≡ w → now ≡ paging → slots ≡ slots2
     → contents_of v.life v.bytes slots blocks ≡ contents
     → state_of v log told now files slots blocks ≡ record (state_of v log told now files slots blocks) {
       contents = contents;
@@ -132,10 +141,10 @@ pub rest_grown : (v w : PartsOf) (log : Log) (told : Told) (was now files : Devi
       names = w.names;
       aside = w.aside;
       own = w.own;
-      paging = asked_to_grow was now;
+      paging = paging;
       slots = slots2;
     }
-rest_grown v w log told was now files slots blocks slots2 contents e le ne se ce = λ i. record (state_of v log told now files slots blocks) {
+rest_grown v w log told now paging files slots blocks slots2 contents e pe se ce = λ i. record (state_of v log told now files slots blocks) {
   contents = ce i;
   is_open = (e i).is_open;
   bound = (e i).bound;
@@ -143,7 +152,7 @@ rest_grown v w log told was now files slots blocks slots2 contents e le ne se ce
   names = (e i).names;
   aside = (e i).aside;
   own = (e i).own;
-  paging = record { log = le i; named = ne i; faults = now.faults };
+  paging = pe i;
   slots = se i;
 }
 

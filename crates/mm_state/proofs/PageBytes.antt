@@ -7,9 +7,7 @@ use Rattle.mm_types.specs.declared.numbers.Key.{Key}
 use Rattle.mm_types.specs.declared.numbers.Place.{Place}
 use Rattle.mm_types.specs.declared.frames.Record.{Record}
 use Rattle.mm_types.specs.declared.frames.Held.{Held}
-use Rattle.mm_types.specs.declared.frames.Request.{Request}
-use Rattle.mm_types.specs.declared.frames.Request.TheVariants as request
-use Rattle.mm_located.specs.Carried.{IsSoiled, is_calm}
+use Rattle.mm_located.specs.Carried.{IsSoiled}
 use Rattle.mm_life.specs.Frames.{record_at, is_read}
 use Rattle.mm_life.specs.Life.{FrameLife, is_dead}
 use Rattle.mm_life.specs.Located.{FrameBytes, BlockBytes, zero_page, page_at, contents_of, BytesLocated}

@@ -1,21 +1,15 @@
 -- What parts, log, tallies and devices show together, and what a new state shows.
-use Rattle.std.specs.Prelude.{◌≡◌, ℕ, List, [], ◌∷◌, Option, None}
+use Rattle.std.specs.Prelude.{◌≡◌, ℕ, List, [], ◌∷◌, None}
 use Rattle.mm_types.specs.Machine.{MachineOf}
 use Rattle.mm_life.specs.Located.{contents_of}
 use Rattle.mm_life.specs.Logs.{Log, Grew}
 use Rattle.mm_life.specs.MoveText.{AreMoves, spelled_moves}
-use Rattle.mm_blocks.specs.declared.device_calls.DeviceCall.{DeviceCall}
-use Rattle.mm_blocks.specs.declared.device_calls.NamedCalls.{NamedCalls}
 use Rattle.mm_blocks.specs.Devices.{DeviceOf}
 use Rattle.mm_pages.specs.Told.{Told, none_told}
 use Rattle.mm_parts.specs.Shown.{PartsOf}
 use Rattle.mm_parts.specs.Reading.{waits_of}
 use Rattle.mm_parts.specs.Start.{started, first_move}
 use Rattle.mm_moving.specs.Shown.{StateOf}
-
--- a device, as these members tell of it
-abbrev pub device_with : Option (List DeviceCall) → List NamedCalls → ℕ → DeviceOf
-device_with log named faults = record { log = log; named = named; faults = faults }
 
 abbrev pub state_of : PartsOf → Log → Told → DeviceOf → DeviceOf → List (List ℕ) → List (List ℕ) → StateOf
 state_of s log told paging files slots blocks = record {

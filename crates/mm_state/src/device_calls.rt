@@ -8,7 +8,7 @@ ghost use Rattle.mm_moving.specs.Shown.{Called, written_if};
 
 use crate::devices::write_device;
 use crate::states::State;
-use mm_blocks::{Blocks, Inject};
+use mm_blocks::Inject;
 use mm_moves::Moves;
 use mm_types::{Backing, Block, Device, Direction};
 

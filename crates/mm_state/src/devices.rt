@@ -7,17 +7,16 @@ ghost use Rattle.mm_life.specs.Located.{bytes_at};
 ghost use Rattle.mm_laws.specs.Fits.{is_backed};
 ghost use Rattle.mm_laws.specs.FileBlocks.{block_of};
 ghost use Rattle.mm_blocks.specs.Traffic.{is_named};
-ghost use Rattle.mm_blocks.specs.Devices.{Serves};
+ghost use Rattle.mm_blocks.specs.Devices.{Serves, device_with};
 ghost use Rattle.mm_located.specs.Carried.{slots_written, blocks_written};
 ghost use Rattle.mm_moving.specs.Shown.{CalledFor, written_if};
-ghost use Rattle.mm_state.specs.Shown.{device_with};
 ghost use Rattle.std.specs.Prelude.{[]};
 
-use mm_blocks::Blocks;
+use mm_blocks::Inject;
 use mm_types::{Backing, Failed};
 
 /// One read of a device: true where it succeeded.
-pub(crate) fn read_device<B: Blocks>(device: &mut B, block: u32, page: &mut [u8; 4096]) -> bool
+pub(crate) fn read_device<B: Inject>(device: &mut B, block: u32, page: &mut [u8; 4096]) -> bool
     requires { block < length (B.blocks device.old) }
     ensures ok { OnTrue result (slice_get (B.blocks device.old) block ≡ Some page.new) }
     ensures blocks { B.blocks device.new ≡ B.blocks device.old }
@@ -32,7 +31,7 @@ pub(crate) fn read_device<B: Blocks>(device: &mut B, block: u32, page: &mut [u8;
 }
 
 /// One write of a device: true where it succeeded.
-pub(crate) fn write_device<B: Blocks>(device: &mut B, block: u32, page: &[u8; 4096]) -> bool
+pub(crate) fn write_device<B: Inject>(device: &mut B, block: u32, page: &[u8; 4096]) -> bool
     requires { block < length (B.blocks device.old) }
     ensures ok { OnTrue result (B.blocks device.new ≡ slice_set (B.blocks device.old) block page.now) }
     ensures err { OnFalse result (B.blocks device.new ≡ B.blocks device.old) }
@@ -47,7 +46,7 @@ pub(crate) fn write_device<B: Blocks>(device: &mut B, block: u32, page: &[u8; 40
 }
 
 /// Reads a page from where a frame is backed: true where the device call succeeded.
-pub(crate) fn get_page<P: Blocks, F: Blocks>(
+pub(crate) fn get_page<P: Inject, F: Inject>(
     paging: &mut P,
     files: &mut F,
     home: Backing,
@@ -73,7 +72,7 @@ pub(crate) fn get_page<P: Blocks, F: Blocks>(
 }
 
 /// Writes a page to where a frame is backed: true where the device call succeeded.
-pub(crate) fn put_page<P: Blocks, F: Blocks>(
+pub(crate) fn put_page<P: Inject, F: Inject>(
     paging: &mut P,
     files: &mut F,
     home: Backing,

@@ -1,5 +1,5 @@
 ghost use Rattle.std.specs.Prelude.{◌≡◌};
-ghost use Rattle.mm_types.specs.Outside.{HasCause};
+ghost use Rattle.mm_life.specs.Logs.{Flushed};
 
 use crate::states::State;
 use mm_blocks::Inject;
@@ -9,11 +9,10 @@ use mm_types::Failed;
 impl<P: Inject, F: Inject, M: Moves> State<P, F, M> {
     ghost use Rattle.mm_state.specs.StateShown.{shown, loans};
 
-    /// Hands on the moves that were noted. `Failed` comes only where the sink's count of faults rose; the moves stay noted then,
-    /// and whether the sink has failed stays as it was.
+    /// Gives on the moves that were noted. Nothing else changes but the log's count of faults, where that fails.
     pub fn flush_moves(&mut self) -> Result<(), Failed>
-        ensures rest { shown self.new ≡ record (shown self.old) { log = record ((shown self.old).log) { faults = (shown self.new).log.faults } } }
-        ensures cause { HasCause (shown self.old).log.faults (shown self.new).log.faults result }
+        ensures rest { shown self.new ≡ record (shown self.old) { log = (shown self.new).log } }
+        ensures flushed { Flushed (shown self.old).log (shown self.new).log result }
         ensures loans { loans self.new ≡ loans self.old }
     {
         self.moves.flush()

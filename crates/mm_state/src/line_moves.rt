@@ -12,7 +12,7 @@ ghost use Rattle.mm_moving.specs.Shown.{Made, Begins, moved, asked_to_grow};
 
 use crate::states::State;
 use crate::tallies::Tallies;
-use mm_blocks::{Blocks, Inject};
+use mm_blocks::Inject;
 use mm_moves::Moves;
 use mm_parts::Parts;
 use mm_types::{GrowFault, LineKind, Move, NoMemory, OpenFault};
@@ -55,7 +55,6 @@ impl<P: Inject, F: Inject, M: Moves> State<P, F, M> {
         requires alone { (shown self.old).aside ≡ None }
         ensures ok { OnOk result (Begins (move.At line (kind.Grow n)) (shown self.old) (shown self.new)) }
         ensures grown { OnOk result (shown self.new ≡ record (moved (shown self.old) (shown self.new)) {
-          paging = asked_to_grow (shown self.old).paging (shown self.new).paging;
           slots = (shown self.old).slots ++ replicate n zero_page;
         }) }
         ensures failed { IsErrOf result grow_fault.Failed → Begins (move.At line kind.Call) (shown self.old) (shown self.new) }

@@ -3,12 +3,13 @@ ghost use Rattle.mm_types.specs.Outside.{Both};
 ghost use Rattle.mm_life.specs.Located.{BytesLocated};
 ghost use Rattle.mm_parts.specs.PartsShown as parts_of;
 ghost use Rattle.mm_parts.specs.Start.{first_move};
-ghost use Rattle.mm_state.specs.Shown.{Starts, device_with};
+ghost use Rattle.mm_blocks.specs.Devices.{device_with};
+ghost use Rattle.mm_state.specs.Shown.{Starts};
 ghost use Rattle.mm_state.specs.Tallied.{IsTallied};
 ghost use Rattle.mm_state.specs.Whole.{AreWhole};
 
 use crate::tallies::Tallies;
-use mm_blocks::{Blocks, Inject};
+use mm_blocks::Inject;
 use mm_moves::Moves;
 use mm_parts::Parts;
 use mm_types::{LineKind, Machine, Move, NoMemory, Unmade};
@@ -26,10 +27,10 @@ pub struct State<P: Inject, F: Inject, M: Moves> {
     pub(crate) told: Tallies,
     /// Where the page of a device call stands. It is kept so that none is filled with zeros at each call.
     pub(crate) page: [u8; 4096],
-    ghost located: { BytesLocated (parts_of.shown parts).life (parts_of.shown parts).bytes (P.Blocks.blocks paging) (F.Blocks.blocks files) },
+    ghost located: { BytesLocated (parts_of.shown parts).life (parts_of.shown parts).bytes (P.blocks paging) (F.blocks files) },
     ghost tallied: { IsTallied told },
-    ghost slots_whole: { AreWhole (P.Blocks.blocks paging) },
-    ghost blocks_whole: { AreWhole (F.Blocks.blocks files) },
+    ghost slots_whole: { AreWhole (P.blocks paging) },
+    ghost blocks_whole: { AreWhole (F.blocks files) },
 }
 
 /// The first line of a machine.
@@ -59,13 +60,13 @@ impl<P: Inject, F: Inject, M: Moves> State<P, F, M> {
         files: F,
         mut moves: M,
     ) -> Result<State<P, F, M>, Unmade<(P, F, M)>>
-        requires slots { length (P.Blocks.blocks paging) ≡ machine.slots }
-        requires blocks { length (F.Blocks.blocks files) ≡ machine.blocks }
-        requires slots_whole { AreWhole (P.Blocks.blocks paging) }
-        requires blocks_whole { AreWhole (F.Blocks.blocks files) }
-        ensures starts { IfOk result (λ s. Starts machine (M.log moves) (device_with (P.Blocks.log paging) (P.Blocks.named paging) (P.Blocks.faults paging)) (device_with (F.Blocks.log files) (F.Blocks.named files) (F.Blocks.faults files)) (P.Blocks.blocks paging) (F.Blocks.blocks files) (shown s)) }
+        requires slots { length (P.blocks paging) ≡ machine.slots }
+        requires blocks { length (F.blocks files) ≡ machine.blocks }
+        requires slots_whole { AreWhole (P.blocks paging) }
+        requires blocks_whole { AreWhole (F.blocks files) }
+        ensures starts { IfOk result (λ s. Starts machine (M.log moves) (device_with (P.log paging) (P.named paging) (P.faults paging)) (device_with (F.log files) (F.named files) (F.faults files)) (P.blocks paging) (F.blocks files) (shown s)) }
         ensures devices { IfOk result (λ s. (s.paging ≡ paging) × (s.files ≡ files)) }
-        ensures loans { IfOk result (λ s. loans s ≡ Both (Both (P.Blocks.loans paging) (F.Blocks.loans files)) (M.loans moves)) }
+        ensures loans { IfOk result (λ s. loans s ≡ Both (Both (P.loans paging) (F.loans files)) (M.loans moves)) }
         ensures err { IfErr result (λ e. e.back ≡ (paging, files, moves)) }
     {
         match Parts::new(alloc, machine) {

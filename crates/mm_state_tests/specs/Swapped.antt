@@ -43,8 +43,12 @@ swap =
     ∷ move.Map (frame 0) (place 1 16)
     ∷ []
 
+-- and then it alone stays in the working set
+abbrev pub leaves : List Move
+leaves = move.Unmap (place 1 17) ∷ move.Unmap (place 1 18) ∷ move.Unmap (place 1 19) ∷ move.Unmap (place 1 20) ∷ move.Unmap (place 1 21) ∷ []
+
 abbrev pub swapped_log : List Move
-swapped_log = adds ++ uses 0 16 ++ uses 1 17 ++ uses 2 18 ++ uses 3 19 ++ uses 4 20 ++ uses 5 21 ++ swap
+swapped_log = adds ++ uses 0 16 ++ uses 1 17 ++ uses 2 18 ++ uses 3 19 ++ uses 4 20 ++ uses 5 21 ++ swap ++ leaves
 
 abbrev pub life_at : ℕ → FrameLife
 life_at n = after_moves unstarted (take n swapped_log)

@@ -7,14 +7,14 @@ ghost use Rattle.mm_located.specs.Carried.{IsSoiled};
 ghost use Rattle.mm_parts.specs.PartsShown as parts_of;
 ghost use Rattle.mm_state.specs.StateShown.{shown};
 
-use mm_blocks::{Blocks, Inject};
+use mm_blocks::Inject;
 use mm_moves::Moves;
 use mm_parts::Parts;
 use mm_state::State;
 use mm_types::{Block, Failed, Frame, Slot};
 
 /// One write of a device: true where it succeeded.
-fn write_device<B: Blocks>(device: &mut B, block: u32, page: &[u8; 4096]) -> bool
+fn write_device<B: Inject>(device: &mut B, block: u32, page: &[u8; 4096]) -> bool
     requires { block < length (B.blocks device.old) }
     ensures ok { OnTrue result (B.blocks device.new ≡ slice_set (B.blocks device.old) block page.now) }
     ensures err { OnFalse result (B.blocks device.new ≡ B.blocks device.old) }

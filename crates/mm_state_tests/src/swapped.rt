@@ -53,7 +53,7 @@ map 0 1.16
 ";
 
 /// The place of a page of the process.
-fn at(v: u32) -> Place
+pub(crate) fn at(v: u32) -> Place
     ensures { result ≡ record { pid = record { 0 = 1 }; vpn = record { 0 = v } } }
 {
     Place {
@@ -139,7 +139,7 @@ fn put_out<T: Moving>(state: &mut T) -> bool
 }
 
 /// All pages are used, the first goes to its slot, and it loses its frame.
-fn put_all_out<T: Moving>(state: &mut T) -> bool
+pub(crate) fn put_all_out<T: Moving>(state: &mut T) -> bool
     requires { Opens (T.shown state.old) }
     ensures { OnTrue result (Used 32 (T.shown state.new)) }
 {
@@ -158,7 +158,7 @@ fn put_all_out<T: Moving>(state: &mut T) -> bool
 }
 
 /// It is read in again.
-fn bring_back<T: Moving>(state: &mut T) -> bool
+pub(crate) fn bring_back<T: Moving>(state: &mut T) -> bool
     requires { Used 32 (T.shown state.old) }
     ensures { OnTrue result (Used 34 (T.shown state.new)) }
 {
@@ -167,7 +167,7 @@ fn bring_back<T: Moving>(state: &mut T) -> bool
 }
 
 /// Its first two bytes.
-fn read_first<T: Moving>(state: &mut T) -> [u8; 2]
+pub(crate) fn read_first<T: Moving>(state: &mut T) -> [u8; 2]
     requires { Used 34 (T.shown state.old) }
     ensures { Used 35 (T.shown state.new) }
 {

@@ -18,7 +18,7 @@ use Rattle.mm_paging.specs.Lines.{Line}
 use Rattle.mm_core.specs.Built.{takes_memory}
 use Rattle.mm_core.specs.Forgetting.{EndsWaits}
 use Rattle.mm_core.specs.Promise.{Scene, Told, Decides}
-use Rattle.mm_core.specs.Serving.{AskedBeside, IsFailure, Flushed, Named, OneRose, is_grow, is_fail, FailedBefore}
+use Rattle.mm_core.specs.Serving.{AskedBeside, IsFailure, Flushed, Named, OneFailed, is_grow, is_fail, FailedBefore}
 use Rattle.mm_system.specs.Lines.{world_line, said, written_pages, is_gone}
 
 pub same_fail : (e : Event) → is_fail (world_line e) ≡ is_fail e
@@ -49,10 +49,10 @@ module _ (watches : List WatchOf) (e : Event) (b : Answer) where
       by_line (line.Alloc pid addr size type prot) h = tt
       by_line _ h = h
 
-  pub beside : (used : ℕ) (paging paging' files files' : DeviceOf) → AskedBeside used (world_line e) b paging paging' files files' → AskedBeside used e (said watches e b) paging paging' files files'
-  beside used paging paging' files files' = by_line e
+  pub beside : (used : ℕ) (paging paging' files files' : DeviceOf) (blocks blocks' : List Page) → AskedBeside used (world_line e) b paging paging' files files' blocks blocks' → AskedBeside used e (said watches e b) paging paging' files files' blocks blocks'
+  beside used paging paging' files files' blocks blocks' = by_line e
     where
-      by_line : (e : Event) → AskedBeside used (world_line e) b paging paging' files files' → AskedBeside used e (said watches e b) paging paging' files files'
+      by_line : (e : Event) → AskedBeside used (world_line e) b paging paging' files files' blocks blocks' → AskedBeside used e (said watches e b) paging paging' files files' blocks blocks'
       by_line (line.Watch pid unwrites addr size count) h = tt
       by_line (line.ResetWatch pid addr size) h = tt
       by_line (line.Alloc pid addr size type prot) h = tt
@@ -89,15 +89,15 @@ failed watches (line.ResetWatch pid addr size) b before R h f = absurd (no_failu
 failed watches (line.Alloc pid addr size type prot) b before R h f = h f
 failed watches _ b before R h f = h f
 
-module _ (w : World) (before : Report) (b : Behind) (paging files : DeviceOf) (v : World) (after : Report) (c : Behind) (paging' files' : DeviceOf) (watches : List WatchOf) (given : Answer) (ms : List Move) where
+module _ (w : World) (before : Report) (b : Behind) (paging files : DeviceOf) (blocks : List Page) (v : World) (after : Report) (c : Behind) (paging' files' : DeviceOf) (blocks' : List Page) (watches : List WatchOf) (given : Answer) (ms : List Move) where
   -- the moves of a `query` are those of a line of watched regions, and those of an `alloc` do not go by its type
-  moves_of : (e : Event) → Line w before b paging files (world_line e) given ms v after c paging' files' → Line w before b paging files e (said watches e given) ms v after c paging' files'
+  moves_of : (e : Event) → Line w before b paging files blocks (world_line e) given ms v after c paging' files' blocks' → Line w before b paging files blocks e (said watches e given) ms v after c paging' files' blocks'
   moves_of (line.Watch pid unwrites addr size count) l =
-      record { moves = l.moves; begins = l.begins; agrees = l.agrees; keys = l.keys; does = l.does; ages = l.ages; waits = l.waits; told = l.told; traffic = l.traffic }
+      record { moves = l.moves; begins = l.begins; agrees = l.agrees; keys = l.keys; does = l.does; ages = l.ages; waits = l.waits; told = l.told; traffic = l.traffic; beside = tt }
   moves_of (line.ResetWatch pid addr size) l =
-      record { moves = l.moves; begins = l.begins; agrees = l.agrees; keys = l.keys; does = l.does; ages = l.ages; waits = l.waits; told = l.told; traffic = l.traffic }
+      record { moves = l.moves; begins = l.begins; agrees = l.agrees; keys = l.keys; does = l.does; ages = l.ages; waits = l.waits; told = l.told; traffic = l.traffic; beside = tt }
   moves_of (line.Alloc pid addr size type prot) l =
-      record { moves = l.moves; begins = l.begins; agrees = l.agrees; keys = l.keys; does = l.does; ages = l.ages; waits = l.waits; told = l.told; traffic = l.traffic }
+      record { moves = l.moves; begins = l.begins; agrees = l.agrees; keys = l.keys; does = l.does; ages = l.ages; waits = l.waits; told = l.told; traffic = l.traffic; beside = tt }
   moves_of _ l = l
 
 module _ (u : Bool) (x y : Scene) (watches : List WatchOf) (e : Event) (b : Answer) where
@@ -106,16 +106,16 @@ module _ (u : Bool) (x y : Scene) (watches : List WatchOf) (e : Event) (b : Answ
     sound = h.sound;
     asked_paging = λ none nothing. h.asked_paging (same_fail e ∙ none) (same_grow e ∙ nothing);
     asked_files = λ none. h.asked_files (same_fail e ∙ none);
-    beside = λ paging. beside watches e b x.world.blocks_used x.paging y.paging x.files y.files (h.beside paging);
+    beside = λ paging. beside watches e b x.world.blocks_used x.paging y.paging x.files y.files x.blocks y.blocks (h.beside paging);
     named = named watches e b u x.paging y.paging x.files y.files h.named;
     few_paging = h.few_paging;
     few_files = h.few_files;
-    failed = failed watches e b x.report (OneRose x.paging y.paging x.files y.files) h.failed;
+    failed = failed watches e b x.report (OneFailed x.paging y.paging x.files y.files) h.failed;
     paging_later = h.paging_later;
     files_later = h.files_later;
     flushed = flushed watches e b y.world y.blocks h.flushed;
     waits = waits watches e b x.world y.report h.waits;
-    line = λ paging. moves_of x.world x.report x.behind x.paging x.files y.world y.report y.behind y.paging y.files watches b ms e (h.line paging);
+    line = λ paging. moves_of x.world x.report x.behind x.paging x.files x.blocks y.world y.report y.behind y.paging y.files y.blocks watches b ms e (h.line paging);
   }
 
   -- what is told of the world's line is told of the system's, whatever is said of its answer

@@ -1,5 +1,5 @@
 ghost use Rattle.std.specs.Prelude.{◌≡◌};
-ghost use Rattle.mm_types.specs.Outside.{HasCause};
+ghost use Rattle.mm_life.specs.Logs.{Flushed};
 
 use crate::systems::System;
 use mm_flushing::FlushesMoves;
@@ -8,19 +8,18 @@ use mm_types::Failed;
 impl<G: FlushesMoves> System<G> {
     ghost use Rattle.mm_system.specs.Shown.{system, report, behind, line_of, paging_device, file_device, file_blocks, loans};
 
-    /// Hands on the moves that were noted, so that whoever reads their log sees those of all lines decided so far. Nothing changes
-    /// but the log's count of faults. `Failed` comes only where that rose; the moves stay noted then, and whether the log has failed
-    /// stays as it was. It may be asked of a system that is spent.
+    /// Gives on the moves that were noted, so that whoever reads their log sees those of all lines decided so far. Nothing else changes but
+    /// the log's count of faults, where that fails. It may be asked of a system that is spent.
     pub fn flush_moves(&mut self) -> Result<(), Failed>
         ensures system { system self.new ≡ system self.old }
         ensures report { report self.new ≡ report self.old }
-        ensures behind { behind self.new ≡ record (behind self.old) { log = record ((behind self.old).log) { faults = (behind self.new).log.faults } } }
+        ensures behind { behind self.new ≡ record (behind self.old) { log = (behind self.new).log } }
         ensures line { line_of self.new ≡ line_of self.old }
         ensures paging_device { paging_device self.new ≡ paging_device self.old }
         ensures file_device { file_device self.new ≡ file_device self.old }
         ensures file_blocks { file_blocks self.new ≡ file_blocks self.old }
         ensures spent { self.new.spent ≡ self.old.spent }
-        ensures cause { HasCause (behind self.old).log.faults (behind self.new).log.faults result }
+        ensures flushed { Flushed (behind self.old).log (behind self.new).log result }
         ensures loans { loans self.new ≡ loans self.old }
     {
         self.world.flush_moves()

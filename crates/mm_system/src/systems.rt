@@ -42,13 +42,15 @@ pub struct System<G: Pages> {
 impl<G: Pages> System<G> {
     ghost use Rattle.mm_core.specs.Promise.{Breaks, scene};
     ghost use Rattle.mm_system.specs.Promise.{DecidesSystem};
-    ghost use Rattle.mm_system.specs.Shown.{world, watches, system, line_of, loans};
+    ghost use Rattle.mm_paging.specs.Lines.{Agrees};
+    ghost use Rattle.mm_system.specs.Shown.{world, watches, system, report, behind, line_of, loans};
 
     /// The system after the `machine` line, over a new store of that machine.
     pub fn new(alloc: Global, machine: Machine, pages: G) -> System<G>
         requires new { IsNew machine (G.contents pages) (G.store pages) }
         ensures system { system result ≡ first_system machine }
         ensures pages { result.world.pages ≡ pages }
+        ensures agrees { G.unpaged ≡ false → Agrees (world result) (report result) (behind result) }
         ensures ready { result.spent ≡ false }
     {
         System {

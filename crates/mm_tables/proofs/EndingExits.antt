@@ -36,7 +36,7 @@ use Rattle.mm_pages.specs.Conditions.{AreAmong, place_at}
 use Rattle.mm_pages.specs.Housekeeping.{Turn, Ends, pages_gone, Rises, Turns}
 use Rattle.mm_pages.specs.Passing.{PassesIn}
 use Rattle.mm_pages.specs.Store.{StoreOf, changed}
-use Rattle.mm_pages.proofs.Passed.{Joins, passes_then, all_turn_then, moved_then, gone_then, rises_wider, ends_anywhere, ends_then, ends_more}
+use Rattle.mm_pages.proofs.Passed.{Joins, passes_then, all_turn_then, moved_then, gone_then, rises_wider, ends_anywhere, ends_then, ends_more, lowest_then as drops_then}
 use Rattle.mm_commit.specs.Charge.{CommitOf}
 use Rattle.mm_sections.specs.Directories.{CountedSection}
 use Rattle.mm_sections.specs.Handles.{held, handle_at}
@@ -69,8 +69,11 @@ rises_meet from page to (x ∷ ps) qs l h p q = (p.0, omega (arith, h, p.1), ris
 meet_join : (held : Place → Bool) (from page to : ℕ) → from ≤ page → page < to → Joins (Turns (Ends held from (page + 1))) (Turns (Ends held page to)) (Turns (Ends held from to))
 meet_join held from page to l h = record {
   join = λ b c d xs ys r p q. record {
-    all = all_turn_then (Ends held from to) xs ys p.all q.all;
-    order = subst (Rises from to) (sym (gone_then xs ys)) (rises_meet from page to (pages_gone xs) (pages_gone ys) l h p.order q.order);
+    turned = record {
+      all = all_turn_then (Ends held from to) xs ys p.turned.all q.turned.all;
+      order = subst (Rises from to) (sym (gone_then xs ys)) (rises_meet from page to (pages_gone xs) (pages_gone ys) l h p.turned.order q.turned.order);
+      lowest = drops_then xs ys b.life c.life r p.turned.lowest q.turned.lowest;
+    };
     moved = moved_then b c d xs ys p.moved q.moved;
     slots = q.slots ∙ p.slots;
   };

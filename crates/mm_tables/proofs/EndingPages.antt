@@ -117,6 +117,24 @@ gone_same false o e = refl
 inside : (xs : List (Option (Unit {0}))) (i : ℕ) → is_some (numbered xs i) ≡ true → i < length xs
 inside xs i e = let x = some_found (numbered xs i) e in numbered_inside xs i x.0 x.1
 
+-- of an area none that stands below is left
+pub lower_gone : (area : Area) (owned : ℕ → Bool) (n i : ℕ) {c d : Key → Option Page} {s z : StoreOf}
+    → ((i : ℕ) → is_some (c (shared_at area i)) ≡ owned i)
+    → Gone (among (shared_at area) owned n) (owned_among owned n) c d s z → i < n
+    → d (shared_at area i) ≡ None
+lower_gone area owned n i {c = c} live g low = ap (λ (f : Key → Option Page). f (shared_at area i)) g.contents ∙ by_owned (owned i) refl
+  where
+    held : Bool
+    held = among (shared_at area) owned n (shared_at area i)
+
+    absent : (b : Bool) {o : Option Page} → o ≡ None → cond b None o ≡ None
+    absent true e = refl
+    absent false e = e
+
+    by_owned : (b : Bool) → owned i ≡ b → cond held None (c (shared_at area i)) ≡ None
+    by_owned true e = ap (λ h. cond h None (c (shared_at area i))) (among_one (shared_at area) owned n i (shared_at area i) low e refl)
+    by_owned false e = absent held (none_of (c (shared_at area i)) (live i ∙ e))
+
 -- another key is not among them
 among_out : (area : Area) (owned : ℕ → Bool) (n : ℕ) (k : Key) → is_shared_in area.0 k ≡ false → among (shared_at area) owned n k ≡ false
 among_out area owned zero k out = refl

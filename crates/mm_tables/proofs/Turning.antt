@@ -4,7 +4,7 @@ use Rattle.mm_life.proofs.Noting.{grew_nothing}
 use Rattle.mm_pages.specs.Store.{StoreOf}
 use Rattle.mm_pages.specs.Behind.{Behind}
 use Rattle.mm_pages.specs.Passing.{PassesIn, NotesIn}
-use Rattle.mm_pages.specs.Housekeeping.{Turn, Makes, Ends, Turns, IsInOrder}
+use Rattle.mm_pages.specs.Housekeeping.{Turn, Turns}
 use Rattle.mm_pages.proofs.Passed as passed
 
 -- two calls of which each is of any turn are so together
@@ -19,9 +19,5 @@ notes_nothing false t b = record {
   in_range = tt;
   grew = grew_nothing b.log;
   replays = refl;
-  that = record { all = tt; order = in_order t; moved = record { waits = refl; ages = refl }; slots = refl };
+  that = record { turned = passed.turned_none t b.life; moved = record { waits = refl; ages = refl }; slots = refl };
 }
-  where
-    in_order : (t : Turn) → IsInOrder t []
-    in_order Makes = tt
-    in_order (Ends held from to) = tt

@@ -75,6 +75,10 @@ pub record CanRemove (pid : Pid) (range : Range) (regions : List (RegionOf (Unit
   pub paging : (page : ℕ) → holds_page range page ≡ true → s.paging (own_key (place_at pid page)) ≡ is_live pid c page
   pub unbinding : s.kind ≡ kind.Unbind pid
 
+-- these pages stand from one number to before another
+abbrev pub StandsFrom : ℕ → ℕ → Range → Type 0
+StandsFrom from to range = (from ≤ range.first) × (range.first + range.count ≤ to)
+
 -- one page
 abbrev pub only : ℕ → Range
 only page = record { first = page; count = 1 }

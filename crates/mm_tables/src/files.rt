@@ -1,7 +1,7 @@
 ghost use Rattle.std.specs.Prelude.{◌≡◌, ◌≤◌, ◌<◌, ◌+◌, ◌++◌, [], ◌∷◌, false, length, replicate, Some, None, find, bytes_eq, IsErrOf, IfOk, OnOk, OnErr, vec_len, vec_capacity};
 ghost use Rattle.mm_types.specs.declared.moves.LineKind.TheVariants as line_kind;
 ghost use Rattle.mm_types.specs.declared.faults.MakeFault.TheVariants as make_fault;
-ghost use Rattle.mm_types.specs.Outside.{Rose};
+ghost use Rattle.mm_blocks.specs.Devices.{CallFailed};
 ghost use Rattle.mm_world.specs.Contents.{blank};
 ghost use Rattle.mm_world.specs.Processes.{new_file};
 ghost use Rattle.mm_world.specs.Sections.{file_named};
@@ -88,7 +88,7 @@ impl Tables {
         ensures served { Served (G.store g.old) (G.store g.new) }
         ensures quiet { OnOk result ((G.store g.new).report.file_writes.failed ≡ (G.store g.old).report.file_writes.failed) }
         ensures failed { IsErrOf result make_fault.Write → 0 < (G.store g.new).report.file_writes.failed }
-        ensures blamed { IsErrOf result make_fault.Write → Rose (G.store g.old).file_device.faults (G.store g.new).file_device.faults }
+        ensures blamed { IsErrOf result make_fault.Write → CallFailed (G.store g.old).file_device (G.store g.new).file_device }
         ensures notes { NotesIn G.unpaged (Turns Makes) (G.behind g.old) (G.behind g.new) }
         ensures file { G.unpaged ≡ false → FileMade self.old.blocks_used pages result (G.store g.old) (G.store g.new) }
         ensures loans { G.loans g.new ≡ G.loans g.old }

@@ -1,12 +1,12 @@
 ghost use Rattle.std.specs.Prelude.{◌≡◌, ◌≤◌, ◌<◌, ◌+◌, ℕ, Bool, true, is_some};
 ghost use Rattle.mm_types.specs.Address.{end_of, end_of_user_pages};
-ghost use Rattle.mm_pages.specs.Housekeeping.{Turns, Makes, Ends};
+ghost use Rattle.mm_pages.specs.Housekeeping.{Turns, MakesFrom, Ends};
 ghost use Rattle.mm_pages.specs.Passing.{PassesIn};
 ghost use Rattle.mm_pages.specs.Conditions.{AreAmong, place_at};
 ghost use Rattle.mm_types.specs.declared.numbers.Place.{Place};
 ghost use Rattle.mm_world.specs.Find.{region_around};
 ghost use Rattle.mm_spaces.specs.Tables.{owned_in};
-ghost use Rattle.mm_tables.specs.Ranges.{CanAdd, CanRemove, Adds, Removes, only};
+ghost use Rattle.mm_tables.specs.Ranges.{CanAdd, CanRemove, Adds, Removes, StandsFrom, only};
 
 use crate::halves::{FEW_PAGES, high_half, low_half};
 use mm_pages::Pages;
@@ -25,7 +25,8 @@ fn private_key(pid: Pid, page: u32) -> Key
 fn add_page<G: Pages>(g: &mut G, space: &AddressSpace, pid: Pid, page: u32)
     requires can { CanAdd pid (only page) space.now.regions (G.contents g.old) (G.store g.old) }
     ensures adds { Adds pid (only page) (G.contents g.old) (G.contents g.new) (G.store g.old) (G.store g.new) }
-    ensures passes { PassesIn G.unpaged (Turns Makes) (G.store g.old) (G.store g.new) (G.behind g.old) (G.behind g.new) }
+    ensures passes { (from to : ℕ) → from ≤ page → page < to →
+        PassesIn G.unpaged (Turns (MakesFrom from to)) (G.store g.old) (G.store g.new) (G.behind g.old) (G.behind g.new) }
     ensures loans { G.loans g.new ≡ G.loans g.old }
 {
     if !space.is_owned(page) {
@@ -33,13 +34,14 @@ fn add_page<G: Pages>(g: &mut G, space: &AddressSpace, pid: Pid, page: u32)
     }
 }
 
-/// Adds the keys of those pages of the range that are not committed.
+/// Adds the keys of those pages of the range that are not committed, in rising order.
 #[tactic(auto, using(mm_pages::proofs::Passed::turns_same))]
 pub(crate) fn add_pages<G: Pages>(g: &mut G, space: &AddressSpace, pid: Pid, range: PageRange)
     requires end { end_of range ≤ end_of_user_pages }
     requires can { CanAdd pid range space.now.regions (G.contents g.old) (G.store g.old) }
     ensures adds { Adds pid range (G.contents g.old) (G.contents g.new) (G.store g.old) (G.store g.new) }
-    ensures passes { PassesIn G.unpaged (Turns Makes) (G.store g.old) (G.store g.new) (G.behind g.old) (G.behind g.new) }
+    ensures passes { (from to : ℕ) → StandsFrom from to range →
+        PassesIn G.unpaged (Turns (MakesFrom from to)) (G.store g.old) (G.store g.new) (G.behind g.old) (G.behind g.new) }
     ensures loans { G.loans g.new ≡ G.loans g.old }
 {
     for i in 0..range.count {

@@ -1,10 +1,11 @@
-ghost use Rattle.std.specs.Prelude.{◌≡◌, ◌≤◌, ◌+◌, ◌%◌, ℕ, Bool, true, false, is_some, Option, Some, IsOk, OnOk, OnErr, option_map, remove};
+ghost use Rattle.std.specs.Prelude.{◌≡◌, ◌≤◌, ◌+◌, ◌%◌, ◌^◌, ◌==◌, ℕ, Bool, true, false, is_some, Option, Some, IsOk, OnOk, OnErr, option_map, remove};
 ghost use Rattle.mm_types.specs.declared.moves.LineKind.TheVariants as line_kind;
 ghost use Rattle.mm_types.specs.declared.numbers.Place.{Place};
 ghost use Rattle.mm_pages.specs.Conditions.{AreAmong};
-ghost use Rattle.mm_pages.specs.Housekeeping.{Turn, Turns, Makes, Ends};
+ghost use Rattle.mm_pages.specs.Housekeeping.{Turn, Turns, MakesFrom, Ends};
 ghost use Rattle.mm_pages.specs.Passing.{PassesIn};
 ghost use Rattle.mm_types.specs.Address.{is_free, end_of_user_pages};
+ghost use Rattle.mm_types.specs.Allocation.{reserve_type};
 ghost use Rattle.mm_world.specs.World.{RegionOf, ProcessOf, pages_of};
 ghost use Rattle.mm_world.specs.Find.{Found, process_of, region_around, ranges_of, add_region, set_region, set_regions, end_stacks, is_private};
 ghost use Rattle.mm_world.specs.Alloc.{private_region};
@@ -14,6 +15,7 @@ ghost use Rattle.mm_world.specs.Free.{private_at, is_stack_at};
 ghost use Rattle.mm_world.specs.Rows.{is_protection_among, private_protections, commit, reserved_row, change_rows};
 ghost use Rattle.mm_spaces.specs.Tables.{owned_in};
 ghost use Rattle.mm_tables.specs.Fits.{Fits, Settled, new_pages, is_uncommitted};
+ghost use Rattle.mm_tables.specs.Ranges.{StandsFrom};
 
 use crate::Tables;
 use crate::steps::{commit_pages, decommit_pages, make_region, new_pages, release_pages, take};
@@ -46,7 +48,9 @@ impl Tables {
         ensures later { (G.store g.old).room ≤ (G.store g.new).room }
         ensures err { OnErr result ((self.new ≡ self.old) × (G.contents g.new ≡ G.contents g.old)) }
         ensures settled { Settled self.new (G.contents g.old) (G.contents g.new) (G.store g.old) (G.store g.new) }
-        ensures passes { PassesIn G.unpaged (Turns Makes) (G.store g.old) (G.store g.new) (G.behind g.old) (G.behind g.new) }
+        ensures among { StandsFrom 0 (2 ^ 32) range }
+        ensures passes { (from to : ℕ) → StandsFrom from to range →
+            PassesIn G.unpaged (Turns (MakesFrom from to)) (G.store g.old) (G.store g.new) (G.behind g.old) (G.behind g.new) }
         ensures idle { OnErr result ((turn : Turn) → PassesIn G.unpaged (Turns turn) (G.store g.old) (G.store g.new) (G.behind g.old) (G.behind g.new)) }
         ensures loans { G.loans g.new ≡ G.loans g.old }
     {
@@ -86,7 +90,9 @@ impl Tables {
         ensures later { (G.store g.old).room ≤ (G.store g.new).room }
         ensures err { OnErr result ((self.new ≡ self.old) × (G.contents g.new ≡ G.contents g.old)) }
         ensures settled { Settled self.new (G.contents g.old) (G.contents g.new) (G.store g.old) (G.store g.new) }
-        ensures passes { PassesIn G.unpaged (Turns Makes) (G.store g.old) (G.store g.new) (G.behind g.old) (G.behind g.new) }
+        ensures among { StandsFrom 0 (2 ^ 32) range }
+        ensures passes { (from to : ℕ) → ((kind == reserve_type) ≡ false → StandsFrom from to range) →
+            PassesIn G.unpaged (Turns (MakesFrom from to)) (G.store g.old) (G.store g.new) (G.behind g.old) (G.behind g.new) }
         ensures idle { OnErr result ((turn : Turn) → PassesIn G.unpaged (Turns turn) (G.store g.old) (G.store g.new) (G.behind g.old) (G.behind g.new)) }
         ensures loans { G.loans g.new ≡ G.loans g.old }
     {

@@ -24,7 +24,7 @@ use mm_types::{Area, Key, Pid, Vpn};
 fn remove_if<G: Pages>(g: &mut G, owned: bool, key: Key)
     requires can { CanGo key owned (G.store g.old) }
     ensures gone { Gone (λ k. owned && same_key k key) (if owned then 1 else 0) (G.contents g.old) (G.contents g.new) (G.store g.old) (G.store g.new) }
-    ensures passes { (held : Place → Bool) (from to : ℕ) → IsAmong held from to key → PassesIn G.unpaged (Turns (Ends held from to)) (G.store g.old) (G.store g.new) (G.behind g.old) (G.behind g.new) }
+    ensures passes { (held : Place → Bool) (from to : ℕ) → IsAmong (G.contents g.old) held from to key → PassesIn G.unpaged (Turns (Ends held from to)) (G.store g.old) (G.store g.new) (G.behind g.old) (G.behind g.new) }
     ensures loans { G.loans g.new ≡ G.loans g.old }
 {
     if owned {
@@ -36,6 +36,7 @@ fn remove_if<G: Pages>(g: &mut G, owned: bool, key: Key)
 #[tactic(auto, using(mm_pages::proofs::Passed::turns_same))]
 fn remove_shared<G: Pages>(g: &mut G, pages: &SectionPages, area: Area)
     requires can { CanGoAll (shared_at area) (is_committed_in pages.now) (length pages.now.pages) (G.store g.old) }
+    requires live { (i : ℕ) → is_some (G.contents g.old (shared_at area i)) ≡ is_committed_in pages.now i }
     ensures gone { Gone (among (shared_at area) (is_committed_in pages.now) (length pages.now.pages)) (owned_among (is_committed_in pages.now) (length pages.now.pages)) (G.contents g.old) (G.contents g.new) (G.store g.old) (G.store g.new) }
     ensures passes { (held : Place → Bool) (from to : ℕ) → PassesIn G.unpaged (Turns (Ends held from to)) (G.store g.old) (G.store g.new) (G.behind g.old) (G.behind g.new) }
     ensures loans { G.loans g.new ≡ G.loans g.old }

@@ -154,7 +154,7 @@ fn fill_area<G: Pages>(g: &mut G, area: Area, n: u32)
 
 /// Opens an area of the store, and adds the keys of its first `n` pages. `total` is what all keys then come to at most.
 /// After `NoMemory` there may be more room.
-#[tactic(auto, using(mm_pages::proofs::Passed::turns_same, mm_pages::proofs::Passed::makes_then))]
+#[tactic(auto, using(mm_pages::proofs::Passed::turns_same, mm_pages::proofs::Passed::idle_before))]
 fn open_paging_area<G: Pages>(
     g: &mut G,
     area: Area,

@@ -10,14 +10,14 @@ ghost use Rattle.mm_world.specs.Free.{private_at};
 ghost use Rattle.mm_world.specs.Rows.{row_at, is_protection_among, private_protections, all_protections, every_page, accepts, commit, reserved_row, protected, change_rows};
 ghost use Rattle.mm_pages.specs.Conditions.{AllBound};
 ghost use Rattle.mm_pages.specs.Conditions.{AreAmong};
-ghost use Rattle.mm_pages.specs.Housekeeping.{Turn, Turns, Makes as Making, Ends as Ending};
+ghost use Rattle.mm_pages.specs.Housekeeping.{Turn, Turns, MakesFrom, Ends as Ending};
 ghost use Rattle.mm_pages.specs.Passing.{PassesIn};
 ghost use Rattle.mm_types.specs.declared.numbers.Place.{Place};
 ghost use Rattle.std.specs.Prelude.{Bool};
 ghost use Rattle.mm_spaces.specs.Tables.{owned_in};
 ghost use Rattle.mm_tables.specs.Effects.{Makes, Ends, Leaves, Stored, Roomier, CanMake, keys_of};
 ghost use Rattle.mm_tables.specs.Fits.{new_pages};
-ghost use Rattle.mm_tables.specs.Ranges.{CanAdd, CanRemove, passing, is_dead, is_live};
+ghost use Rattle.mm_tables.specs.Ranges.{CanAdd, CanRemove, StandsFrom, passing, is_dead, is_live};
 ghost use Rattle.mm_tables.specs.Shown.{shown_processes};
 ghost use Rattle.mm_tables.specs.Spaces.{regions_of, Became};
 ghost use Rattle.mm_types.specs.declared.moves.LineKind.TheVariants as line_kind;
@@ -67,7 +67,7 @@ pub(crate) fn copy_page(process: &mut Option<Process>, page: u32)
 
 /// Commits pages of one private region of a living process, and adds their keys. `total` is what all keys then come to at most.
 /// After `NoMemory` there may be more room.
-#[tactic(auto, using(mm_pages::proofs::Passed::turns_same, mm_pages::proofs::Passed::makes_then))]
+#[tactic(auto, using(mm_pages::proofs::Passed::turns_same, mm_pages::proofs::Passed::idle_before))]
 pub(crate) fn commit_pages<G: Pages>(
     process: &mut Option<Process>,
     g: &mut G,
@@ -91,7 +91,8 @@ pub(crate) fn commit_pages<G: Pages>(
     ensures later { (G.store g.old).room ≤ (G.store g.new).room }
     ensures kept { OnErr result (Became process.old process.new (regions_of process.old)) }
     ensures err { OnErr result (Roomier (G.contents g.old) (G.contents g.new) (G.store g.old) (G.store g.new)) }
-    ensures passes { PassesIn G.unpaged (Turns Making) (G.store g.old) (G.store g.new) (G.behind g.old) (G.behind g.new) }
+    ensures passes { (from to : ℕ) → StandsFrom from to range →
+        PassesIn G.unpaged (Turns (MakesFrom from to)) (G.store g.old) (G.store g.new) (G.behind g.old) (G.behind g.new) }
     ensures idle { OnErr result ((turn : Turn) → PassesIn G.unpaged (Turns turn) (G.store g.old) (G.store g.new) (G.behind g.old) (G.behind g.new)) }
     ensures loans { G.loans g.new ≡ G.loans g.old }
 {
@@ -203,7 +204,8 @@ fn fill_region<G: Pages>(space: &AddressSpace, g: &mut G, pid: Pid, range: PageR
     ensures stored { Stored pid range (keys_of kind) Leaves false (G.contents g.old) (G.contents g.new) (G.store g.old) (G.store g.new) }
     ensures counted { (G.store g.new).paging_keys ≡ (G.store g.old).paging_keys + new_pages kind range }
     ensures room { (G.store g.new).room ≡ (G.store g.old).room }
-    ensures passes { PassesIn G.unpaged (Turns Making) (G.store g.old) (G.store g.new) (G.behind g.old) (G.behind g.new) }
+    ensures passes { (from to : ℕ) → ((kind == reserve_type) ≡ false → StandsFrom from to range) →
+        PassesIn G.unpaged (Turns (MakesFrom from to)) (G.store g.old) (G.store g.new) (G.behind g.old) (G.behind g.new) }
     ensures loans { G.loans g.new ≡ G.loans g.old }
 {
     if kind != RESERVE_TYPE {
@@ -213,7 +215,7 @@ fn fill_region<G: Pages>(space: &AddressSpace, g: &mut G, pid: Pid, range: PageR
 
 /// Makes a private region of free pages in a living process, and adds its keys where it is committed. `total` is what all keys then
 /// come to at most. After `NoMemory` there may be more room.
-#[tactic(auto, using(mm_pages::proofs::Passed::turns_same, mm_pages::proofs::Passed::makes_then))]
+#[tactic(auto, using(mm_pages::proofs::Passed::turns_same, mm_pages::proofs::Passed::idle_before))]
 pub(crate) fn make_region<G: Pages>(
     alloc: Global,
     process: &mut Option<Process>,
@@ -237,7 +239,8 @@ pub(crate) fn make_region<G: Pages>(
     ensures later { (G.store g.old).room ≤ (G.store g.new).room }
     ensures kept { OnErr result (Became process.old process.new (regions_of process.old)) }
     ensures err { OnErr result (Roomier (G.contents g.old) (G.contents g.new) (G.store g.old) (G.store g.new)) }
-    ensures passes { PassesIn G.unpaged (Turns Making) (G.store g.old) (G.store g.new) (G.behind g.old) (G.behind g.new) }
+    ensures passes { (from to : ℕ) → ((kind == reserve_type) ≡ false → StandsFrom from to range) →
+        PassesIn G.unpaged (Turns (MakesFrom from to)) (G.store g.old) (G.store g.new) (G.behind g.old) (G.behind g.new) }
     ensures idle { OnErr result ((turn : Turn) → PassesIn G.unpaged (Turns turn) (G.store g.old) (G.store g.new) (G.behind g.old) (G.behind g.new)) }
     ensures loans { G.loans g.new ≡ G.loans g.old }
 {

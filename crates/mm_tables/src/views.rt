@@ -1,4 +1,4 @@
-ghost use Rattle.std.specs.Prelude.{◌≡◌, ◌≤◌, ◌<◌, ◌+◌, ◌-◌, ◌%◌, ◌^◌, true, false, is_some, if◌then◌else◌, Some, None, IsOk, OnOk, OnErr, length, slice_set};
+ghost use Rattle.std.specs.Prelude.{◌≡◌, ◌≤◌, ◌<◌, ◌+◌, ◌-◌, ◌%◌, ◌^◌, ℕ, true, false, is_some, if◌then◌else◌, Some, None, IsOk, OnOk, OnErr, length, slice_set};
 ghost use Rattle.mm_types.specs.declared.moves.LineKind.TheVariants as line_kind;
 ghost use Rattle.mm_types.specs.declared.views.View.{View};
 ghost use Rattle.mm_types.specs.declared.views.Kind.TheVariants as kind;
@@ -13,7 +13,7 @@ ghost use Rattle.mm_world.specs.Rows.{is_protection_among, all_protections, priv
 ghost use Rattle.mm_world.specs.Views.{view_region, is_copy};
 ghost use Rattle.mm_world.specs.WellFormed.{ViewFits};
 ghost use Rattle.mm_pages.specs.Conditions.{AllBound};
-ghost use Rattle.mm_pages.specs.Housekeeping.{Turn, Turns, Makes};
+ghost use Rattle.mm_pages.specs.Housekeeping.{Turn, Turns, Makes, MakesFrom};
 ghost use Rattle.mm_pages.specs.Passing.{PassesIn};
 ghost use Rattle.mm_sections.specs.Pages.{uncommitted_in};
 ghost use Rattle.mm_tables.specs.Fits.{Fits, Settled};
@@ -189,7 +189,8 @@ fn share_page<G: Pages>(g: &mut G, pages: &SectionPages, area: Area, index: u32)
     requires inside { index < length pages.now.pages }
     requires can { CanShare area index 1 pages.now (G.contents g.old) (G.store g.old) }
     ensures shares { Shares area index 1 pages.now (G.contents g.old) (G.contents g.new) (G.store g.old) (G.store g.new) }
-    ensures passes { PassesIn G.unpaged (Turns Makes) (G.store g.old) (G.store g.new) (G.behind g.old) (G.behind g.new) }
+    ensures passes { (from to : ℕ) → from ≤ index → index < to →
+        PassesIn G.unpaged (Turns (MakesFrom from to)) (G.store g.old) (G.store g.new) (G.behind g.old) (G.behind g.new) }
     ensures loans { G.loans g.new ≡ G.loans g.old }
 {
     if !pages.is_committed(index) {
@@ -273,7 +274,7 @@ impl Tables {
     /// Commits the section pages under a range of one view of a page-file section, and gives the view's rows the protection, which
     /// they accept. `n` of the section pages are not committed, and the limit allows them. After `NoMemory`, which does not come where
     /// the store has room for them, tables and bytes are as before.
-    #[tactic(auto, using(mm_pages::proofs::Passed::makes_then))]
+    #[tactic(auto, using(mm_pages::proofs::Passed::idle_before))]
     pub fn commit_view<G: Pages>(
         &mut self,
         g: &mut G,

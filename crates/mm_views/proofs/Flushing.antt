@@ -4,8 +4,7 @@ use Rattle.std.proofs.Math.Decide.{dec_le}
 use Rattle.std.proofs.lemmas.List.Sums.{sum_by-cons, count_by-le-length}
 use Rattle.mm_types.specs.declared.numbers.Key.{Key}
 use Rattle.mm_types.specs.declared.numbers.Block.{Block}
-use Rattle.mm_types.specs.Outside.{Rose}
-use Rattle.mm_types.proofs.Bytes.{rose_later}
+use Rattle.mm_blocks.specs.Devices.{CallFailed}
 use Rattle.mm_world.specs.World.{Page}
 use Rattle.mm_world.specs.Find.{area_at}
 use Rattle.mm_world.specs.Contents.{Tables}
@@ -16,7 +15,7 @@ use Rattle.mm_sections.specs.Pages.{number_of_block}
 use Rattle.mm_tables.specs.Fits.{Fits}
 use Rattle.mm_tables.specs.References.{IsTidy}
 use Rattle.mm_views.specs.Stages.{AreHeld, InBlocks}
-use Rattle.mm_blocks.proofs.Serving.{all_served_later, named_as_before}
+use Rattle.mm_blocks.proofs.Serving.{all_served_later, failed_later, named_as_before}
 use Rattle.mm_pages.proofs.Served.{served_none, served_then}
 
 -- ---- faults
@@ -89,8 +88,8 @@ module _ (c d e : Key → Option Page) (s z y : StoreOf) (area first n count blo
       }
 
 -- a failure blames the device since the first page
-pub blamed_since : (s z y : StoreOf) → Served s z → Rose z.file_device.faults y.file_device.faults → Rose s.file_device.faults y.file_device.faults
-blamed_since s z y h rose = rose_later s.file_device.faults z.file_device.faults y.file_device.faults (all_served_later h.file_calls s.file_device z.file_device h.files) rose
+pub blamed_since : (s z y : StoreOf) → Served s z → CallFailed z.file_device y.file_device → CallFailed s.file_device y.file_device
+blamed_since s z y h failed = failed_later s.file_device z.file_device y.file_device (all_served_later h.file_calls s.file_device z.file_device h.files) failed
 
 -- ---- a store that was only written to
 

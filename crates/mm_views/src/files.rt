@@ -2,7 +2,7 @@ ghost use Rattle.std.specs.Prelude.{[], false, is_some, ◌≡◌, ◌==◌, ◌
 ghost use Rattle.mm_types.specs.declared.moves.LineKind.TheVariants as line_kind;
 ghost use Rattle.mm_types.specs.declared.answers.Answer.TheVariants as answer;
 ghost use Rattle.mm_types.specs.Address.{range_of};
-ghost use Rattle.mm_types.specs.Outside.{Rose};
+ghost use Rattle.mm_blocks.specs.Devices.{CallFailed};
 ghost use Rattle.mm_world.specs.Find.{area_at};
 ghost use Rattle.mm_world.specs.Contents.{BytesAfterFile};
 ghost use Rattle.mm_pages.specs.Housekeeping.{Turns, Makes, Flushes};
@@ -45,7 +45,7 @@ pub fn new_file<G: Pages>(
     ensures fits { Fits t.new (G.contents g.new) (G.store g.new) }
     ensures beside { G.store g.new ≡ beside_file (G.store g.old) (G.store g.new) }
     ensures served { Served (G.store g.old) (G.store g.new) }
-    ensures blamed { IfOk result (λ a. a ≡ answer.Fault → Rose (G.store g.old).file_device.faults (G.store g.new).file_device.faults) }
+    ensures blamed { IfOk result (λ a. a ≡ answer.Fault → CallFailed (G.store g.old).file_device (G.store g.new).file_device) }
     ensures notes { NotesIn G.unpaged (Turns Makes) (G.behind g.old) (G.behind g.new) }
     ensures file { G.unpaged ≡ false → IfOk result (λ a. NewFileMade t.old.blocks_used pages a (G.store g.old) (G.store g.new)) }
     ensures loans { G.loans g.new ≡ G.loans g.old }
@@ -78,7 +78,7 @@ pub fn flush_view<G: Pages>(t: &Tables, g: &mut G, pid: Pid, addr: u32, size: u3
     ensures beside { G.store g.new ≡ wrote (G.store g.old) (G.store g.new) }
     ensures holds { result ≡ answer.Ok → BlocksHold t.now (G.contents g.new) (G.store g.new).file_blocks pid.0 addr size }
     ensures served { Served (G.store g.old) (G.store g.new) }
-    ensures blamed { result ≡ answer.Fault → Rose (G.store g.old).file_device.faults (G.store g.new).file_device.faults }
+    ensures blamed { result ≡ answer.Fault → CallFailed (G.store g.old).file_device (G.store g.new).file_device }
     ensures passes { PassesIn G.unpaged (Flushes (flushed_keys t.now pid.0 addr size)) (G.store g.old) (G.store g.new) (G.behind g.old) (G.behind g.new) }
     ensures loans { G.loans g.new ≡ G.loans g.old }
 {
@@ -128,7 +128,7 @@ fn flush_view_pages<G: Pages>(t: &Tables, g: &mut G, view: View, before: u32, co
     ensures beside { G.store g.new ≡ wrote (G.store g.old) (G.store g.new) }
     ensures held { result ≡ answer.Ok → AreHeld (λ k. block_in t.now k) (G.contents g.new) (G.store g.new).file_blocks view.area.0 (view.first + before) count }
     ensures served { Served (G.store g.old) (G.store g.new) }
-    ensures blamed { result ≡ answer.Fault → Rose (G.store g.old).file_device.faults (G.store g.new).file_device.faults }
+    ensures blamed { result ≡ answer.Fault → CallFailed (G.store g.old).file_device (G.store g.new).file_device }
     ensures passes { PassesIn G.unpaged (Flushes (if is_some (area_at t.now view.area.0).file_block then keys_from view.area.0 (view.first + before) count else [])) (G.store g.old) (G.store g.new) (G.behind g.old) (G.behind g.new) }
     ensures loans { G.loans g.new ≡ G.loans g.old }
 {

@@ -1,6 +1,6 @@
 ghost use Rattle.std.specs.Prelude.{◌≡◌, ◌≤◌, ◌<◌, ◌+◌, ◌^◌, length, OnOk, OnErr};
 ghost use Rattle.mm_types.specs.declared.moves.LineKind.TheVariants as line_kind;
-ghost use Rattle.mm_types.specs.Outside.{Rose};
+ghost use Rattle.mm_blocks.specs.Devices.{CallFailed};
 ghost use Rattle.mm_pages.specs.Housekeeping.{Flushes};
 ghost use Rattle.mm_pages.specs.Passing.{PassesIn};
 ghost use Rattle.mm_pages.specs.Reports.{Served, wrote};
@@ -28,13 +28,12 @@ pub(crate) fn flush_pages<G: Pages>(
     ensures stored { length (G.store g.new).file_blocks ≡ length (G.store g.old).file_blocks }
     ensures quiet { OnOk result ((G.store g.new).report.file_writes.failed ≡ (G.store g.old).report.file_writes.failed) }
     ensures failed { OnErr result (0 < (G.store g.new).report.file_writes.failed) }
-    ensures blamed { OnErr result (Rose (G.store g.old).file_device.faults (G.store g.new).file_device.faults) }
+    ensures blamed { OnErr result (CallFailed (G.store g.old).file_device (G.store g.new).file_device) }
     ensures contents { G.contents g.new ≡ G.contents g.old }
     ensures passes { PassesIn G.unpaged (Flushes (keys_from area.0 first count)) (G.store g.old) (G.store g.new) (G.behind g.old) (G.behind g.new) }
     ensures loans { G.loans g.new ≡ G.loans g.old }
 {
     for i in 0..count {
-        g.sound();
         g.flush(Key::Shared(area, first + i))?;
     }
     Ok(())

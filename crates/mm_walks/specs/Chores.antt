@@ -1,17 +1,14 @@
--- The moves of housekeeping: trimming, clearing, writing out, the ends of requests, flushing.
+-- The moves of housekeeping: trimming, clearing, writing out, the ends of requests.
 -- Profile, "Which frame moves, and when".
-use Rattle.std.specs.Prelude.{◌≡◌, ◌⊎◌, ◌<◌, ℕ, suc, zero, ◌+◌, ◌-◌, Bool, true, false, ◌&&◌, ◌==◌, nat_lt, if◌then◌else◌, is_some, List, [], ◌∷◌, ◌++◌, length, take, map, min, replicate, slice_get, Option, Some, None, option_map, unwrap_or, Result, Ok, Err}
+use Rattle.std.specs.Prelude.{◌≡◌, ℕ, ◌+◌, ◌-◌, Bool, true, false, ◌&&◌, ◌==◌, nat_lt, if◌then◌else◌, List, [], ◌∷◌, take, map, Option, Some, None}
 use Rattle.mm_types.specs.declared.frames.Backing.{Backing}
 use Rattle.mm_types.specs.declared.frames.Backing.TheVariants as backing
-use Rattle.mm_types.specs.declared.frames.Held.{Held}
-use Rattle.mm_types.specs.declared.frames.Held.TheVariants as held
 use Rattle.mm_types.specs.declared.frames.Record.{Record}
 use Rattle.mm_types.specs.declared.moves.Move.{Move}
 use Rattle.mm_types.specs.declared.moves.Move.TheVariants as move
 use Rattle.mm_types.specs.declared.moves.Stored.{Stored}
 use Rattle.mm_types.specs.declared.moves.Stored.TheVariants as stored
 use Rattle.mm_types.specs.declared.numbers.Frame.{Frame}
-use Rattle.mm_types.specs.declared.numbers.Key.{Key}
 use Rattle.mm_types.specs.declared.numbers.Pid.{Pid}
 use Rattle.mm_types.specs.declared.numbers.Place.{Place}
 use Rattle.mm_life.specs.declared.sets.ResidentSet.{ResidentSet}
@@ -20,7 +17,7 @@ use Rattle.mm_life.specs.Life.{FrameLife, set_of}
 use Rattle.mm_life.specs.Legal.{is_above_min, has_depth}
 use Rattle.mm_life.specs.Effect.{after_move}
 use Rattle.mm_life.specs.Victims.{aged, can_be_written}
-use Rattle.mm_walks.specs.Walks.{Walk, is_lost_move}
+use Rattle.mm_walks.specs.Walks.{Walk}
 use Rattle.mm_walks.specs.Order.{IsOldest}
 use Rattle.mm_walks.specs.Searches.{is_valid}
 
@@ -72,36 +69,3 @@ writes_begun n l (f ∷ fs) =
 abbrev pub ending : Record → Frame → Bool → Move
 ending r f true = if is_read r.request then move.Got f else move.Wrote f
 ending r f false = if is_read r.request then move.Bad f else move.Lost f
-
--- ---- `flush`
-
-abbrev pub IsEndOf : Frame → Move → Type 0
-IsEndOf f m = (m ≡ move.Wrote f) ⊎ (m ≡ move.Lost f)
-
-abbrev pub IsWriteOf : Frame → Move → Type 0
-IsWriteOf f m = (s : Stored) × (m ≡ move.Write f s)
-
--- of a page: a write that was in flight is ended; then, where the page is changed, it is written
-abbrev pub FlushMoves : Frame → List Move → Type 0
-FlushMoves f [] = Unit {0}
-FlushMoves f (x ∷ []) = IsEndOf f x
-FlushMoves f (x ∷ y ∷ []) = IsWriteOf f x × IsEndOf f y
-FlushMoves f (x ∷ y ∷ z ∷ []) = (x ≡ move.Wrote f) × IsWriteOf f y × IsEndOf f z
-FlushMoves f (x ∷ y ∷ z ∷ u ∷ ms) = ⊥
-
-abbrev pub FlushedAt : Held → List Move → Type 0
-FlushedAt (held.Frame f) ms = FlushMoves f ms
-FlushedAt _ ms = ms ≡ []
-
--- the write failed: only the last move can tell it
-abbrev pub ends_lost : List Move → Bool
-ends_lost [] = false
-ends_lost (m ∷ []) = is_lost_move m
-ends_lost (m ∷ n ∷ ms) = ends_lost (n ∷ ms)
-
--- the pages of these keys, one after another, up to the first whose write fails
-abbrev pub Flushing : FrameLife → List Key → List Move → Type 0
-Flushing l [] ms = ms ≡ []
-Flushing l (k ∷ ks) ms =
-    (front : List Move) × ((behind : List Move) × ((ms ≡ front ++ behind) × FlushedAt (l.stands k) front
-    × (ends_lost front ≡ true → behind ≡ []) × (ends_lost front ≡ false → Flushing l ks behind)))

@@ -37,8 +37,8 @@ fn decide<G: Pages>(
 
 // A machine with one process.
 fn with_process<F: Inject + Drop>(alloc: Global, files: F) -> Result<System<Plain<F>>, NoMemory>
-    requires opened { length (F.Blocks.blocks files) ≡ 2 }
-    requires plain { F.Blocks.named files ≡ [] }
+    requires opened { length (F.blocks files) ≡ 2 }
+    requires plain { F.named files ≡ [] }
     ensures line { IfOk result (λ s. line_of s ≡ 2) }
     ensures ready { IfOk result (λ s. s.spent ≡ false) }
 {
@@ -54,8 +54,8 @@ fn with_process<F: Inject + Drop>(alloc: Global, files: F) -> Result<System<Plai
 
 // The same, with a watched region of four pages at 0x10000.
 fn watched<F: Inject + Drop>(alloc: Global, files: F) -> Result<System<Plain<F>>, NoMemory>
-    requires opened { length (F.Blocks.blocks files) ≡ 2 }
-    requires plain { F.Blocks.named files ≡ [] }
+    requires opened { length (F.blocks files) ≡ 2 }
+    requires plain { F.named files ≡ [] }
     ensures line { IfOk result (λ s. line_of s ≡ 3) }
     ensures ready { IfOk result (λ s. s.spent ≡ false) }
 {
@@ -121,8 +121,8 @@ fn answers<F: Inject + Drop>(
     alloc: Global,
     files: F,
 ) -> Result<(Answer, Answer, Answer, Answer, (u32, u32)), NoMemory>
-    requires opened { length (F.Blocks.blocks files) ≡ 2 }
-    requires plain { F.Blocks.named files ≡ [] }
+    requires opened { length (F.blocks files) ≡ 2 }
+    requires plain { F.named files ≡ [] }
 {
     let mut system = watched(alloc, files)?;
     decide(
@@ -191,8 +191,8 @@ fn is_of(rt: &impl Abort, answer: &Answer, addresses: &[u32]) {
 #[test]
 fn written_pages_are_told(rt: HostRuntime) -> Result<(), Fail> {
     let mut memory = MemBlocks::new(rt.alloc(), Vec::new(rt.alloc()), 8)?;
-    let mut files = Injected::new(&mut memory);
-    files.open(2)?;
+    memory.open(2)?;
+    let files = Injected::new(&mut memory);
     let (both, second, none, gone, charge) = answers(rt.alloc(), files)?;
     is_of(&rt, &both, &[0x11000]);
     is_of(&rt, &second, &[0x13000]);
@@ -207,8 +207,8 @@ fn stack_answers<F: Inject + Drop>(
     alloc: Global,
     files: F,
 ) -> Result<(Answer, Answer, Answer, Answer, (u32, u32)), NoMemory>
-    requires opened { length (F.Blocks.blocks files) ≡ 2 }
-    requires plain { F.Blocks.named files ≡ [] }
+    requires opened { length (F.blocks files) ≡ 2 }
+    requires plain { F.named files ≡ [] }
 {
     let mut system = with_process(alloc, files)?;
     let made = decide(
@@ -268,8 +268,8 @@ fn stack_answers<F: Inject + Drop>(
 #[test]
 fn stacks_grow_and_end(rt: HostRuntime) -> Result<(), Fail> {
     let mut memory = MemBlocks::new(rt.alloc(), Vec::new(rt.alloc()), 8)?;
-    let mut files = Injected::new(&mut memory);
-    files.open(2)?;
+    memory.open(2)?;
+    let files = Injected::new(&mut memory);
     let (made, grown, full, none, charge) = stack_answers(rt.alloc(), files)?;
     assert!(rt; matches!(made, Answer::Stack(0x10000, 0x20000, 0x25000)));
     assert!(rt; matches!(grown, Answer::At(0x24000)));

@@ -37,8 +37,8 @@ fn decide<G: Pages>(
 
 // A machine with one process.
 fn with_process<F: Inject + Drop>(alloc: Global, files: F) -> Result<World<Plain<F>>, NoMemory>
-    requires opened { length (F.Blocks.blocks files) ≡ 2 }
-    requires plain { F.Blocks.named files ≡ [] }
+    requires opened { length (F.blocks files) ≡ 2 }
+    requires plain { F.named files ≡ [] }
     ensures line { IfOk result (λ w. line_of w ≡ 2) }
     ensures ready { IfOk result (λ w. w.spent ≡ false) }
 {
@@ -151,8 +151,8 @@ fn read<F: Inject + Drop>(
 }
 
 fn read_private<F: Inject + Drop>(alloc: Global, files: F) -> Result<(Answer, (u32, u32)), NoMemory>
-    requires opened { length (F.Blocks.blocks files) ≡ 2 }
-    requires plain { F.Blocks.named files ≡ [] }
+    requires opened { length (F.blocks files) ≡ 2 }
+    requires plain { F.named files ≡ [] }
 {
     let mut world = with_process(alloc, files)?;
     write_private(alloc, &mut world)?;
@@ -160,8 +160,8 @@ fn read_private<F: Inject + Drop>(alloc: Global, files: F) -> Result<(Answer, (u
 }
 
 fn read_file<F: Inject + Drop>(alloc: Global, files: F) -> Result<(Answer, (u32, u32)), NoMemory>
-    requires opened { length (F.Blocks.blocks files) ≡ 2 }
-    requires plain { F.Blocks.named files ≡ [] }
+    requires opened { length (F.blocks files) ≡ 2 }
+    requires plain { F.named files ≡ [] }
 {
     let mut world = with_process(alloc, files)?;
     file_of_sevens(alloc, &mut world)?;
@@ -180,8 +180,8 @@ fn is_seven(rt: &impl Abort, answer: &Answer) {
 #[test]
 fn bytes_come_from_the_store(rt: HostRuntime) -> Result<(), Fail> {
     let mut memory = MemBlocks::new(rt.alloc(), Vec::new(rt.alloc()), 8)?;
-    let mut files = Injected::new(&mut memory);
-    files.open(2)?;
+    memory.open(2)?;
+    let files = Injected::new(&mut memory);
     let (own, charge) = read_private(rt.alloc(), files)?;
     is_seven(&rt, &own);
     assert_eq!(rt; charge, (1, 12));
@@ -191,8 +191,8 @@ fn bytes_come_from_the_store(rt: HostRuntime) -> Result<(), Fail> {
 #[test]
 fn bytes_of_files_come_from_the_store(rt: HostRuntime) -> Result<(), Fail> {
     let mut memory = MemBlocks::new(rt.alloc(), Vec::new(rt.alloc()), 8)?;
-    let mut files = Injected::new(&mut memory);
-    files.open(2)?;
+    memory.open(2)?;
+    let files = Injected::new(&mut memory);
     let (shared, charge) = read_file(rt.alloc(), files)?;
     is_seven(&rt, &shared);
     assert_eq!(rt; charge, (0, 12));

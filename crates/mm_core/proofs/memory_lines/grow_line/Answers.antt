@@ -1,9 +1,28 @@
+use Rattle.std.proofs.Common.{◌≡◌, refl}
+use Rattle.std.specs.Prelude.{Ok, Err, IfOk}
+use Rattle.mm_types.specs.declared.events.Event.TheVariants as event
 use Rattle.mm_world.specs.Contents.{world_with}
 use Rattle.mm_tables.specs.Fits.{bytes_of}
 use Rattle.mm_core.proofs.CallForms.{marked_grow, halted_grow}
+use Rattle.mm_core.specs.Deciding.{Decided}
 use Rattle.mm_core.proofs.Beside.{beside-grow}
-use Rattle.mm_core.proofs.Lines.{if-ok, on-ok}
+use Rattle.mm_core.proofs.Grown.{grow-line}
 use Rattle.mm_core.proofs.memory_lines.grow_line.Goals as goal
+
+pub returns-clause-ok : goal.returns-clause-ok
+returns-clause-ok g c =
+    let call = c.grow_paging in
+    let t = c.args.t.now in
+    let old = g.G.Pages.contents c.args.g.now in
+    let new = g.G.Pages.contents call.new.g in
+    let s = g.G.Pages.store c.args.g.now in
+    let z = g.G.Pages.store call.new.g in
+    elim call.result as (λ r. call.result ≡ r → IfOk r (λ a. Decided g.G.Pages.unpaged (event.Grow c.args.n) c.args.line t old s a call.new.t new z)) [
+      | Ok a ↦ λ q.
+          grow-line g.G.Pages.unpaged c.args.n c.args.line t old s a call.new.t new z c.requires.keeps c.requires.next (rw q at call.ensures.ok) call.ensures.contents call.ensures.fits
+          (rw q at call.ensures.rest) (rw q at call.ensures.report) (rw q at call.ensures.line) (rw q at call.ensures.cause) call.ensures.faults
+      | Err x ↦ λ q. tt
+    ] refl
 
 pub returns-clause-marked : goal.returns-clause-marked
 returns-clause-marked g c =
@@ -16,6 +35,7 @@ returns-clause-halted g c =
     halted_grow c.args.line c.args.n (world_with c.args.t.now (bytes_of (g.G.Pages.contents c.args.g.now))) (world_with call.new.t (bytes_of (g.G.Pages.contents call.new.g))) (g.G.Pages.store c.args.g.now) (g.G.Pages.store call.new.g) (g.G.Pages.behind c.args.g.now) (g.G.Pages.behind call.new.g) g.G.Pages.unpaged call.result call.ensures.notes
 
 pub returns-clause-beside : goal.returns-clause-beside
-returns-clause-beside g c =
+returns-clause-beside g c = λ paged.
     let call = c.grow_paging in
-    if-ok call.result (on-ok _ call.result call.ensures.rest) (λ a e. beside-grow c.args.t.now.blocks_used c.args.n a (g.G.Pages.store c.args.g.now) (g.G.Pages.store call.new.g) e)
+    beside-grow (world_with c.args.t.now (bytes_of (g.G.Pages.contents c.args.g.now))) c.args.t.now.blocks_used c.args.n c.args.line g.G.Pages.unpaged
+    (g.G.Pages.store c.args.g.now) (g.G.Pages.store call.new.g) (g.G.Pages.behind c.args.g.now) (g.G.Pages.behind call.new.g) paged call.result call.ensures.rest call.ensures.grew call.ensures.notes

@@ -1,6 +1,8 @@
 use Rattle.std.proofs.Common.{◌≡◌, ◌<◌, ◌+◌, refl, sym, ◌∙◌, ap, subst, arith, Option}
 use Rattle.mm_types.specs.declared.answers.Answer.TheVariants as answer
 use Rattle.mm_types.specs.declared.events.Event.TheVariants as event
+use Rattle.mm_types.specs.declared.moves.LineKind.TheVariants as kind
+use Rattle.mm_types.specs.declared.moves.Move.TheVariants as move
 use Rattle.mm_types.specs.declared.numbers.Key.{Key}
 use Rattle.mm_world.specs.World.{Page}
 use Rattle.mm_world.specs.Contents.{Tables, world_with}
@@ -11,7 +13,8 @@ use Rattle.mm_tables.specs.References.{MadeAtMost}
 use Rattle.mm_world.proofs.Across.{take_fail_across}
 use Rattle.mm_core.proofs.Lines.{stepped-plain, called-across, bytes-kept, keeps-made}
 use Rattle.mm_core.proofs.Making.{in_take_fail}
-use Rattle.mm_core.proofs.Files.{fail-taken, devices-named, is-named, named-line}
+use Rattle.mm_core.proofs.Files.{fail-taken, devices-named, is-named, named-line, named-blocks}
+use Rattle.mm_core.proofs.Beside.{beside-fail}
 use Rattle.mm_core.proofs.CallForms.{marked_fail}
 use Rattle.mm_core.proofs.paging_lines.fail_line.Goals as goal
 
@@ -53,3 +56,18 @@ returns-then-fails_taken-ge-MOST_FAILS-clause-marked g c =
 pub returns-clause-marked : goal.returns-clause-marked
 returns-clause-marked g c =
     marked_fail c.args.line (event.Fail c.args.device c.args.direction c.args.k c.args.n) (world_with c.args.t.now (bytes_of (g.G.Pages.contents c.args.g.now))) answer.Ok (world_with c.take_fail.new.self (bytes_of (g.G.Pages.contents c.fail.new.self))) g.G.Pages.unpaged (g.G.Pages.store c.args.g.now) (g.G.Pages.store c.begin.new.g) (g.G.Pages.store c.fail.new.self) (g.G.Pages.behind c.args.g.now) (g.G.Pages.behind c.begin.new.g) (g.G.Pages.behind c.fail.new.self) (record { ages = λ ms. refl; waits = λ ws l. refl }) refl c.fail.ensures.behind c.begin.ensures.passes
+
+pub returns-then-fails_taken-ge-MOST_FAILS-clause-beside : goal.returns-then-fails_taken-ge-MOST_FAILS-clause-beside
+returns-then-fails_taken-ge-MOST_FAILS-clause-beside g c = λ paged.
+    beside-fail (world_with c.args.t.now (bytes_of (g.G.Pages.contents c.args.g.now))) c.args.t.now.blocks_used c.args.device c.args.direction c.args.k c.args.n c.args.line answer.Full (move.At c.args.line kind.Call) g.G.Pages.unpaged
+    (g.G.Pages.store c.args.g.now) (g.G.Pages.store c.begin.new.g) (g.G.Pages.store c.begin.new.g) (g.G.Pages.behind c.args.g.now) (g.G.Pages.behind c.begin.new.g) (g.G.Pages.behind c.begin.new.g) paged
+    c.begin.ensures.begins refl refl c.begin.ensures.passes
+
+pub returns-clause-beside : goal.returns-clause-beside
+returns-clause-beside g c = λ paged.
+    let s = g.G.Pages.store c.args.g.now in
+    let m = g.G.Pages.store c.begin.new.g in
+    let z = g.G.Pages.store c.fail.new.self in
+    beside-fail (world_with c.args.t.now (bytes_of (g.G.Pages.contents c.args.g.now))) c.args.t.now.blocks_used c.args.device c.args.direction c.args.k c.args.n c.args.line answer.Ok (move.At c.args.line kind.Call) g.G.Pages.unpaged
+    s m z (g.G.Pages.behind c.args.g.now) (g.G.Pages.behind c.begin.new.g) (g.G.Pages.behind c.fail.new.self) paged
+    c.begin.ensures.begins (named-blocks g.G.Pages.unpaged c.args.direction c.args.k c.args.n c.args.line s m z c.begin.ensures.begins c.args.device c.fail.ensures.files c.fail.ensures.paging) c.fail.ensures.behind c.begin.ensures.passes

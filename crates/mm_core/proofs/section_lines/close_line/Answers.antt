@@ -30,4 +30,4 @@ returns-clause-marked g c =
     let call = c.close in
     marked_ends c.args.line kind.Call (event.Close c.args.pid c.args.handle) (world_with c.args.t.now (bytes_of (g.G.Pages.contents c.args.g.now))) call.result (world_with call.new.t (bytes_of (g.G.Pages.contents call.new.g))) g.G.Pages.unpaged
     (g.G.Pages.store c.args.g.now) (g.G.Pages.store c.begin.new.g) (g.G.Pages.store call.new.g) (g.G.Pages.behind c.args.g.now) (g.G.Pages.behind c.begin.new.g) (g.G.Pages.behind call.new.g)
-    (record { ages = λ ms. refl; waits = λ ws l. refl }) (λ _. false) 0 0 (λ ms log h. closed ms h.all h.order) c.begin.ensures.passes (call.ensures.passes (λ _. false) 0 0)
+    (record { ages = λ ms. refl; waits = λ ws l. refl }) (λ _. false) 0 0 (λ ms log h. closed _ ms h.turned) c.begin.ensures.passes (call.ensures.passes (λ _. false) 0 0)

@@ -12,6 +12,7 @@ use Rattle.mm_core.proofs.Lines.{if-ok, decided-served, faulted-answer, faulted-
 use Rattle.mm_core.proofs.Making.{in_new_file}
 use Rattle.mm_core.proofs.Files.{file-stepped}
 use Rattle.mm_types.specs.declared.moves.LineKind.TheVariants as kind
+use Rattle.mm_types.specs.declared.moves.Move.TheVariants as move
 use Rattle.mm_core.proofs.CallForms.{marked_file}
 use Rattle.mm_core.proofs.Marking.{each-ok, each-err, halted_notes}
 use Rattle.mm_core.proofs.section_lines.file_line.Goals as goal
@@ -56,5 +57,6 @@ pub returns-clause-beside : goal.returns-clause-beside
 returns-clause-beside g c = λ paged.
     let call = c.new_file in
     if-ok call.result (call.ensures.file paged) (λ a made.
-    beside-file c.args.t.now.blocks_used c.args.name.now c.args.pages c.args.byte c.args.line a (g.G.Pages.store c.args.g.now) (g.G.Pages.store c.begin.new.g) (g.G.Pages.store call.new.g)
-    c.begin.ensures.begins call.ensures.beside made)
+    beside-file (world_with c.args.t.now (bytes_of (g.G.Pages.contents c.args.g.now))) c.args.name.now c.args.pages c.args.byte c.args.line a (move.At c.args.line kind.Call) g.G.Pages.unpaged
+    (g.G.Pages.store c.args.g.now) (g.G.Pages.store c.begin.new.g) (g.G.Pages.store call.new.g) (g.G.Pages.behind c.args.g.now) (g.G.Pages.behind c.begin.new.g) (g.G.Pages.behind call.new.g) paged
+    c.begin.ensures.begins call.ensures.beside made c.begin.ensures.passes call.ensures.notes)

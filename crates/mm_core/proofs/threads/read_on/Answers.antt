@@ -1,4 +1,5 @@
-use Rattle.std.proofs.Common.{false, refl, subst}
+use Rattle.std.proofs.Common.{false, refl, subst, ap}
+use Rattle.mm_types.specs.declared.answers.Why.{Why}
 use Rattle.mm_types.specs.declared.numbers.Place.{Place}
 use Rattle.mm_types.specs.Address.{page_of}
 use Rattle.mm_pages.specs.Accesses.{Aim, Starts}
@@ -60,7 +61,7 @@ returns-in-Pending-clause-passes g c =
     let a : Aim = record { place = place; need = (touch c.args.row.key); writes = false; start = b.life } in
     let is = aim-needs (world_with t (bytes_of old)) b.life c.args.pid c.args.addr (ReadOf c.args.len) (touch c.args.row.key) (read-needs t (bytes_of old) c.args.pid.0 c.args.addr c.args.len c.args.row c.requires.admitted) in
     let begun : PassesIn g.G.Pages.unpaged (Starts a c.args.tid.0 (start.Pending c.in-Pending.why)) s m b y = subst (λ (p : Place). PassesIn g.G.Pages.unpaged (Starts (record { place = p; need = touch c.args.row.key; writes = false; start = b.life }) c.args.tid.0 (start.Pending c.in-Pending.why)) s m b y) c.place_of.ensures (c.in-Pending.ensures.passes false) in
-    started_waits g.G.Pages.unpaged (aim_in t old b c.args.pid c.args.addr (ReadOf c.args.len)) a is c.args.tid.0 c.in-Pending.why s m b y begun
+    started_waits g.G.Pages.unpaged (aim_in t old b c.args.pid c.args.addr (ReadOf c.args.len)) a is c.args.tid.0 c.in-Pending.why s m b y (λ reads. c.in-Pending.ensures.awaited (ap (λ (x : Why). start.Pending x) reads)) begun
 
 pub returns-in-Ready-clause-passes : goal.returns-in-Ready-clause-passes
 returns-in-Ready-clause-passes g c =

@@ -1,4 +1,5 @@
 use Rattle.std.proofs.Common.{true, refl, subst, sym, ap, ◌∙◌}
+use Rattle.mm_types.specs.declared.answers.Why.{Why}
 use Rattle.mm_types.specs.declared.numbers.Place.{Place}
 use Rattle.mm_types.specs.Address.{page_of}
 use Rattle.mm_pages.specs.Accesses.{Aim, Starts}
@@ -61,7 +62,7 @@ returns-in-Pending-clause-passes g c =
     let a : Aim = record { place = place; need = (copying c.args.row.key place); writes = true; start = b.life } in
     let is = aim-needs (world_with t (bytes_of old)) b.life c.args.pid c.args.addr (WriteOf c.args.bytes.now) (copying c.args.row.key place) (copy-needs t (bytes_of old) c.args.pid.0 c.args.addr c.args.bytes.now c.args.row c.requires.admitted c.requires.copies) in
     let begun : PassesIn g.G.Pages.unpaged (Starts a c.args.tid.0 (start.Pending c.in-Pending.why)) s m b y = subst (λ (p : Place). PassesIn g.G.Pages.unpaged (Starts (record { place = p; need = copying c.args.row.key p; writes = true; start = b.life }) c.args.tid.0 (start.Pending c.in-Pending.why)) s m b y) c.place_of.ensures (c.in-Pending.ensures.passes true) in
-    started_waits g.G.Pages.unpaged (aim_in t old b c.args.pid c.args.addr (WriteOf c.args.bytes.now)) a is c.args.tid.0 c.in-Pending.why s m b y begun
+    started_waits g.G.Pages.unpaged (aim_in t old b c.args.pid c.args.addr (WriteOf c.args.bytes.now)) a is c.args.tid.0 c.in-Pending.why s m b y (λ reads. c.in-Pending.ensures.awaited (ap (λ (x : Why). start.Pending x) reads)) begun
 
 pub returns-in-Ready-clause-passes : goal.returns-in-Ready-clause-passes
 returns-in-Ready-clause-passes g c =

@@ -1,6 +1,6 @@
-use Rattle.std.proofs.Common.{◌++◌, take, arith, ◌∙◌}
+use Rattle.std.proofs.Common.{◌++◌, take, ◌∙◌}
 use Rattle.mm_types.proofs.Bytes.{appended_then}
-use Rattle.mm_io.proofs.Writes.{rest_more}
+use Rattle.mm_io.proofs.Writes.{rest_more, gives_then}
 use Rattle.mm_io.proofs.write.write_all.Goals as goal
 
 pub loop-rest-preserved : goal.loop-rest-preserved
@@ -13,6 +13,10 @@ loop-rest-preserved g c =
         rest_more i.done.0 c.loop-rest.rest.now c.args.text.now c.in_ok-n.n i.done.1,
         appended_then (taken c.args.out.now) (taken c.loop-rest.out) (taken c.write.new.self) _ _ i.done.2 c.in_ok-n.ensures.bytes.bytes,
       );
-      later = omega (arith, c.write.ensures.cause.later, i.later);
+      given = gives_then _ _ _ _ _ _ i.given c.write.ensures.given;
+      faults = c.in_ok-n.ensures.cause.same ∙ i.faults;
       loans = c.write.ensures.loans ∙ i.loans;
     }
+
+pub returns-in_err-n-clause-given : goal.returns-in_err-n-clause-given
+returns-in_err-n-clause-given g c = gives_then _ _ _ _ _ _ c.loop-rest.invariant.given c.write.ensures.given

@@ -1,4 +1,5 @@
-use Rattle.std.proofs.Common.{◌++◌, take, arith, ◌∙◌}
+use Rattle.std.proofs.Common.{◌++◌, take, ◌∙◌}
+use Rattle.mm_io.proofs.Writes.{gives_then}
 use Rattle.mm_types.proofs.Bytes.{appended_then}
 use Rattle.mm_moves.proofs.Growing.{piece_more}
 use Rattle.mm_moves.proofs.recorders.write_line.Goals as goal
@@ -13,6 +14,10 @@ loop-rest-preserved g c =
         piece_more i.done.0 c.loop-rest.rest.now c.args.line.now c.in_ok-n.n i.done.1,
         appended_then (taken c.args.sink.now) (taken c.loop-rest.sink) (taken c.write.new.self) _ _ i.done.2 c.in_ok-n.ensures.bytes.bytes,
       );
-      later = omega (arith, c.write.ensures.cause.later, i.later);
+      given = gives_then _ _ _ _ _ _ i.given c.write.ensures.given;
+      faults = c.in_ok-n.ensures.cause.same ∙ i.faults;
       loans = c.write.ensures.loans ∙ i.loans;
     }
+
+pub returns-in_err-n-clause-given : goal.returns-in_err-n-clause-given
+returns-in_err-n-clause-given g c = gives_then _ _ _ _ _ _ c.loop-rest.invariant.given c.write.ensures.given

@@ -3,7 +3,7 @@ use Rattle.mm_types.specs.declared.frames.Record.{Record}
 use Rattle.mm_moving.specs.Shown.{StateOf}
 use Rattle.mm_life.specs.Life.{key_of_place}
 use Rattle.mm_paged.proofs.Placing.{in_frame_then}
-use Rattle.mm_paged.proofs.PuttingCopy.{map_copy, own_may_map, went_put, put_look, put_names}
+use Rattle.mm_paged.proofs.PuttingCopy.{map_copy, own_may_map, went_put, put_look, put_names, put_kept}
 use Rattle.mm_paged.proofs.copying.put_copy.Goals as goal
 
 pub map-requires-clause-legal : goal.map-requires-clause-legal
@@ -23,3 +23,6 @@ returns-clause-changed g c = put_look (λ (r : Record). r.changed) (λ r n. refl
 
 pub returns-clause-names : goal.returns-clause-names
 returns-clause-names g c = put_names c.args.place c.args.f (g.T.Moving.shown c.args.state.now) (g.T.Moving.shown c.unmap.new.self) (g.T.Moving.shown c.map.new.self) c.sound-2.ensures.holds (in_frame_then (key_of_place c.args.place) c.args.f (g.T.Moving.shown c.args.state.now) (g.T.Moving.shown c.unmap.new.self) c.args.place c.requires.frame c.unmap.ensures.made.life) (ap (λ (s : StateOf). s.names) c.unmap.ensures.rest) (ap (λ (s : StateOf). s.names) c.map.ensures.rest)
+
+pub returns-clause-life : goal.returns-clause-life
+returns-clause-life g c = put_kept c.args.place c.args.f (g.T.Moving.shown c.args.state.now) (g.T.Moving.shown c.unmap.new.self) (g.T.Moving.shown c.map.new.self) c.unmap.ensures.made c.map.ensures.made

@@ -1,5 +1,6 @@
 use Rattle.std.proofs.Common.{refl, ◌∙◌}
-use Rattle.mm_paged.proofs.Placing.{went_unmap_map, full_oldest, in_frame_then, below_then, some_page}
+use Rattle.mm_types.specs.declared.numbers.Place.{Place}
+use Rattle.mm_paged.proofs.Placing.{went_unmap_map, full_oldest, in_frame_then, below_then, some_page, placed_after, kind_then}
 use Rattle.mm_paged.proofs.InFlight.{unmapped_flight}
 use Rattle.mm_paged.proofs.faults.put_full.Goals as goal
 
@@ -17,3 +18,10 @@ unreachable-requires g c = some_page _ c.args.place.pid.0 c.sound.ensures.holds 
 
 pub returns-clause-flight : goal.returns-clause-flight
 returns-clause-flight g c = c.put_below.ensures.flight ∙ unmapped_flight (g.T.Moving.shown c.args.state.now).life (g.T.Moving.shown c.unmap.new.self).life (record { pid = c.args.place.pid; vpn = c.in-Some.vpn }) c.unmap.ensures.made.life
+
+pub returns-clause-placed : goal.returns-clause-placed
+returns-clause-placed g c =
+    let old : Place = record { pid = c.args.place.pid; vpn = c.in-Some.vpn } in
+    let s = g.T.Moving.shown c.args.state.now in
+    let y = g.T.Moving.shown c.unmap.new.self in
+    placed_after c.args.key c.args.f c.args.place old s y (g.T.Moving.shown c.put_below.new.state) (kind_then s y old c.unmap.ensures.made.life) c.unmap.ensures.made.told c.unmap.ensures.rest c.put_below.ensures.placed

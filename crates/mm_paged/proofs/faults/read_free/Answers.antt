@@ -1,4 +1,5 @@
-use Rattle.mm_paged.proofs.Taking.{read_legal, read_in_frame, read_fails}
+use Rattle.std.proofs.Common.{true, false, refl}
+use Rattle.mm_paged.proofs.Taking.{read_legal, read_in_frame, read_fails, reads_in}
 use Rattle.mm_paged.proofs.InFlight.{read_flight}
 use Rattle.mm_paged.proofs.faults.read_free.Goals as goal
 
@@ -13,3 +14,9 @@ returns-else-end_read-clause-fails g c = read_fails c.args.key _ _ _ _ c.sound.e
 
 pub returns-then-end_read-clause-flight : goal.returns-then-end_read-clause-flight
 returns-then-end_read-clause-flight g c = read_flight c.args.key _ _ _ _ c.start_read-f.ensures.made c.if-end_read.ensures.made
+
+pub returns-then-end_read-clause-read : goal.returns-then-end_read-clause-read
+returns-then-end_read-clause-read g c = (c.start_read-f.ensures.frame, reads_in c.args.key c.start_read-f.result c.start_read-f.result true _ _ _ refl c.sound.ensures.holds c.start_read-f.ensures.made c.if-end_read.ensures.made)
+
+pub returns-else-end_read-clause-bad : goal.returns-else-end_read-clause-bad
+returns-else-end_read-clause-bad g c = reads_in c.args.key c.start_read-f.result _ false _ _ _ c.start_read-f.ensures.frame c.sound.ensures.holds c.start_read-f.ensures.made c.if-end_read.ensures.made

@@ -1,4 +1,4 @@
-use Rattle.std.proofs.Common.{◌≡◌, false}
+use Rattle.std.proofs.Common.{◌≡◌, true, false}
 use Rattle.mm_life.specs.Frames.{record_at, is_write}
 use Rattle.mm_paged.proofs.Flushed.{flight_none, flight_ended}
 use Rattle.mm_paged.proofs.flushing.end_flight.Goals as goal
@@ -9,4 +9,6 @@ returns-then-not-is_writing-clause-ended g c b e =
     flight_none b c.args.f (g.T.Moving.shown c.args.state.now) e still
 
 pub returns-clause-ended : goal.returns-clause-ended
-returns-clause-ended g c b e = flight_ended b c.args.f c.end_write-done.result (g.T.Moving.shown c.args.state.now) (g.T.Moving.shown c.end_write-done.new.self) c.sound.ensures.holds c.sound-2.ensures.holds c.requires.filed e c.requires.own c.end_write-done.ensures.made c.end_write-done.ensures.rest c.end_write-done.ensures.wrote
+returns-clause-ended g c b e =
+    let writing : is_write (record_at (g.T.Moving.shown c.args.state.now).life.frames c.args.f.0).request ≡ true = cc in
+    flight_ended b c.args.f c.end_write-done.result (g.T.Moving.shown c.args.state.now) (g.T.Moving.shown c.end_write-done.new.self) c.sound.ensures.holds c.sound-2.ensures.holds c.requires.filed e c.requires.own writing c.end_write-done.ensures.made c.end_write-done.ensures.rest c.end_write-done.ensures.wrote

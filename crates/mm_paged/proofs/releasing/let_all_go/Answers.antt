@@ -1,4 +1,4 @@
-use Rattle.std.proofs.Common.{ap, ◌∙◌, refl, arith, ◌+◌, ◌<◌, ◌≤◌}
+use Rattle.std.proofs.Common.{ap, ◌∙◌, refl, arith, ◌<◌, ◌≤◌}
 use Rattle.mm_moving.specs.Shown.{StateOf}
 use Rattle.mm_pages.specs.Conditions.{place_at}
 use Rattle.mm_paged.proofs.LettingGo.{lets_none, lets_then, lets_wider, thins_none, thins_then, gone_more, may_still, in_pages}

@@ -1,33 +1,53 @@
-use Rattle.std.proofs.Common.{refl, sym, ◌∙◌, arith}
+use Rattle.std.proofs.Common.{refl, ◌∙◌}
 use Rattle.mm_make.specs.Generated.{script_of}
-use Rattle.mm_types.proofs.Bytes.{rose_then}
+use Rattle.mm_run.specs.declared.endings.Ending.TheVariants as ending
 use Rattle.mm_run.specs.Story.{counts_with}
-use Rattle.mm_run.proofs.Ends.{blamed_moves, blamed_opening}
-use Rattle.mm_run.proofs.Tallies.{ran_unflushed, ran_all, ran_failed, never_read, never_out}
+use Rattle.mm_run.proofs.Ends.{accounted, accounted_behind}
+use Rattle.mm_run.proofs.Tallies.{ran_unflushed, ran_failed, all_told, all_torn, accounted_unflushed}
 use Rattle.mm_run.proofs.bulk.bulk.Goals as goal
+
+-- the moves could not be given on
 
 pub returns-in-Err-clause-ran : goal.returns-in-Err-clause-ran
 returns-in-Err-clause-ran g c = λ left.
-    ran_unflushed _ _ (script_of c.args.seed c.args.count) 6 _ c.flush.ensures.taken c.flush.ensures.cause.later refl refl c.decide_script-decided.result c.decide_script-decided.ensures.came refl refl
+    let f = c.flush.ensures in
+    ran_unflushed _ _ (script_of c.args.seed c.args.count) 6 _ (record { took_is = f.taken; grows = f.given.grows; later = f.cause.later; paging_is = refl; files_is = refl })
+    c.decide_script-decided.result c.decide_script-decided.ensures.came refl refl
 
-pub returns-in-Ok-decided-clause-ran : goal.returns-in-Ok-decided-clause-ran
-returns-in-Ok-decided-clause-ran g c = λ left.
-    ran_all _ _ (script_of c.args.seed c.args.count) c.tell_tally.result _ c.flush.ensures.taken c.flush.ensures.cause.later refl refl c.in-Ok-decided.tally c.in-Ok-decided.ensures.came c.tell_tally.ensures.told
+pub returns-in-Err-clause-faults : goal.returns-in-Err-clause-faults
+returns-in-Err-clause-faults g c = λ s.
+    accounted_unflushed c.decide_script-decided.result _ _ _ (c.decide_script-decided.ensures.faults s (g.O.Sink.faults c.args.out.now)) _ 6 refl c.in-Err.ensures.cause.failed
+
+-- all events were decided
+
+pub returns-in-Ok-tell_tally-clause-ran : goal.returns-in-Ok-tell_tally-clause-ran
+returns-in-Ok-tell_tally-clause-ran g c = λ left.
+    let f = c.flush.ensures in
+    let told = c.in-Ok-tell_tally.ensures.told in
+    all_told _ _ (script_of c.args.seed c.args.count) c.status.result _ (record { took_is = f.taken; grows = f.given.grows; later = f.cause.later; paging_is = refl; files_is = refl })
+    c.in-Ok-decided.tally c.in-Ok-decided.ensures.came c.in-Ok.ensures.all c.status.ensures told.0 told.1
+
+pub returns-in-Ok-tell_tally-clause-faults : goal.returns-in-Ok-tell_tally-clause-faults
+returns-in-Ok-tell_tally-clause-faults g c = λ s.
+    let out = g.O.Sink.faults in
+    accounted ending.Done _ _ _ c.status.result c.status.ensures
+    ((λ i. counts_with s (c.in-Ok-tell_tally.ensures.cause.same i) (c.in-Ok.ensures.cause.same i)) ∙ c.in-Ok-decided.ensures.faults s (out c.args.out.now))
+
+pub returns-in-Err-tell_tally-clause-ran : goal.returns-in-Err-tell_tally-clause-ran
+returns-in-Err-tell_tally-clause-ran g c = λ left.
+    let f = c.flush.ensures in
+    all_torn _ _ (script_of c.args.seed c.args.count) c.status-in-Err-tell_tally.result _ (record { took_is = f.taken; grows = f.given.grows; later = f.cause.later; paging_is = refl; files_is = refl })
+    c.in-Ok-decided.tally c.in-Ok-decided.ensures.came c.in-Ok.ensures.all c.status-in-Err-tell_tally.ensures c.in-Err-tell_tally.ensures.told
+
+-- some were not
 
 pub returns-in-Err-decided-clause-ran : goal.returns-in-Err-decided-clause-ran
 returns-in-Err-decided-clause-ran g c = λ left.
-    ran_failed _ _ (script_of c.args.seed c.args.count) c.status.result _ c.flush.ensures.taken c.flush.ensures.cause.later refl refl c.in-Err-decided.ending c.in-Err-decided.ensures.came c.status.ensures refl
+    let f = c.flush.ensures in
+    ran_failed _ _ (script_of c.args.seed c.args.count) c.status-in-Err-decided.result _ (record { took_is = f.taken; grows = f.given.grows; later = f.cause.later; paging_is = refl; files_is = refl })
+    c.in-Err-decided.ending c.in-Err-decided.ensures.came c.status-in-Err-decided.ensures refl
 
-pub returns-in-Err-decided-clause-read_fault : goal.returns-in-Err-decided-clause-read_fault
-returns-in-Err-decided-clause-read_fault g c = λ q. never_read _ _ c.in-Err-decided.ending _ c.in-Err-decided.ensures.came (sym c.status.ensures ∙ q)
-
-pub returns-in-Err-decided-clause-out_fault : goal.returns-in-Err-decided-clause-out_fault
-returns-in-Err-decided-clause-out_fault g c = λ q. absurd (never_out _ _ c.in-Err-decided.ending _ c.in-Err-decided.ensures.came (sym c.status.ensures ∙ q))
-
-pub returns-in-Err-decided-clause-moves_fault : goal.returns-in-Err-decided-clause-moves_fault
-returns-in-Err-decided-clause-moves_fault g c = λ q.
-    rose_then _ _ _ (blamed_moves _ (counts_with 0 0 (g.M.Sink.faults c.args.moves.now)) (counts_with 0 0 (g.M.Sink.faults c.decide_script-decided.new.moves)) c.in-Err-decided.ending (sym c.status.ensures ∙ q) (c.in-Err-decided.ensures.blame 0 0)) (omega arith)
-
-pub returns-in-Err-decided-clause-setup_fault : goal.returns-in-Err-decided-clause-setup_fault
-returns-in-Err-decided-clause-setup_fault g c = λ q.
-    blamed_opening _ (counts_with 0 0 (g.M.Sink.faults c.args.moves.now)) (counts_with 0 0 (g.M.Sink.faults c.decide_script-decided.new.moves)) c.in-Err-decided.ending (sym c.status.ensures ∙ q) (c.in-Err-decided.ensures.blame 0 0)
+pub returns-in-Err-decided-clause-faults : goal.returns-in-Err-decided-clause-faults
+returns-in-Err-decided-clause-faults g c = λ s.
+    let out = g.O.Sink.faults c.args.out.now in
+    accounted_behind c.in-Err-decided.ending _ _ _ _ c.status-in-Err-decided.result (λ i. counts_with s out (c.in-Ok.ensures.cause.same i)) c.status-in-Err-decided.ensures (c.in-Err-decided.ensures.faults s out)

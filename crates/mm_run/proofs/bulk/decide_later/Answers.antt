@@ -1,5 +1,7 @@
 use Rattle.std.proofs.Common.{refl, ap, ◌∙◌, cond, arith}
 use Rattle.mm_run.specs.Scenes.{Running, scene}
+use Rattle.mm_run.specs.Story.{Counts, counts_with}
+use Rattle.mm_run.proofs.Finding.{blamed_then}
 use Rattle.mm_run.proofs.Batches.{handled_none, handled_on, stopped_on}
 use Rattle.mm_run.proofs.bulk.decide_later.Goals as goal
 
@@ -13,7 +15,7 @@ loop-event-init g c = record {
   ready = c.requires.ready;
   noted = c.requires.noted;
   same = refl;
-  later = omega arith;
+  faults = refl;
 }
 
 pub loop-event-preserved : goal.loop-event-preserved
@@ -33,10 +35,16 @@ loop-event-preserved g c =
       ready = d.ready;
       noted = d.noted;
       same = c.decide_event.ensures.loans ∙ i.same;
-      later = omega (arith, i.later, c.decide_event.ensures.later);
+      faults = ap (λ (k : Counts). k.moves) (d.faults 0 0) ∙ i.faults;
     }
 
 pub returns-in-Err-clause-came : goal.returns-in-Err-clause-came
 returns-in-Err-clause-came g c =
     let l = c.loop-event in
-    stopped_on (Running (scene c.args.system.now)) (scene l.system) (scene c.decide_event.new.system) c.args.events.now l.event-index l.ok l.none c.event-item.result c.in-Err.ending _ (omega arith) l.invariant.handled c.in-Err.ensures.ends
+    stopped_on (Running (scene c.args.system.now)) (scene l.system) (scene c.decide_event.new.system) c.args.events.now l.event-index l.ok l.none c.event-item.result c.in-Err.ending (omega arith) l.invariant.handled c.in-Err.ensures.ends
+
+pub returns-in-Err-clause-faults : goal.returns-in-Err-clause-faults
+returns-in-Err-clause-faults g c = λ s o. blamed_then c.in-Err.ending _ _ _ _ (ap (λ k. counts_with s o k) c.loop-event.invariant.faults) (c.in-Err.ensures.faults s o)
+
+pub returns-clause-faults : goal.returns-clause-faults
+returns-clause-faults g c = λ s o. ap (λ k. counts_with s o k) c.loop-event.invariant.faults

@@ -14,5 +14,5 @@ invariant-loop-event g l = record {
   ready : l.system.spent ≡ false;
   noted : (behind l.system).log.failed ≡ false;
   same : loans l.system ≡ loans l.fn.system;
-  later : (behind l.fn.system).log.faults ≤ (behind l.system).log.faults;
+  faults : (behind l.system).log.faults ≡ (behind l.fn.system).log.faults;
 }

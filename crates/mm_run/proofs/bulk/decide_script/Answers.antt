@@ -9,11 +9,11 @@ use Rattle.mm_run.proofs.bulk.decide_script.Goals as goal
 
 pub returns-in-Err-clause-came : goal.returns-in-Err-clause-came
 returns-in-Err-clause-came g c =
-    let o = outset (g.P.Blocks.faults c.args.paging.now) (g.F.Blocks.faults c.args.files.now) (g.M.Sink.taken c.args.moves.now) (g.M.Sink.faults c.args.moves.now) in
+    let o = outset (g.P.Blocks.faults c.args.paging.now) (g.F.Blocks.faults c.args.files.now) (g.M.Sink.taken c.args.moves.now) (g.M.Sink.given c.args.moves.now) (g.M.Sink.faults c.args.moves.now) in
     record {
       end = NotBegun o;
       finished = stopped_here (NotBegun o) (script_of c.args.seed c.args.count) ending.NoMemory (inl refl) (omega arith);
-      leaves = log_left_at o.log _ refl refl;
+      leaves = log_left_at o.log _ refl refl refl;
     }
 
 pub start_events-requires-clause-later : goal.start_events-requires-clause-later

@@ -1,4 +1,4 @@
-use Rattle.std.proofs.Common.{◌≡◌, ◌≤◌, ◌∙◌, refl, sym, inl, inr, true, false, subst}
+use Rattle.std.proofs.Common.{◌≡◌, ◌∙◌, refl, sym, inl, inr, true, false, subst}
 use Rattle.std.specs.Prelude.{Bool, Ok, Err, IfOk, OnOk, OnErr}
 use Rattle.mm_types.specs.Outside.{Rose}
 use Rattle.mm_world.specs.World.{filled}
@@ -61,12 +61,13 @@ returns-clause-blame g c =
       | Err x ↦ λ q. tt
     ] refl
 
-pub returns-clause-later : goal.returns-clause-later
-returns-clause-later g c =
-    let s = c.step-decided.ensures in
-    elim c.step-decided.result as (λ r. c.step-decided.result ≡ r → (behind c.args.system.now).log.faults ≤ (behind c.step-decided.new.self).log.faults) [
-      | Ok a ↦ λ q. (let d = rw q at s.decided in (d.notes c.requires.paged).grew.later)
-      | Err x ↦ λ q. (let b = rw q at s.broke in (b.broken c.requires.paged).grew.later)
+pub returns-clause-same : goal.returns-clause-same
+returns-clause-same g c =
+    let old = behind c.args.system.now in
+    let new = behind c.step-decided.new.self in
+    elim c.step-decided.result as (λ r. c.step-decided.result ≡ r → OnOk r (new.log.failed ≡ false → new.log.faults ≡ old.log.faults)) [
+      | Ok a ↦ λ q fine. (let d = rw q at c.step-decided.ensures.decided in (d.notes c.requires.paged).grew.same fine)
+      | Err x ↦ λ q. tt
     ] refl
 
 pub returns-clause-breaks : goal.returns-clause-breaks

@@ -12,4 +12,4 @@ pub returns-in-Long-clause-went : goal.returns-in-Long-clause-went
 returns-in-Long-clause-went g c =
     let left = g.S.Source.left c.args.source.now in
     let held = c.args.held.now in
-    came_long left left (g.O.Sink.taken c.args.out.now) held held c.args.n (Running (scene c.args.system.now)) (filled_none left held) c.requires.few c.in-Long.ensures (omega (arith, c.requires.held))
+    came_long left left (g.O.Sink.taken c.args.out.now) c.args.kept.now held held c.args.n (Running (scene c.args.system.now)) (filled_none left held) c.requires.few c.in-Long.ensures (omega (arith, c.requires.held))

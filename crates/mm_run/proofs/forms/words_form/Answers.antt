@@ -1,4 +1,4 @@
-use Rattle.std.proofs.Common.{◌≡◌, ◌∙◌, ap, ap₂, sym, refl, ◌∷◌, [], map, string_bytes}
+use Rattle.std.proofs.Common.{◌≡◌, ◌∙◌, ap, ap₂, sym, refl, ◌∷◌, []}
 use Rattle.mm_types.specs.Spelling.{Text}
 use Rattle.mm_forms.specs.Forms.{texts}
 use Rattle.mm_run.proofs.FormWords.{no_numbers, says_none, two_items}

@@ -1,7 +1,7 @@
-use Rattle.std.proofs.Common.{◌≡◌, ◌≤◌, ◌<◌, ◌+◌, refl, sym, ap, ◌∙◌, subst, inl, arith, rules}
+use Rattle.std.proofs.Common.{◌≡◌, ◌≤◌, ◌<◌, refl, sym, ap, ◌∙◌, subst, inl, arith, rules}
 use Rattle.mm_types.specs.Machine.{IsMachine}
 use Rattle.mm_types.specs.declared.events.Event.TheVariants as line
-use Rattle.mm_blocks.specs.Traffic.{NoneLogged, told_by}
+use Rattle.mm_blocks.specs.Traffic.{NoneLogged}
 use Rattle.mm_system.specs.Shown.{system, behind}
 use Rattle.mm_moving.specs.Shown.{StateOf}
 use Rattle.mm_paged.specs.Store as paged
@@ -9,19 +9,26 @@ use Rattle.mm_run.specs.Scenes.{NotBegun, Running, outset, scene}
 use Rattle.mm_run.specs.Story.{IsBlamed, counts_with}
 use Rattle.mm_run.proofs.Starting.{opened_of, is_new, is_made, three_names}
 use Rattle.mm_parts.proofs.Starting.{first_legal}
-use Rattle.mm_run.proofs.Stories.{comes_here, follows_here, log_left_at}
+use Rattle.mm_run.proofs.Stories.{comes_here, follows_here, grows_here, log_left_at}
 use Rattle.mm_run.proofs.Stops.{came_memory}
 use Rattle.mm_run.proofs.machines.run_machine.Goals as goal
 
 pub returns-in-Err-clause-came : goal.returns-in-Err-clause-came
 returns-in-Err-clause-came g c = λ p f later later'.
     let small : 0 < 1000000 = omega arith in
-    let o = outset p f (g.M.Sink.taken c.args.moves.now) (g.M.Sink.faults c.args.moves.now) in
+    let o = outset p f (g.M.Sink.taken c.args.moves.now) (g.M.Sink.given c.args.moves.now) (g.M.Sink.faults c.args.moves.now) in
     let err = c.in-Err.ensures.err in
     let end = c.moves-1.given.1 (sym c.new-3.ensures.same_reference ∙ sym (ap (λ x. x.2.sink.ghost_name) err) ∙ sym c.finish-in-Err-2.ensures.same_reference) in
     let sink = end ∙ c.finish-in-Err-2.ensures.sink ∙ ap (λ x. x.2.sink.now) err ∙ c.new-3.ensures.sink in
-    comes_here _ _ _ _ o _ (sym (ap g.M.Sink.taken sink)) (sym (ap g.M.Sink.faults sink))
-    (came_memory c.args.held.now c.args.len 0 c.requires.line small c.requires.behind _ _ (NotBegun o) (NotBegun o) (line.Machine c.args.machine) c.requires.says c.requires.grammar (inl (refl, follows_here (NotBegun o))))
+    comes_here _ _ _ _ o _ (sym (ap g.M.Sink.taken sink)) (sym (ap g.M.Sink.given sink)) (sym (ap g.M.Sink.faults sink))
+    (came_memory c.args.held.now c.args.len 0 c.requires.line small c.requires.behind _ _ c.args.kept.now (NotBegun o) (NotBegun o) (line.Machine c.args.machine) c.requires.says c.requires.grammar (inl (refl, follows_here (NotBegun o))) (grows_here (NotBegun o)))
+
+pub returns-in-Err-clause-faults : goal.returns-in-Err-clause-faults
+returns-in-Err-clause-faults g c =
+    let err = c.in-Err.ensures.err in
+    let end = c.moves-1.given.1 (sym c.new-3.ensures.same_reference ∙ sym (ap (λ x. x.2.sink.ghost_name) err) ∙ sym c.finish-in-Err-2.ensures.same_reference) in
+    let sink = end ∙ c.finish-in-Err-2.ensures.sink ∙ ap (λ x. x.2.sink.now) err ∙ c.new-3.ensures.sink in
+    (let same = ap g.M.Sink.faults sink in omega (arith, same), refl)
 
 pub over-requires-clause-unused : goal.over-requires-clause-unused
 over-requires-clause-unused g c = λ b. ap (λ (z : StateOf). z.life.added b) c.in-Ok.ensures.starts.shows
@@ -32,11 +39,11 @@ new-system-requires g c =
     let bf = g.F.Blocks in
     let pd = c.new.ensures.device in
     let fd = c.new-2.ensures.device in
-    let o = outset (bp.faults c.new.result.device.now) (bf.faults c.new-2.result.device.now) (g.M.Sink.taken c.args.moves.now) (g.M.Sink.faults c.args.moves.now) in
-    let opened = opened_of c.args.machine o (bp.named c.new.result.device.now) (bf.named c.new-2.result.device.now) c.new.result.plan.named c.new-2.result.plan.named (bp.log c.new.result.device.now) (bf.log c.new-2.result.device.now) (bp.faults c.new.result.device.now) c.new.result.plan.faults (bf.faults c.new-2.result.device.now) c.new-2.result.plan.faults (bp.blocks c.new.result.device.now) (bf.blocks c.new-2.result.device.now)
+    let o = outset (bp.faults c.new.result.device.now) (bf.faults c.new-2.result.device.now) (g.M.Sink.taken c.args.moves.now) (g.M.Sink.given c.args.moves.now) (g.M.Sink.faults c.args.moves.now) in
+    let opened = opened_of c.args.machine o c.new.result.plan c.new-2.result.plan (bp.log c.new.result.device.now) (bf.log c.new-2.result.device.now) (bp.faults c.new.result.device.now) (bf.faults c.new-2.result.device.now) (bp.blocks c.new.result.device.now) (bf.blocks c.new-2.result.device.now)
     (ap bp.blocks pd ∙ c.requires.slots) (ap bf.blocks fd ∙ c.requires.blocks)
     (subst (λ d. NoneLogged (bp.log d)) (sym pd) c.requires.paging_logged) (subst (λ d. NoneLogged (bf.log d)) (sym fd) c.requires.files_logged)
-    c.new.ensures.plain c.new-2.ensures.plain c.new.ensures.named c.new-2.ensures.named (omega arith) (omega arith) in
+    c.new.ensures.named c.new-2.ensures.named (omega arith) (omega arith) in
     record { new = is_new c.args.machine o _ _ _ _ opened _ _ c.in-Ok.ensures.starts _ _ c.over.ensures.contents c.over.ensures.store }
 
 pub returns-clause-came : goal.returns-clause-came
@@ -48,16 +55,16 @@ returns-clause-came g c = λ p f later later'.
     let whole : IsMachine m = search rules in
     let pd = c.new.ensures.device in
     let fd = c.new-2.ensures.device in
-    let o = outset p f (bm.taken c.args.moves.now) (bm.faults c.args.moves.now) in
-    let opened = opened_of m o (bp.named c.new.result.device.now) (bf.named c.new-2.result.device.now) c.new.result.plan.named c.new-2.result.plan.named (bp.log c.new.result.device.now) (bf.log c.new-2.result.device.now) (bp.faults c.new.result.device.now) c.new.result.plan.faults (bf.faults c.new-2.result.device.now) c.new-2.result.plan.faults (bp.blocks c.new.result.device.now) (bf.blocks c.new-2.result.device.now)
+    let o = outset p f (bm.taken c.args.moves.now) (bm.given c.args.moves.now) (bm.faults c.args.moves.now) in
+    let opened = opened_of m o c.new.result.plan c.new-2.result.plan (bp.log c.new.result.device.now) (bf.log c.new-2.result.device.now) (bp.faults c.new.result.device.now) (bf.faults c.new-2.result.device.now) (bp.blocks c.new.result.device.now) (bf.blocks c.new-2.result.device.now)
     (ap bp.blocks pd ∙ c.requires.slots) (ap bf.blocks fd ∙ c.requires.blocks)
     (subst (λ d. NoneLogged (bp.log d)) (sym pd) c.requires.paging_logged) (subst (λ d. NoneLogged (bf.log d)) (sym fd) c.requires.files_logged)
-    c.new.ensures.plain c.new-2.ensures.plain c.new.ensures.named c.new-2.ensures.named (subst (λ d. p ≤ bp.faults d) (sym pd) later) (subst (λ d. f ≤ bf.faults d) (sym fd) later') in
-    let log : _ ≡ o.log = λ i. record { bytes = bm.taken (c.new-3.ensures.sink i); failed = c.new-3.ensures.fresh i; faults = bm.faults (c.new-3.ensures.sink i) } in
+    c.new.ensures.named c.new-2.ensures.named (subst (λ d. p ≤ bp.faults d) (sym pd) later) (subst (λ d. f ≤ bf.faults d) (sym fd) later') in
+    let log : _ ≡ o.log = λ i. record { bytes = bm.taken (c.new-3.ensures.sink i); given = bm.given (c.new-3.ensures.sink i); failed = c.new-3.ensures.fresh i; faults = bm.faults (c.new-3.ensures.sink i) } in
     let first = c.new-system.result in
     let last = c.answer_all-ending.new.system in
     let made = is_made m o _ _ _ _ opened _ _ log c.in-Ok.ensures.starts (first_legal m whole) (system first) (paged.store first.world.pages) (paged.behind first.world.pages) c.new-system.ensures.system
-    (ap (λ x. paged.store x) c.new-system.ensures.pages ∙ c.over.ensures.store) (ap (λ x. paged.behind x) c.new-system.ensures.pages ∙ c.over.ensures.behind) in
+    (ap (λ x. paged.store x) c.new-system.ensures.pages ∙ c.over.ensures.store) (ap (λ x. paged.behind x) c.new-system.ensures.pages ∙ c.over.ensures.behind) (c.new-system.ensures.agrees refl) in
     let names = three_names last.world.pages.state.paging.device.ghost_name last.world.pages.state.files.device.ghost_name last.world.pages.state.moves.sink.ghost_name c.new.result.device.ghost_name c.new-2.result.device.ghost_name c.new-3.result.sink.ghost_name
     (c.answer_all-ending.ensures.loans ∙ ap (λ x. paged.loans x) c.new-system.ensures.pages ∙ c.over.ensures.loans ∙ c.in-Ok.ensures.loans) in
     let paging : c.finish-paging.result.0 ≡ last.world.pages.state.paging = ap (λ x. x.0) c.finish-paging.ensures ∙ ap (λ x. x.paging) c.finish-3.ensures.state ∙ ap (λ x. x.state.paging) c.finish-2.ensures in
@@ -73,22 +80,22 @@ returns-clause-came g c = λ p f later later'.
       end = Running (scene last);
       came = c.answer_all-ending.ensures.came o made;
       leaves = (
-        log_left_at (behind last).log _ (ap bm.taken left_m) (ap bm.faults left_m),
+        log_left_at (behind last).log _ (ap bm.taken left_m) (ap bm.given left_m) (ap bm.faults left_m),
         record {
-          log_is = ap (λ d. told_by (bp.named d) (bp.log d)) left_p;
+          log_is = ap bp.log left_p;
           blocks_are = ap bp.blocks left_p;
-          faults_are = λ e. sym (c.finish-4.ensures.faults (ap (λ x. x.plan.named) paging ∙ e) ∙ ap (λ x. bp.faults x.device.now + x.plan.faults) paging) ∙ ap bp.faults (sym end_p);
+          faults_are = ap bp.faults left_p;
         },
         record {
-          log_is = ap (λ d. told_by (bf.named d) (bf.log d)) left_f;
+          log_is = ap bf.log left_f;
           blocks_are = ap bf.blocks left_f;
-          faults_are = λ e. sym (c.finish-5.ensures.faults (ap (λ x. x.plan.named) files ∙ e) ∙ ap (λ x. bf.faults x.device.now + x.plan.faults) files) ∙ ap bf.faults (sym end_f);
+          faults_are = ap bf.faults left_f;
         },
       );
     }
 
-pub returns-clause-blame : goal.returns-clause-blame
-returns-clause-blame g c =
+pub returns-clause-faults : goal.returns-clause-faults
+returns-clause-faults g c =
     let bp = g.P.Blocks in
     let bf = g.F.Blocks in
     let bm = g.M.Sink in
@@ -96,49 +103,20 @@ returns-clause-blame g c =
     let whole : IsMachine m = search rules in
     let pd = c.new.ensures.device in
     let fd = c.new-2.ensures.device in
-    let o = outset (bp.faults c.new.result.device.now) (bf.faults c.new-2.result.device.now) (bm.taken c.args.moves.now) (bm.faults c.args.moves.now) in
-    let opened = opened_of m o (bp.named c.new.result.device.now) (bf.named c.new-2.result.device.now) c.new.result.plan.named c.new-2.result.plan.named (bp.log c.new.result.device.now) (bf.log c.new-2.result.device.now) (bp.faults c.new.result.device.now) c.new.result.plan.faults (bf.faults c.new-2.result.device.now) c.new-2.result.plan.faults (bp.blocks c.new.result.device.now) (bf.blocks c.new-2.result.device.now)
+    let o = outset (bp.faults c.new.result.device.now) (bf.faults c.new-2.result.device.now) (bm.taken c.args.moves.now) (bm.given c.args.moves.now) (bm.faults c.args.moves.now) in
+    let opened = opened_of m o c.new.result.plan c.new-2.result.plan (bp.log c.new.result.device.now) (bf.log c.new-2.result.device.now) (bp.faults c.new.result.device.now) (bf.faults c.new-2.result.device.now) (bp.blocks c.new.result.device.now) (bf.blocks c.new-2.result.device.now)
     (ap bp.blocks pd ∙ c.requires.slots) (ap bf.blocks fd ∙ c.requires.blocks)
     (subst (λ d. NoneLogged (bp.log d)) (sym pd) c.requires.paging_logged) (subst (λ d. NoneLogged (bf.log d)) (sym fd) c.requires.files_logged)
-    c.new.ensures.plain c.new-2.ensures.plain c.new.ensures.named c.new-2.ensures.named (omega arith) (omega arith) in
-    let log : _ ≡ o.log = λ i. record { bytes = bm.taken (c.new-3.ensures.sink i); failed = c.new-3.ensures.fresh i; faults = bm.faults (c.new-3.ensures.sink i) } in
+    c.new.ensures.named c.new-2.ensures.named (omega arith) (omega arith) in
+    let log : _ ≡ o.log = λ i. record { bytes = bm.taken (c.new-3.ensures.sink i); given = bm.given (c.new-3.ensures.sink i); failed = c.new-3.ensures.fresh i; faults = bm.faults (c.new-3.ensures.sink i) } in
     let first = c.new-system.result in
     let last = c.answer_all-ending.new.system in
     let made = is_made m o _ _ _ _ opened _ _ log c.in-Ok.ensures.starts (first_legal m whole) (system first) (paged.store first.world.pages) (paged.behind first.world.pages) c.new-system.ensures.system
-    (ap (λ x. paged.store x) c.new-system.ensures.pages ∙ c.over.ensures.store) (ap (λ x. paged.behind x) c.new-system.ensures.pages ∙ c.over.ensures.behind) in
+    (ap (λ x. paged.store x) c.new-system.ensures.pages ∙ c.over.ensures.store) (ap (λ x. paged.behind x) c.new-system.ensures.pages ∙ c.over.ensures.behind) (c.new-system.ensures.agrees refl) in
     let names = three_names last.world.pages.state.paging.device.ghost_name last.world.pages.state.files.device.ghost_name last.world.pages.state.moves.sink.ghost_name c.new.result.device.ghost_name c.new-2.result.device.ghost_name c.new-3.result.sink.ghost_name
     (c.answer_all-ending.ensures.loans ∙ ap (λ x. paged.loans x) c.new-system.ensures.pages ∙ c.over.ensures.loans ∙ c.in-Ok.ensures.loans) in
     let moves : c.finish-paging.result.2 ≡ last.world.pages.state.moves = ap (λ x. x.2) c.finish-paging.ensures ∙ ap (λ x. x.moves) c.finish-3.ensures.state ∙ ap (λ x. x.state.moves) c.finish-2.ensures in
     let end_m = c.moves-2-1.given.1 (sym c.new-3.ensures.same_reference ∙ sym names.2 ∙ sym (ap (λ x. x.sink.ghost_name) moves) ∙ sym c.finish-6.ensures.same_reference) in
     let left_m = sym (end_m ∙ c.finish-6.ensures.sink ∙ ap (λ x. x.sink.now) moves) in
     subst (λ d. IsBlamed c.answer_all-ending.result ⊥ (counts_with (g.S.Source.faults c.args.source.now) (g.O.Sink.faults c.args.out.now) (bm.faults c.args.moves.now)) (counts_with (g.S.Source.faults c.answer_all-ending.new.source) (g.O.Sink.faults c.answer_all-ending.new.out) (bm.faults d))) left_m
-    (c.answer_all-ending.ensures.blame o made refl)
-
-pub returns-clause-moves_later : goal.returns-clause-moves_later
-returns-clause-moves_later g c =
-    let bp = g.P.Blocks in
-    let bf = g.F.Blocks in
-    let bm = g.M.Sink in
-    let m = c.args.machine in
-    let whole : IsMachine m = search rules in
-    let pd = c.new.ensures.device in
-    let fd = c.new-2.ensures.device in
-    let o = outset (bp.faults c.new.result.device.now) (bf.faults c.new-2.result.device.now) (bm.taken c.args.moves.now) (bm.faults c.args.moves.now) in
-    let opened = opened_of m o (bp.named c.new.result.device.now) (bf.named c.new-2.result.device.now) c.new.result.plan.named c.new-2.result.plan.named (bp.log c.new.result.device.now) (bf.log c.new-2.result.device.now) (bp.faults c.new.result.device.now) c.new.result.plan.faults (bf.faults c.new-2.result.device.now) c.new-2.result.plan.faults (bp.blocks c.new.result.device.now) (bf.blocks c.new-2.result.device.now)
-    (ap bp.blocks pd ∙ c.requires.slots) (ap bf.blocks fd ∙ c.requires.blocks)
-    (subst (λ d. NoneLogged (bp.log d)) (sym pd) c.requires.paging_logged) (subst (λ d. NoneLogged (bf.log d)) (sym fd) c.requires.files_logged)
-    c.new.ensures.plain c.new-2.ensures.plain c.new.ensures.named c.new-2.ensures.named (omega arith) (omega arith) in
-    let log : _ ≡ o.log = λ i. record { bytes = bm.taken (c.new-3.ensures.sink i); failed = c.new-3.ensures.fresh i; faults = bm.faults (c.new-3.ensures.sink i) } in
-    let first = c.new-system.result in
-    let last = c.answer_all-ending.new.system in
-    let made = is_made m o _ _ _ _ opened _ _ log c.in-Ok.ensures.starts (first_legal m whole) (system first) (paged.store first.world.pages) (paged.behind first.world.pages) c.new-system.ensures.system
-    (ap (λ x. paged.store x) c.new-system.ensures.pages ∙ c.over.ensures.store) (ap (λ x. paged.behind x) c.new-system.ensures.pages ∙ c.over.ensures.behind) in
-    let names = three_names last.world.pages.state.paging.device.ghost_name last.world.pages.state.files.device.ghost_name last.world.pages.state.moves.sink.ghost_name c.new.result.device.ghost_name c.new-2.result.device.ghost_name c.new-3.result.sink.ghost_name
-    (c.answer_all-ending.ensures.loans ∙ ap (λ x. paged.loans x) c.new-system.ensures.pages ∙ c.over.ensures.loans ∙ c.in-Ok.ensures.loans) in
-    let moves : c.finish-paging.result.2 ≡ last.world.pages.state.moves = ap (λ x. x.2) c.finish-paging.ensures ∙ ap (λ x. x.moves) c.finish-3.ensures.state ∙ ap (λ x. x.state.moves) c.finish-2.ensures in
-    let end_m = c.moves-2-1.given.1 (sym c.new-3.ensures.same_reference ∙ sym names.2 ∙ sym (ap (λ x. x.sink.ghost_name) moves) ∙ sym c.finish-6.ensures.same_reference) in
-    let left_m = sym (end_m ∙ c.finish-6.ensures.sink ∙ ap (λ x. x.sink.now) moves) in
-    let begun : bm.faults c.args.moves.now ≤ (behind first).log.faults = made.notes.grew.later in
-    let went : (behind first).log.faults ≤ (behind last).log.faults = c.answer_all-ending.ensures.moves_later in
-    let all : bm.faults c.args.moves.now ≤ (behind last).log.faults = omega (arith, begun, went) in
-    subst (λ d. bm.faults c.args.moves.now ≤ bm.faults d) left_m all
+    (c.answer_all-ending.ensures.faults o made refl)

@@ -3,6 +3,7 @@ use Rattle.mm_run.specs.declared.forms.WordsForm.TheVariants as form
 use Rattle.mm_run.specs.Bulk.{IsBulk}
 use Rattle.mm_run.specs.Story.{IsForm}
 use Rattle.mm_run.proofs.Scripts.{exact, usage, not_usage}
+use Rattle.mm_run.proofs.Ends.{accounted_memory}
 use Rattle.mm_run.proofs.FormWords.{bulk_same, form_said, no_run, one_bulk}
 use Rattle.mm_run.proofs.top.run.Goals as goal
 
@@ -45,7 +46,7 @@ pub returns-in-Run-clause-ran : goal.returns-in-Run-clause-ran
 returns-in-Run-clause-ran g c = λ no.
     let some = rw c.in-Some.is at c.in-Ok.ensures in
     let says : IsForm c.args.words.now = rw c.in-Run.is at some in
-    inl (form_said _ _ (true ≡ true) (IsForm c.args.words.now) c.end.result (λ p. says) (λ p. refl) c.end.ensures.ran)
+    form_said _ _ (true ≡ true) (IsForm c.args.words.now) c.run_lines.result (λ p. says) (λ p. refl) c.run_lines.ensures.ran
 
 pub returns-in-Run-clause-bulk : goal.returns-in-Run-clause-bulk
 returns-in-Run-clause-bulk g c = λ s n is.
@@ -63,7 +64,7 @@ pub returns-in-Run-clause-exact : goal.returns-in-Run-clause-exact
 returns-in-Run-clause-exact g c = λ text lines e told run script.
     let some = rw c.in-Some.is at c.in-Ok.ensures in
     let says : IsForm c.args.words.now = rw c.in-Run.is at some in
-    exact _ _ (IsForm c.args.words.now) c.end.result (form_said _ _ (true ≡ true) (IsForm c.args.words.now) c.end.result (λ p. says) (λ p. refl) c.end.ensures.ran) text lines e told run script
+    exact _ _ (IsForm c.args.words.now) c.run_lines.result (form_said _ _ (true ≡ true) (IsForm c.args.words.now) c.run_lines.result (λ p. says) (λ p. refl) c.run_lines.ensures.ran) text lines e told run script
 
 pub returns-in-Run-clause-usage : goal.returns-in-Run-clause-usage
 returns-in-Run-clause-usage g c = λ no other.
@@ -75,7 +76,7 @@ pub returns-in-Run-clause-form : goal.returns-in-Run-clause-form
 returns-in-Run-clause-form g c = λ run.
     let some = rw c.in-Some.is at c.in-Ok.ensures in
     let says : IsForm c.args.words.now = rw c.in-Run.is at some in
-    not_usage _ _ (IsForm c.args.words.now) c.end.result (form_said _ _ (true ≡ true) (IsForm c.args.words.now) c.end.result (λ p. says) (λ p. refl) c.end.ensures.ran) run
+    not_usage _ _ (IsForm c.args.words.now) c.run_lines.result (form_said _ _ (true ≡ true) (IsForm c.args.words.now) c.run_lines.result (λ p. says) (λ p. refl) c.run_lines.ensures.ran) run
 
 -- the words are no form
 
@@ -85,7 +86,7 @@ no_true p = cc
 pub returns-in-None-clause-ran : goal.returns-in-None-clause-ran
 returns-in-None-clause-ran g c = λ no.
     let none = rw c.in-None.is at c.in-Ok.ensures in
-    inl (form_said _ _ (false ≡ true) (IsForm c.args.words.now) c.end-in-None.result no_true (λ run. absurd (none form.Run run)) c.end-in-None.ensures.ran)
+    form_said _ _ (false ≡ true) (IsForm c.args.words.now) c.run_lines-in-None.result no_true (λ run. absurd (none form.Run run)) c.run_lines-in-None.ensures.ran
 
 pub returns-in-None-clause-bulk : goal.returns-in-None-clause-bulk
 returns-in-None-clause-bulk g c = λ s n is.
@@ -105,7 +106,7 @@ returns-in-None-clause-exact g c = λ text lines e told run script.
 pub returns-in-None-clause-usage : goal.returns-in-None-clause-usage
 returns-in-None-clause-usage g c = λ no other.
     let none = rw c.in-None.is at c.in-Ok.ensures in
-    usage _ _ (IsForm c.args.words.now) c.end-in-None.result (form_said _ _ (false ≡ true) (IsForm c.args.words.now) c.end-in-None.result no_true (λ run. absurd (none form.Run run)) c.end-in-None.ensures.ran) no
+    usage _ _ (IsForm c.args.words.now) c.run_lines-in-None.result (form_said _ _ (false ≡ true) (IsForm c.args.words.now) c.run_lines-in-None.result no_true (λ run. absurd (none form.Run run)) c.run_lines-in-None.ensures.ran) no
 
 pub returns-in-None-clause-form : goal.returns-in-None-clause-form
 returns-in-None-clause-form g c = λ run.
@@ -119,3 +120,9 @@ returns-in-Err-clause-ran g c = λ no. inr (record { status_is = c.status.ensure
 
 pub returns-in-Err-clause-bulk : goal.returns-in-Err-clause-bulk
 returns-in-Err-clause-bulk g c = λ s n is. inr (record { status_is = c.status.ensures; stands = refl })
+
+pub returns-in-Err-clause-faults : goal.returns-in-Err-clause-faults
+returns-in-Err-clause-faults g c = accounted_memory _ _ c.status.result c.status.ensures
+
+pub returns-in-Bulk-clause-faults : goal.returns-in-Bulk-clause-faults
+returns-in-Bulk-clause-faults g c = c.bulk.ensures.faults (g.S.Source.faults c.args.source.now)

@@ -1,7 +1,8 @@
-use Rattle.std.proofs.Common.{◌≡◌, ◌+◌, ◌-◌, ◌∙◌, ap, arith}
+use Rattle.std.proofs.Common.{◌≡◌, ◌+◌, ◌-◌, ◌^◌, ◌∙◌, ap, arith}
 use Rattle.mm_types.specs.Address.{Range}
 use Rattle.mm_world.specs.Charge.{charge, limit}
 use Rattle.mm_world.specs.Contents.{Tables}
+use Rattle.mm_pages.proofs.Passed.{stack_then}
 use Rattle.mm_stack.proofs.Joined.{joined}
 use Rattle.mm_stack.proofs.RegionSteps.{in_user, top_free, guard_free, both_made, charge_more, lasts_commit}
 use Rattle.mm_stack.proofs.new_regions.commit_ends.Goals as goal
@@ -113,3 +114,16 @@ returns-clause-settled g c =
     joined t c.commit_new.new.t c.commit_new-2.new.t _ _ _ _ _ _ c.requires.fits
     (lasts_commit t pid inner (top_free t pid range top c.requires.reserved fits inner is c.requires.some c.sound.ensures.sound) 0x04 c.commit_new.new.t c.sound.ensures.sound made)
     c.commit_new.ensures.settled c.commit_new-2.ensures.settled
+
+pub returns-clause-passes : goal.returns-clause-passes
+returns-clause-passes g c =
+    let guard = c.guard_of-guard.result in
+    let top = c.pages.ensures.pages in
+    let one = c.pages-2.ensures.pages in
+    let first : c.pages.result.first ≡ guard + 1 = ap (λ (r : Range). r.first) top in
+    let below : c.pages-2.result.first ≡ guard = ap (λ (r : Range). r.first) one in
+    let count : c.pages-2.result.count ≡ 1 = ap (λ (r : Range). r.count) one in
+    stack_then g.G.Pages.unpaged guard (g.G.Pages.store c.args.g.now) (g.G.Pages.store c.commit_new.new.g) (g.G.Pages.store c.commit_new-2.new.g)
+    (g.G.Pages.behind c.args.g.now) (g.G.Pages.behind c.commit_new.new.g) (g.G.Pages.behind c.commit_new-2.new.g)
+    (c.commit_new.ensures.passes (guard + 1) (2 ^ 32) (omega (arith, first), c.commit_new.ensures.among.1))
+    (c.commit_new-2.ensures.passes guard (guard + 1) (omega (arith, below), omega (arith, below, count)))

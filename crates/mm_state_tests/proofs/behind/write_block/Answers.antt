@@ -15,7 +15,7 @@ invariant_of-state g c =
     let page = replicate 4096 c.args.byte in
     let e = block_written ok _ _ (λ blocks. slice_set blocks c.args.b.0 page) c.write_device.ensures.ok c.write_device.ensures.err in
     record {
-      located = block_behind ok u.life u.bytes (g.P.Blocks.blocks s.paging) (g.F.Blocks.blocks s.files) s.located c.requires.none c.args.b.0 page _ e;
+      located = block_behind ok u.life u.bytes (g.P.Inject.blocks s.paging) (g.F.Inject.blocks s.files) s.located c.requires.none c.args.b.0 page _ e;
       tallied = s.tallied;
       slots_whole = s.slots_whole;
       blocks_whole = block_whole ok c.args.b.0 page (length-replicate 4096 c.args.byte) _ _ e s.blocks_whole;

@@ -14,8 +14,8 @@ pub invariant_of-state : goal.invariant_of-state
 invariant_of-state g c =
     let s = c.args.state.now in
     let u = parts_of.shown s.parts in
-    let slots = g.P.Blocks.blocks s.paging in
-    let blocks = g.F.Blocks.blocks s.files in
+    let slots = g.P.Inject.blocks s.paging in
+    let blocks = g.F.Inject.blocks s.files in
     let k = pick (record_at u.life.frames c.args.f.0).owner c.requires.owned in
     let page = overwritten (bytes_of u.bytes c.args.f.0) 0 c.args.bytes.now in
     let now = carried _ _ _ _ _ c.write_in_parts.ensures.made (carries_written u.life s.parts.kept.reached u.bytes slots blocks s.located c.args.f k.0 page k.1 c.requires.soiled) in
@@ -30,8 +30,8 @@ pub returns-clause-live : goal.returns-clause-live
 returns-clause-live g c = λ k.
     let s = c.args.state.now in
     let u = parts_of.shown s.parts in
-    let slots = g.P.Blocks.blocks s.paging in
-    let blocks = g.F.Blocks.blocks s.files in
+    let slots = g.P.Inject.blocks s.paging in
+    let blocks = g.F.Inject.blocks s.files in
     let own = pick (record_at u.life.frames c.args.f.0).owner c.requires.owned in
     let page = overwritten (bytes_of u.bytes c.args.f.0) 0 c.args.bytes.now in
     let now = carried _ _ _ _ _ c.write_in_parts.ensures.made (carries_written u.life s.parts.kept.reached u.bytes slots blocks s.located c.args.f own.0 page own.1 c.requires.soiled) in

@@ -15,7 +15,7 @@ invariant_of-state g c =
     let page = replicate 4096 c.args.byte in
     let e = block_written ok _ _ (λ blocks. slice_set blocks c.args.s.0 page) c.write_device.ensures.ok c.write_device.ensures.err in
     record {
-      located = slot_behind ok u.life u.bytes (g.P.Blocks.blocks s.paging) (g.F.Blocks.blocks s.files) s.located c.requires.none c.args.s.0 page _ e;
+      located = slot_behind ok u.life u.bytes (g.P.Inject.blocks s.paging) (g.F.Inject.blocks s.files) s.located c.requires.none c.args.s.0 page _ e;
       tallied = s.tallied;
       slots_whole = block_whole ok c.args.s.0 page (length-replicate 4096 c.args.byte) _ _ e s.slots_whole;
       blocks_whole = s.blocks_whole;

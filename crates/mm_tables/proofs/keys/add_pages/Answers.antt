@@ -1,4 +1,4 @@
-use Rattle.mm_pages.proofs.Passed.{makes_then}
+use Rattle.mm_pages.proofs.Passed.{makes_then, makes_wider}
 use Rattle.std.proofs.Common.{◌≡◌, ℕ, ◌+◌, ◌<◌, ◌∙◌, sym, ap, subst, arith}
 use Rattle.mm_types.specs.Address.{Range}
 use Rattle.mm_tables.specs.Ranges.{CanAdd, Adds, only}
@@ -21,6 +21,14 @@ loop-i-preserved g c =
       adds = adds_then c.args.pid c.args.range c.loop-i.i (g.G.Pages.contents c.args.g.now) (g.G.Pages.contents c.loop-i.g) (g.G.Pages.contents c.add_page.new.g)
           (g.G.Pages.store c.args.g.now) (g.G.Pages.store c.loop-i.g) (g.G.Pages.store c.add_page.new.g) c.loop-i.invariant.adds
           (subst (λ (k : ℕ). Adds c.args.pid (only (k + c.loop-i.i)) (g.G.Pages.contents c.loop-i.g) (g.G.Pages.contents c.add_page.new.g) (g.G.Pages.store c.loop-i.g) (g.G.Pages.store c.add_page.new.g)) first c.add_page.ensures.adds);
-      passes = makes_then g.G.Pages.unpaged (g.G.Pages.store c.args.g.now) (g.G.Pages.store c.loop-i.g) (g.G.Pages.store c.add_page.new.g) (g.G.Pages.behind c.args.g.now) (g.G.Pages.behind c.loop-i.g) (g.G.Pages.behind c.add_page.new.g) c.loop-i.invariant.passes c.add_page.ensures.passes;
+      passes = makes_then g.G.Pages.unpaged c.args.range.first (c.args.range.first + c.loop-i.i) (c.args.range.first + (c.loop-i.i + 1)) (g.G.Pages.store c.args.g.now) (g.G.Pages.store c.loop-i.g) (g.G.Pages.store c.add_page.new.g)
+          (g.G.Pages.behind c.args.g.now) (g.G.Pages.behind c.loop-i.g) (g.G.Pages.behind c.add_page.new.g) (omega arith) (omega arith) c.loop-i.invariant.passes
+          (c.add_page.ensures.passes (c.args.range.first + c.loop-i.i) (c.args.range.first + (c.loop-i.i + 1)) (omega (arith, first)) (omega (arith, first)));
       loans = c.add_page.ensures.loans ∙ c.loop-i.invariant.loans;
     }
+
+pub returns-clause-passes : goal.returns-clause-passes
+returns-clause-passes g c from to stands =
+    let count : c.range.inside.count ≡ c.args.range.count = ap (λ (r : Range). r.count) c.range.view_is in
+    makes_wider g.G.Pages.unpaged c.args.range.first (c.args.range.first + c.loop-i.i) from to (g.G.Pages.store c.args.g.now) (g.G.Pages.store c.loop-i.g)
+    (g.G.Pages.behind c.args.g.now) (g.G.Pages.behind c.loop-i.g) stands.0 (omega (arith, stands.1, count, c.loop-i.auto.i-end)) c.loop-i.invariant.passes

@@ -1,5 +1,5 @@
-use Rattle.std.proofs.Common.{◌∙◌, arith}
-use Rattle.mm_pages.proofs.Passed.{makes_then}
+use Rattle.std.proofs.Common.{◌∙◌, ◌+◌, ◌^◌, arith}
+use Rattle.mm_pages.proofs.Passed.{makes_then, makes_wider}
 use Rattle.mm_tables.proofs.FileKept.{fills_then, next_dead, next_room, next_kind, next_area}
 use Rattle.mm_tables.proofs.sections.fill_area.Goals as goal
 
@@ -25,6 +25,13 @@ pub loop-i-preserved : goal.loop-i-preserved
 loop-i-preserved g c =
     record {
       fills = fills_then c.args.area c.loop-i.i (g.G.Pages.contents c.args.g.now) (g.G.Pages.contents c.loop-i.g) (g.G.Pages.contents c.add.new.self) (g.G.Pages.store c.args.g.now) (g.G.Pages.store c.loop-i.g) (g.G.Pages.store c.add.new.self) c.loop-i.invariant.fills c.add.ensures.contents c.add.ensures.store;
-      passes = makes_then g.G.Pages.unpaged (g.G.Pages.store c.args.g.now) (g.G.Pages.store c.loop-i.g) (g.G.Pages.store c.add.new.self) (g.G.Pages.behind c.args.g.now) (g.G.Pages.behind c.loop-i.g) (g.G.Pages.behind c.add.new.self) c.loop-i.invariant.passes c.add.ensures.passes;
+      passes = makes_then g.G.Pages.unpaged 0 c.loop-i.i (c.loop-i.i + 1) (g.G.Pages.store c.args.g.now) (g.G.Pages.store c.loop-i.g) (g.G.Pages.store c.add.new.self)
+          (g.G.Pages.behind c.args.g.now) (g.G.Pages.behind c.loop-i.g) (g.G.Pages.behind c.add.new.self) (omega arith) (omega arith) c.loop-i.invariant.passes
+          (c.add.ensures.passes c.loop-i.i (c.loop-i.i + 1) (omega arith) (omega arith));
       loans = c.add.ensures.loans ∙ c.loop-i.invariant.loans;
     }
+
+pub returns-clause-passes : goal.returns-clause-passes
+returns-clause-passes g c =
+    makes_wider g.G.Pages.unpaged 0 c.loop-i.i 0 (2 ^ 32) (g.G.Pages.store c.args.g.now) (g.G.Pages.store c.loop-i.g)
+    (g.G.Pages.behind c.args.g.now) (g.G.Pages.behind c.loop-i.g) (omega arith) (omega (arith, c.ranges.n.fits, c.loop-i.auto.i-end)) c.loop-i.invariant.passes

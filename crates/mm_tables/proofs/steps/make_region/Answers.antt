@@ -1,4 +1,6 @@
 use Rattle.std.proofs.Common.{◌∙◌, sym, ap, arith}
+use Rattle.mm_pages.specs.Housekeeping.{MakesFrom}
+use Rattle.mm_pages.proofs.Passed.{idle_before}
 use Rattle.mm_tables.specs.Spaces.{regions_of}
 use Rattle.mm_tables.proofs.Filled.{can_fill}
 use Rattle.mm_tables.proofs.steps.make_region.Goals as goal
@@ -12,3 +14,8 @@ fill_region-requires-clause-can g c commits =
 
 pub returns-clause-later : goal.returns-clause-later
 returns-clause-later g c = omega (arith, c.grow_for_region.ensures.later, c.fill_region.ensures.room)
+
+pub returns-clause-passes : goal.returns-clause-passes
+returns-clause-passes g c from to stands =
+    idle_before g.G.Pages.unpaged (MakesFrom from to) (g.G.Pages.store c.args.g.now) (g.G.Pages.store c.grow_for_region.new.g) (g.G.Pages.store c.fill_region.new.g)
+    (g.G.Pages.behind c.args.g.now) (g.G.Pages.behind c.grow_for_region.new.g) (g.G.Pages.behind c.fill_region.new.g) c.grow_for_region.ensures.passes (c.fill_region.ensures.passes from to stands)

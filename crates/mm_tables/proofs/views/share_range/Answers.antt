@@ -1,5 +1,5 @@
-use Rattle.std.proofs.Common.{◌∙◌, arith}
-use Rattle.mm_pages.proofs.Passed.{makes_then}
+use Rattle.std.proofs.Common.{◌∙◌, ◌+◌, ◌^◌, arith}
+use Rattle.mm_pages.proofs.Passed.{makes_then, makes_wider}
 use Rattle.mm_tables.proofs.ViewShares.{can_next, shares_then}
 use Rattle.mm_tables.proofs.views.share_range.Goals as goal
 
@@ -13,6 +13,13 @@ loop-i-preserved g c =
     record {
       shares = shares_then c.args.area c.args.first c.loop-i.i c.args.pages.now (g.G.Pages.contents c.args.g.now) (g.G.Pages.contents c.loop-i.g) (g.G.Pages.store c.args.g.now) (g.G.Pages.store c.loop-i.g)
           c.loop-i.invariant.shares (g.G.Pages.contents c.share_page.new.g) (g.G.Pages.store c.share_page.new.g) (omega (arith, c.requires.can.inside, c.loop-i-test.true)) c.share_page.ensures.shares;
-      passes = makes_then g.G.Pages.unpaged (g.G.Pages.store c.args.g.now) (g.G.Pages.store c.loop-i.g) (g.G.Pages.store c.share_page.new.g) (g.G.Pages.behind c.args.g.now) (g.G.Pages.behind c.loop-i.g) (g.G.Pages.behind c.share_page.new.g) c.loop-i.invariant.passes c.share_page.ensures.passes;
+      passes = makes_then g.G.Pages.unpaged c.args.first (c.args.first + c.loop-i.i) (c.args.first + (c.loop-i.i + 1)) (g.G.Pages.store c.args.g.now) (g.G.Pages.store c.loop-i.g) (g.G.Pages.store c.share_page.new.g)
+          (g.G.Pages.behind c.args.g.now) (g.G.Pages.behind c.loop-i.g) (g.G.Pages.behind c.share_page.new.g) (omega arith) (omega arith) c.loop-i.invariant.passes
+          (c.share_page.ensures.passes (c.args.first + c.loop-i.i) (c.args.first + (c.loop-i.i + 1)) (omega arith) (omega arith));
       loans = c.share_page.ensures.loans ∙ c.loop-i.invariant.loans;
     }
+
+pub returns-clause-passes : goal.returns-clause-passes
+returns-clause-passes g c =
+    makes_wider g.G.Pages.unpaged c.args.first (c.args.first + c.loop-i.i) 0 (2 ^ 32) (g.G.Pages.store c.args.g.now) (g.G.Pages.store c.loop-i.g)
+    (g.G.Pages.behind c.args.g.now) (g.G.Pages.behind c.loop-i.g) (omega arith) (omega (arith, c.requires.end, c.loop-i.auto.i-end)) c.loop-i.invariant.passes

@@ -1,7 +1,6 @@
-use Rattle.std.proofs.Common.{◌+◌, ◌∙◌, refl, ap, arith}
-use Rattle.mm_pages.specs.Store.{StoreOf}
+use Rattle.std.proofs.Common.{◌∙◌, refl, arith}
 use Rattle.mm_views.proofs.FlushMoves.{loop_none, loop_more, loop_all, loop_ended}
-use Rattle.mm_views.proofs.Flushing.{flushed_none, flushed_more, next_block, blamed_since}
+use Rattle.mm_views.proofs.Flushing.{flushed_none, flushed_more, blamed_since}
 use Rattle.mm_views.proofs.flushes.flush_pages.Goals as goal
 use Rattle.mm_types.proofs.Options.{on_err}
 use Rattle.mm_pages.proofs.Served.{served_then}
@@ -30,12 +29,8 @@ loop-i-preserved g c =
       flushed = flushed_more (g.G.Pages.contents c.args.g.now) (g.G.Pages.contents c.loop-i.g) (g.G.Pages.contents c.flush.new.self) (g.G.Pages.store c.args.g.now) (g.G.Pages.store c.loop-i.g) (g.G.Pages.store c.flush.new.self)
           c.args.area.0 c.args.first c.loop-i.i c.args.count c.args.block.0 c.loop-i.invariant.flushed c.requires.blocks c.loop-i-test.true
           (record { store = e.store; contents = e.contents; holds = e.ok; others = e.others; served = e.served; stored = e.stored; quiet = e.quiet });
-      passes = loop_more g.G.Pages.unpaged c.args.area.0 c.args.first c.loop-i.i (c.args.block.0 + (c.args.first + c.loop-i.i)) (g.G.Pages.contents c.loop-i.g) (g.G.Pages.store c.args.g.now) (g.G.Pages.store c.loop-i.g) (g.G.Pages.store c.flush.new.self)
-          (g.G.Pages.behind c.args.g.now) (g.G.Pages.behind c.loop-i.g) (g.G.Pages.behind c.flush.new.self) c.sound.ensures.stands
-          (ap (λ (x : StoreOf). x.kind) c.loop-i.invariant.flushed.store ∙ c.requires.kind)
-          (next_block (g.G.Pages.contents c.args.g.now) (g.G.Pages.contents c.loop-i.g) (g.G.Pages.contents c.flush.new.self) (g.G.Pages.store c.args.g.now) (g.G.Pages.store c.loop-i.g) (g.G.Pages.store c.flush.new.self)
-          c.args.area.0 c.args.first c.loop-i.i c.args.count c.args.block.0 c.loop-i.invariant.flushed c.requires.blocks c.loop-i-test.true)
-          (e.quiet ∙ c.loop-i.invariant.flushed.quiet ∙ c.requires.begun) c.loop-i.invariant.passes e.passes;
+      passes = loop_more g.G.Pages.unpaged c.args.area.0 c.args.first c.loop-i.i (g.G.Pages.store c.args.g.now) (g.G.Pages.store c.loop-i.g) (g.G.Pages.store c.flush.new.self)
+          (g.G.Pages.behind c.args.g.now) (g.G.Pages.behind c.loop-i.g) (g.G.Pages.behind c.flush.new.self) c.loop-i.invariant.passes e.passes;
       loans = e.loans ∙ c.loop-i.invariant.loans;
     }
 

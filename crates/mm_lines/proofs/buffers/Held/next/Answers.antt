@@ -18,7 +18,7 @@ loop-n-preserved g c =
     record {
       filled = filled_then _ _ _ _ _ _ i.filled read.filled;
       recent = recent_after _ _ _ _ _ opened read.filled read.read;
-      later = omega (arith, i.later, read.cause.later);
+      faults = read.cause.same ∙ i.faults;
       idle = (let some = c.if-branch-eq0.false in omega (arith, i.idle, read.idle));
       loans = read.loans ∙ i.loans;
     }

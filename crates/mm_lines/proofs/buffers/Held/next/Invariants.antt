@@ -7,7 +7,7 @@ abbrev pub invariant-loop-n : goal.invariant-loop-n
 invariant-loop-n g l = record {
   filled : Filled (g.S.Source.left l.fn.source) (g.S.Source.left l.source) l.fn.self l.self;
   recent : Recent l.self;
-  later : g.S.Source.faults l.fn.source ≤ g.S.Source.faults l.source;
+  faults : g.S.Source.faults l.source ≡ g.S.Source.faults l.fn.source;
   idle : g.S.Source.idle l.source ≤ g.S.Source.idle l.fn.source;
   loans : g.S.Source.loans l.source ≡ g.S.Source.loans l.fn.source;
 }

@@ -1,4 +1,4 @@
-use Rattle.std.proofs.Common.{◌≡◌, Some, subst}
+use Rattle.std.proofs.Common.{Some, subst}
 use Rattle.mm_life.specs.Frames.{FrameTable}
 use Rattle.mm_moves.specs.Looking.{frames_on, IsBehind}
 use Rattle.mm_moves.specs.Sound.{frame}

@@ -1,6 +1,6 @@
 use Rattle.std.proofs.Common.{refl, sym, ap, ◌∙◌}
 use Rattle.mm_paged.specs.Store.{own_in, state_of}
-use Rattle.mm_paged.proofs.CopyEnds.{plain_where_free, plain_where_short, never_unready, copy_served, failed_served, copy_passes, failed_passes, copied_store_at, failed_store, failed_dead, copied_ends, failed_ends_copy, some_bytes, copied_kept, failed_kept}
+use Rattle.mm_paged.proofs.CopyEnds.{plain_where_free, plain_where_short, never_unready, copy_served, failed_served, copy_passes, failed_passes, copied_store_at, failed_store, failed_dead, copied_ends, failed_causes_copy, failed_ends_copy, some_bytes, copied_kept, failed_kept}
 use Rattle.mm_paged.proofs.paged.Paged.copy.Goals as goal
 
 pub copy_page-done-requires-clause-access : goal.copy_page-done-requires-clause-access
@@ -17,6 +17,9 @@ returns-in-Err-clause-err g c = failed_store _ c.args.from c.args.place _ _ (own
 
 pub returns-in-Err-clause-fault : goal.returns-in-Err-clause-fault
 returns-in-Err-clause-fault g c b = failed_ends_copy _ c.args.from c.args.place (state_of c.args.self.now) (g.T.Moving.shown c.copy_page-done.new.state) (own_in c.args.self.now) _ c.sound-2.ensures.holds (failed_dead (state_of c.args.self.now) (g.T.Moving.shown c.copy_page-done.new.state) c.args.place c.in-Err.ensures.same (ap (state_of c.args.self.now).contents (sym c.requires.own) ∙ c.requires.dead)) c.in-Err.ensures.fails b
+
+pub returns-in-Err-clause-causes : goal.returns-in-Err-clause-causes
+returns-in-Err-clause-causes g c = failed_causes_copy _ c.args.from c.args.place (state_of c.args.self.now) (g.T.Moving.shown c.copy_page-done.new.state) _ c.sound-2.ensures.holds (failed_dead (state_of c.args.self.now) (g.T.Moving.shown c.copy_page-done.new.state) c.args.place c.in-Err.ensures.same (ap (state_of c.args.self.now).contents (sym c.requires.own) ∙ c.requires.dead)) c.in-Err.ensures.fails
 
 pub returns-in-Err-clause-was_ready : goal.returns-in-Err-clause-was_ready
 returns-in-Err-clause-was_ready g c r = absurd (never_unready c.args.place c.args.from (state_of c.args.self.now) (own_in c.args.self.now) c.args.self.now.kept r c.in-Err.ensures.unready)

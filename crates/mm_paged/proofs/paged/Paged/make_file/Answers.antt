@@ -1,5 +1,6 @@
+use Rattle.std.proofs.Common.{arith}
 use Rattle.mm_paged.specs.Store.{own_in, state_of}
-use Rattle.mm_paged.proofs.NewFiles.{built_served, unmade_served, unmade_notes}
+use Rattle.mm_paged.proofs.NewFiles.{built_served, built_notes, unmade_served, unmade_notes}
 use Rattle.mm_paged.proofs.paged.Paged.make_file.Goals as goal
 
 pub returns-in-Err-clause-served : goal.returns-in-Err-clause-served
@@ -10,3 +11,6 @@ returns-in-Err-clause-notes g c = unmade_notes c.args.first.0 c.args.n c.args.by
 
 pub returns-clause-served : goal.returns-clause-served
 returns-clause-served g c = built_served c.args.area.0 c.args.first.0 c.args.n c.args.byte (state_of c.args.self.now) (g.T.Moving.shown c.build_file-done.new.state) c.in_default.ensures.built (own_in c.args.self.now) _
+
+pub returns-clause-notes : goal.returns-clause-notes
+returns-clause-notes g c = built_notes c.args.area.0 c.args.first.0 c.args.n c.args.byte (state_of c.args.self.now) (g.T.Moving.shown c.build_file-done.new.state) c.in_default.ensures.built (omega arith)

@@ -1,9 +1,6 @@
-use Rattle.std.proofs.Common.{◌≡◌, ◌+◌, ◌∙◌, Some, Option, refl, sym, ap, subst, arith}
-use Rattle.std.specs.Prelude.{IsSome}
-use Rattle.mm_types.specs.declared.numbers.Key.{Key}
-use Rattle.mm_world.specs.World.{Page}
+use Rattle.std.proofs.Common.{◌≡◌, ◌+◌, ◌∙◌, Some, refl, sym, ap, arith}
 use Rattle.mm_world.specs.Failure.{same_key}
-use Rattle.mm_pages.specs.Store.{changed, same_place, own_key}
+use Rattle.mm_pages.specs.Store.{changed, same_place}
 use Rattle.mm_pages.proofs.Served.{served_nothing}
 use Rattle.mm_plain.specs.Areas.{area_in, count_in}
 use Rattle.mm_plain.specs.Places.{pages_at, pages_in}

@@ -31,7 +31,7 @@ invariant_of-self-2 g c =
     record {
       fits = s.fits;
       files_fit = files_fit_settled _ _ _ _ s.files_fit c.settle.new.self.pages.items _ block (page_in files block) (s.files_fit.near c.in-Shared.area.0 c.in-Shared.index block there) c.settle.ensures
-          (c.in-Ok.ensures.ok ∙ ap (slice_set (g.F.Blocks.blocks s.files) block) page);
+          (c.in-Ok.ensures.ok ∙ ap (slice_set (g.F.Inject.blocks s.files) block) page);
       numbers = s.numbers;
     }
 
@@ -44,7 +44,7 @@ returns-clause-ok g c other at =
     let there : block_at (area_in s.areas k.area.0) k.index ≡ Some block = sym c.block.ensures ∙ c.in-Some.is in
     let near = s.files_fit.near k.area.0 k.index block there in
     let same : other ≡ block = only_block (area_in s.areas) c.args.key k.area k.index block other k.is there at in
-    let device = g.F.Blocks.blocks s.files in
+    let device = g.F.Inject.blocks s.files in
     ap (λ (bs : _). slice_get bs other) c.in-Ok.ensures.ok
     ∙ ap (λ (n : ℕ). slice_get (slice_set device block c.page.result.now) n) same
     ∙ get_set_same device block c.page.result.now (omega (arith, near, s.files_fit.used, s.files_fit.device))
@@ -60,7 +60,7 @@ returns-clause-others g c mine other at apart =
     let there : block_at (area_in s.areas k.area.0) k.index ≡ Some block = sym c.block.ensures ∙ c.in-Some.is in
     let same : mine ≡ block = only_block (area_in s.areas) c.args.key k.area k.index block mine k.is there at in
     ap (λ (bs : _). slice_get bs other) c.in-Ok.ensures.ok
-    ∙ get_set_other (g.F.Blocks.blocks s.files) block other c.page.result.now (λ e. apart (e ∙ sym same))
+    ∙ get_set_other (g.F.Inject.blocks s.files) block other c.page.result.now (λ e. apart (e ∙ sym same))
 
 pub returns-clause-served : goal.returns-clause-served
 returns-clause-served g c =

@@ -16,7 +16,7 @@ pub invariant_of-self-in_default-write_file : goal.invariant_of-self-in_default-
 invariant_of-self-in_default-write_file g c =
     let s = c.args.self.now in
     let p = c.prepare_file in
-    let same = files_fit_same (area_in s.areas) (area_in p.new.areas) s.file_pages.pages.items p.new.files.pages.items (g.F.Blocks.blocks s.files) s.machine.blocks p.ensures.areas p.ensures.files s.files_fit in
+    let same = files_fit_same (area_in s.areas) (area_in p.new.areas) s.file_pages.pages.items p.new.files.pages.items (g.F.Inject.blocks s.files) s.machine.blocks p.ensures.areas p.ensures.files s.files_fit in
     record {
       fits = fits_areas s.places s.areas p.new.areas s.stock s.fits p.ensures.count;
       files_fit = files_fit_unused _ _ _ _ same _ (c.args.first.0 + c.args.n) c.write_file.ensures.long
@@ -44,7 +44,7 @@ invariant_of-self-2 g c =
     record {
       fits = fits_areas s.places s.areas c.open_file.new.self s.stock s.fits (c.open_file.ensures.count ∙ c.prepare_file.ensures.count);
       files_fit = files_fit_made (area_in s.areas) (area_in c.open_file.new.self) a first c.args.n c.args.byte files made c.append.new.self.pages.items (closed_of (area_in s.areas a) c.requires.new) is c.requires.next c.in-Ok.ensures.made whole
-          (g.F.Blocks.blocks s.files) _ s.machine.blocks s.files_fit c.requires.room c.in-Ok-write_file.ensures.ok;
+          (g.F.Inject.blocks s.files) _ s.machine.blocks s.files_fit c.requires.room c.in-Ok-write_file.ensures.ok;
       numbers = s.numbers;
     }
 

@@ -1,7 +1,4 @@
-use Rattle.std.proofs.Common.{Some, Option, ap, sym, subst, ◌∙◌}
-use Rattle.std.specs.Prelude.{IsSome}
-use Rattle.mm_types.specs.declared.numbers.Key.{Key}
-use Rattle.mm_world.specs.World.{Page}
+use Rattle.std.proofs.Common.{Some, ap, ◌∙◌}
 use Rattle.mm_pages.specs.Store.{StoreOf, changed, same_place}
 use Rattle.mm_plain.specs.Places.{names_in}
 use Rattle.mm_plain.specs.Plain.{contents_in, store_in}

@@ -7,7 +7,7 @@ use Rattle.mm_parts.specs.Reading.{waits_of}
 use Rattle.mm_located.proofs.Carrying.{carries_at_plain}
 use Rattle.mm_state.specs.Tallied.{IsTallied}
 use Rattle.mm_state.proofs.Legals.{plain_grown}
-use Rattle.mm_state.proofs.Making.{made_by, rest_of, carried}
+use Rattle.mm_state.proofs.Making.{made_quiet, rest_of, carried}
 use Rattle.mm_state.proofs.Tallying.{tallied_none}
 use Rattle.mm_state.proofs.states.State.at.Goals as goal
 
@@ -22,7 +22,7 @@ pub returns-clause-made : goal.returns-clause-made
 returns-clause-made g c =
     let u = parts_of.shown c.args.self.now.parts in
     let e = c.at.ensures.made in
-    made_by (move.At c.args.line c.args.kind) _ _ c.requires.legal c.note.ensures.in_range c.note.ensures.grew (ap (λ (x : PartsOf). x.life) e) (ap (λ (x : PartsOf). x.ages) e) (ap (λ (x : PartsOf). waits_of x.waits) e) c.none-self.ensures (refl, refl)
+    made_quiet (move.At c.args.line c.args.kind) _ _ c.requires.legal c.note.ensures.in_range c.note.ensures.grew (ap (λ (x : PartsOf). x.life) e) (ap (λ (x : PartsOf). x.ages) e) (ap (λ (x : PartsOf). waits_of x.waits) e) c.none-self.ensures (refl, refl) refl refl
 
 pub returns-clause-rest : goal.returns-clause-rest
 returns-clause-rest g c =
@@ -33,4 +33,4 @@ returns-clause-rest g c =
     rest_of _ _ _ _ _ _ _ _ _ e now.bytes
 
 pub returns-clause-loans : goal.returns-clause-loans
-returns-clause-loans g c = ap (λ (x : Loans). Both (Both (g.P.Blocks.loans c.args.self.now.paging) (g.F.Blocks.loans c.args.self.now.files)) x) c.note.ensures.loans
+returns-clause-loans g c = ap (λ (x : Loans). Both (Both (g.P.Inject.loans c.args.self.now.paging) (g.F.Inject.loans c.args.self.now.files)) x) c.note.ensures.loans

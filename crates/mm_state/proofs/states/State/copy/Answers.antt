@@ -24,8 +24,8 @@ pub returns-clause-copied : goal.returns-clause-copied
 returns-clause-copied g c =
     let s = c.args.self.now in
     let u = parts_of.shown s.parts in
-    let slots = g.P.Blocks.blocks s.paging in
-    let blocks = g.F.Blocks.blocks s.files in
+    let slots = g.P.Inject.blocks s.paging in
+    let blocks = g.F.Inject.blocks s.files in
     λ j k from_owner to_owner.
     let now = carried _ _ _ _ _ c.copy.ensures.made (carries_written u.life s.parts.kept.reached u.bytes slots blocks s.located c.args.to k (bytes_of u.bytes c.args.«from».0) to_owner c.requires.soiled) in
     now.bytes ∙ ap (λ (x : Option (List ℕ)). changed same_key (contents_of u.life u.bytes slots blocks) k x) (sym (own_page u.life s.parts.kept.reached u.bytes slots blocks s.located c.args.«from» j from_owner c.requires.from_calm))

@@ -16,9 +16,9 @@ use Rattle.mm_parts.specs.PartsShown as parts_of
 use Rattle.mm_parts.specs.Reading.{waits_of}
 use Rattle.mm_parts.specs.Moves.{read_end}
 use Rattle.mm_located.proofs.Carrying.{read_backed, slot_there, block_there}
-use Rattle.mm_state.specs.Shown.{device_with}
+use Rattle.mm_blocks.specs.Devices.{device_with}
 use Rattle.mm_state.specs.Tallied.{read_told, IsTallied}
-use Rattle.mm_state.proofs.Making.{made_by, rest_called, carried_on}
+use Rattle.mm_state.proofs.Making.{made_quiet, rest_called, carried_on}
 use Rattle.mm_state.proofs.Tallying.{tallied_read}
 use Rattle.mm_state.proofs.Whole.{whole_on}
 use Rattle.mm_state.proofs.Ends.{read_low, is_reading, read_legal, read_carries, read_ages, read_waits, read_tells, read_calls, called_at}
@@ -54,10 +54,10 @@ invariant_of-self g c =
     let s = c.args.self.now in
     let u = parts_of.shown s.parts in
     let ok = c.get_page-ok.result in
-    let there : OnTrue ok (bytes_at [] (g.P.Blocks.blocks s.paging) (g.F.Blocks.blocks s.files) (home_at (record_at u.life.frames c.args.f.0).backing) ≡ Some c.get_page-ok.new.page)
-    = subst (λ (x : Record). OnTrue ok (bytes_at [] (g.P.Blocks.blocks s.paging) (g.F.Blocks.blocks s.files) (home_at x.backing) ≡ Some c.get_page-ok.new.page)) c.look-r.ensures c.get_page-ok.ensures.ok in
+    let there : OnTrue ok (bytes_at [] (g.P.Inject.blocks s.paging) (g.F.Inject.blocks s.files) (home_at (record_at u.life.frames c.args.f.0).backing) ≡ Some c.get_page-ok.new.page)
+    = subst (λ (x : Record). OnTrue ok (bytes_at [] (g.P.Inject.blocks s.paging) (g.F.Inject.blocks s.files) (home_at x.backing) ≡ Some c.get_page-ok.new.page)) c.look-r.ensures c.get_page-ok.ensures.ok in
     let now = carried_on _ _ _ _ _ _ _ c.settle_read.ensures c.get_page-ok.ensures.slots c.get_page-ok.ensures.blocks
-    (read_carries ok u.life s.parts.kept.reached u.bytes (g.P.Blocks.blocks s.paging) (g.F.Blocks.blocks s.files) s.located c.args.f c.get_page-ok.new.page c.requires.legal there) in
+    (read_carries ok u.life s.parts.kept.reached u.bytes (g.P.Inject.blocks s.paging) (g.F.Inject.blocks s.files) s.located c.args.f c.get_page-ok.new.page c.requires.legal there) in
     let backed = ap (λ (x : Record). is_backed x.backing) c.look-r.ensures ∙ read_backed u.life s.parts.kept.reached u.bytes _ _ s.located c.args.f (is_reading u.life c.args.f c.requires.legal) in
     record { located = now.located; tallied = subst IsTallied (sym c.read.ensures) (tallied_read s.told ok c.look-r.result.backing c.look-r.result.owner backed s.tallied); slots_whole = whole_on _ _ c.get_page-ok.ensures.slots s.slots_whole; blocks_whole = whole_on _ _ c.get_page-ok.ensures.blocks s.blocks_whole }
 
@@ -68,26 +68,27 @@ returns-clause-made g c =
     let ok = c.get_page-ok.result in
     let e = c.settle_read.ensures in
     let x = read_end ok c.args.f in
-    made_by x _ _ (read_legal ok u.life c.args.f c.requires.legal)
+    made_quiet x _ _ (read_legal ok u.life c.args.f c.requires.legal)
     (subst IsMove c.read_move.ensures c.note.ensures.in_range)
     (subst (λ (m : Move). Grew (g.M.Moves.log s.moves) (g.M.Moves.log c.note.new.self) (spelling_of_move m)) c.read_move.ensures c.note.ensures.grew)
     (ap (λ (y : PartsOf). y.life) e)
     (ap (λ (y : PartsOf). y.ages) e ∙ read_ages ok c.args.f u.ages)
     (ap (λ (y : PartsOf). waits_of y.waits) e ∙ read_waits ok c.args.f u.waits)
     (c.read.ensures ∙ ap (λ (r : Record). read_told ok r.backing r.owner s.told) c.look-r.ensures ∙ read_tells ok u.life c.args.f s.told)
-    (read_calls ok c.args.f _ _ (called_at way.Read _ _ ok (device_with (g.P.Blocks.log s.paging) (g.P.Blocks.named s.paging) (g.P.Blocks.faults s.paging)) (device_with (g.F.Blocks.log s.files) (g.F.Blocks.named s.files) (g.F.Blocks.faults s.files))
-    (device_with (g.P.Blocks.log c.get_page-ok.new.paging) (g.P.Blocks.named c.get_page-ok.new.paging) (g.P.Blocks.faults c.get_page-ok.new.paging)) (device_with (g.F.Blocks.log c.get_page-ok.new.files) (g.F.Blocks.named c.get_page-ok.new.files) (g.F.Blocks.faults c.get_page-ok.new.files))
+    (read_calls ok c.args.f _ _ (called_at way.Read _ _ ok (device_with (g.P.Inject.log s.paging) (g.P.Inject.named s.paging) (g.P.Inject.faults s.paging)) (device_with (g.F.Inject.log s.files) (g.F.Inject.named s.files) (g.F.Inject.faults s.files))
+    (device_with (g.P.Inject.log c.get_page-ok.new.paging) (g.P.Inject.named c.get_page-ok.new.paging) (g.P.Inject.faults c.get_page-ok.new.paging)) (device_with (g.F.Inject.log c.get_page-ok.new.files) (g.F.Inject.named c.get_page-ok.new.files) (g.F.Inject.faults c.get_page-ok.new.files))
     (ap (λ (r : Record). r.backing) c.look-r.ensures) c.get_page-ok.ensures.called))
+    c.get_page-ok.ensures.slots c.get_page-ok.ensures.blocks
 
 pub returns-clause-rest : goal.returns-clause-rest
 returns-clause-rest g c =
     let s = c.args.self.now in
     let u = parts_of.shown s.parts in
     let ok = c.get_page-ok.result in
-    let there : OnTrue ok (bytes_at [] (g.P.Blocks.blocks s.paging) (g.F.Blocks.blocks s.files) (home_at (record_at u.life.frames c.args.f.0).backing) ≡ Some c.get_page-ok.new.page)
-    = subst (λ (x : Record). OnTrue ok (bytes_at [] (g.P.Blocks.blocks s.paging) (g.F.Blocks.blocks s.files) (home_at x.backing) ≡ Some c.get_page-ok.new.page)) c.look-r.ensures c.get_page-ok.ensures.ok in
+    let there : OnTrue ok (bytes_at [] (g.P.Inject.blocks s.paging) (g.F.Inject.blocks s.files) (home_at (record_at u.life.frames c.args.f.0).backing) ≡ Some c.get_page-ok.new.page)
+    = subst (λ (x : Record). OnTrue ok (bytes_at [] (g.P.Inject.blocks s.paging) (g.F.Inject.blocks s.files) (home_at x.backing) ≡ Some c.get_page-ok.new.page)) c.look-r.ensures c.get_page-ok.ensures.ok in
     let now = carried_on _ _ _ _ _ _ _ c.settle_read.ensures c.get_page-ok.ensures.slots c.get_page-ok.ensures.blocks
-    (read_carries ok u.life s.parts.kept.reached u.bytes (g.P.Blocks.blocks s.paging) (g.F.Blocks.blocks s.files) s.located c.args.f c.get_page-ok.new.page c.requires.legal there) in
+    (read_carries ok u.life s.parts.kept.reached u.bytes (g.P.Inject.blocks s.paging) (g.F.Inject.blocks s.files) s.located c.args.f c.get_page-ok.new.page c.requires.legal there) in
     rest_called _ _ _ _ _ _ _ _ _ _ _ c.settle_read.ensures c.get_page-ok.ensures.slots c.get_page-ok.ensures.blocks now.bytes
 
 pub returns-clause-loans : goal.returns-clause-loans

@@ -5,7 +5,7 @@ use Rattle.mm_parts.specs.Moves.{after}
 use Rattle.mm_parts.specs.Shown.{PartsOf}
 use Rattle.mm_parts.specs.PartsShown as parts_of
 use Rattle.mm_located.proofs.Carrying.{carries_at, carries_at_plain}
-use Rattle.mm_state.specs.Shown.{device_with}
+use Rattle.mm_blocks.specs.Devices.{device_with}
 use Rattle.mm_state.specs.Tallied.{IsTallied}
 use Rattle.mm_state.proofs.Legals.{call_legal}
 use Rattle.mm_parts.specs.Reading.{waits_of}
@@ -19,7 +19,7 @@ invariant_of-self-in-Ok g c =
     let s = c.args.self.now in
     let u = parts_of.shown s.parts in
     let e = c.grow.ensures.made ∙ ap (λ (x : PartsOf). after x (move.At c.args.line (kind.Grow c.args.n))) c.reserve.ensures.shown in
-    let now = carried_on _ _ _ _ _ _ _ e c.in-Ok.ensures.ok refl (carries_at u.life s.parts.kept.reached u.bytes (g.P.Blocks.blocks s.paging) (g.F.Blocks.blocks s.files) s.located c.args.line (kind.Grow c.args.n) s.parts.kept.line.begun c.requires.legal) in
+    let now = carried_on _ _ _ _ _ _ _ e c.in-Ok.ensures.ok refl (carries_at u.life s.parts.kept.reached u.bytes (g.P.Inject.blocks s.paging) (g.F.Inject.blocks s.files) s.located c.args.line (kind.Grow c.args.n) s.parts.kept.line.begun c.requires.legal) in
     record { located = now.located; tallied = subst IsTallied (sym c.none-self.ensures) tallied_none; slots_whole = whole_grown _ _ c.args.n c.in-Ok.ensures.ok s.slots_whole; blocks_whole = s.blocks_whole }
 
 pub invariant_of-self-in-Err-Failed : goal.invariant_of-self-in-Err-Failed
@@ -28,7 +28,7 @@ invariant_of-self-in-Err-Failed g c =
     let u = parts_of.shown s.parts in
     let e = c.at.ensures.made ∙ ap (λ (x : PartsOf). after x (move.At c.args.line kind.Call)) c.reserve.ensures.shown in
     let now = carried_on _ _ _ _ _ _ _ e c.in-Err-Failed.ensures.err refl
-    (carries_at_plain u.life s.parts.kept.reached u.bytes (g.P.Blocks.blocks s.paging) (g.F.Blocks.blocks s.files) s.located c.args.line kind.Call s.parts.kept.line.begun refl (call_legal u.life c.args.line c.args.n c.requires.legal)) in
+    (carries_at_plain u.life s.parts.kept.reached u.bytes (g.P.Inject.blocks s.paging) (g.F.Inject.blocks s.files) s.located c.args.line kind.Call s.parts.kept.line.begun refl (call_legal u.life c.args.line c.args.n c.requires.legal)) in
     record { located = now.located; tallied = subst IsTallied (sym c.none-self-in-Err-Failed.ensures) tallied_none; slots_whole = whole_on _ _ c.in-Err-Failed.ensures.err s.slots_whole; blocks_whole = s.blocks_whole }
 
 pub returns-in-Ok-clause-grown : goal.returns-in-Ok-clause-grown
@@ -36,8 +36,8 @@ returns-in-Ok-clause-grown g c =
     let s = c.args.self.now in
     let u = parts_of.shown s.parts in
     let e = c.grow.ensures.made ∙ ap (λ (x : PartsOf). after x (move.At c.args.line (kind.Grow c.args.n))) c.reserve.ensures.shown in
-    let now = carried_on _ _ _ _ _ _ _ e c.in-Ok.ensures.ok refl (carries_at u.life s.parts.kept.reached u.bytes (g.P.Blocks.blocks s.paging) (g.F.Blocks.blocks s.files) s.located c.args.line (kind.Grow c.args.n) s.parts.kept.line.begun c.requires.legal) in
-    rest_grown _ _ _ _ (device_with (g.P.Blocks.log s.paging) (g.P.Blocks.named s.paging) (g.P.Blocks.faults s.paging)) _ _ _ _ _ _ e c.in-Ok.ensures.log c.in-Ok.ensures.named c.in-Ok.ensures.ok now.bytes
+    let now = carried_on _ _ _ _ _ _ _ e c.in-Ok.ensures.ok refl (carries_at u.life s.parts.kept.reached u.bytes (g.P.Inject.blocks s.paging) (g.F.Inject.blocks s.files) s.located c.args.line (kind.Grow c.args.n) s.parts.kept.line.begun c.requires.legal) in
+    rest_grown _ _ _ _ _ _ _ _ _ _ _ e (λ i. device_with (c.in-Ok.ensures.log i) (c.in-Ok.ensures.named i) (c.in-Ok.ensures.cause.stays i)) c.in-Ok.ensures.ok now.bytes
 
 pub returns-in-Err-Failed-clause-kept : goal.returns-in-Err-Failed-clause-kept
 returns-in-Err-Failed-clause-kept g c =
@@ -45,8 +45,8 @@ returns-in-Err-Failed-clause-kept g c =
     let u = parts_of.shown s.parts in
     let e = c.at.ensures.made ∙ ap (λ (x : PartsOf). after x (move.At c.args.line kind.Call)) c.reserve.ensures.shown in
     let now = carried_on _ _ _ _ _ _ _ e c.in-Err-Failed.ensures.err refl
-    (carries_at_plain u.life s.parts.kept.reached u.bytes (g.P.Blocks.blocks s.paging) (g.F.Blocks.blocks s.files) s.located c.args.line kind.Call s.parts.kept.line.begun refl (call_legal u.life c.args.line c.args.n c.requires.legal)) in
-    λ failed. rest_grown _ _ _ _ (device_with (g.P.Blocks.log s.paging) (g.P.Blocks.named s.paging) (g.P.Blocks.faults s.paging)) _ _ _ _ _ _ e c.in-Err-Failed.ensures.log c.in-Err-Failed.ensures.named c.in-Err-Failed.ensures.err now.bytes
+    (carries_at_plain u.life s.parts.kept.reached u.bytes (g.P.Inject.blocks s.paging) (g.F.Inject.blocks s.files) s.located c.args.line kind.Call s.parts.kept.line.begun refl (call_legal u.life c.args.line c.args.n c.requires.legal)) in
+    λ failed. rest_grown _ _ _ _ _ _ _ _ _ _ _ e (λ i. device_with (c.in-Err-Failed.ensures.log i) (c.in-Err-Failed.ensures.named i) (g.P.Inject.faults c.extend.new.self)) c.in-Err-Failed.ensures.err now.bytes
 
 pub returns-in-Ok-clause-ok : goal.returns-in-Ok-clause-ok
 returns-in-Ok-clause-ok g c =

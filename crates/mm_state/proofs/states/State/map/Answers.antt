@@ -5,7 +5,7 @@ use Rattle.mm_parts.specs.Shown.{PartsOf}
 use Rattle.mm_parts.specs.PartsShown as parts_of
 use Rattle.mm_parts.specs.Reading.{waits_of}
 use Rattle.mm_located.proofs.Carrying.{carries_map}
-use Rattle.mm_state.proofs.Making.{made_by, rest_of, carried}
+use Rattle.mm_state.proofs.Making.{made_quiet, rest_of, carried}
 use Rattle.mm_life.specs.Frames.{record_at, is_read}
 use Rattle.mm_state.proofs.After.{map_quiet}
 use Rattle.mm_state.proofs.states.State.map.Goals as goal
@@ -21,7 +21,7 @@ pub returns-clause-made : goal.returns-clause-made
 returns-clause-made g c =
     let u = parts_of.shown c.args.self.now.parts in
     let e = c.map.ensures.made in
-    made_by (move.Map c.args.f c.args.place) _ _ c.requires.legal c.note.ensures.in_range c.note.ensures.grew (ap (λ (x : PartsOf). x.life) e) (ap (λ (x : PartsOf). x.ages) e) (ap (λ (x : PartsOf). waits_of x.waits) e) refl (refl, refl)
+    made_quiet (move.Map c.args.f c.args.place) _ _ c.requires.legal c.note.ensures.in_range c.note.ensures.grew (ap (λ (x : PartsOf). x.life) e) (ap (λ (x : PartsOf). x.ages) e) (ap (λ (x : PartsOf). waits_of x.waits) e) refl (refl, refl) refl refl
 
 pub returns-clause-rest : goal.returns-clause-rest
 returns-clause-rest g c =
@@ -32,7 +32,7 @@ returns-clause-rest g c =
     rest_of _ _ _ _ _ _ _ _ _ e now.bytes
 
 pub returns-clause-loans : goal.returns-clause-loans
-returns-clause-loans g c = ap (λ (x : Loans). Both (Both (g.P.Blocks.loans c.args.self.now.paging) (g.F.Blocks.loans c.args.self.now.files)) x) c.note.ensures.loans
+returns-clause-loans g c = ap (λ (x : Loans). Both (Both (g.P.Inject.loans c.args.self.now.paging) (g.F.Inject.loans c.args.self.now.files)) x) c.note.ensures.loans
 
 pub returns-clause-quiet : goal.returns-clause-quiet
 returns-clause-quiet g c =

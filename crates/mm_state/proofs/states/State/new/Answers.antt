@@ -9,12 +9,12 @@ use Rattle.mm_state.proofs.states.State.new.Goals as goal
 
 pub invariant_of-result : goal.invariant_of-result
 invariant_of-result g c =
-    let now = carried _ _ _ _ _ c.in-Ok.ensures (carries_start c.args.machine (g.P.Blocks.blocks c.args.paging) (g.F.Blocks.blocks c.args.files) c.requires.slots c.requires.blocks) in
+    let now = carried _ _ _ _ _ c.in-Ok.ensures (carries_start c.args.machine (g.P.Inject.blocks c.args.paging) (g.F.Inject.blocks c.args.files) c.requires.slots c.requires.blocks) in
     record { located = now.located; tallied = subst IsTallied (sym c.none.ensures) tallied_none; slots_whole = c.requires.slots_whole; blocks_whole = c.requires.blocks_whole }
 
 pub returns-in-Ok-clause-starts : goal.returns-in-Ok-clause-starts
 returns-in-Ok-clause-starts g c =
-    let now = carried _ _ _ _ _ c.in-Ok.ensures (carries_start c.args.machine (g.P.Blocks.blocks c.args.paging) (g.F.Blocks.blocks c.args.files) c.requires.slots c.requires.blocks) in
+    let now = carried _ _ _ _ _ c.in-Ok.ensures (carries_start c.args.machine (g.P.Inject.blocks c.args.paging) (g.F.Inject.blocks c.args.files) c.requires.slots c.requires.blocks) in
     record {
       in_range = (ranged_at _ _ c.first_move.ensures c.note.ensures.in_range, tt);
       grew = grew_one _ _ (first_move c.args.machine) (noted_at _ _ _ _ c.first_move.ensures c.note.ensures.grew);

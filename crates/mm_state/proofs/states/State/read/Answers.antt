@@ -17,8 +17,8 @@ returns-clause-bytes g c =
     λ k named.
     let owner = sym (valid_names (owners u.life.frames) (parts_of.words_of s.parts) c.args.place at.0 at.1) ∙ named in
     c.read.ensures.bytes at.0 at.1
-    ∙ ap (λ (page : List ℕ). bytes_from page c.args.off (length c.args.out.now)) (own_bytes u.life s.parts.kept.reached u.bytes (g.P.Blocks.blocks s.paging) (g.F.Blocks.blocks s.files) s.located at.0 k owner
-    (valid_calm u.life s.parts.kept.reached u.bytes (g.P.Blocks.blocks s.paging) (g.F.Blocks.blocks s.files) s.located c.args.place at.0 at.1))
+    ∙ ap (λ (page : List ℕ). bytes_from page c.args.off (length c.args.out.now)) (own_bytes u.life s.parts.kept.reached u.bytes (g.P.Inject.blocks s.paging) (g.F.Inject.blocks s.files) s.located at.0 k owner
+    (valid_calm u.life s.parts.kept.reached u.bytes (g.P.Inject.blocks s.paging) (g.F.Inject.blocks s.files) s.located c.args.place at.0 at.1))
 
 pub returns-clause-rest : goal.returns-clause-rest
 returns-clause-rest g c = shown_on _ _ _ _ _ _ _ _ c.read.ensures.made

@@ -5,7 +5,7 @@ use Rattle.mm_parts.specs.Shown.{PartsOf}
 use Rattle.mm_parts.specs.PartsShown as parts_of
 use Rattle.mm_parts.specs.Reading.{waits_of}
 use Rattle.mm_located.proofs.Carrying.{carries_soil}
-use Rattle.mm_state.proofs.Making.{made_by, rest_of, carried}
+use Rattle.mm_state.proofs.Making.{made_quiet, rest_of, carried}
 use Rattle.mm_life.specs.Frames.{record_at}
 use Rattle.mm_located.specs.Carried.{IsSoiled}
 use Rattle.mm_state.proofs.After.{soil_soiled}
@@ -22,7 +22,7 @@ pub returns-clause-made : goal.returns-clause-made
 returns-clause-made g c =
     let u = parts_of.shown c.args.self.now.parts in
     let e = c.soil.ensures.made in
-    made_by (move.Soil c.args.f) _ _ c.requires.legal c.note.ensures.in_range c.note.ensures.grew (ap (λ (x : PartsOf). x.life) e) (ap (λ (x : PartsOf). x.ages) e) (ap (λ (x : PartsOf). waits_of x.waits) e) refl (refl, refl)
+    made_quiet (move.Soil c.args.f) _ _ c.requires.legal c.note.ensures.in_range c.note.ensures.grew (ap (λ (x : PartsOf). x.life) e) (ap (λ (x : PartsOf). x.ages) e) (ap (λ (x : PartsOf). waits_of x.waits) e) refl (refl, refl) refl refl
 
 pub returns-clause-rest : goal.returns-clause-rest
 returns-clause-rest g c =
@@ -33,7 +33,7 @@ returns-clause-rest g c =
     rest_of _ _ _ _ _ _ _ _ _ e now.bytes
 
 pub returns-clause-loans : goal.returns-clause-loans
-returns-clause-loans g c = ap (λ (x : Loans). Both (Both (g.P.Blocks.loans c.args.self.now.paging) (g.F.Blocks.loans c.args.self.now.files)) x) c.note.ensures.loans
+returns-clause-loans g c = ap (λ (x : Loans). Both (Both (g.P.Inject.loans c.args.self.now.paging) (g.F.Inject.loans c.args.self.now.files)) x) c.note.ensures.loans
 
 pub returns-clause-soiled : goal.returns-clause-soiled
 returns-clause-soiled g c =

@@ -8,7 +8,7 @@ use Rattle.mm_parts.specs.Reading.{waits_of}
 use Rattle.mm_located.proofs.Carrying.{carries_read}
 use Rattle.mm_state.specs.Tallied.{IsTallied}
 use Rattle.mm_state.proofs.Legals.{legal_at}
-use Rattle.mm_state.proofs.Making.{made_by, rest_of, carried}
+use Rattle.mm_state.proofs.Making.{made_quiet, rest_of, carried}
 use Rattle.mm_state.proofs.Tallying.{tallied_search}
 use Rattle.mm_life.specs.Frames.{record_at, is_read}
 use Rattle.mm_state.proofs.After.{read_begun}
@@ -25,7 +25,7 @@ pub returns-clause-made : goal.returns-clause-made
 returns-clause-made g c =
     let u = parts_of.shown c.args.self.now.parts in
     let e = c.start_read-f.ensures.made in
-    made_by (move.Read c.start_read-f.result c.args.key) _ _ (legal_at u.life _ _ (ap (λ (f : Frame). move.Read f c.args.key) c.start_read-f.ensures.frame) c.requires.legal) c.note.ensures.in_range c.note.ensures.grew (ap (λ (x : PartsOf). x.life) e) (ap (λ (x : PartsOf). x.ages) e) (ap (λ (x : PartsOf). waits_of x.waits) e) c.search.ensures (refl, refl)
+    made_quiet (move.Read c.start_read-f.result c.args.key) _ _ (legal_at u.life _ _ (ap (λ (f : Frame). move.Read f c.args.key) c.start_read-f.ensures.frame) c.requires.legal) c.note.ensures.in_range c.note.ensures.grew (ap (λ (x : PartsOf). x.life) e) (ap (λ (x : PartsOf). x.ages) e) (ap (λ (x : PartsOf). waits_of x.waits) e) c.search.ensures (refl, refl) refl refl
 
 pub returns-clause-rest : goal.returns-clause-rest
 returns-clause-rest g c =
@@ -36,7 +36,7 @@ returns-clause-rest g c =
     rest_of _ _ _ _ _ _ _ _ _ e now.bytes
 
 pub returns-clause-loans : goal.returns-clause-loans
-returns-clause-loans g c = ap (λ (x : Loans). Both (Both (g.P.Blocks.loans c.args.self.now.paging) (g.F.Blocks.loans c.args.self.now.files)) x) c.note.ensures.loans
+returns-clause-loans g c = ap (λ (x : Loans). Both (Both (g.P.Inject.loans c.args.self.now.paging) (g.F.Inject.loans c.args.self.now.files)) x) c.note.ensures.loans
 
 pub returns-clause-reading : goal.returns-clause-reading
 returns-clause-reading g c =

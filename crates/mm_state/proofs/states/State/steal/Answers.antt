@@ -7,7 +7,7 @@ use Rattle.mm_parts.specs.PartsShown as parts_of
 use Rattle.mm_parts.specs.Reading.{waits_of}
 use Rattle.mm_located.proofs.Carrying.{carries_steal}
 use Rattle.mm_state.proofs.Legals.{noted_at, ranged_at, some_standby}
-use Rattle.mm_state.proofs.Making.{made_by, rest_of, carried}
+use Rattle.mm_state.proofs.Making.{made_quiet, rest_of, carried}
 use Rattle.mm_state.proofs.states.State.steal.Goals as goal
 
 pub first_standby-f-requires : goal.first_standby-f-requires
@@ -24,7 +24,7 @@ pub returns-clause-made : goal.returns-clause-made
 returns-clause-made g c =
     let u = parts_of.shown c.args.self.now.parts in
     let e = c.steal.ensures.made in
-    made_by (move.Steal (front u.life.frames.standby)) _ _ c.requires.legal (ranged_at _ _ (ap move.Steal c.first_standby-f.ensures) c.note.ensures.in_range) (noted_at _ _ _ _ (ap move.Steal c.first_standby-f.ensures) c.note.ensures.grew) (ap (λ (x : PartsOf). x.life) e) (ap (λ (x : PartsOf). x.ages) e) (ap (λ (x : PartsOf). waits_of x.waits) e) refl (refl, refl)
+    made_quiet (move.Steal (front u.life.frames.standby)) _ _ c.requires.legal (ranged_at _ _ (ap move.Steal c.first_standby-f.ensures) c.note.ensures.in_range) (noted_at _ _ _ _ (ap move.Steal c.first_standby-f.ensures) c.note.ensures.grew) (ap (λ (x : PartsOf). x.life) e) (ap (λ (x : PartsOf). x.ages) e) (ap (λ (x : PartsOf). waits_of x.waits) e) refl (refl, refl) refl refl
 
 pub returns-clause-rest : goal.returns-clause-rest
 returns-clause-rest g c =
@@ -35,4 +35,4 @@ returns-clause-rest g c =
     rest_of _ _ _ _ _ _ _ _ _ e now.bytes
 
 pub returns-clause-loans : goal.returns-clause-loans
-returns-clause-loans g c = ap (λ (x : Loans). Both (Both (g.P.Blocks.loans c.args.self.now.paging) (g.F.Blocks.loans c.args.self.now.files)) x) c.note.ensures.loans
+returns-clause-loans g c = ap (λ (x : Loans). Both (Both (g.P.Inject.loans c.args.self.now.paging) (g.F.Inject.loans c.args.self.now.files)) x) c.note.ensures.loans

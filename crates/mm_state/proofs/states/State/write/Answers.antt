@@ -13,8 +13,8 @@ pub invariant_of-self : goal.invariant_of-self
 invariant_of-self g c =
     let s = c.args.self.now in
     let u = parts_of.shown s.parts in
-    let slots = g.P.Blocks.blocks s.paging in
-    let blocks = g.F.Blocks.blocks s.files in
+    let slots = g.P.Inject.blocks s.paging in
+    let blocks = g.F.Inject.blocks s.files in
     let at = pick (u.life.valid c.args.place) c.requires.valid in
     let k = valid_owner u.life s.parts.kept.reached u.bytes slots blocks s.located c.args.place at.0 at.1 in
     let page = overwritten (bytes_of u.bytes at.0.0) c.args.off c.args.bytes.now in
@@ -25,8 +25,8 @@ pub returns-clause-bytes : goal.returns-clause-bytes
 returns-clause-bytes g c =
     let s = c.args.self.now in
     let u = parts_of.shown s.parts in
-    let slots = g.P.Blocks.blocks s.paging in
-    let blocks = g.F.Blocks.blocks s.files in
+    let slots = g.P.Inject.blocks s.paging in
+    let blocks = g.F.Inject.blocks s.files in
     let at = pick (u.life.valid c.args.place) c.requires.valid in
     let page = overwritten (bytes_of u.bytes at.0.0) c.args.off c.args.bytes.now in
     λ k named.

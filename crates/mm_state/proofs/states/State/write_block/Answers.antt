@@ -21,7 +21,7 @@ invariant_of-self g c =
     let u = parts_of.shown s.parts in
     let ok = c.write_device-ok.result in
     let page = replicate 4096 c.args.byte in
-    let now = block_carries ok u.life s.parts.kept.reached u.bytes (g.P.Blocks.blocks s.paging) (g.F.Blocks.blocks s.files) s.located c.args.b.0 page c.requires.new _
+    let now = block_carries ok u.life s.parts.kept.reached u.bytes (g.P.Inject.blocks s.paging) (g.F.Inject.blocks s.files) s.located c.args.b.0 page c.requires.new _
     (block_written ok _ _ (λ blocks. slice_set blocks c.args.b.0 page) c.write_device-ok.ensures.ok c.write_device-ok.ensures.err) in
     record { located = now.located; tallied = subst IsTallied (sym c.wrote.ensures) (tallied_write s.told ok (backing.Block c.args.b) s.tallied); slots_whole = s.slots_whole; blocks_whole = block_whole ok c.args.b.0 page (length-replicate 4096 c.args.byte) _ _ (block_written ok _ _ (λ blocks. slice_set blocks c.args.b.0 page) c.write_device-ok.ensures.ok c.write_device-ok.ensures.err) s.blocks_whole }
 
@@ -31,6 +31,6 @@ returns-clause-rest g c =
     let u = parts_of.shown s.parts in
     let ok = c.write_device-ok.result in
     let page = replicate 4096 c.args.byte in
-    let now = block_carries ok u.life s.parts.kept.reached u.bytes (g.P.Blocks.blocks s.paging) (g.F.Blocks.blocks s.files) s.located c.args.b.0 page c.requires.new _
+    let now = block_carries ok u.life s.parts.kept.reached u.bytes (g.P.Inject.blocks s.paging) (g.F.Inject.blocks s.files) s.located c.args.b.0 page c.requires.new _
     (block_written ok _ _ (λ blocks. slice_set blocks c.args.b.0 page) c.write_device-ok.ensures.ok c.write_device-ok.ensures.err) in
     rest_block _ _ _ _ _ _ _ _ now.bytes

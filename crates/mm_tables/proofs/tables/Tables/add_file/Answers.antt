@@ -3,6 +3,8 @@ use Rattle.mm_world.specs.Contents.{Tables}
 use Rattle.mm_tables.specs.Fits.{Fits}
 use Rattle.mm_tables.proofs.FileKept.{file_area, file_kept, file_now, file_fits, nothing_served, fits_wrote}
 use Rattle.mm_tables.proofs.SectionPaging.{area_free, same_kept, same_tables}
+use Rattle.mm_pages.specs.Housekeeping.{Makes}
+use Rattle.mm_tables.proofs.Turning.{notes_nothing}
 use Rattle.mm_tables.proofs.tables.Tables.add_file.Given as given
 use Rattle.mm_tables.proofs.tables.Tables.add_file.Goals as goal
 
@@ -21,6 +23,9 @@ invariant_of-self g c = same_kept c.self.inside refl c.grow_for_file-grown.ensur
 
 pub returns-in-Err-clause-served : goal.returns-in-Err-clause-served
 returns-in-Err-clause-served g c = nothing_served (g.G.Pages.store c.args.g.now)
+
+pub returns-in-Err-clause-notes : goal.returns-in-Err-clause-notes
+returns-in-Err-clause-notes g c = notes_nothing g.G.Pages.unpaged Makes (g.G.Pages.behind c.args.g.now)
 
 pub make_file-requires-clause-new : goal.make_file-requires-clause-new
 make_file-requires-clause-new g c =

@@ -1,10 +1,10 @@
-use Rattle.std.proofs.Common.{◌+◌, ◌∙◌, sym, ap, subst, arith, is_some}
+use Rattle.std.proofs.Common.{◌+◌, ◌^◌, ◌∙◌, sym, ap, subst, arith, is_some}
 use Rattle.mm_types.specs.Machine.{limit_of}
 use Rattle.mm_types.proofs.Options.{some_found, on_err}
 use Rattle.mm_world.specs.Find.{region_around}
 use Rattle.mm_world.specs.Rows.{commit}
 use Rattle.mm_commit.specs.Charge.{CommitOf}
-use Rattle.mm_tables.specs.Ranges.{CanAdd}
+use Rattle.mm_tables.specs.Ranges.{CanAdd, StandsFrom}
 use Rattle.mm_tables.proofs.Settled.{roomier_settled, settled_as, commit_done, ends, can_add, around}
 use Rattle.mm_tables.proofs.Standing.{Held, held_by, still_kept, same_tables, kept_same, around_became, around_changed}
 use Rattle.mm_tables.proofs.tables.Tables.commit.Given as given
@@ -65,3 +65,18 @@ returns-clause-settled g c =
     let done = commit_done c.args.self.now c.args.pid h.process c.args.range _ _ _ _ h.lives h.kept.sound c.requires.fits r.0 c.args.prot c.args.n r.1 (c.requires.private h.process r.0 h.lives r.1) c.requires.prot (c.requires.counted h.process h.lives)
     c.in_ok-commit_pages.ensures.stored c.in_ok-commit_pages.ensures.counted (omega (arith, c.now.ensures.charge, h.kept.charged, c.in_ok-commit_pages.ensures.room)) in
     settled_as (around_changed h c.args.range c.commit_pages.new.process (λ r. commit tt c.args.prot) c.in_ok-commit_pages.ensures.changed h.process r.0 h.lives r.1) done.settled
+
+-- the pages are user pages
+stands : (g : given.Over) (c : After-index_mut g) → StandsFrom 0 (2 ^ 32) c.args.range
+stands g c =
+    let h = held g c in
+    let r = some_found (region_around h.process.regions c.args.range) (c.requires.inside h.process h.lives) in
+    let a = around h.process.regions c.args.range r.0 r.1 in
+    let end = ends c.args.self.now c.args.pid h.process _ _ h.lives h.kept.sound c.requires.fits r.0.place r.0.thing c.args.range a.at a.inside in
+    (omega arith, omega (arith, end))
+
+pub returns-in_err-commit_pages-clause-among : goal.returns-in_err-commit_pages-clause-among
+returns-in_err-commit_pages-clause-among g c = stands g (goal.at.returns-in_err-commit_pages-clause-among g c).After-index_mut
+
+pub returns-clause-among : goal.returns-clause-among
+returns-clause-among g c = stands g (goal.at.returns-clause-among g c).After-index_mut

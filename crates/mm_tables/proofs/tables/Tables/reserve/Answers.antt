@@ -1,5 +1,9 @@
-use Rattle.std.proofs.Common.{◌+◌, ◌∙◌, sym, ap, subst, arith}
-use Rattle.mm_types.specs.Address.{is_free}
+use Rattle.std.proofs.Common.{◌+◌, ◌^◌, ◌∙◌, sym, ap, subst, arith, not}
+use Rattle.std.specs.Prelude.{nat_le}
+use Rattle.std.specs.List.{list_any}
+use Rattle.std.proofs.lemmas.Bool.{leb-true}
+use Rattle.mm_types.proofs.Booleans.{parts}
+use Rattle.mm_types.specs.Address.{Range, is_free, are_user_pages, first_user_page, end_of, end_of_user_pages, meets}
 use Rattle.mm_types.specs.Machine.{limit_of}
 use Rattle.mm_types.proofs.Options.{on_err}
 use Rattle.mm_world.specs.Alloc.{private_region}
@@ -7,6 +11,7 @@ use Rattle.mm_world.specs.Contents.{blank}
 use Rattle.mm_world.specs.Find.{ranges_of, add_region}
 use Rattle.mm_commit.specs.Charge.{CommitOf}
 use Rattle.mm_tables.specs.Effects.{CanMake}
+use Rattle.mm_tables.specs.Ranges.{StandsFrom}
 use Rattle.mm_tables.specs.Spaces.{Became}
 use Rattle.mm_tables.proofs.Settled.{roomier_settled, settled_as, reserve_done, can_make}
 use Rattle.mm_tables.proofs.Standing.{Held, held_by, regions_by, still_kept, same_tables, kept_same}
@@ -68,3 +73,18 @@ returns-clause-settled g c =
     let done = reserve_done c.args.self.now c.args.pid h.process c.args.range _ _ _ _ h.lives h.kept.sound c.requires.fits c.args.kind c.args.prot (c.requires.free h.process h.lives) c.requires.granule c.requires.some c.requires.prot
     c.in_ok-make_region.ensures.stored c.in_ok-make_region.ensures.counted (omega (arith, c.now.ensures.charge, h.kept.charged, c.new_pages-pages.ensures, c.in_ok-make_region.ensures.room)) in
     settled_as (returns-clause-ok g c h.process h.lives) done.settled
+
+-- the pages are user pages
+stands : (g : given.Over) (c : After-index_mut-process g) → StandsFrom 0 (2 ^ 32) c.args.range
+stands g c =
+    let range : Range = c.args.range in
+    let h = held g c in
+    let user = (parts (are_user_pages range) (not (list_any (meets range) (ranges_of h.process.regions))) (c.requires.free h.process h.lives)).0 in
+    let end = leb-true (end_of range) end_of_user_pages (parts (nat_le first_user_page range.first) (nat_le (end_of range) end_of_user_pages) user).1 in
+    (omega arith, omega (arith, end))
+
+pub returns-in_err-make_region-clause-among : goal.returns-in_err-make_region-clause-among
+returns-in_err-make_region-clause-among g c = stands g (goal.at.returns-in_err-make_region-clause-among g c).After-index_mut-process
+
+pub returns-clause-among : goal.returns-clause-among
+returns-clause-among g c = stands g (goal.at.returns-clause-among g c).After-index_mut-process

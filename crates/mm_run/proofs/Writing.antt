@@ -1,0 +1,41 @@
+-- Texts that were written, one behind the other.
+use Rattle.std.specs.Prelude.{Result, Ok, Err, is_err, MatchResult, OnOk}
+use Rattle.std.proofs.Common.{◌≡◌, Bool, true, false, [], ◌++◌, Option, refl, sym, ap, subst, ◌∙◌, append_assoc}
+use Rattle.mm_types.specs.Outside.{Appended}
+use Rattle.mm_types.specs.Spelling.{Text}
+use Rattle.mm_types.proofs.Bytes.{append_nil, appended_then}
+use Rattle.mm_io.specs.Io.{Wrote}
+use Rattle.mm_run.specs.Texts.{TornText}
+
+pub wrote_whole : (a b : Option Text) (text : Text) → Wrote a b text false → Appended a b text
+wrote_whole a b text w = subst (λ (t : Text). Appended a b t) (w.all refl) w.written
+
+pub wrote_torn : (a b : Option Text) (text : Text) (failed : Bool) → Wrote a b text failed → TornText a b text
+wrote_torn a b text failed w = record { front = w.front; back = w.rest; whole = w.whole; wrote = w.written }
+
+module _ (a b : Option Text) (s t : Text) where
+  pub torn_before : TornText a b s → TornText a b (s ++ t)
+  torn_before u = record { front = u.front; back = u.back ++ t; whole = ap (λ xs. xs ++ t) u.whole ∙ append_assoc u.front u.back t; wrote = u.wrote }
+
+module _ (a b c : Option Text) (s t : Text) (u : Appended a b s) where
+  both_whole : Wrote b c t false → Appended a c (s ++ t)
+  both_whole w = appended_then a b c s t u (wrote_whole b c t w)
+
+  torn_behind : (failed : Bool) → Wrote b c t failed → TornText a c (s ++ t)
+  torn_behind failed w = record {
+    front = s ++ w.front;
+    back = w.rest;
+    whole = ap (λ xs. s ++ xs) w.whole ∙ sym (append_assoc s w.front w.rest);
+    wrote = appended_then a b c s w.front u w.written;
+  }
+
+  pub both_either : {T E : Type 0} (r : Result T E) → Wrote b c t (is_err r) → MatchResult r (λ _. Appended a c (s ++ t)) (λ _. TornText a c (s ++ t))
+  both_either (Ok x) w = both_whole w
+  both_either (Err e) w = torn_behind true w
+
+-- and given on, as far as the sink did not fail
+pub flushed_either : {T E : Type 0} (r : Result T E) (a b c given : Option Text) (text : Text) → Appended a b text → c ≡ b → OnOk r (given ≡ c)
+    → MatchResult r (λ _. Appended a c text × (given ≡ c)) (λ _. TornText a c text)
+flushed_either (Ok x) a b c given text u same all = (subst (λ (t : Option Text). Appended a t text) (sym same) u, all)
+flushed_either (Err e) a b c given text u same all =
+    record { front = text; back = []; whole = sym (append_nil text); wrote = subst (λ (t : Option Text). Appended a t text) (sym same) u }

@@ -1,0 +1,30 @@
+-- Which counts of faults a status is to blame on.
+-- Profile, "A run".
+use Rattle.std.specs.Prelude.{◌≡◌, ◌⊎◌, ℕ}
+use Rattle.mm_types.specs.Outside.{Rose}
+use Rattle.mm_blocks.specs.Traffic.{NoneLogged}
+use Rattle.mm_run.specs.Ends.{DeviceLeft}
+use Rattle.mm_run.specs.Story.{Counts}
+use Rattle.mm_run.specs.Script.{IsFault}
+
+-- A device could not be opened: its count of faults rose, and no read or write of it is told.
+pub record IsUnopened (d d' : DeviceLeft) : Type 0 where
+  pub rose : Rose d.faults d'.faults
+  pub uncalled : d'.log ≡ d.log
+
+-- One of both devices, the paging device first, could not be opened. The other one was not called,
+-- or has been opened and no more.
+abbrev pub OpenFailed : DeviceLeft → DeviceLeft → DeviceLeft → DeviceLeft → Type 0
+OpenFailed paging paging' files files' =
+    (IsUnopened paging paging' × (files' ≡ files))
+    ⊎ (NoneLogged paging'.log × IsUnopened files files')
+
+-- Status 4 comes only where the source failed, 5 where the sink of answers did, 6 where that of moves
+-- did, 7 where a device could not be opened. No count of the source and of both sinks is another than
+-- before, unless the status says that memory or the outside failed.
+pub record IsAccounted (status : ℕ) (opening : Type 0) (c d : Counts) : Type 0 where
+  pub read_fault : status ≡ 4 → Rose c.source d.source
+  pub out_fault : status ≡ 5 → Rose c.out d.out
+  pub moves_fault : status ≡ 6 → Rose c.moves d.moves
+  pub setup_fault : status ≡ 7 → opening
+  pub no_fault : (IsFault status → ⊥) → d ≡ c
