@@ -1,213 +1,166 @@
-// The data: classified moves, the script, its answers.
+// The data: the lines of the log with their moves, and beside them the script and its answers.
 // One entry: readData(). The words of the classes are data too, written by the program that
 // wrote the moves, so that they stand in one place alone.
 
-// What is written after a class, by the move that it is of. A key or a place is two numbers.
+// Which moves name what. Where one names several they are written in this order.
 const OPERANDS = {
-  add: ['key'],
-  addfile: ['key', 'block'],
-  drop: ['key'],
-  clear: ['frame'],
-  steal: ['frame'],
-  give: ['frame', 'key'],
-  read: ['frame', 'key'],
-  got: ['frame'],
-  bad: ['frame'],
-  map: ['frame', 'place'],
-  unmap: ['place'],
-  soil: ['frame'],
-  write: ['frame', 'home'],
-  wrote: ['frame'],
-  lost: ['frame'],
+  frame: 'clear steal give read got bad map soil write wrote lost',
+  page: 'add addfile drop give read',
+  place: 'map unmap',
+  home: 'write addfile',
 };
 // The kinds of a line: the letter, the word of the log, how many numbers follow.
-const KINDS = {
-  M: ['machine', 4],
-  P: ['process', 3],
-  N: ['grow', 1],
-  a: ['access', 1],
-  t: ['thread', 1],
-  r: ['trim', 1],
-  u: ['unbind', 1],
-  w: ['writer', 0],
-  z: ['zeroer', 0],
-  i: ['io', 0],
-  c: ['call', 0],
-};
-const COUNTS = ['zeroed', 'free', 'standby', 'modified', 'active', 'transition', 'slots', 'requests'];
+const KINDS =
+  'M machine 4, P process 3, N grow 1, a access 1, t thread 1, r trim 1, u unbind 1, ' +
+  'w writer 0, z zeroer 0, i io 0, c call 0';
+// The counts after every 64th line, in their order.
+const COUNTS = 'zeroed free standby modified active transition slots requests'.split(' ');
 
-// Reads numbers to the base 32, the low digit first: a digit is a byte from 63 on, and 32
-// more in it say that another follows.
-class Reader {
-  constructor(text) {
-    this.text = text;
-    this.at = 0;
+// A move: its page frame, page and place, and where the page's bytes are or go (a slot or a
+// block). The replay adds what is not written, and how the page frame stands after the move: so
+// the moves of a page frame are its history, and nothing else has to be kept of it.
+class Move {
+  constructor(found, line, frame, page, place, home) {
+    this.class = found;
+    this.line = line;
+    this.frame = frame;
+    this.page = page;
+    this.place = place;
+    this.home = home;
+    this.was = this.state = FREE;
+    this.since = 0; // rises in the order in which page frames come to lists and requests
+    this.owner = null; // the page that it has
+    this.isChanged = false;
+    this.backing = ''; // where its bytes are or go
+    this.shares = 0; // in how many places it is valid
+    this.request = NO_REQUEST;
   }
-  isAtEnd() { return this.at >= this.text.length; }
-  byte() { return this.text.charCodeAt(this.at++); }
-  number() {
-    let value = 0;
-    let unit = 1;
-    let digit;
-    do {
-      digit = this.byte() - 63;
-      if (!(digit >= 0 && digit < 64)) throw new Error('byte ' + this.at + ' is no digit');
-      value += (digit & 31) * unit;
-      unit *= 32;
-    } while (digit > 31);
-    return value;
+  beginAs(before) {
+    this.was = this.state = before.state;
+    this.since = before.since;
+    this.owner = before.owner;
+    this.isChanged = before.isChanged;
+    this.backing = before.backing;
+    this.shares = before.shares;
+    this.request = before.request;
   }
-  numbers(count) { return Array.from({ length: count }, () => this.number()); }
 }
 
-// Pairs of numbers, themselves numbered in the order in which they come.
-class Pairs {
-  constructor() {
-    this.list = [];
-    this.byFirst = new Map();
+// A page frame, a page or a place, with its moves in order. How it stands its last move tells.
+class Thing {
+  constructor(id, name, more) {
+    Object.assign(this, { id, name, start: null, moves: [], ...more });
   }
-  idOf(first, second) {
-    let bySecond = this.byFirst.get(first);
-    if (!bySecond) this.byFirst.set(first, (bySecond = new Map()));
-    let id = bySecond.get(second);
-    if (id === undefined) {
-      id = this.list.length;
-      bySecond.set(second, id);
-      this.list.push([first, second]);
+  get now() {
+    return this.moves.at(-1) ?? this.start;
+  }
+  after(line) {
+    return this.moves[this.countUpTo(line) - 1] ?? this.start;
+  }
+  countUpTo(line) {
+    let [low, high] = [0, this.moves.length];
+    while (low < high) {
+      const middle = (low + high) >> 1;
+      if (this.moves[middle].line <= line) low = middle + 1;
+      else high = middle;
     }
-    return id;
-  }
-  find(first, second) {
-    const bySecond = this.byFirst.get(first);
-    const id = bySecond && bySecond.get(second);
-    return id === undefined ? NONE : id;
+    return low;
   }
 }
-
-// The moves in columns of numbers, which takes a tenth of the memory of objects.
-class Moves {
-  constructor() {
-    this.length = 0;
-    this.room = 1 << 16;
-    this.code = new Uint8Array(this.room);
-    for (const name of ['frame', 'key', 'place', 'home']) this[name] = new Int32Array(this.room);
-  }
-  push(code, frame, key, place, home) {
-    if (this.length === this.room) this.grow();
-    const at = this.length++;
-    this.code[at] = code;
-    this.frame[at] = frame;
-    this.key[at] = key;
-    this.place[at] = place;
-    this.home[at] = home;
-  }
-  grow() {
-    this.room *= 2;
-    for (const name of ['code', 'frame', 'key', 'place', 'home']) {
-      const old = this[name];
-      this[name] = new old.constructor(this.room);
-      this[name].set(old);
-    }
-  }
+function newFrame(_, id) {
+  const frame = new Thing(id, id);
+  frame.start = new Move(null, 0, frame, null, null, '');
+  frame.start.since = id;
+  return frame;
 }
+function newPage(id, first, second) {
+  const owner = Math.floor(first / 2);
+  const [letter, pid] = first % 2 ? ['s', 0] : ['p', owner];
+  return new Thing(id, `${letter}${owner}.${second}`, { pid, isFile: false });
+}
+const newPlace = (id, pid, page) => new Thing(id, `${pid}.${page}`, { pid, page, uses: [] });
+// Of what two numbers name: the second, a page of 32 bits of addresses, is below 2 ** 20.
+const idOf = (first, second) => first * 2 ** 20 + second;
+const nameOfHome = (number) => (number % 2 ? 'block ' : 'slot ') + Math.floor(number / 2);
 
-// By the byte of its code: the move that a class is of, its group and its sentence.
+// By the letter of its code: the move that a class is of, what that names, its group and sentence.
 function readClasses(text) {
-  const classes = [];
+  const classes = {};
   for (const row of text.split('\n').filter(Boolean)) {
-    const [code, move, group] = row.split(' ', 3);
-    const sentence = row.slice(code.length + move.length + group.length + 3);
-    const operands = OPERANDS[move];
-    if (!operands) throw new Error('no such move: ' + move);
-    classes[code.charCodeAt(0)] = { move, group, sentence, operands: new Set(operands) };
+    const [code, word, group, ...sentence] = row.split(' ');
+    classes[code] = { word, group, sentence: sentence.join(' ') };
+    for (const name in OPERANDS) classes[code][name] = OPERANDS[name].split(' ').includes(word);
   }
   return classes;
 }
 
-// A home or a backing is one number: 0 for zeros or none, 2 s + 2 for slot s, 2 b + 3 for
-// block b.
-const slotHome = (slot) => 2 * slot + 2;
-const isSlot = (home) => home > 0 && home % 2 === 0;
+function readLog(text, classes, script, answers) {
+  // line 0 stands for the start, so that a line's number is its place
+  const lines = [{ number: 0, text: '', answer: '', isOk: true }];
+  const [moves, processes, pages, places] = [[], [], new Map(), new Map()];
+  const log = { lines, moves, processes, pages, places, frames: [], machine: {} };
+  const kinds = Object.fromEntries(KINDS.split(', ').map((kind) => [kind[0], kind.split(' ')]));
+  let at = 0;
 
-function readMoves(text, classes) {
-  const reader = new Reader(text);
-  const log = {
-    moves: new Moves(),
-    keys: new Pairs(),
-    places: new Pairs(),
-    lines: [],
-    marks: [],
-    processes: [],
-    machine: { frames: 0, slots: 0, depth: 0, blocks: 0 },
-  };
-  while (!reader.isAtEnd()) {
-    const code = reader.byte();
-    if (code === 10) {
-      if (!reader.isAtEnd()) readLine(reader, log);
-    } else if (code === 61) {
-      log.marks.push({ line: log.lines.length, counts: reader.numbers(8) });
-    } else readMove(reader, log, code, classes[code]);
+  // A number to the base 32, the low digit first: a digit is a byte from 63 on, and 32 more in
+  // it say that another follows.
+  function number() {
+    for (let value = 0, unit = 1; ; unit *= 32) {
+      const digit = text.charCodeAt(at++) - 63;
+      if (!(digit >= 0 && digit < 64)) throw new Error(`byte ${at} is no digit`);
+      value += (digit & 31) * unit;
+      if (digit < 32) return value;
+    }
   }
-  log.lines.push({ from: log.moves.length });
+  function named(things, make) {
+    const [first, second] = [number(), number()];
+    const id = idOf(first, second);
+    let thing = things.get(id);
+    if (!thing) things.set(id, (thing = make(id, first, second)));
+    return thing;
+  }
+  const numbers = (count) => Array.from({ length: count }, number);
+  function readLine([, kind, count]) {
+    const values = numbers(count);
+    const line = lines.length;
+    const text = script[line - 1] ?? [kind, ...values].join(' ');
+    const answer = answers[line - 1] ?? '';
+    const isOk = !answer || answer.startsWith('ok');
+    lines.push({ number: line, kind, values, text, answer, isOk, aged: 0, counts: null });
+    const [first, second, third, blocks] = values;
+    if (kind === 'machine') {
+      log.machine = { frames: first, slots: second, depth: third, blocks };
+      log.frames = Array.from({ length: first }, newFrame);
+    }
+    if (kind === 'process') processes[first] = { pid: first, min: second, max: third, line };
+  }
+  function readMove(found) {
+    const frame = found.frame ? log.frames[number()] : null;
+    const page = found.page ? named(pages, newPage) : null;
+    const place = found.place ? named(places, newPlace) : null;
+    const isFile = found.word === 'addfile'; // whose number is a block's, never a slot's
+    if (isFile) page.isFile = true;
+    const home = found.home ? nameOfHome(isFile ? 2 * number() + 1 : number()) : '';
+    moves.push(new Move(found, lines.length - 1, frame, page, place, home));
+  }
+  while (at < text.length) {
+    const letter = text[at++];
+    if (letter === '=') lines.at(-1).counts = numbers(COUNTS.length);
+    else if (letter !== '\n') readMove(classes[letter]);
+    else if (at < text.length) readLine(kinds[text[at++]]);
+  }
   return log;
 }
-function readLine(reader, log) {
-  const kind = reader.text[reader.at++];
-  if (!KINDS[kind]) throw new Error('no such kind of line: ' + kind);
-  const values = reader.numbers(KINDS[kind][1]);
-  log.lines.push({ kind, values, from: log.moves.length });
-  if (kind === 'M') {
-    const [frames, slots, depth, blocks] = values;
-    log.machine = { frames, slots, depth, blocks };
-  }
-  if (kind === 'P') {
-    const [pid, min, max] = values;
-    log.processes[pid] = { min, max, line: log.lines.length, changedAt: [], sizes: [] };
-  }
-}
-function readMove(reader, log, code, known) {
-  if (!known) throw new Error('no such class: ' + String.fromCharCode(code));
-  const has = known.operands;
-  const frame = has.has('frame') ? reader.number() : NONE;
-  const key = has.has('key') ? log.keys.idOf(reader.number(), reader.number()) : NONE;
-  const place = has.has('place') ? log.places.idOf(reader.number(), reader.number()) : NONE;
-  let home = NONE;
-  if (has.has('block')) home = 2 * reader.number() + 3;
-  if (has.has('home')) home = reader.number() + 2;
-  log.moves.push(code, frame, key, place, home);
-}
 
-function readText(id) {
-  const lines = element(id).textContent.split('\n');
-  lines.pop();
-  return lines;
-}
+const readText = (id) => element(id).textContent.split('\n').slice(0, -1);
+// An answer that begins with `ok` is written without it, any other behind a tab.
+const readAnswer = (text) => (text.startsWith('\t') ? text.slice(1) : 'ok' + text);
 
 function readData() {
   const classes = readClasses(element('data-classes').textContent);
-  const log = readMoves(element('data-moves').textContent, classes);
   const script = readText('data-script');
-  const answers = readText('data-answers');
+  const answers = readText('data-answers').map(readAnswer);
+  const log = readLog(element('data-moves').textContent, classes, script, answers);
   const count = log.lines.length - 1;
-  const grown = log.lines.filter((line) => line.kind === 'N');
-  const isFileKey = new Uint8Array(log.keys.list.length);
-  for (let number = 0; number < log.moves.length; number++) {
-    const isFile = classes[log.moves.code[number]].move === 'addfile';
-    if (isFile) isFileKey[log.moves.key[number]] = 1;
-  }
-  return {
-    ...log,
-    classes,
-    script,
-    answers,
-    count,
-    frames: log.machine.frames,
-    // with all that the paging file ever grew by
-    slots: grown.reduce((sum, line) => sum + line.values[0], log.machine.slots),
-    isFileKey,
-    pidOf: Int32Array.from(log.places.list, (place) => place[0]),
-    hasAges: script.length >= count && answers.length >= count,
-    answer: (line) => answers[line - 1] || '',
-    isOk: (line) => !answers[line - 1] || answers[line - 1].startsWith('ok'),
-  };
+  return { ...log, count, hasAges: script.length >= count && answers.length >= count };
 }

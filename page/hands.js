@@ -1,185 +1,134 @@
 // Hands: keys, buttons, the pointer.
-// One entry: attachHands(page); it gives the three ways in which the view changes.
-const FAR = 10;
+// One entry: attachHands(page, show), where show(changes) changes the view and shows it; it gives
+// the ways to choose a line and to zoom.
+const FAR = 10; // lines, with Shift
 const DRAG = 8; // pixels; a shorter way is a click
+const FEWEST_LINES = 4;
 
-function attachHands({ data, survey, teller, view, panels, charts }) {
+function attachHands({ data, survey, view, charts }, show) {
+  const { count } = data;
   const plot = element('plot');
+  const overview = element('overview');
 
-  function choose(line, keepsZoom) {
-    view.line = Math.max(1, Math.min(data.count, line || 1));
-    element('number').value = element('slider').value = view.line;
-    const isSeen = view.line >= view.first && view.line <= view.last;
-    if (!keepsZoom && !isSeen) {
-      const more = view.last - view.first;
-      view.first = Math.max(1, Math.min(data.count - more, view.line - (more >> 1)));
-      view.last = view.first + more;
-    }
-    panels.showLine();
-    panels.showHistory();
-    charts.draw();
+  // ---- the ways in which the view changes
+  // Shows as many lines, from a line on or as near to it as can be.
+  function zoom(from, to, changes) {
+    const more = clamp(Math.round(to - from), Math.min(FEWEST_LINES, count) - 1, count - 1);
+    const first = clamp(Math.round(from), 1, count - more);
+    show({ ...changes, first, last: first + more });
   }
-  function zoom(first, last) {
-    const count = Math.max(4, Math.min(data.count, Math.round(last - first + 1)));
-    view.first = Math.max(1, Math.min(data.count - count + 1, Math.round(first)));
-    view.last = Math.min(data.count, view.first + count - 1);
-    charts.draw();
+  function choose(wanted, changes) {
+    const line = clamp(wanted || 1, 1, count);
+    const { first, last } = view;
+    const from = line >= first && line <= last ? first : line - ((last - first) >> 1);
+    zoom(from, from + last - first, { ...changes, line });
   }
   // What stands at the line that is kept in its place stays there.
   function zoomBy(factor, kept = view.line) {
-    const count = view.last - view.first + 1;
-    const isSeen = kept >= view.first && kept <= view.last;
-    const middle = isSeen ? kept : (view.first + view.last) / 2;
-    const first = middle - (middle - view.first) * factor;
-    zoom(first, first + count * factor - 1);
+    const { first, last } = view;
+    const middle = kept >= first && kept <= last ? kept : (first + last) / 2;
+    const start = middle - (middle - first) * factor;
+    zoom(start, start + (last - first + 1) * factor - 1);
   }
+  // To the next line, or the line before, where the sum of the events rises.
   function hop(step) {
-    const group = element('event').value;
-    const sum = survey.sums[TRACKS.findIndex((track) => track.group === group)];
-    const { lines } = data;
-    const hasMoves = (line) => lines[line].from > lines[line - 1].from;
-    const happens = sum ? (line) => sum[line] > sum[line - 1] : hasMoves;
+    const sum = survey.numbers[element('event').value];
     let line = view.line + step;
-    while (line >= 1 && line <= data.count && !happens(line)) line += step;
-    if (line >= 1 && line <= data.count) choose(line);
+    while (line >= 1 && line <= count && sum[line] === sum[line - 1]) line += step;
+    if (line >= 1 && line <= count) choose(line);
   }
-  function follow(which, number) {
-    view.followed = which ? { which, number } : null;
-    panels.showHistory();
-    charts.draw();
-  }
-  const all = () => zoom(1, data.count);
 
-  const BUTTONS = {
-    back: () => choose(view.line - 1),
-    next: () => choose(view.line + 1),
-    'event-before': () => hop(-1),
-    'event-next': () => hop(1),
-    'zoom-in': () => zoomBy(0.5),
-    'zoom-out': () => zoomBy(2),
-    'zoom-all': all,
-    'close-history': () => follow(null),
-    'show-all': () => {
-      view.showsAll = true;
-      panels.showLine();
-    },
-  };
-  document.addEventListener('click', ({ target }) => {
-    const button = target.closest('button');
-    if (!button) return;
-    const { frame, key, line } = button.dataset;
-    if (frame !== undefined) follow('frame', Number(frame));
-    else if (key !== undefined) follow('key', Number(key));
-    else if (line !== undefined) choose(Number(line));
-    else if (BUTTONS[button.id]) BUTTONS[button.id]();
-  });
-
+  // ---- keys, and the buttons that do the same
   const KEYS = {
-    ArrowLeft: (far) => choose(view.line - far),
-    ArrowRight: (far) => choose(view.line + far),
+    ArrowLeft: (step) => choose(view.line - step),
+    ArrowRight: (step) => choose(view.line + step),
     Home: () => choose(1),
-    End: () => choose(data.count),
+    End: () => choose(count),
     n: () => hop(1),
     p: () => hop(-1),
     '+': () => zoomBy(0.5),
     '=': () => zoomBy(0.5),
     '-': () => zoomBy(2),
-    0: all,
-    Escape: () => follow(null),
+    0: () => zoom(1, count),
+    a: () => show({ showsAll: true }),
+    Escape: () => show({ followed: null }),
   };
   document.addEventListener('keydown', (event) => {
-    const { target, key } = event;
-    if (event.ctrlKey || event.metaKey || event.altKey) return;
-    if (target.tagName === 'SELECT' || target.type === 'number') return;
+    const { target, key, shiftKey, ctrlKey, metaKey, altKey } = event;
     const act = KEYS[key.length === 1 ? key.toLowerCase() : key];
-    if (!act) return;
+    const isElsewhere = target.tagName === 'SELECT' || target.type === 'number';
+    if (!act || isElsewhere || ctrlKey || metaKey || altKey) return;
     event.preventDefault();
-    act(event.shiftKey ? FAR : 1);
+    act(shiftKey ? FAR : 1);
   });
-
-  element('slider').addEventListener('input', ({ target }) => choose(Number(target.value)));
-  element('number').addEventListener('change', ({ target }) => choose(Number(target.value)));
-  element('paint').addEventListener('change', ({ target }) => {
-    view.paint = target.value;
-    charts.showLegend();
-    charts.draw();
+  document.addEventListener('click', ({ target }) => {
+    const { press, line, frame, page } = target.closest('button')?.dataset ?? {};
+    if (press) KEYS[press](1);
+    else if (line) choose(Number(line));
+    else if (frame) show({ followed: { kind: 'frame', thing: data.frames[frame] } });
+    else if (page) show({ followed: { kind: 'page', thing: data.pages.get(Number(page)) } });
   });
+  const chooseValue = ({ target }) => choose(Number(target.value));
+  element('slider').addEventListener('input', chooseValue);
+  element('number').addEventListener('change', chooseValue);
+  element('paint').addEventListener('change', ({ target }) => show({ paint: target.value }));
 
-  const xOf = (event) => event.clientX - plot.getBoundingClientRect().left;
-  const yOf = (event) => event.clientY - plot.getBoundingClientRect().top;
+  // ---- the pointer
   let grip = null;
-  plot.addEventListener('pointerdown', (event) => { grip = xOf(event); });
-  plot.addEventListener('pointerup', (event) => {
-    const [from, to] = [grip, xOf(event)];
+  plot.addEventListener('pointerdown', ({ offsetX }) => (grip = offsetX));
+  plot.addEventListener('pointerup', ({ offsetX, offsetY }) => {
+    const [from, to] = [Math.min(grip, offsetX), Math.max(grip, offsetX)];
+    const isHeld = grip !== null && charts.axis.isInside(offsetX);
     grip = null;
-    if (from === null || !charts.isInside(to)) return;
-    if (Math.abs(to - from) > DRAG) {
-      zoom(charts.lineAt(Math.min(from, to)), charts.lineAt(Math.max(from, to)));
-      return;
-    }
-    const frame = charts.frameAt(yOf(event));
-    if (frame !== NONE) view.followed = { which: 'frame', number: frame };
-    choose(charts.lineAt(to), true);
+    if (!isHeld) return;
+    if (to - from > DRAG) return zoom(charts.axis.lineAt(from), charts.axis.lineAt(to));
+    const thing = charts.frameAt(offsetY);
+    choose(charts.axis.lineAt(offsetX), thing && { followed: { kind: 'frame', thing } });
   });
-  const turnWheel = (event) => {
+  function turnWheel(event) {
     if (!event.ctrlKey) return;
     event.preventDefault();
-    zoomBy(event.deltaY > 0 ? 1.25 : 0.8, charts.lineAt(xOf(event)));
-  };
+    zoomBy(event.deltaY > 0 ? 1.25 : 0.8, charts.axis.lineAt(event.offsetX));
+  }
   plot.addEventListener('wheel', turnWheel, { passive: false });
 
-  function tipText(line, frame) {
-    const answer = data.answer(line);
-    const said = answer && ' \u2192 ' + answer;
-    const text = `Line ${line}: ${teller.line(line)}${said}`;
-    if (frame !== NONE) return text + `. Frame ${frame}: ` + frameTip(survey.changes.at(frame, line));
-    const events = TRACKS.map(({ one, many }, which) => {
-      const count = survey.sums[which][line] - survey.sums[which][line - 1];
-      return count ? `. ${count} ${count > 1 ? many : one}` : '';
-    });
-    return text + events.join('');
+  const tip = element('tip');
+  function tipText({ number, text, answer }, frame) {
+    const said = `Line ${number}: ${text}${answer && ' \u2192 ' + answer}`;
+    if (!frame) return [said, ...eventsIn(survey, number, number)].join('. ');
+    const { state, owner, isChanged } = frame.after(number);
+    const page = owner ? `, ${owner.name}${isChanged ? ', changed' : ''}` : '';
+    return `${said}. Frame ${frame.name}: ${STATES[state]}${page}`;
   }
-  function frameTip(change) {
-    const { state, owner } = survey.changes;
-    const words = [STATES[state[change] & 7]];
-    if (owner[change] !== NONE) words.push(teller.key(owner[change]));
-    if (owner[change] !== NONE && state[change] & CHANGED) words.push('changed');
-    return words.join(', ');
-  }
-  plot.addEventListener('pointermove', (event) => {
-    const tip = element('tip');
-    tip.hidden = !charts.isInside(xOf(event));
+  plot.addEventListener('pointermove', ({ offsetX, offsetY, clientX, clientY }) => {
+    tip.hidden = !charts.axis.isInside(offsetX);
     if (tip.hidden) return;
-    tip.textContent = tipText(charts.lineAt(xOf(event)), charts.frameAt(yOf(event)));
-    tip.style.left = Math.min(event.clientX + 14, innerWidth - 350) + 'px';
-    tip.style.top = event.clientY + 16 + 'px';
+    tip.textContent = tipText(data.lines[charts.axis.lineAt(offsetX)], charts.frameAt(offsetY));
+    tip.style.left = Math.min(clientX + 14, innerWidth - 350) + 'px';
+    tip.style.top = clientY + 16 + 'px';
   });
-  plot.addEventListener('pointerleave', () => { element('tip').hidden = true; });
+  plot.addEventListener('pointerleave', () => (tip.hidden = true));
 
   // The overview moves the part that is seen.
-  element('overview').addEventListener('pointerdown', (start) => {
-    const slide = (event) => {
-      const left = element('overview').getBoundingClientRect().left;
-      const line = charts.overviewLine(event.clientX - left);
-      const half = (view.last - view.first) / 2;
-      zoom(line - half, line + half);
-    };
-    const stop = () => {
-      removeEventListener('pointermove', slide);
-      removeEventListener('pointerup', stop);
-    };
-    slide(start);
-    addEventListener('pointermove', slide);
-    addEventListener('pointerup', stop);
+  function slide({ buttons, offsetX }) {
+    const half = (view.last - view.first) / 2;
+    const line = charts.whole.lineAt(offsetX);
+    if (buttons) zoom(line - half, line + half);
+  }
+  overview.addEventListener('pointerdown', (event) => {
+    overview.setPointerCapture(event.pointerId);
+    slide(event);
   });
+  overview.addEventListener('pointermove', slide);
 
-  const onPaper = (isOn) => () => {
-    document.documentElement.classList.toggle('paper', isOn);
-    charts.repaint();
-  };
-  addEventListener('resize', charts.repaint);
-  matchMedia('(prefers-color-scheme: dark)').addEventListener('change', charts.repaint);
-  addEventListener('beforeprint', onPaper(true));
-  addEventListener('afterprint', onPaper(false));
-  return { choose, zoom, follow };
+  // ---- light, dark, paper
+  function repaintOnPaper({ type }) {
+    document.documentElement.classList.toggle('paper', type === 'beforeprint');
+    charts.draw();
+  }
+  addEventListener('resize', charts.draw);
+  matchMedia('(prefers-color-scheme: dark)').addEventListener('change', charts.draw);
+  addEventListener('beforeprint', repaintOnPaper);
+  addEventListener('afterprint', repaintOnPaper);
+  return { choose, zoom };
 }

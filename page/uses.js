@@ -1,47 +1,39 @@
-// What the script tells beside the log: uses of pages, ages, threads that wait.
-// One entry: readUses(data). The log has no move for a use of a page that is valid, nor for a
-// thread that waits.
-
-const AGED = -2;
-
-function readUses(data) {
-  const uses = { used: new Int32Array(data.count + 1).fill(NONE), waits: [] };
-  if (!data.hasAges) return uses;
+// What the script tells beside the log: uses of pages, ages, threads that wait. The log has no
+// move for a use of a page that is valid, nor for a thread that waits.
+// One entry: readUses(data) notes in each place the lines that used it and in each line the
+// process whose pages it aged; it gives the lines after which other threads wait, each with those
+// threads in words.
+function readUses({ lines, places, hasAges }) {
   const pending = new Map();
-  for (let line = 1; line <= data.count; line++) {
-    const words = data.script[line - 1].split(' ');
-    const answer = data.answer(line);
-    if (['read', 'write', 'exec'].includes(words[0]) && data.isOk(line)) {
-      uses.used[line] = placeOf(data, words[1], words[2]);
-    } else if (words[0] === 'age' && data.isOk(line)) {
-      uses.used[line] = AGED - Number(words[1]);
-    } else if (words[0] === 'begin' || words[0] === 'resume') {
-      followThread(data, uses, pending, line, words, answer);
-    } else if (words[0] === 'exit' && data.isOk(line)) {
-      const ended = [...pending].filter((wait) => wait[1].pid === Number(words[1]));
-      for (const [thread] of ended) endWait(uses, pending, line, thread);
+  const waits = [];
+  const placeAt = (pid, address) => places.get(idOf(Number(pid), Math.floor(address / 4096)));
+  const note = (place, { number }) => place?.uses.push(number);
+
+  // A thread begins an access or goes on with it: it is done, waits or fails.
+  function followThread(line, [word, thread, pid, ...access]) {
+    if (line.answer === 'busy' || line.answer === 'error 6') return;
+    const text = `thread ${thread}: process ${pid}, ${access.join(' ')}`;
+    if (word === 'begin') pending.set(thread, { pid, place: placeAt(pid, access[1]), text });
+    const wait = pending.get(thread);
+    if (wait && line.isOk) note(wait.place, line);
+    if (wait) wait.answer = line.answer;
+    if (!line.answer.startsWith('pending')) pending.delete(thread);
+  }
+  function endProcess(ended) {
+    for (const [thread, { pid }] of pending) if (pid === ended) pending.delete(thread);
+  }
+  for (const line of hasAges ? lines.slice(1) : []) {
+    const [word, pid, address] = line.text.split(' ', 3);
+    const isThread = word === 'begin' || word === 'resume';
+    if (isThread) followThread(line, line.text.split(' '));
+    if (line.isOk) {
+      if (word === 'read' || word === 'write' || word === 'exec') note(placeAt(pid, address), line);
+      if (word === 'age') line.aged = Number(pid);
+      if (word === 'exit') endProcess(pid);
     }
+    if (!isThread && word !== 'exit') continue;
+    const threads = [...pending.values()].map(({ text, answer }) => `${text}, ${answer}`);
+    waits.push({ line: line.number, threads });
   }
-  return uses;
-}
-function placeOf(data, pid, address) {
-  return data.places.find(Number(pid), Math.floor(Number(address) / 4096));
-}
-function followThread(data, uses, pending, line, words, answer) {
-  const thread = Number(words[1]);
-  if (answer === 'busy' || answer === 'error 6') return;
-  if (words[0] === 'begin') {
-    const pid = Number(words[2]);
-    const text = 'process ' + pid + ', ' + words.slice(3).join(' ');
-    pending.set(thread, { pid, place: placeOf(data, pid, words[4]), text });
-  }
-  const wait = pending.get(thread);
-  if (!wait) return;
-  if (data.isOk(line)) uses.used[line] = wait.place;
-  if (answer.startsWith('pending')) {
-    uses.waits.push({ line, thread, text: wait.text + ', ' + answer });
-  } else endWait(uses, pending, line, thread);
-}
-function endWait(uses, pending, line, thread) {
-  if (pending.delete(thread)) uses.waits.push({ line, thread, text: '' });
+  return waits;
 }

@@ -524,16 +524,22 @@ def island(data, script=None):
     return ''.join(out) + '\n'
 
 
-def safe(lines):
+def safe(line):
     keep = ''.join(chr(c) if 32 <= c < 127 and c not in (38, 60) else '?' for c in range(256))
-    return ''.join(x[:256].translate(keep) + '\n' for x in lines or [])
+    return line[:256].translate(keep)
+
+
+def answer_data(answer):
+    """An answer in the page's data: without `ok` where it begins so, any other behind a tab."""
+    return safe(answer)[2:] if answer.startswith('ok') else '\t' + safe(answer)
 
 
 def do_html(data, page, names):
     script, answers = texts(names)
     page = open(page, encoding='ascii').read()
     islands = {'CLASSES': class_table(), 'MOVES': island(data, script),
-               'SCRIPT': safe(script), 'ANSWERS': safe(answers)}
+               'SCRIPT': ''.join(safe(x) + '\n' for x in script or []),
+               'ANSWERS': ''.join(answer_data(x) + '\n' for x in answers or [])}
     for name, text in islands.items():
         page = page.replace('@%s@' % name, text)
     return page.removesuffix('\n')

@@ -154,8 +154,8 @@ fn put_move_numbers(out: &mut LineBuf, m: &Move)
     }
 }
 
-/// The letter of a line's kind.
-fn kind_code(kind: LineKind) -> u8
+/// The letter of a line's kind, as the data of a page has it.
+pub fn kind_code(kind: LineKind) -> u8
     ensures { result ≡ kind_code kind }
 {
     match kind {

@@ -12,7 +12,7 @@ mod worked;
 
 pub use classes::{Class, Group};
 pub use classing::class_of;
-pub use encoding::{put_mark, put_move, put_number};
+pub use encoding::{kind_code, put_mark, put_move, put_number};
 pub use laws::{
     classes_sum_to_counts, classes_tell_the_state, codes_tell_classes, data_is_plain,
     data_tells_all, moves_have_classes_of_their_word,

@@ -1,4 +1,5 @@
 pub mod Joined
+pub mod Decimals
 pub mod Filling
 pub mod Walking
 pub mod Lowest

@@ -1,5 +1,5 @@
 -- A move's line without its line feed.
-use Rattle.std.proofs.Common.{◌≡◌, ℕ, ◌+◌, ◌-◌, List, [], ◌∷◌, ◌++◌, length, take, refl, sym, ap, ◌∙◌, arith, length-append}
+use Rattle.std.proofs.Common.{◌≡◌, ◌+◌, ◌-◌, [], ◌∷◌, ◌++◌, length, take, refl, ap, ◌∙◌, arith, length-append}
 use Rattle.mm_types.specs.Spelling.{Text}
 use Rattle.mm_types.specs.declared.moves.Move.{Move}
 use Rattle.mm_life.specs.MoveText.{move_text, spelling_of_move}

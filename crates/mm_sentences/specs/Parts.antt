@@ -1,5 +1,7 @@
 -- The parts of a move's condition, in their order.
-use Rattle.std.specs.Prelude.{ℕ, ◌+◌, Bool, true, false, not, ◌&&◌, ◌||◌, nat_le, nat_lt, ◌==◌, is_some, is_none, if◌then◌else◌, List, [], ◌∷◌, length, Option, Some, None, option_map, unwrap_or}
+use Rattle.std.specs.Prelude.{◌+◌, Bool, true, false, not, ◌&&◌, ◌||◌, nat_le, nat_lt, ◌==◌}
+use Rattle.std.specs.Prelude.{is_some, is_none, if◌then◌else◌, List, [], ◌∷◌, length, Option, Some}
+use Rattle.std.specs.Prelude.{None, option_map, unwrap_or}
 use Rattle.mm_types.specs.Machine.{limit_of}
 use Rattle.mm_types.specs.declared.numbers.Block.{Block}
 use Rattle.mm_types.specs.declared.numbers.Frame.{Frame}
@@ -12,10 +14,13 @@ use Rattle.mm_types.specs.declared.moves.Stored.{Stored}
 use Rattle.mm_types.specs.declared.moves.Stored.TheVariants as stored
 use Rattle.mm_types.specs.declared.moves.Move.{Move}
 use Rattle.mm_types.specs.declared.moves.Move.TheVariants as move
-use Rattle.mm_life.specs.Frames.{record_at, is_first, is_empty, is_on, has_request, is_read, is_write, is_again}
+use Rattle.mm_life.specs.Frames.{record_at, is_first, is_empty, is_on, has_request, is_read}
+use Rattle.mm_life.specs.Frames.{is_write, is_again}
 use Rattle.mm_life.specs.Life.{FrameLife, set_of, is_shared, is_live}
-use Rattle.mm_life.specs.Legal.{is_call, is_io, is_access, is_thread, is_unbind, is_writer, is_zeroer, is_touch, touches}
-use Rattle.mm_life.specs.Legal.{is_machine, has_depth, is_zero, is_stored, owner_is, may_copy, is_unmapped, fits_place}
+use Rattle.mm_life.specs.Legal.{is_call, is_io, is_access, is_thread, is_unbind, is_writer}
+use Rattle.mm_life.specs.Legal.{is_zeroer, is_touch, touches}
+use Rattle.mm_life.specs.Legal.{is_machine, has_depth, is_zero, is_stored, owner_is, may_copy}
+use Rattle.mm_life.specs.Legal.{is_unmapped, fits_place}
 use Rattle.mm_life.specs.Legal.{is_below_max, may_unmap, is_block, is_lowest, may_write_block}
 use Rattle.mm_sentences.specs.declared.parts.Part.{Part}
 use Rattle.mm_sentences.specs.declared.parts.Part.TheVariants as part
@@ -25,7 +30,8 @@ use Rattle.mm_sentences.specs.declared.parts.Part.TheVariants as part
 abbrev pub kind_parts : LineKind → List Part
 kind_parts (kind.Machine frames slots depth blocks) =
     part.FirstLine ∷ part.MachineRange (kind.Machine frames slots depth blocks) ∷ []
-kind_parts (kind.Process pid min max) = part.Started ∷ part.NextProcess pid ∷ part.FewProcesses pid ∷ []
+kind_parts (kind.Process pid min max) =
+    part.Started ∷ part.NextProcess pid ∷ part.FewProcesses pid ∷ []
 kind_parts (kind.Grow n) = part.Started ∷ part.SomeSlots n ∷ part.FewSlots n ∷ []
 kind_parts (kind.Unbind pid) = part.Started ∷ []
 kind_parts (kind.Access pid) = part.Started ∷ []
@@ -59,7 +65,8 @@ parts_of (move.Read f k) = part.FirstToRead f ∷ part.OnDevice k ∷ part.Acces
 parts_of (move.Got f) = part.BeingRead f ∷ part.IoOrAccess ∷ []
 parts_of (move.Bad f) = part.BeingRead f ∷ part.IoOrAccess ∷ []
 parts_of (move.Map f p) =
-    part.FitsPlace f p ∷ part.NotBeingRead f ∷ part.NotValid p ∷ part.AccessOf p.pid ∷ part.BelowMax p.pid ∷ []
+    part.FitsPlace f p ∷ part.NotBeingRead f ∷ part.NotValid p ∷ part.AccessOf p.pid
+    ∷ part.BelowMax p.pid ∷ []
 parts_of (move.Unmap p) = part.Valid p ∷ part.MayEnd p ∷ []
 parts_of (move.Soil f) = part.Active f ∷ part.Clean f ∷ part.Access ∷ []
 parts_of (move.Write f s) = write_parts f s
@@ -74,10 +81,13 @@ is_range (kind.Machine frames slots depth blocks) =
 is_range _ = true
 
 abbrev pub is_clean : Record → Bool
-is_clean r = (not r.changed && not (has_request r.request)) || (is_write r.request && not (is_again r.request))
+is_clean r =
+    (not r.changed && not (has_request r.request))
+    || (is_write r.request && not (is_again r.request))
 
 abbrev pub may_end : FrameLife → Place → Bool
-may_end l place = unwrap_or (option_map (λ f. may_unmap l place (record_at l.frames f.0)) (l.valid place)) false
+may_end l place =
+    unwrap_or (option_map (λ f. may_unmap l place (record_at l.frames f.0)) (l.valid place)) false
 
 abbrev pub holds : FrameLife → Part → Bool
 holds l (part.NextLine n) = n == l.line + 1
@@ -107,7 +117,8 @@ holds l part.FreeEmpty = is_empty l.frames.free
 holds l part.Access = is_touch l.kind
 holds l (part.FirstZeroed f) = is_first f.0 l.frames.zeroed
 holds l (part.DemandZero k) = is_zero (l.stands k)
-holds l (part.FirstToRead f) = is_first f.0 l.frames.free || (is_empty l.frames.free && is_first f.0 l.frames.zeroed)
+holds l (part.FirstToRead f) =
+    is_first f.0 l.frames.free || (is_empty l.frames.free && is_first f.0 l.frames.zeroed)
 holds l (part.OnDevice k) = is_stored (l.stands k)
 holds l part.AccessReads = is_access l.kind || (is_thread l.kind && has_depth l)
 holds l (part.BeingRead f) = is_read (record_at l.frames f.0).request

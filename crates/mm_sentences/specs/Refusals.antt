@@ -1,5 +1,7 @@
--- Why a move is not legal, in words: a text for each part of its condition, with what there is in its place.
-use Rattle.std.specs.Prelude.{ℕ, ◌+◌, Bool, true, false, if◌then◌else◌, List, [], ◌∷◌, ◌++◌, length, codes, Option, Some, None}
+-- Why a move is not legal, in words: a text for each part of its condition, with what there is in
+-- its place.
+use Rattle.std.specs.Prelude.{ℕ, ◌+◌, Bool, true, false, if◌then◌else◌, List, [], ◌∷◌, ◌++◌}
+use Rattle.std.specs.Prelude.{length, codes, Option, Some, None}
 use Rattle.mm_types.specs.Spelling.{Text, decimal}
 use Rattle.mm_types.specs.Machine.{limit_of}
 use Rattle.mm_types.specs.declared.numbers.Frame.{Frame}
@@ -7,8 +9,6 @@ use Rattle.mm_types.specs.declared.numbers.Key.{Key}
 use Rattle.mm_types.specs.declared.numbers.Place.{Place}
 use Rattle.mm_types.specs.declared.frames.Held.{Held}
 use Rattle.mm_types.specs.declared.frames.Held.TheVariants as held
-use Rattle.mm_types.specs.declared.frames.Record.{Record}
-use Rattle.mm_types.specs.declared.moves.LineKind.{LineKind}
 use Rattle.mm_types.specs.declared.moves.Move.{Move}
 use Rattle.std.specs.Prelude.{slice_index_or}
 use Rattle.mm_life.specs.declared.sets.ResidentSet.{ResidentSet}
@@ -35,7 +35,8 @@ counted front n = front ++ decimal n
 
 -- `line 4 (access 1)`, and what it is not
 abbrev pub line_is : FrameLife → Text → Text
-line_is l behind = about (codes "line ") l.line (codes " (" ++ (kind_text l.kind ++ (codes ")" ++ behind)))
+line_is l behind =
+    about (codes "line ") l.line (codes " (" ++ (kind_text l.kind ++ (codes ")" ++ behind)))
 
 abbrev pub frame_is : Frame → Text → Text
 frame_is f behind = about (codes "frame ") f.0 behind
@@ -60,14 +61,17 @@ first_is name (f ∷ fs) = counted (codes "; the first is ") f
 
 -- `frame 0 is not the first free frame; free: none`
 abbrev pub not_first : Text → List ℕ → Frame → Text
-not_first name frames f = frame_is f (codes " is not the first " ++ (name ++ (codes " frame" ++ first_is name frames)))
+not_first name frames f =
+    frame_is f (codes " is not the first " ++ (name ++ (codes " frame" ++ first_is name frames)))
 
 -- `zeroed is not empty; the first is 3`
 abbrev pub not_empty : Text → List ℕ → Text
 not_empty name frames = name ++ (codes " is not empty" ++ first_is name frames)
 
 abbrev pub depth_is : FrameLife → Text
-depth_is l = decimal (length l.flight) ++ counted (codes " requests are in flight, and the depth is ") l.machine.depth
+depth_is l =
+    decimal (length l.flight)
+    ++ counted (codes " requests are in flight, and the depth is ") l.machine.depth
 
 abbrev pub stands_in : Key → Held → Text
 stands_in k (held.Frame f) = page_is k (counted (codes " is in frame ") f.0)
@@ -78,7 +82,8 @@ stands_in k held.Dead = codes "there is no " ++ page_is k []
 
 -- where a page is valid, by where it stands
 abbrev pub mapped_at : FrameLife → Key → Held → Text
-mapped_at l k (held.Frame f) = page_is k (about (codes " is valid at ") (record_at l.frames f.0).shares (codes " places"))
+mapped_at l k (held.Frame f) =
+    page_is k (about (codes " is valid at ") (record_at l.frames f.0).shares (codes " places"))
 mapped_at l k (held.Slot s) = []
 mapped_at l k (held.Block b) = []
 mapped_at l k held.Zero = []
@@ -86,15 +91,18 @@ mapped_at l k held.Dead = []
 
 abbrev pub holds_what : Frame → Place → Option Key → Text
 holds_what f p None = frame_is f (codes " holds no page")
-holds_what f p (Some k) = frame_is f (codes " holds " ++ page_is k (codes ", no page of " ++ place_onto p []))
+holds_what f p (Some k) =
+    frame_is f (codes " holds " ++ page_is k (codes ", no page of " ++ place_onto p []))
 
 -- how many pages are in a working set, against one of its two limits
 abbrev pub pages_are : Text → ℕ → ℕ → Text
 pages_are name resident limit =
-    about (codes " has ") resident (codes " pages, and its " ++ (name ++ counted (codes " is ") limit))
+    about (codes " has ") resident
+    (codes " pages, and its " ++ (name ++ counted (codes " is ") limit))
 
 abbrev pub set_is : Text → ℕ → ℕ → ℕ → Text
-set_is name pid resident limit = about (codes "the working set of process ") pid (pages_are name resident limit)
+set_is name pid resident limit =
+    about (codes "the working set of process ") pid (pages_are name resident limit)
 
 abbrev pub no_process : ℕ → Text
 no_process pid = counted (codes "there is no process ") pid
@@ -116,7 +124,8 @@ keeps_place l pid =
     else line_is l (counted (codes " ends no place of process ") pid)
 
 abbrev pub no_paging : FrameLife → Key → Text
-no_paging l k = if is_live l k then page_is k (codes " is a file's") else codes "there is no " ++ page_is k []
+no_paging l k =
+    if is_live l k then page_is k (codes " is a file's") else codes "there is no " ++ page_is k []
 
 abbrev pub request_is : Bool → Text
 request_is true = codes " is being read"
@@ -132,7 +141,8 @@ not_modified f = frame_is f (codes " is not on the modified list")
 abbrev pub keeps_block : FrameLife → Frame → Text
 keeps_block l f =
     if is_access l.kind then not_modified f
-    else if is_writer l.kind then (if is_on f.0 l.frames.modified then depth_is l else not_modified f)
+    else if is_writer l.kind
+    then (if is_on f.0 l.frames.modified then depth_is l else not_modified f)
     else line_is l (codes " is no access, no writer and no call")
 
 -- ---- each part
@@ -148,7 +158,8 @@ part_text l (part.FewProcesses pid) = codes "there are at most 64 processes"
 part_text l (part.SomeSlots n) = codes "it grows by no slot"
 part_text l (part.FewSlots n) = codes "there are at most 262144 slots"
 part_text l (part.NotLive k) = page_is k (codes " is there already")
-part_text l part.Commit = about (codes "the commit limit of ") (limit_of l.machine) (codes " pages is reached")
+part_text l part.Commit =
+    about (codes "the commit limit of ") (limit_of l.machine) (codes " pages is reached")
 part_text l (part.CallOrCopy k) = line_is l (codes " is no call, and makes no copy of a page")
 part_text l part.Call = line_is l (codes " is no call")
 part_text l (part.OfSection k) = page_is k (codes " is no page of a file")
@@ -168,10 +179,12 @@ part_text l part.Access = line_is l (codes " is no access")
 part_text l (part.FirstZeroed f) = not_first (codes "zeroed") l.frames.zeroed f
 part_text l (part.DemandZero k) = stands_in k (l.stands k)
 part_text l (part.FirstToRead f) =
-    if is_empty l.frames.free then codes "free is empty, and " ++ not_first (codes "zeroed") l.frames.zeroed f
+    if is_empty l.frames.free
+    then codes "free is empty, and " ++ not_first (codes "zeroed") l.frames.zeroed f
     else not_first (codes "free") l.frames.free f
 part_text l (part.OnDevice k) = stands_in k (l.stands k)
-part_text l part.AccessReads = if is_thread l.kind then depth_is l else line_is l (codes " is no access")
+part_text l part.AccessReads =
+    if is_thread l.kind then depth_is l else line_is l (codes " is no access")
 part_text l (part.BeingRead f) = frame_is f (codes " is not being read")
 part_text l part.IoOrAccess = line_is l (codes " is no io and no access")
 part_text l (part.FitsPlace f p) = holds_what f p (record_at l.frames f.0).owner
@@ -185,8 +198,10 @@ part_text l (part.Active f) = frame_is f (codes " is valid nowhere")
 part_text l (part.Clean f) = frame_is f (codes " is changed already")
 part_text l (part.OnModified f) = not_modified f
 part_text l (part.HoldsPaging f) = frame_is f (codes " holds no page of the paging file")
-part_text l (part.LowestSlot s) = about (codes "slot ") s.0 (not_lowest (slice_index_or l.free_slots s.0 false))
-part_text l part.WritesSlot = if is_writer l.kind then depth_is l else line_is l (codes " is no access and no writer")
+part_text l (part.LowestSlot s) =
+    about (codes "slot ") s.0 (not_lowest (slice_index_or l.free_slots s.0 false))
+part_text l part.WritesSlot =
+    if is_writer l.kind then depth_is l else line_is l (codes " is no access and no writer")
 part_text l (part.Changed f) = frame_is f (codes " is not changed")
 part_text l (part.Owned f) = frame_is f (codes " holds no page")
 part_text l (part.Quiet f) = frame_is f (request_is (is_read (record_at l.frames f.0).request))
@@ -203,6 +218,7 @@ text_of l (Some p) = part_text l p
 abbrev pub refusal_text : FrameLife → Move → Text
 refusal_text l m = text_of l (refusal l m)
 
--- `: give 0 p1.16: frame 0 is not the first zeroed frame; zeroed: none`, behind the number of its line
+-- `: give 0 p1.16: frame 0 is not the first zeroed frame; zeroed: none`, behind the number of its
+-- line
 abbrev pub why_text : FrameLife → Move → Text
 why_text l m = codes ": " ++ (move_text m ++ (codes ": " ++ refusal_text l m))

@@ -1,5 +1,6 @@
 -- A move in words: the sentence of its class, with its names filled in.
-use Rattle.std.specs.Prelude.{ℕ, Bool, ◌==◌, bytes_eq, if◌then◌else◌, [], ◌∷◌, ◌++◌, codes, Option, Some, None}
+use Rattle.std.specs.Prelude.{Bool, ◌==◌, bytes_eq, if◌then◌else◌, [], ◌∷◌, ◌++◌, codes, Option}
+use Rattle.std.specs.Prelude.{Some, None}
 use Rattle.mm_types.specs.Spelling.{Text, decimal}
 use Rattle.mm_types.specs.declared.numbers.Block.{Block}
 use Rattle.mm_types.specs.declared.numbers.Frame.{Frame}
@@ -103,8 +104,8 @@ value_text addressed x after name =
 
 -- ---- a sentence
 
--- The text from a place on, where `piece` stands between the last brace and that place. What stands before an opening
--- brace or the end stays; what stands before a closing one is a name.
+-- The text from a place on, where `piece` stands between the last brace and that place. What stands
+-- before an opening brace or the end stays; what stands before a closing one is a name.
 abbrev pub filled : (Text → Text) → Text → Text → Text
 filled value piece [] = piece
 filled value piece (c ∷ cs) =

@@ -1,5 +1,6 @@
 -- What a page frame is, in words.
-use Rattle.std.specs.Prelude.{ℕ, Bool, true, false, nat_lt, if◌then◌else◌, is_some, ◌++◌, codes, Option, Some, None}
+use Rattle.std.specs.Prelude.{ℕ, Bool, true, false, nat_lt, if◌then◌else◌, is_some, ◌++◌, codes}
+use Rattle.std.specs.Prelude.{Option, Some, None}
 use Rattle.mm_types.specs.Spelling.{Text, decimal}
 use Rattle.mm_types.specs.declared.numbers.Key.{Key}
 use Rattle.mm_types.specs.declared.frames.Record.{Record}
@@ -15,8 +16,8 @@ use Rattle.mm_sentences.specs.Words.{key_text}
 
 -- ---- its state
 
--- the list of a frame that is not valid anywhere and has no request: with a page it is on modified or standby, without
--- one on zeroed or free
+-- the list of a frame that is not valid anywhere and has no request: with a page it is on modified
+-- or standby, without one on zeroed or free
 abbrev pub list_of : FrameTable → ℕ → Record → FrameState
 list_of d f r =
     if is_some r.owner then (if is_on f d.modified then state.Modified else state.Standby)
@@ -65,11 +66,13 @@ request_text request.WriteAgain = codes "being written, changed since"
 abbrev pub listed : Text → Text
 listed text = text ++ codes ", "
 
--- the state, the page, whether it is changed, its copy on a device, the places where it is valid, and its request
+-- the state, the page, whether it is changed, its copy on a device, the places where it is valid,
+-- and its request
 abbrev pub row_of : FrameState → Record → Text
 row_of s r =
     listed (state_text s) ++ (listed (owner_text r.owner) ++ (listed (changed_text r.changed)
-    ++ (listed (copy_text r.backing) ++ (listed (decimal r.shares ++ codes " places") ++ request_text r.request))))
+    ++ (listed (copy_text r.backing) ++ (listed (decimal r.shares ++ codes " places")
+    ++ request_text r.request))))
 
 -- `active, p1.17, changed, no copy, 1 places, no I/O`
 abbrev pub frame_row : FrameLife → ℕ → Text

@@ -18,7 +18,8 @@ pub struct Facts {
     pub place: Option<Place>,
     /// The block of a file's page that comes to be.
     pub block: Option<Block>,
-    /// Where the page is read from or written to, or else where its copy on a device stands; `Zero` where it has none.
+    /// Where the page is read from or written to, or else where its copy on a device stands; `Zero`
+    /// where it has none.
     pub home: Held,
     /// The page's slot, if it has one.
     pub slot: Option<Slot>,

@@ -1,5 +1,6 @@
 ghost use Rattle.std.specs.Prelude.{◌≡◌};
-ghost use Rattle.mm_life.specs.Legal.{is_call, is_access, is_thread, is_touch, is_unbind, is_writer};
+ghost use Rattle.mm_life.specs.Legal.{is_call, is_access, is_thread, is_touch, is_unbind};
+ghost use Rattle.mm_life.specs.Legal.{is_writer};
 ghost use Rattle.mm_life.specs.Legal.{touches, trims};
 
 use mm_types::{LineKind, Pid};

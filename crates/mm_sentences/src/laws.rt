@@ -10,5 +10,6 @@ ghost use Rattle.mm_sentences.specs.declared.parts.Part.{Part};
 #[tactic(auto, using(crate::proofs::Legally::parted))]
 pub fn parts_make_the_condition()
     ensures whole { (l : FrameLife) (m : Move) → is_legal l m ≡ all_hold l (parts_of m) }
-    ensures fails { (l : FrameLife) (m : Move) (p : Part) → refusal l m ≡ Some p → holds l p ≡ false }
+    ensures fails { (l : FrameLife) (m : Move) (p : Part) → refusal l m ≡ Some p
+        → holds l p ≡ false }
 {}

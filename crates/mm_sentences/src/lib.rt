@@ -1,5 +1,5 @@
-//! A move of page frames in words: what it does, the state of its frame before and after it, and why a move that is
-//! not legal is none.
+//! A move of page frames in words: what it does, the state of its frame before and after it, and
+//! why a move that is not legal is none.
 #![tactic(auto)]
 
 mod facts;
@@ -18,5 +18,5 @@ pub use parts::Part;
 pub use reasons::{put_refusal, put_why};
 pub use refusals::refusal;
 pub use sentences::put_sentence;
-pub use states::{FrameState, put_frame_row, put_state, state_of};
+pub use states::{FrameState, has_request, is_read, put_frame_row, put_row, put_state, state_of};
 pub use words::{put_key, put_kind, put_number, put_place, put_words};

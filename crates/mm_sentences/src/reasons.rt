@@ -5,10 +5,13 @@ ghost use Rattle.mm_moves.specs.Looking.{frames_on};
 ghost use Rattle.mm_life.specs.Frames.{is_read};
 ghost use Rattle.mm_life.specs.Life.{set_of};
 ghost use Rattle.mm_life.specs.MoveText.{move_text, place_onto};
-ghost use Rattle.mm_sentences.specs.Refusals.{name_of, about, counted, line_is, frame_is, page_is, place_is};
+ghost use Rattle.mm_sentences.specs.Refusals.{name_of, about, counted, line_is, frame_is, page_is};
+ghost use Rattle.mm_sentences.specs.Refusals.{place_is};
 ghost use Rattle.mm_sentences.specs.Refusals.{first_is, not_first, not_empty, depth_is, stands_in};
-ghost use Rattle.mm_sentences.specs.Refusals.{mapped_at, holds_what, pages_are, set_is, no_process, at_max};
-ghost use Rattle.mm_sentences.specs.Refusals.{at_min, keeps_place, no_paging, request_is, not_lowest};
+ghost use Rattle.mm_sentences.specs.Refusals.{mapped_at, holds_what, pages_are, set_is, no_process};
+ghost use Rattle.mm_sentences.specs.Refusals.{at_max};
+ghost use Rattle.mm_sentences.specs.Refusals.{at_min, keeps_place, no_paging, request_is};
+ghost use Rattle.mm_sentences.specs.Refusals.{not_lowest};
 ghost use Rattle.mm_sentences.specs.Refusals.{not_modified, keeps_block, part_text, text_of};
 ghost use Rattle.mm_sentences.specs.Refusals.{refusal_text, why_text};
 ghost use Rattle.mm_sentences.specs.declared.parts.Part.TheVariants as part;
@@ -47,7 +50,8 @@ fn put_counted(front: &[u8], n: u64, text: &mut Vec<u8>) -> Result<(), NoMemory>
 /// Writes the line, and what it is not.
 #[tactic(auto, using(crate::proofs::Joined::joined))]
 fn put_line_is(life: &Life, behind: &[u8], text: &mut Vec<u8>) -> Result<(), NoMemory>
-    ensures { OnOk result (text.new.items ≡ text.old.items ++ line_is (life_of life.now) behind.now) }
+    ensures { OnOk result (text.new.items ≡ text.old.items
+        ++ line_is (life_of life.now) behind.now) }
 {
     put_about(b"line ", u64::from(life.line()), b" (", text)?;
     put_kind(life.kind(), text)?;
@@ -244,7 +248,8 @@ fn put_stands(key: Key, held: Held, text: &mut Vec<u8>) -> Result<(), NoMemory>
 /// Writes at how many places a page is valid.
 #[tactic(auto, using(crate::proofs::Joined::joined))]
 fn put_mapped(life: &Life, key: Key, held: Held, text: &mut Vec<u8>) -> Result<(), NoMemory>
-    ensures { OnOk result (text.new.items ≡ text.old.items ++ mapped_at (life_of life.now) key held) }
+    ensures { OnOk result (text.new.items ≡ text.old.items
+        ++ mapped_at (life_of life.now) key held) }
 {
     match held {
         Held::Frame(frame) => {
@@ -285,7 +290,8 @@ fn put_frame_page(
 /// Writes a frame, words and a number.
 #[tactic(auto, using(crate::proofs::Joined::joined))]
 fn put_frame_counted(frame: Frame, words: &[u8], n: u32, text: &mut Vec<u8>) -> Result<(), NoMemory>
-    ensures { OnOk result (text.new.items ≡ text.old.items ++ frame_is frame (counted words.now n)) }
+    ensures { OnOk result (text.new.items ≡ text.old.items
+        ++ frame_is frame (counted words.now n)) }
 {
     put_frame_is(frame, words, text)?;
     put_number(u64::from(n), text)
@@ -383,7 +389,8 @@ fn put_set_is(
     limit: u32,
     text: &mut Vec<u8>,
 ) -> Result<(), NoMemory>
-    ensures { OnOk result (text.new.items ≡ text.old.items ++ set_is name.now pid.0 resident limit) }
+    ensures { OnOk result (text.new.items ≡ text.old.items
+        ++ set_is name.now pid.0 resident limit) }
 {
     put_set_of(
         b"the working set of process ",
@@ -421,7 +428,8 @@ fn put_at_min(pid: Pid, set: Option<ResidentSet>, text: &mut Vec<u8>) -> Result<
 
 /// Writes why the line does not end a place of a process.
 fn put_keeps_place(life: &Life, pid: Pid, text: &mut Vec<u8>) -> Result<(), NoMemory>
-    ensures { OnOk result (text.new.items ≡ text.old.items ++ keeps_place (life_of life.now) pid.0) }
+    ensures { OnOk result (text.new.items ≡ text.old.items
+        ++ keeps_place (life_of life.now) pid.0) }
 {
     let kind = life.kind();
     if trims(pid, kind) {
@@ -480,7 +488,8 @@ fn put_not_modified(frame: Frame, text: &mut Vec<u8>) -> Result<(), NoMemory>
 
 /// Writes why the line does not write a frame to a block.
 fn put_keeps_block(life: &Life, frame: Frame, text: &mut Vec<u8>) -> Result<(), NoMemory>
-    ensures { OnOk result (text.new.items ≡ text.old.items ++ keeps_block (life_of life.now) frame) }
+    ensures { OnOk result (text.new.items ≡ text.old.items
+        ++ keeps_block (life_of life.now) frame) }
 {
     if is_access(life.kind()) {
         return put_not_modified(frame, text);
@@ -497,7 +506,8 @@ fn put_keeps_block(life: &Life, frame: Frame, text: &mut Vec<u8>) -> Result<(), 
 
 /// Writes why a frame is not cleared.
 fn put_not_zeroing(life: &Life, text: &mut Vec<u8>) -> Result<(), NoMemory>
-    ensures { OnOk result (text.new.items ≡ text.old.items ++ part_text (life_of life.now) part.Zeroes) }
+    ensures { OnOk result (text.new.items ≡ text.old.items
+        ++ part_text (life_of life.now) part.Zeroes) }
 {
     if is_touch(life.kind()) {
         put_not_empty(life, FrameList::Zeroed, text)
@@ -654,10 +664,12 @@ fn put_part(life: &Life, part: Part, text: &mut Vec<u8>) -> Result<(), NoMemory>
     }
 }
 
-/// Writes why a move is not legal in this state: which part of its condition fails first. Nothing where it is legal.
+/// Writes why a move is not legal in this state: which part of its condition fails first. Nothing
+/// where it is legal.
 #[tactic(auto, using(crate::proofs::Joined::joined))]
 pub fn put_refusal(life: &Life, m: &Move, text: &mut Vec<u8>) -> Result<(), NoMemory>
-    ensures { OnOk result (text.new.items ≡ text.old.items ++ refusal_text (life_of life.now) m.now) }
+    ensures { OnOk result (text.new.items ≡ text.old.items
+        ++ refusal_text (life_of life.now) m.now) }
 {
     match refusal(life, m) {
         Some(part) => put_part(life, part, text),
@@ -676,7 +688,8 @@ fn put_move(m: &Move, text: &mut Vec<u8>) -> Result<(), NoMemory>
     put_words(&line.as_slice()[..end], text)
 }
 
-/// Writes what stands behind the number of a line that spells a move that is not legal in this state: the move, and why.
+/// Writes what stands behind the number of a line that spells a move that is not legal in this
+/// state: the move, and why.
 #[tactic(auto, using(crate::proofs::Joined::joined))]
 pub fn put_why(life: &Life, m: &Move, text: &mut Vec<u8>) -> Result<(), NoMemory>
     ensures { OnOk result (text.new.items ≡ text.old.items ++ why_text (life_of life.now) m.now) }

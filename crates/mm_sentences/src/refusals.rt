@@ -2,7 +2,8 @@ ghost use Rattle.std.specs.Prelude.{◌≡◌, ◌∷◌, ◌++◌, [], true, fa
 ghost use Rattle.mm_types.specs.declared.moves.Move.TheVariants as move;
 ghost use Rattle.mm_types.specs.Machine.{limit_of};
 ghost use Rattle.mm_life.specs.Frames.{is_first, is_write, is_again};
-ghost use Rattle.mm_life.specs.Legal.{is_zero, is_stored, owner_is, fits_place, is_block, is_lowest};
+ghost use Rattle.mm_life.specs.Legal.{is_zero, is_stored, owner_is, fits_place, is_block};
+ghost use Rattle.mm_life.specs.Legal.{is_lowest};
 ghost use Rattle.mm_life.specs.Legal.{is_legal};
 ghost use Rattle.mm_life.specs.Life.{is_shared};
 ghost use Rattle.mm_moves.specs.Looking.{frames_on};
@@ -432,8 +433,9 @@ fn first_refused(life: &Life, m: &Move) -> Option<Part>
     }
 }
 
-/// The first part of a move's condition that fails, in the order of the rules; `None` exactly where the move is legal.
-/// Takes constant time, but for a slot to write to, below which each is looked at.
+/// The first part of a move's condition that fails, in the order of the rules; `None` exactly where
+/// the move is legal. Takes constant time, but for a slot to write to, below which each is looked
+/// at.
 #[tactic(auto, using(crate::proofs::Legally::exact))]
 pub fn refusal(life: &Life, m: &Move) -> Option<Part>
     ensures refusal { result ≡ refusal (life_of life.now) m.now }

@@ -1,6 +1,6 @@
 ghost use Rattle.std.specs.Prelude.{◌≡◌, ◌≤◌, ◌<◌, ◌+◌, ◌++◌, [], OnOk, IfOk, codes, length, drop};
 ghost use Rattle.std.specs.Prelude.{slice_range};
-ghost use Rattle.mm_types.specs.Spelling.{decimal};
+ghost use Rattle.mm_types.specs.Spelling.{Text, decimal};
 ghost use Rattle.mm_moves.specs.Standing.{life as life_of};
 ghost use Rattle.mm_sentences.specs.Sentences.{page_text, frame_text, at_text, process_text};
 ghost use Rattle.mm_sentences.specs.Sentences.{block_text, home_text, unslot_text, freed_slot};
@@ -195,8 +195,55 @@ fn put_value(
 
 // ---- a sentence
 
-/// Goes one byte on in a sentence, where what stands from `start` to it was not written. Answers where what is not
-/// written begins then.
+/// Where the next byte stands that may be a brace, from here on: none of the bytes before it is
+/// one, since a brace comes behind all letters. Four bytes a turn, then the last ones.
+#[tactic(auto, using(crate::proofs::Filling::letters))]
+fn letters_from(sentence: &[u8], start: usize, from: usize) -> usize
+    requires order { start ≤ from }
+    requires within { from ≤ length sentence.now }
+    ensures order { from ≤ result }
+    ensures within { result ≤ length sentence.now }
+    ensures kept { (value : Text → Text)
+        → filled value (slice_range sentence.now start from) (drop from sentence.now)
+        ≡ filled value (slice_range sentence.now start result) (drop result sentence.now) }
+{
+    let mut at = from;
+    'fours: while sentence.len() - at >= 4 {
+        if sentence[at] >= b'{' {
+            return at;
+        }
+        if sentence[at + 1] >= b'{' {
+            return at + 1;
+        }
+        if sentence[at + 2] >= b'{' {
+            return at + 2;
+        }
+        if sentence[at + 3] >= b'{' {
+            return at + 3;
+        }
+        at += 4;
+    }
+    'last: while at < sentence.len() && sentence[at] < b'{' {
+        at += 1;
+    }
+    at
+}
+
+/// Writes what stands from a place up to another, if it is anything.
+fn put_run(sentence: &[u8], start: usize, end: usize, text: &mut Vec<u8>) -> Result<(), NoMemory>
+    requires order { start ≤ end }
+    requires within { end ≤ length sentence.now }
+    ensures { OnOk result (text.new.items
+        ≡ text.old.items ++ slice_range sentence.now start end) }
+{
+    if start == end {
+        return Ok(());
+    }
+    put_words(&sentence[start..end], text)
+}
+
+/// Goes one byte on in a sentence, where what stands from `start` to it was not written. Answers
+/// where what is not written begins then.
 #[tactic(auto, using(crate::proofs::Filling::steps))]
 fn put_piece(
     sentence: &[u8],
@@ -217,7 +264,7 @@ fn put_piece(
         (slice_range sentence.now start at) (drop at sentence.now)) }
 {
     if sentence[at] == b'{' {
-        put_words(&sentence[start..at], text)?;
+        put_run(sentence, start, at, text)?;
         return Ok(at + 1);
     }
     if sentence[at] == b'}' {
@@ -240,17 +287,17 @@ fn put_filled(
         ++ filled (value_text addressed facts.now (life_of after.now)) [] sentence.now) }
 {
     let mut start = 0;
-    for i in 0..sentence.len() {
-        match put_piece(sentence, start, i, addressed, facts, after, text) {
-            Ok(next) => start = next,
-            Err(NoMemory) => return Err(NoMemory),
-        }
+    let mut at = letters_from(sentence, 0, 0);
+    'pieces: while at < sentence.len() {
+        start = put_piece(sentence, start, at, addressed, facts, after, text)?;
+        at = letters_from(sentence, start, at + 1);
     }
-    put_words(&sentence[start..], text)
+    put_run(sentence, start, at, text)
 }
 
-/// Writes a move in words, without a line feed: the sentence of its class, with the facts from the state before it.
-/// `after` is the state after it. With `addressed` an address stands behind each place.
+/// Writes a move in words, without a line feed: the sentence of its class, with the facts from the
+/// state before it. `after` is the state after it. With `addressed` an address stands behind each
+/// place.
 pub fn put_sentence(
     class: Class,
     facts: &Facts,

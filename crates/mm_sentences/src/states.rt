@@ -22,7 +22,8 @@ pub enum FrameState {
     Modified,
 }
 
-pub(crate) fn is_read(request: Request) -> bool
+/// Whether a frame is being read.
+pub fn is_read(request: Request) -> bool
     ensures { result ≡ is_read request }
 {
     match request {
@@ -31,7 +32,8 @@ pub(crate) fn is_read(request: Request) -> bool
     }
 }
 
-pub(crate) fn has_request(request: Request) -> bool
+/// Whether a frame is being read or written.
+pub fn has_request(request: Request) -> bool
     ensures { result ≡ has_request request }
 {
     match request {
@@ -90,8 +92,8 @@ fn state_by(life: &Life, frame: Frame, r: &Record) -> FrameState
     }
 }
 
-/// The state of a frame. Takes constant time, but for a frame without a page and without a request, which is sought
-/// on the zeroed list.
+/// The state of a frame. Takes constant time, but for a frame without a page and without a request,
+/// which is sought on the zeroed list.
 pub fn state_of(life: &Life, frame: Frame) -> FrameState
     ensures { result ≡ state_of (life_of life.now) frame.0 }
 {
@@ -191,17 +193,20 @@ fn put_row_back(r: &Record, text: &mut Vec<u8>) -> Result<(), NoMemory>
     put_words(request_text(r.request), text)
 }
 
+/// Writes what is known of a frame in this state, without a line feed: `active, p1.17, changed, no
+/// copy, 1 places, no I/O`.
 #[tactic(auto, using(crate::proofs::Joined::joined))]
-fn put_row(state: FrameState, r: &Record, text: &mut Vec<u8>) -> Result<(), NoMemory>
+pub fn put_row(state: FrameState, r: &Record, text: &mut Vec<u8>) -> Result<(), NoMemory>
     ensures { OnOk result (text.new.items ≡ text.old.items ++ row_of state r.now) }
 {
     put_row_front(state, r, text)?;
     put_row_back(r, text)
 }
 
-/// Writes what is known of a frame, without a line feed: `active, p1.17, changed, no copy, 1 places, no I/O`.
+/// Writes what is known of a frame, without a line feed.
 pub fn put_frame_row(life: &Life, frame: Frame, text: &mut Vec<u8>) -> Result<(), NoMemory>
-    ensures { OnOk result (text.new.items ≡ text.old.items ++ frame_row (life_of life.now) frame.0) }
+    ensures { OnOk result (text.new.items ≡ text.old.items
+        ++ frame_row (life_of life.now) frame.0) }
 {
     put_row(state_of(life, frame), &life.record(frame), text)
 }

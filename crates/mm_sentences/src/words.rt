@@ -1,12 +1,13 @@
-ghost use Rattle.std.specs.Prelude.{◌≡◌, ◌<◌, ◌^◌, ◌++◌, [], OnOk, codes};
-ghost use Rattle.mm_types.specs.Spelling.{decimal};
+ghost use Rattle.std.specs.Prelude.{◌≡◌, ◌<◌, ◌^◌, ◌++◌, ◌∷◌, [], OnOk, codes};
+ghost use Rattle.mm_types.specs.Spelling.{decimal, glyph};
 ghost use Rattle.mm_life.specs.MoveText.{numbered, kind_onto};
 ghost use Rattle.mm_text.specs.Shortest.{hex_short};
 ghost use Rattle.mm_life.specs.MoveText.{place_onto};
-ghost use Rattle.mm_sentences.specs.Words.{key_text, kind_text, address_text, addressed, place_text};
+ghost use Rattle.mm_sentences.specs.Words.{key_text, kind_text, address_text, addressed};
+ghost use Rattle.mm_sentences.specs.Words.{place_text};
 ghost use Rattle.mm_types.specs.declared.moves.LineKind.TheVariants as kind_of;
 
-use mm_text::{LineBuf, put_decimal, put_hex_short};
+use mm_text::{LineBuf, put_hex_short};
 use mm_types::{Key, LineKind, NoMemory, Pid, Place, Vpn};
 
 /// Writes some words.
@@ -17,36 +18,56 @@ pub fn put_words(words: &[u8], text: &mut Vec<u8>) -> Result<(), NoMemory>
     Ok(())
 }
 
-/// Writes a number in decimal.
-#[tactic(auto, using(crate::proofs::Joined::joined))]
-pub fn put_number(n: u64, text: &mut Vec<u8>) -> Result<(), NoMemory>
-    ensures { OnOk result (text.new.items ≡ text.old.items ++ decimal n) }
+/// Writes a digit below 10.
+fn put_digit(digit: u8, text: &mut Vec<u8>) -> Result<(), NoMemory>
+    requires { digit < 10 }
+    ensures { OnOk result (text.new.items ≡ text.old.items ++ glyph digit ∷ []) }
 {
-    let mut line = LineBuf::new();
-    put_decimal(&mut line, n);
-    text.extend_from_slice(line.as_slice())?;
+    text.push(b'0' + digit)?;
     Ok(())
 }
 
-/// Writes a letter, two numbers, and a point between them.
-#[tactic(auto, using(crate::proofs::Joined::joined))]
-fn put_pair(letter: &[u8], first: u32, second: u32, text: &mut Vec<u8>) -> Result<(), NoMemory>
-    ensures { OnOk result (text.new.items ≡ text.old.items
-        ++ numbered letter.now first (numbered (codes ".") second [])) }
+/// Writes a number in decimal. Most have one or two digits, and each goes straight into the text.
+#[tactic(auto, using(crate::proofs::Decimals::decimals))]
+pub fn put_number(n: u64, text: &mut Vec<u8>) -> Result<(), NoMemory>
+    ensures { OnOk result (text.new.items ≡ text.old.items ++ decimal n) }
 {
-    put_words(letter, text)?;
+    if n < 10 {
+        return put_digit(n as u8, text);
+    }
+    if n < 100 {
+        put_digit((n / 10) as u8, text)?;
+        return put_digit((n % 10) as u8, text);
+    }
+    put_number(n / 10, text)?;
+    put_digit((n % 10) as u8, text)
+}
+
+/// Writes two numbers, and a point between them.
+#[tactic(auto, using(crate::proofs::Joined::joined))]
+fn put_pair(first: u32, second: u32, text: &mut Vec<u8>) -> Result<(), NoMemory>
+    ensures { OnOk result (text.new.items ≡ text.old.items
+        ++ numbered [] first (numbered (codes ".") second [])) }
+{
     put_number(u64::from(first), text)?;
-    put_words(b".", text)?;
+    text.push(b'.')?;
     put_number(u64::from(second), text)
 }
 
 /// Writes a key as logs spell it: `p1.17`, `s0.3`.
+#[tactic(auto, using(crate::proofs::Joined::joined))]
 pub fn put_key(key: Key, text: &mut Vec<u8>) -> Result<(), NoMemory>
     ensures { OnOk result (text.new.items ≡ text.old.items ++ key_text key) }
 {
     match key {
-        Key::Private(pid, vpn) => put_pair(b"p", u32::from(pid.0), vpn.0, text),
-        Key::Shared(area, index) => put_pair(b"s", area.0, index, text),
+        Key::Private(pid, vpn) => {
+            text.push(b'p')?;
+            put_pair(u32::from(pid.0), vpn.0, text)
+        }
+        Key::Shared(area, index) => {
+            text.push(b's')?;
+            put_pair(area.0, index, text)
+        }
     }
 }
 
@@ -85,10 +106,11 @@ fn put_addressed(vpn: Vpn, text: &mut Vec<u8>) -> Result<(), NoMemory>
 fn put_plain_place(place: Place, text: &mut Vec<u8>) -> Result<(), NoMemory>
     ensures { OnOk result (text.new.items ≡ text.old.items ++ place_onto place []) }
 {
-    put_pair(b"", u32::from(place.pid.0), place.vpn.0, text)
+    put_pair(u32::from(place.pid.0), place.vpn.0, text)
 }
 
-/// Writes a place as logs spell it, `1.17`, and where asked its address behind it: `1.17 (0x11000)`.
+/// Writes a place as logs spell it, `1.17`, and where asked its address behind it: `1.17
+/// (0x11000)`.
 #[tactic(auto, using(crate::proofs::Joined::joined))]
 pub fn put_place(address: bool, place: Place, text: &mut Vec<u8>) -> Result<(), NoMemory>
     ensures { OnOk result (text.new.items ≡ text.old.items ++ place_text address place) }
@@ -131,7 +153,8 @@ fn put_machine(
 /// Writes the numbers of a process.
 #[tactic(auto, using(crate::proofs::Joined::joined))]
 fn put_new_process(pid: Pid, min: u32, max: u32, text: &mut Vec<u8>) -> Result<(), NoMemory>
-    ensures { OnOk result (text.new.items ≡ text.old.items ++ kind_text (kind_of.Process pid min max)) }
+    ensures { OnOk result (text.new.items ≡ text.old.items
+        ++ kind_text (kind_of.Process pid min max)) }
 {
     put_kind_number(b"process ", u32::from(pid.0), text)?;
     put_kind_number(b" ", min, text)?;

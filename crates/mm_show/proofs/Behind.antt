@@ -1,5 +1,5 @@
 -- What stands behind the first of some bytes.
-use Rattle.std.proofs.Common.{◌≡◌, ℕ, ◌+◌, ◌≤◌, [], length, drop, sym, ap, ◌∙◌, arith}
+use Rattle.std.proofs.Common.{◌≡◌, ℕ, ◌+◌, ◌≤◌, [], length, sym, arith}
 use Rattle.std.proofs.lemmas.List.{drop_all}
 use Rattle.mm_types.specs.Spelling.{Text}
 use Rattle.mm_show.specs.Forms.{before, behind}

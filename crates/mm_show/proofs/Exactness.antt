@@ -1,10 +1,9 @@
 -- What is written of a form, each exactly.
-use Rattle.std.proofs.Common.{◌≡◌, ◌≢◌, ◌⊎◌, ℕ, Bool, true, false, List, [], Option, Some, None, refl, sym, ap, ◌∙◌, subst, inl, inr}
+use Rattle.std.proofs.Common.{◌≡◌, ℕ, Bool, true, false, List, Option, Some, None, refl, sym, ap, ◌∙◌, subst}
 use Rattle.std.specs.Prelude.{Result, Ok}
 use Rattle.mm_types.specs.Spelling.{Text}
 use Rattle.mm_tell.specs.Answering.{Said, said_by, Answers}
 use Rattle.mm_tell.specs.Telling.{RestOf}
-use Rattle.mm_tell.specs.Lines.{lines_of}
 use Rattle.mm_tell.specs.Files.{HasLines}
 use Rattle.mm_tell.specs.declared.files.FileFault.{FileFault}
 use Rattle.mm_types.specs.declared.moves.Move.{Move}

@@ -1,6 +1,6 @@
 -- The data of a log, from where one move's class is still open.
 -- Profile, "What a log shows".
-use Rattle.std.specs.Prelude.{Bool, true, false, List, [], ◌∷◌, ◌++◌, Option, Some, None}
+use Rattle.std.specs.Prelude.{List, [], ◌++◌, Option, Some, None}
 use Rattle.mm_types.specs.Spelling.{Text}
 use Rattle.mm_types.specs.declared.moves.Move.{Move}
 use Rattle.mm_life.specs.Life.{FrameLife}

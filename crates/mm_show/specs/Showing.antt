@@ -9,7 +9,7 @@ use Rattle.mm_classes.specs.Data.{log_data}
 use Rattle.mm_log.specs.Verdict.{Shows, IsRefused}
 use Rattle.mm_tell.specs.Lines.{lines_of}
 use Rattle.mm_tell.specs.Files.{total_of}
-use Rattle.mm_tell.specs.Shown.{shown_file}
+use Rattle.mm_tell.specs.Shown.{shown_file, answer_file}
 use Rattle.mm_tell.specs.Answering.{Said, Why, no_why}
 use Rattle.mm_sentences.specs.Refusals.{why_text}
 use Rattle.mm_uses.specs.Counts.{counts_rows}
@@ -37,7 +37,7 @@ front_text p = p.up_to_classes ++ (class_rows ++ p.up_to_moves)
 
 abbrev pub behind_text : PageOf → Option (List Text) → Option (List Text) → Text
 behind_text p script answers =
-    p.up_to_script ++ (shown_file script ++ (p.up_to_answers ++ (shown_file answers
+    p.up_to_script ++ (shown_file script ++ (p.up_to_answers ++ (answer_file answers
     ++ p.up_to_end)))
 
 abbrev pub page_text : PageOf → Option (List Text) → Option (List Text) → List Move → Text

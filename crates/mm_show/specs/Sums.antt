@@ -1,6 +1,7 @@
 -- How many moves are of each class, and how many lines of each kind.
 -- Profile, "What a log shows".
-use Rattle.std.specs.Prelude.{slice_index, ℕ, Bool, false, ◌==◌, if◌then◌else◌, List, [], ◌∷◌, ◌++◌, flat_map}
+use Rattle.std.specs.Prelude.{slice_index, ℕ, Bool, false, ◌==◌, if◌then◌else◌, List, [], ◌∷◌}
+use Rattle.std.specs.Prelude.{◌++◌, flat_map}
 use Rattle.std.specs.Prelude.{count_by, codes}
 use Rattle.mm_types.specs.Spelling.{Text, decimal}
 use Rattle.mm_types.specs.declared.moves.Move.{Move}

@@ -4,7 +4,7 @@ ghost use Rattle.mm_life.specs.Life.{unstarted};
 
 use crate::data::PageTeller;
 use crate::words::put_classes;
-use mm_tell::{Lines, put_file};
+use mm_tell::{Lines, put_answers, put_file};
 use mm_types::NoMemory;
 use std::alloc::Global;
 
@@ -53,7 +53,7 @@ fn behind_of(
     text.extend_from_slice(page.up_to_script)?;
     put_file(script, &mut text)?;
     text.extend_from_slice(page.up_to_answers)?;
-    put_file(answers, &mut text)?;
+    put_answers(answers, &mut text)?;
     text.extend_from_slice(page.up_to_end)?;
     Ok(text)
 }

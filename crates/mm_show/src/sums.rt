@@ -5,7 +5,6 @@ ghost use Rattle.mm_types.specs.declared.moves.Move.{Move};
 ghost use Rattle.mm_life.specs.Life.{unstarted};
 ghost use Rattle.mm_life.specs.Effect.{after_move};
 ghost use Rattle.mm_moves.specs.Standing.{life as life_of};
-ghost use Rattle.mm_classes.specs.Encoding.{kind_code};
 ghost use Rattle.mm_classes.specs.declared.classes.Class.{Class};
 ghost use Rattle.mm_tell.specs.Classing.{class_list};
 ghost use Rattle.mm_show.specs.Sums.{sum_row, class_row, kind_row, class_sums, kind_sums};
@@ -14,12 +13,12 @@ ghost use Rattle.mm_show.specs.Sums.{sums_text, number_in};
 ghost use Rattle.mm_show.specs.Counted.{of_class, of_kind, AreFew};
 
 use crate::words::CLASSES;
-use mm_classes::{Class, code};
+use mm_classes::{Class, code, kind_code};
 use mm_moves::Life;
 use mm_sentences::put_why;
 use mm_tell::{Classed, Classifier, Teller};
 use mm_text::{LineBuf, put_decimal};
-use mm_types::{LineKind, Move, NoMemory};
+use mm_types::{Move, NoMemory};
 use std::alloc::Global;
 
 /// The kind of a line, without its numbers.
@@ -87,25 +86,6 @@ fn kind_letter(kind: KindName) -> u8
         KindName::Zeroer => b'z',
         KindName::Io => b'i',
         KindName::Call => b'c',
-    }
-}
-
-/// The letter of a line's kind.
-fn kind_code(kind: LineKind) -> u8
-    ensures { result ≡ kind_code kind }
-{
-    match kind {
-        LineKind::Machine(_, _, _, _) => b'M',
-        LineKind::Process(_, _, _) => b'P',
-        LineKind::Unbind(_) => b'u',
-        LineKind::Access(_) => b'a',
-        LineKind::Thread(_) => b't',
-        LineKind::Trim(_) => b'r',
-        LineKind::Writer => b'w',
-        LineKind::Zeroer => b'z',
-        LineKind::Io => b'i',
-        LineKind::Call => b'c',
-        LineKind::Grow(_) => b'N',
     }
 }
 

@@ -1,5 +1,5 @@
 -- Bytes that are divided into lines, one after another.
-use Rattle.std.proofs.Common.{◌≡◌, ◌≢◌, ℕ, ◌+◌, ◌≤◌, ◌<◌, Bool, cond, List, [], ◌∷◌, ◌++◌, length, drop, get_or, sym, ap, ◌∙◌, arith, append_assoc}
+use Rattle.std.proofs.Common.{◌≡◌, ◌≢◌, ℕ, ◌+◌, ◌≤◌, ◌<◌, Bool, cond, List, [], ◌∷◌, ◌++◌, length, drop, get_or, sym, ap, ◌∙◌, append_assoc}
 use Rattle.std.specs.Prelude.{slice_range}
 use Rattle.std.proofs.lemmas.List.{drop_more, drop_all}
 use Rattle.std.proofs.lemmas.List.Edits.{between_more, between_none}
@@ -8,7 +8,6 @@ use Rattle.mm_types.specs.Spelling.{Text}
 use Rattle.mm_types.proofs.Bytes.{append_nil}
 use Rattle.mm_script.specs.Place.{without_return}
 use Rattle.mm_tell.specs.Lines.{lines_from, lines_of}
-use Rattle.mm_tell.specs.Fitting.{first_word}
 
 abbrev pick : Bool → List Text → List Text → List Text
 pick b ended longer = cond b ended longer

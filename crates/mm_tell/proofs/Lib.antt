@@ -1,5 +1,6 @@
 pub mod Tellings
 pub mod ClassKnown
 pub mod Divided
+pub mod Again
 pub mod Readings
 pub mod FileReads

@@ -1,6 +1,7 @@
 -- A move whose class is told when the next one is known.
 -- Profile, "What a log shows".
-use Rattle.std.specs.Prelude.{ℕ, Bool, false, if◌then◌else◌, List, [], ◌∷◌, ◌++◌, Option, Some, None}
+use Rattle.std.specs.Prelude.{Bool, false, if◌then◌else◌, List, [], ◌∷◌, ◌++◌, Option, Some}
+use Rattle.std.specs.Prelude.{None}
 use Rattle.std.specs.Prelude.{option_map}
 use Rattle.mm_types.specs.declared.moves.Move.{Move}
 use Rattle.mm_types.specs.declared.moves.Move.TheVariants as move
@@ -22,7 +23,11 @@ is_made_room _ next = false
 
 abbrev pub pending : FrameLife → MarksOf → Option Move → Move → Pending
 pending l v before m =
-    record { m = m; alone = class_of l v before m None; making_room = class_of l v before m (next_there m) }
+    record {
+      m = m;
+      alone = class_of l v before m None;
+      making_room = class_of l v before m (next_there m);
+    }
 
 abbrev pub classed : Pending → Option Move → Classed
 classed p next =

@@ -1,6 +1,6 @@
 -- The lines of a file.
 -- Profile, "What a log shows".
-use Rattle.std.specs.Prelude.{ℕ, ◌==◌, if◌then◌else◌, List, [], ◌∷◌, ◌++◌}
+use Rattle.std.specs.Prelude.{◌==◌, if◌then◌else◌, List, [], ◌∷◌, ◌++◌}
 use Rattle.mm_types.specs.Spelling.{Text}
 use Rattle.mm_script.specs.Place.{without_return}
 

@@ -61,7 +61,8 @@ ClosesAt (closing.Misfit n) left left' script moves l = Misfits left left' scrip
 ClosesAt closing.OutFault left left' script moves l = ⊥
 
 -- and that came to an end
-pub record Closes (left left' took took' : Option Text) (script : Option (List Text)) (rest : RestOf)
+pub record Closes (left left' took took' : Option Text) (script : Option (List Text))
+    (rest : RestOf)
     (c : Closing) (rest' : RestOf) (l : FrameLife) (kept : Text) : Type 0 where
   pub moves : List Move
   pub replays : Replays moves unstarted l

@@ -17,5 +17,5 @@ pub use classifiers::{Classed, Classifier, Pending};
 pub use closings::Closing;
 pub use files::{FileFault, named_lines};
 pub use lines::Lines;
-pub use shown::put_file;
+pub use shown::{answers_are_read_again, put_answers, put_file};
 pub use tellers::Teller;

@@ -1,9 +1,9 @@
 ghost use Rattle.std.specs.Prelude.{◌≡◌, ◌++◌, ◌∷◌, [], map, option_map, OnOk, IfOk, slice_get};
 ghost use Rattle.mm_script.specs.Place.{without_return};
 ghost use Rattle.mm_tell.specs.Lines.{lines_of};
-ghost use Rattle.mm_tell.specs.Shown.{shown_lines};
+ghost use Rattle.mm_tell.specs.Shown.{shown_lines, answer_lines};
 
-use crate::shown::put_lines;
+use crate::shown::{put_answer_lines, put_lines};
 use mm_script::without_return;
 use mm_types::NoMemory;
 use std::alloc::Global;
@@ -69,10 +69,17 @@ impl Lines {
         }
     }
 
-    /// Writes the lines as the page shows them.
+    /// Writes the lines of a script as the page's data has them.
     pub(crate) fn put_shown(&self, text: &mut Vec<u8>) -> Result<(), NoMemory>
         ensures { OnOk result (text.new.items ≡ text.old.items ++ shown_lines self.now) }
     {
         put_lines(self.lines.as_slice(), text)
+    }
+
+    /// Writes the lines, which are answers, as the page's data has them.
+    pub(crate) fn put_answers(&self, text: &mut Vec<u8>) -> Result<(), NoMemory>
+        ensures { OnOk result (text.new.items ≡ text.old.items ++ answer_lines self.now) }
+    {
+        put_answer_lines(self.lines.as_slice(), text)
     }
 }

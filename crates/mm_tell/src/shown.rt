@@ -1,5 +1,8 @@
 ghost use Rattle.std.specs.Prelude.{◌≡◌, ◌++◌, map, take, OnOk};
+ghost use Rattle.mm_types.specs.Spelling.{Text};
 ghost use Rattle.mm_tell.specs.Shown.{is_plain, shown_byte, shown_line, shown_lines, shown_file};
+ghost use Rattle.mm_tell.specs.Shown.{answer_data, answer_line, answer_lines, answer_file};
+ghost use Rattle.mm_tell.specs.Shown.{answer_of};
 
 use crate::lines::Lines;
 use mm_types::NoMemory;
@@ -32,7 +35,7 @@ fn put_bytes(bytes: &[u8], text: &mut Vec<u8>) -> Result<(), NoMemory>
     Ok(())
 }
 
-/// Writes a line as the page shows it.
+/// Writes a line as the page's data has it.
 fn put_line(line: &[u8], text: &mut Vec<u8>) -> Result<(), NoMemory>
     ensures { OnOk result (text.new.items ≡ text.old.items ++ shown_line line.now) }
 {
@@ -41,7 +44,7 @@ fn put_line(line: &[u8], text: &mut Vec<u8>) -> Result<(), NoMemory>
     Ok(())
 }
 
-/// Writes lines as the page shows them.
+/// Writes lines as the page's data has them.
 pub(crate) fn put_lines(lines: &[Vec<u8>], text: &mut Vec<u8>) -> Result<(), NoMemory>
     ensures { OnOk result (text.new.items ≡ text.old.items
         ++ shown_lines (map (λ v. v.items) lines.now)) }
@@ -52,7 +55,7 @@ pub(crate) fn put_lines(lines: &[Vec<u8>], text: &mut Vec<u8>) -> Result<(), NoM
     Ok(())
 }
 
-/// Writes the lines of a file, if it is named, as the page shows them.
+/// Writes the lines of a script, if it is named, as the page's data has them.
 pub fn put_file(file: &Option<Lines>, text: &mut Vec<u8>) -> Result<(), NoMemory>
     ensures { OnOk result (text.new.items ≡ text.old.items ++ shown_file file.now) }
 {
@@ -61,3 +64,52 @@ pub fn put_file(file: &Option<Lines>, text: &mut Vec<u8>) -> Result<(), NoMemory
         None => Ok(()),
     }
 }
+
+/// Writes an answer's bytes without `ok` where it begins so, any other behind a tab.
+fn put_answer_data(answer: &[u8], text: &mut Vec<u8>) -> Result<(), NoMemory>
+    ensures { OnOk result (text.new.items ≡ text.old.items ++ answer_data answer.now) }
+{
+    match answer {
+        [b'o', b'k', rest @ ..] => put_bytes(rest, text),
+        _ => {
+            text.push(b'\t')?;
+            put_bytes(answer, text)
+        }
+    }
+}
+
+/// Writes an answer as the page's data has it.
+fn put_answer(answer: &[u8], text: &mut Vec<u8>) -> Result<(), NoMemory>
+    ensures { OnOk result (text.new.items ≡ text.old.items ++ answer_line answer.now) }
+{
+    put_answer_data(front(answer), text)?;
+    text.push(b'\n')?;
+    Ok(())
+}
+
+/// Writes answers as the page's data has them.
+pub(crate) fn put_answer_lines(answers: &[Vec<u8>], text: &mut Vec<u8>) -> Result<(), NoMemory>
+    ensures { OnOk result (text.new.items ≡ text.old.items
+        ++ answer_lines (map (λ v. v.items) answers.now)) }
+{
+    for answer in answers {
+        put_answer(answer.as_slice(), text)?;
+    }
+    Ok(())
+}
+
+/// Writes the answers, if they are named, as the page's data has them.
+pub fn put_answers(answers: &Option<Lines>, text: &mut Vec<u8>) -> Result<(), NoMemory>
+    ensures { OnOk result (text.new.items ≡ text.old.items ++ answer_file answers.now) }
+{
+    match answers {
+        Some(lines) => lines.put_answers(text),
+        None => Ok(()),
+    }
+}
+
+/// From the data of an answer it can be read again, as the page shows it.
+#[tactic(auto, using(crate::proofs::Again::read_again))]
+pub fn answers_are_read_again()
+    ensures { (answer : Text) → answer_of (answer_data answer) ≡ map shown_byte answer }
+{}

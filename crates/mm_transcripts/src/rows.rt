@@ -112,7 +112,8 @@ pub(crate) fn put_line_row(
     put_words(b"  ", text)?;
     put_asked(kind, line, said, text)?;
     put_names(line, said, text)?;
-    put_words(b"\n", text)
+    text.push(b'\n')?;
+    Ok(())
 }
 
 /// Writes why a page left its working set, where that is known.
@@ -142,7 +143,8 @@ fn put_move_row(
     put_words(b"     ", text)?;
     put_sentence(class, facts, addressed, after, text)?;
     put_reason_if(class, reason, text)?;
-    put_words(b"\n", text)
+    text.push(b'\n')?;
+    Ok(())
 }
 
 /// Writes the row of a move, if it is of a class.

@@ -1,6 +1,7 @@
 -- All that stands after a line: lists, requests, frames, working sets and slots.
 -- Profile, "What a log shows".
-use Rattle.std.specs.Prelude.{ℕ, zero, suc, ◌+◌, Bool, ◌==◌, if◌then◌else◌, List, [], ◌∷◌, ◌++◌, flat_map, codes}
+use Rattle.std.specs.Prelude.{ℕ, zero, suc, ◌+◌, Bool, ◌==◌, if◌then◌else◌, List, [], ◌∷◌, ◌++◌}
+use Rattle.std.specs.Prelude.{flat_map, codes}
 use Rattle.std.specs.declared.cmp.Ordering.{Ordering}
 use Rattle.std.specs.Ordering.{nat_cmp, ordering_then}
 use Rattle.std.specs.BTreeMap.{is_at}
@@ -79,7 +80,8 @@ slots_line l =
 abbrev pub list_rows : FrameLife → Text
 list_rows l =
     list_row (codes "zeroed") l.frames.zeroed ++ (list_row (codes "free") l.frames.free
-    ++ (list_row (codes "standby") l.frames.standby ++ (list_row (codes "modified") l.frames.modified
+    ++ (list_row (codes "standby") l.frames.standby
+    ++ (list_row (codes "modified") l.frames.modified
     ++ list_row (codes "requests") l.flight)))
 
 abbrev pub state_text : FrameLife → List ValidPage → Text

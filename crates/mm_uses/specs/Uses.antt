@@ -1,6 +1,7 @@
 -- What the page frames are used for: by owner, and by list.
 -- Profile, "What a log shows".
-use Rattle.std.specs.Prelude.{ℕ, ◌+◌, Bool, ◌==◌, if◌then◌else◌, List, [], ◌∷◌, ◌++◌, map, filter, flat_map}
+use Rattle.std.specs.Prelude.{ℕ, ◌+◌, Bool, ◌==◌, if◌then◌else◌, List, [], ◌∷◌, ◌++◌, map, filter}
+use Rattle.std.specs.Prelude.{flat_map}
 use Rattle.std.specs.Prelude.{length, count_by, sum, codes, Option, Some, None}
 use Rattle.mm_types.specs.Spelling.{Text, decimal}
 use Rattle.mm_types.specs.declared.answers.Counts.{Counts}

@@ -103,7 +103,8 @@ fn is_in_transition(r: &Record) -> bool
 /// How many frames of this use hold a page that is valid somewhere.
 #[tactic(auto, using(crate::proofs::Cells::cells))]
 fn count_active(life: &Life, usage: Use, records: &[Record]) -> u64
-    ensures value { result ≡ count_by (is_use (life_of life.now) usage) (filter is_active records.now) }
+    ensures value { result
+        ≡ count_by (is_use (life_of life.now) usage) (filter is_active records.now) }
     ensures few { result ≤ count_by is_active records.now }
 {
     let mut count = 0;

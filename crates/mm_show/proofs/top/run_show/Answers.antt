@@ -1,4 +1,4 @@
-use Rattle.std.proofs.Common.{◌≡◌, ◌∙◌, Option, Some, true, sym, subst, option_map, inl}
+use Rattle.std.proofs.Common.{◌≡◌, ◌∙◌, Some, true, sym, subst, option_map, inl}
 use Rattle.mm_tell.specs.Answering.{Answers}
 use Rattle.mm_tell.proofs.Readings.{says_exactly}
 use Rattle.mm_show.specs.declared.forms.Form.{Form}
