@@ -1,4 +1,4 @@
-ghost use Rattle.std.specs.Prelude.{◌≡◌, ◌<◌, ◌≤◌, ◌^◌, ◌↔◌, ℕ, Some, None, IsTrue, IsSome, OnOk, OnErr, slice_index_or, vec_len};
+ghost use Rattle.std.specs.Prelude.{◌≡◌, ◌<◌, ◌≤◌, ◌^◌, ◌↔◌, ℕ, false, Some, None, IsTrue, IsSome, OnOk, OnErr, slice_index_or, vec_len};
 ghost use Rattle.mm_moves.specs.Grids.{in_leaves, HasPlace, Sets, Same};
 
 use mm_types::NoMemory;
@@ -34,6 +34,13 @@ impl<T: Copy + Drop> Grid<T> {
             return false;
         }
         n % LEAF < self.leaves[leaf].len()
+    }
+
+    /// Whether the number has a place in a leaf. Where it has none it has no value.
+    pub(crate) fn is_in_leaf(&self, n: u32) -> bool
+        ensures { result ≡ false → in_leaves self.now.leaves.items n ≡ None }
+    {
+        self.has_place(n as usize)
     }
 
     /// The value of a number, if any.

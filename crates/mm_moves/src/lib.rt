@@ -2,6 +2,7 @@
 //! and the replay of a log as a running check.
 #![tactic(auto)]
 
+mod budgets;
 mod conditions;
 mod four_lists;
 mod free_slots;

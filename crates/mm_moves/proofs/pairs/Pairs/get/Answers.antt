@@ -1,15 +1,15 @@
-use Rattle.std.proofs.Common.{sym, ◌∙◌}
-use Rattle.mm_moves.specs.Grids.{in_leaves}
+use Rattle.std.proofs.Common.{Option, sym, ap, ◌∙◌}
 use Rattle.mm_moves.specs.OrderedPairs.{ordered}
-use Rattle.mm_moves.proofs.NearAndFar.{near_found, far_found}
+use Rattle.mm_moves.specs.Pairs.{first_of, near_of}
+use Rattle.mm_moves.proofs.NearAndFar.{chosen}
 use Rattle.mm_moves.proofs.pairs.Pairs.get.Goals as goal
 
 pub returns-in-Some : goal.returns-in-Some
 returns-in-Some g c =
     let s = c.args.self.now in
-    c.get.ensures ∙ sym (near_found c.args.a c.args.b c.in-Some.n (in_leaves s.near.leaves.items) (ordered s.far) (sym c.near_number.ensures ∙ c.in-Some.is))
+    sym (chosen (near_of s) (ordered s.far) c.args.a c.args.b ∙ ap (λ o. first_of o (ordered s.far c.args.a c.args.b)) (sym c.near_value.ensures ∙ c.in-Some.is))
 
 pub returns-in-None : goal.returns-in-None
 returns-in-None g c =
     let s = c.args.self.now in
-    c.get-in-None.ensures ∙ sym (far_found c.args.a c.args.b (in_leaves s.near.leaves.items) (ordered s.far) (sym c.near_number.ensures ∙ c.in-None.is))
+    c.get.ensures ∙ sym (chosen (near_of s) (ordered s.far) c.args.a c.args.b ∙ ap (λ o. first_of o (ordered s.far c.args.a c.args.b)) (sym c.near_value.ensures ∙ c.in-None.is))

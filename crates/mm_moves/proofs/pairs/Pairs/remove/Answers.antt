@@ -1,27 +1,28 @@
-use Rattle.std.proofs.Common.{None, sym, ◌∙◌}
+use Rattle.std.proofs.Common.{sym, ap, ◌∙◌}
 use Rattle.mm_moves.specs.Grids.{in_leaves}
 use Rattle.mm_moves.specs.OrderedPairs.{ordered}
-use Rattle.mm_moves.proofs.NearAndFar.{near_found, far_found, near_written, far_written}
+use Rattle.mm_moves.specs.Pairs.{first_of, near_part, near_of}
+use Rattle.mm_moves.proofs.NearAndFar.{chosen, both_removed}
 use Rattle.mm_moves.proofs.pairs.Pairs.remove.Goals as goal
 
 pub returns-in-Some-clause-value : goal.returns-in-Some-clause-value
 returns-in-Some-clause-value g c =
     let s = c.args.self.now in
-    c.remove.ensures.value ∙ sym (near_found c.args.a c.args.b c.in-Some.n (in_leaves s.near.leaves.items) (ordered s.far) (sym c.near_number.ensures ∙ c.in-Some.is))
+    sym (chosen (near_of s) (ordered s.far) c.args.a c.args.b ∙ ap (λ o. first_of o (ordered s.far c.args.a c.args.b)) (sym c.remove_near.ensures.value ∙ c.in-Some.is))
 
 pub returns-in-Some-clause-removed : goal.returns-in-Some-clause-removed
 returns-in-Some-clause-removed g c =
     let s = c.args.self.now in
-    near_written c.args.a c.args.b c.in-Some.n (in_leaves s.near.leaves.items) (in_leaves c.remove.new.self.leaves.items) (ordered s.far) None (sym c.near_number.ensures ∙ c.in-Some.is)
-    c.remove.ensures.removed
+    both_removed c.args.a c.args.b (near_of s) (near_part (in_leaves c.remove_near.new.near.leaves.items)) (ordered s.far) (ordered c.remove-far.new.self)
+    c.remove_near.ensures.removed c.remove-far.ensures.removed
 
 pub returns-in-None-clause-value : goal.returns-in-None-clause-value
 returns-in-None-clause-value g c =
     let s = c.args.self.now in
-    c.remove-in-None.ensures.value ∙ sym (far_found c.args.a c.args.b (in_leaves s.near.leaves.items) (ordered s.far) (sym c.near_number.ensures ∙ c.in-None.is))
+    c.remove-far.ensures.value ∙ sym (chosen (near_of s) (ordered s.far) c.args.a c.args.b ∙ ap (λ o. first_of o (ordered s.far c.args.a c.args.b)) (sym c.remove_near.ensures.value ∙ c.in-None.is))
 
 pub returns-in-None-clause-removed : goal.returns-in-None-clause-removed
 returns-in-None-clause-removed g c =
     let s = c.args.self.now in
-    far_written c.args.a c.args.b (in_leaves s.near.leaves.items) (ordered s.far) (ordered c.remove-in-None.new.self) None (sym c.near_number.ensures ∙ c.in-None.is)
-    c.remove-in-None.ensures.removed
+    both_removed c.args.a c.args.b (near_of s) (near_part (in_leaves c.remove_near.new.near.leaves.items)) (ordered s.far) (ordered c.remove-far.new.self)
+    c.remove_near.ensures.removed c.remove-far.ensures.removed
