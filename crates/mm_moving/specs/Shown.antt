@@ -164,3 +164,8 @@ CanBegin s = is_own_line s.life.kind ≡ true → s.own ≡ None
 -- a call of one of both devices failed
 abbrev pub SomeFault : StateOf → StateOf → Type 0
 SomeFault s z = CallFailed s.paging z.paging ⊎ CallFailed s.files z.files
+
+-- each frame is in the request that it was in
+abbrev pub KeepsRequests : FrameLife → FrameLife → Type 0
+KeepsRequests old new =
+    (f : Frame) → (record_at new.frames f.0).request ≡ (record_at old.frames f.0).request

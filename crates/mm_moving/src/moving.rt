@@ -16,14 +16,16 @@ ghost use Rattle.mm_types.specs.declared.numbers.Place.{Place};
 ghost use Rattle.mm_life.specs.Frames.{record_at, is_read, is_empty, is_on};
 ghost use Rattle.mm_life.specs.Life.{changed, same_key, same_place, counts_of, set_of};
 ghost use Rattle.mm_life.specs.Logs.{Flushed};
-ghost use Rattle.mm_life.specs.Legal.{IsLegal, is_at_max, is_above_min, has_depth};
+ghost use Rattle.mm_life.specs.Legal.{IsLegal, is_at_max, is_above_min, is_below_max, has_depth};
 ghost use Rattle.mm_life.specs.Located.{zero_page};
 ghost use Rattle.mm_life.specs.Victims.{can_be_written};
 ghost use Rattle.mm_radix.specs.Pages.{pages};
 ghost use Rattle.mm_ram.specs.Ram.{bytes_from, overwritten};
-ghost use Rattle.mm_frames.specs.Base.{modified_with_block};
+ghost use Rattle.mm_frames.specs.Base.{has_block, modified_with_block};
+ghost use Rattle.mm_frames.specs.Placing.{IsAtRest};
 ghost use Rattle.mm_flight.specs.Requests.{nth_oldest, place_in};
 ghost use Rattle.mm_walks.specs.Chores.{all_aged};
+ghost use Rattle.mm_walks.specs.Order.{IsOldest};
 ghost use Rattle.mm_walks.specs.Waits.{Idle, ForFrame, wait_of};
 ghost use Rattle.mm_wset.specs.InOrder.{IsNextFrom};
 ghost use Rattle.mm_words.specs.Words.{changed_in, place_of};
@@ -32,7 +34,7 @@ ghost use Rattle.mm_pages.specs.Reports.{with_named};
 ghost use Rattle.mm_pages.specs.Told.{with_write};
 ghost use Rattle.mm_room.specs.Order.{IsNext, NoneFollows};
 ghost use Rattle.mm_located.specs.Carried.{IsSoiled};
-ghost use Rattle.mm_moving.specs.Shown.{StateOf, Made, Begins, Wrote, Called, moved, called, asked_to_grow, backing_of_frame, written_if, HasHome, IsClear, MayMap, CanBegin, aside_after_add, names_after_give, names_after_map, names_after_drop};
+ghost use Rattle.mm_moving.specs.Shown.{StateOf, Made, Begins, Wrote, Called, moved, called, asked_to_grow, backing_of_frame, written_if, HasHome, IsClear, MayMap, CanBegin, aside_after_add, names_after_give, names_after_map, names_after_drop, KeepsRequests};
 ghost use Rattle.mm_moving.specs.Holds.{Holds};
 
 use mm_types::{
@@ -198,6 +200,7 @@ pub trait Moving {
     fn give(&mut self, key: Key) -> Frame
         requires legal { IsLegal (move.Give (front (shown self.old).life.frames.zeroed) key) (shown self.old).life }
         ensures frame { result ≡ front (shown self.old).life.frames.zeroed }
+        ensures quiet { is_read (record_at (shown self.new).life.frames result.0).request ≡ false }
         ensures made { Made (move.Give result key) (shown self.old) (shown self.new) }
         ensures rest { shown self.new ≡ record (moved (shown self.old) (shown self.new)) { names = names_after_give (shown self.old) key } }
         ensures loans { loans self.new ≡ loans self.old };
@@ -207,6 +210,7 @@ pub trait Moving {
         requires legal { IsLegal (move.Map f place) (shown self.old).life }
         requires bound { (shown self.old).bound place ≡ true }
         requires alone { MayMap (shown self.old) f place }
+        ensures quiet { is_read (record_at (shown self.new).life.frames f.0).request ≡ false }
         ensures made { Made (move.Map f place) (shown self.old) (shown self.new) }
         ensures rest { shown self.new ≡ record (moved (shown self.old) (shown self.new)) {
           names = names_after_map (shown self.old) f place;
@@ -218,6 +222,9 @@ pub trait Moving {
     /// modified.
     fn unmap(&mut self, place: Place)
         requires legal { IsLegal (move.Unmap place) (shown self.old).life }
+        ensures requests { KeepsRequests (shown self.old).life (shown self.new).life }
+        ensures below { is_at_max (set_of (shown self.old).life place.pid.0) ≡ true
+            → is_below_max (set_of (shown self.new).life place.pid.0) ≡ true }
         ensures made { Made (move.Unmap place) (shown self.old) (shown self.new) }
         ensures rest { shown self.new ≡ moved (shown self.old) (shown self.new) }
         ensures loans { loans self.new ≡ loans self.old };
@@ -225,6 +232,7 @@ pub trait Moving {
     /// A page that is valid somewhere differs from its backing from now on. While it is being written, it is to be written again.
     fn soil(&mut self, f: Frame)
         requires legal { IsLegal (move.Soil f) (shown self.old).life }
+        ensures soiled { IsSoiled (record_at (shown self.new).life.frames f.0) }
         ensures made { Made (move.Soil f) (shown self.old) (shown self.new) }
         ensures rest { shown self.new ≡ moved (shown self.old) (shown self.new) }
         ensures loans { loans self.new ≡ loans self.old };
@@ -236,6 +244,7 @@ pub trait Moving {
         requires legal { IsLegal (move.Read (front_for_read (shown self.old).life) key) (shown self.old).life }
         requires room { CanBegin (shown self.old) }
         ensures frame { result ≡ front_for_read (shown self.old).life }
+        ensures reading { is_read (record_at (shown self.new).life.frames result.0).request ≡ true }
         ensures made { Made (move.Read result key) (shown self.old) (shown self.new) }
         ensures rest { shown self.new ≡ record (moved (shown self.old) (shown self.new)) { own = own_after (shown self.old).life.kind (shown self.old).own result } }
         ensures loans { loans self.new ≡ loans self.old };
@@ -243,6 +252,8 @@ pub trait Moving {
     /// The device is called, and the read ends: true where the call succeeded. The waits for it have ended too.
     fn end_read(&mut self, f: Frame) -> bool
         requires legal { IsLegal (move.Got f) (shown self.old).life }
+        ensures quiet { result ≡ true
+            → is_read (record_at (shown self.new).life.frames f.0).request ≡ false }
         ensures made { Made (read_end result f) (shown self.old) (shown self.new) }
         ensures rest { shown self.new ≡ record (called (shown self.old) (shown self.new)) {
           own = own_ended (shown self.old).own f.0;
@@ -389,7 +400,9 @@ pub trait Moving {
     /// The first modified frame; `None` exactly where none is modified.
     fn front_modified(&self) -> Option<Frame>
         ensures first { option_map (λ f. f.0) result ≡ slice_get (shown self.now).life.frames.modified 0 }
-        ensures there { IfSome result (λ f. f.0 < (shown self.now).life.machine.frames) };
+        ensures there { IfSome result (λ f. f.0 < (shown self.now).life.machine.frames) }
+        ensures rests { IfSome result
+            (λ f. IsAtRest true (record_at (shown self.now).life.frames f.0)) };
 
     /// How many modified frames have a block as backing. The others are written to slots.
     fn modified_with_block(&self) -> u32
@@ -398,7 +411,11 @@ pub trait Moving {
     /// The first modified frame that has a block as backing; `None` exactly where none has.
     fn front_modified_with_block(&self) -> Option<Frame>
         ensures first { option_map (λ f. f.0) result ≡ slice_get (modified_with_block (shown self.now).life.frames) 0 }
-        ensures there { IfSome result (λ f. f.0 < (shown self.now).life.machine.frames) };
+        ensures there { IfSome result (λ f. f.0 < (shown self.now).life.machine.frames) }
+        ensures rests { IfSome result
+            (λ f. IsAtRest true (record_at (shown self.now).life.frames f.0)) }
+        ensures block { IfSome result
+            (λ f. has_block (record_at (shown self.now).life.frames f.0).backing ≡ true) };
 
     /// How many slots are free.
     fn free_slots(&self) -> u32
@@ -433,7 +450,9 @@ pub trait Moving {
     fn oldest(&self, pid: Pid, after: Option<Vpn>) -> Option<Vpn>
         requires open { (shown self.now).is_open pid.0 ≡ true }
         requires held { ForSome after (λ v. is_some ((shown self.now).life.valid (place_of pid v)) ≡ true) }
-        ensures next { MatchOption result (NoneFollows (shown self.now).life (shown self.now).ages pid.0 (after_page pid after)) (λ v. IsNext (shown self.now).life (shown self.now).ages (after_page pid after) (place_of pid v)) };
+        ensures next { MatchOption result (NoneFollows (shown self.now).life (shown self.now).ages pid.0 (after_page pid after)) (λ v. IsNext (shown self.now).life (shown self.now).ages (after_page pid after) (place_of pid v)) }
+        ensures first { after ≡ None → IfSome result
+            (λ v. IsOldest (shown self.now).life (shown self.now).ages None (place_of pid v)) };
 
     /// The lowest valid page of an open process at `from` or above; none where there is none.
     fn next_valid(&self, pid: Pid, from: Vpn) -> Option<Vpn>

@@ -63,7 +63,7 @@ absent l (held.Block b) e = refl
 absent l held.Zero e = cc
 absent l held.Dead e = cc
 
-reads_for : (a : Aim) (k : Key) (s : StateOf) → Begins a k s → is_stored (s.life.stands k) ≡ true → ReadsFor a k
+pub reads_for : (a : Aim) (k : Key) (s : StateOf) → Begins a k s → is_stored (s.life.stands k) ≡ true → ReadsFor a k
 reads_for a k s b h = record { needs = b.needs; absent = absent a.start (a.start.stands k) (ap (λ (l : FrameLife). is_stored (l.stands k)) b.from ∙ h) }
 
 pub ok_brought : (r : Result Frame PageFault) (k : Key) (s t z : StateOf) → is_stored (s.life.stands k) ≡ true → ((a : Aim) → Begins a k s → Sought a s t) → IfOk r (λ f. (a : Aim) → ReadsFor a k → Took a 1 t z) → OnOk r ((a : Aim) → Begins a k s → Went a 1 s z)
@@ -77,7 +77,7 @@ err_brought (Err e) k s t z st p q w = λ a b. subst (λ (x : PageFault). Stuck 
 called_both : (s t z : StateOf) → t ≡ called s t → z ≡ called t z → z ≡ called s z
 called_both s t z p q = q ∙ ap (λ (x : StateOf). called x z) p
 
-fails_both : (e : PageFault) (k : Key) (s t z : StateOf) → e ≡ fault.Read → Later s t → t ≡ called s t → Fails e k t z → Fails e k s z
+pub fails_both : (e : PageFault) (k : Key) (s t z : StateOf) → e ≡ fault.Read → Later s t → t ≡ called s t → Fails e k t z → Fails e k s z
 fails_both e k s t z w l c f = record {
   read = f.read;
   kept = λ h. let bad = sym w ∙ h in cc;

@@ -15,12 +15,12 @@ use Rattle.mm_world.specs.Report.{Tally}
 use Rattle.mm_moving.specs.Shown.{StateOf, called}
 use Rattle.mm_moving.specs.Doing.{IsFlightOf}
 use Rattle.mm_moving.specs.Holds.{Holds}
-use Rattle.mm_paged.specs.Pieces.{Went, Stuck, LifeKept, Later}
-use Rattle.mm_paged.specs.Copies.{CopiesFrom, Readied, Pins, Spares, Lacks, Copied, FailsToCopy, most_reads}
+use Rattle.mm_paged.specs.Pieces.{Went, Stuck, Fails, LifeKept, Later}
+use Rattle.mm_paged.specs.Copies.{Reaches, NoneBeside, CopiesPage, FailsToCopyPage, CopiesFrom, Readied, Pins, Spares, Lacks, Copied, FailsToCopy, most_reads}
 use Rattle.mm_paged.proofs.Doing.{went_then, went_stuck}
 use Rattle.mm_paged.proofs.Bringing.{went_more, stuck_more, does_later, fault_later}
 use Rattle.mm_paged.proofs.Giving.{place_twice}
-use Rattle.mm_paged.proofs.HeldShared.{went_life}
+use Rattle.mm_paged.proofs.HeldShared.{went_life, stuck_life}
 use Rattle.mm_paged.proofs.Keeping.{kept_then}
 
 -- ---- by the result
@@ -133,14 +133,37 @@ module _ (k : Key) (f : Frame) (place : Place) (s t : StateOf) (r : Readied k f 
 
 -- ---- by the result of the second half
 
-pub err_stuck : {T : Type 0} (r : Result T PageFault) (k : Key) (place : Place) (s z : StateOf) → IfErr r (λ e. e ≡ fault.NoFrame) → OnErr r ((a : Aim) → CopiesFrom a k place s → Stuck a fault.NoFrame 1 s z) → IfErr r (λ e. (a : Aim) → CopiesFrom a k place s → Stuck a e 1 s z)
-err_stuck (Ok v) k place s z w h = tt
-err_stuck (Err e) k place s z w h = λ a c. subst (λ (x : PageFault). Stuck a x 1 s z) (sym w) (h a c)
+pub ok_copies : {T E : Type 0} (r : Result T E) (k : Key) (f : Frame) (place : Place) (s t : StateOf) → Readied k f place s t → Holds t → s.contents (key_of_place place) ≡ None → (z : StateOf)
+    → OnOk r ((a : Aim) → Pins a place f t → Went a 0 t z) → OnOk r (Copied k place t z) → OnOk r (CopiesPage k place s z)
+ok_copies (Ok v) k f place s t rd h dead z w c = record { went = page_went k f place s t rd h dead z w; copied = page_copied k f place s t rd z c }
+ok_copies (Err e) k f place s t rd h dead z w c = tt
 
-pub err_fails_to_copy : {T : Type 0} (r : Result T PageFault) (k : Key) (s z : StateOf) → IfErr r (λ e. e ≡ fault.NoFrame) → OnErr r (FailsToCopy fault.NoFrame k s z) → IfErr r (λ e. FailsToCopy e k s z)
-err_fails_to_copy (Ok v) k s z w h = tt
-err_fails_to_copy (Err e) k s z w h = subst (λ (x : PageFault). FailsToCopy x k s z) (sym w) h
+pub err_copies : {T : Type 0} (r : Result T PageFault) (k : Key) (f : Frame) (place : Place) (s t : StateOf) → Readied k f place s t → Holds t → s.contents (key_of_place place) ≡ None → (z : StateOf)
+    → IfErr r (λ e. NoneBeside f e t z) → OnErr r (Spares f t z) → IfErr r (λ e. FailsToCopyPage k place e s z)
+err_copies (Ok v) k f place s t rd h dead z n o = tt
+err_copies (Err e) k f place s t rd h dead z n o = record {
+  stuck = λ a c. subst (λ (x : PageFault). Stuck a x 1 s z) (sym n.why) (page_stuck k f place s t rd h dead z (λ b p. n.stuck b place p) a c);
+  unready = page_unready k f place s t rd n.short;
+  life = page_life k f place s t rd z o;
+  names = page_names k f place s t rd z o;
+  fails = subst (λ (x : PageFault). FailsToCopy x k s z) (sym n.why) (page_fails k f place s t rd z o n.lacks);
+  same = page_same k f place s t rd z o;
+}
 
-pub both_fail : {T E A B C : Type 0} (r : Result T E) → (A → B → C) → OnErr r A → OnErr r B → OnErr r C
-both_fail (Ok v) f a b = tt
-both_fail (Err e) f a b = f a b
+-- the page could not be brought
+pub fails_to_hold : (k : Key) (place : Place) (e : PageFault) (s z : StateOf) → ((a : Aim) → Reaches a k place s → Stuck a e 1 s z) → s.life.valid place ≡ None → Fails e k s z → FailsToCopyPage k place e s z
+fails_to_hold k place e s z w free f = record {
+  stuck = λ a c. w a c.reaches;
+  unready = inl free;
+  life = stuck_life e 1 k place s z w;
+  names = inl (ap (λ (x : StateOf). x.names) f.same);
+  fails = record {
+    read = f.read;
+    kept = f.kept;
+    short = f.short;
+    failed = f.failed;
+    none = λ h n. f.none h (ap (λ (x : Tally). x.succeeded) n);
+    fault = f.fault;
+  };
+  same = f.same ∙ ap (λ (n : Place → Option Key). record (called s z) { names = n }) (sym (ap (λ (x : StateOf). x.names) f.same));
+}

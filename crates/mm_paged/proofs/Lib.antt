@@ -20,6 +20,7 @@ pub mod NewFiles
 pub mod InFlight
 pub mod PinnedSearch
 pub mod Giving
+pub mod FaultSteps
 pub mod HeldShared
 pub mod GivingCopy
 pub mod PuttingCopy

@@ -1,6 +1,6 @@
 -- A copy becomes valid at its place, where the page that it is a copy of goes.
-use Rattle.std.proofs.Common.{subst, ◌≡◌, ℕ, ◌≤◌, true, false, [], ◌∷◌, Option, Some, None, refl, sym, ap, ◌∙◌, arith}
-use Rattle.std.specs.Prelude.{not, ◌-◌, option_map, unwrap_or}
+use Rattle.std.proofs.Common.{subst, ◌≡◌, ℕ, ◌≤◌, Bool, true, false, List, [], ◌∷◌, Option, Some, None, refl, sym, ap, ◌∙◌, arith}
+use Rattle.std.specs.Prelude.{not, ◌-◌, if◌then◌else◌, option_map, unwrap_or}
 use Rattle.mm_types.specs.declared.frames.Held.{Held}
 use Rattle.mm_types.specs.declared.frames.Record.{Record}
 use Rattle.mm_types.specs.declared.moves.Move.TheVariants as move
@@ -17,7 +17,9 @@ use Rattle.mm_room.proofs.Unmapping.{sized}
 use Rattle.mm_parts.specs.Holds.{HasSet}
 use Rattle.mm_pages.specs.Accesses.{Aim, ByCopy}
 use Rattle.mm_pages.specs.Conditions.{touch}
-use Rattle.mm_moving.specs.Shown.{StateOf, Made, MayMap, names_after_map}
+use Rattle.mm_blocks.specs.Devices.{DeviceOf}
+use Rattle.mm_parts.specs.Moves.{left_by}
+use Rattle.mm_moving.specs.Shown.{StateOf, Made, MayMap, names_after_map, moved, called}
 use Rattle.mm_moving.specs.Holds.{Holds}
 use Rattle.mm_moving.proofs.Doing.{does_one}
 use Rattle.mm_paged.specs.Pieces.{Went, InFrame, LifeKept}
@@ -96,3 +98,32 @@ pub put_kept : (place : Place) (f : Frame) (s y z : StateOf) → Made (move.Unma
 put_kept place f s y z u m =
     kept_then s.life y.life z.life (subst (λ (l : FrameLife). LifeKept s.life l) (sym u.life) (kept_unmap s.life place (s.life.valid place)))
     (subst (λ (l : FrameLife). LifeKept y.life l) (sym m.life) (kept_map y.life f place))
+
+pub put_valid : (place : Place) (f : Frame) (y z : StateOf) → Made (move.Map f place) y z → z.life.valid place ≡ Some f
+put_valid place f y z m = ap (λ (l : FrameLife). l.valid place) m.life ∙ ap (λ (b : Bool). if b then Some f else y.life.valid place) (same_place-self place)
+
+pub put_young : (place : Place) (f : Frame) (y z : StateOf) → Made (move.Map f place) y z → z.ages place ≡ 0
+put_young place f y z m = ap (λ (ages : Place → ℕ). ages place) m.ages ∙ ap (λ (b : Bool). if b then 0 else y.ages place) (same_place-self place)
+
+left_here : (o : Option Place) (place : Place) → o ≡ Some place → left_by o place ≡ None
+left_here o place e = ap (λ (q : Option Place). left_by q place) e ∙ ap (λ (b : Bool). if b then None else Some place) (same_place-self place)
+
+-- nothing stands beside the tables then
+pub put_aside : (place : Place) (n : Place → Option Key) (s y z : StateOf) → s.aside ≡ Some place → y ≡ moved s y → z ≡ record (moved y z) { names = n; aside = left_by y.aside place } → z.aside ≡ None
+put_aside place n s y z a r e = ap (λ (x : StateOf). x.aside) e ∙ left_here y.aside place (ap (λ (x : StateOf). x.aside) r ∙ a)
+
+put_moved : (place : Place) (n : Place → Option Key) (s y z : StateOf) → s.aside ≡ Some place → y ≡ moved s y → z ≡ record (moved y z) { names = n; aside = left_by y.aside place } → z ≡ record (moved s z) { names = z.names; aside = None }
+put_moved place n s y z a r e =
+    e
+    ∙ ap (λ (x : StateOf). record (moved x z) { names = n; aside = left_by y.aside place }) r
+    ∙ ap (λ (m : Place → Option Key). record (moved s z) { names = m; aside = left_by y.aside place }) (sym (ap (λ (x : StateOf). x.names) e))
+    ∙ ap (λ (o : Option Place). record (moved s z) { names = z.names; aside = o }) (left_here y.aside place (ap (λ (x : StateOf). x.aside) r ∙ a))
+
+pub put_same : (place : Place) (n : Place → Option Key) (s y z : StateOf) → s.aside ≡ Some place → y ≡ moved s y → z ≡ record (moved y z) { names = n; aside = left_by y.aside place } → z ≡ record (called s z) { names = z.names; aside = None }
+put_same place n s y z a r e =
+    let w = put_moved place n s y z a r e in
+    w
+    ∙ ap (λ (d : DeviceOf). record (moved s z) { names = z.names; aside = None; paging = d }) (sym (ap (λ (x : StateOf). x.paging) w))
+    ∙ ap (λ (d : DeviceOf). record (moved s z) { names = z.names; aside = None; paging = z.paging; files = d }) (sym (ap (λ (x : StateOf). x.files) w))
+    ∙ ap (λ (b : List (List ℕ)). record (moved s z) { names = z.names; aside = None; paging = z.paging; files = z.files; slots = b }) (sym (ap (λ (x : StateOf). x.slots) w))
+    ∙ ap (λ (b : List (List ℕ)). record (moved s z) { names = z.names; aside = None; paging = z.paging; files = z.files; slots = z.slots; blocks = b }) (sym (ap (λ (x : StateOf). x.blocks) w))

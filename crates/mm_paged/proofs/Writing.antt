@@ -20,7 +20,7 @@ use Rattle.mm_ram.specs.Ram.{overwritten}
 use Rattle.mm_world.specs.World.{filled}
 use Rattle.mm_world.specs.Access.{written}
 use Rattle.mm_world.specs.Failure.{same_key as same_in_world}
-use Rattle.mm_world.specs.Report.{BeingRead, InFrame}
+use Rattle.mm_world.specs.Report.{Report, BeingRead, InFrame}
 use Rattle.mm_pages.specs.Accesses.{Touches}
 use Rattle.mm_pages.specs.Conditions.{touch, IsReady}
 use Rattle.mm_pages.specs.Passing.{Passes}
@@ -240,3 +240,7 @@ brought_written k off bytes s y z a c e r w =
 pub wrote_named : (k : Key) (place : Place) (s z : StoreOf) → z ≡ record s { report = eased s.report z.report } → s.names place ≡ Some k → z ≡ record (fetched s z) { names = changed same_place s.names place (Some k) }
 wrote_named k place s z e n = subst (λ (x : StoreOf). x ≡ record (fetched s x) { names = changed same_place s.names place (Some k) }) (sym e)
     (ap (λ (names : Place → Option Key). record s { report = eased s.report z.report; names = names }) (young_still s.names place (Some k) n))
+
+-- nothing that the store shows changed, and the place names the page
+pub read_named : (k : Key) (place : Place) (s z : StoreOf) → z ≡ s → s.names place ≡ Some k → z ≡ record (fetched s z) { names = changed same_place s.names place (Some k) }
+read_named k place s z e n = wrote_named k place s z (e ∙ ap (λ (r : Report). record s { report = eased s.report r }) (sym (ap (λ (x : StoreOf). x.report) e))) n

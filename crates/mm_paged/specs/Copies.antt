@@ -1,22 +1,26 @@
 -- Pieces of an access that makes a copy.
 -- Profile, "Accesses".
-use Rattle.std.specs.Prelude.{◌≡◌, ◌≤◌, ◌+◌, ◌⊎◌, ℕ, true, false, length, Option, Some, None, is_some}
+use Rattle.std.specs.Prelude.{◌≡◌, ◌≤◌, ◌<◌, ◌+◌, ◌⊎◌, ℕ, true, false, length, Option, Some, None, is_some}
 use Rattle.mm_types.specs.declared.faults.PageFault.{PageFault}
 use Rattle.mm_types.specs.declared.faults.PageFault.TheVariants as fault
+use Rattle.mm_types.specs.Machine.{limit_of}
+use Rattle.mm_types.specs.declared.moves.LineKind.TheVariants as kind
 use Rattle.mm_types.specs.declared.moves.Move.TheVariants as move
 use Rattle.mm_types.specs.declared.numbers.Frame.{Frame}
 use Rattle.mm_types.specs.declared.numbers.Key.{Key}
 use Rattle.mm_types.specs.declared.numbers.Place.{Place}
-use Rattle.mm_life.specs.Frames.{is_empty}
-use Rattle.mm_life.specs.Life.{FrameLife, changed, same_key, same_place, is_live, key_of_place}
-use Rattle.mm_life.specs.Legal.{is_short}
+use Rattle.mm_life.specs.Frames.{is_empty, record_at}
+use Rattle.mm_life.specs.Life.{FrameLife, changed, same_key, same_place, is_live, is_shared, key_of_place}
+use Rattle.mm_life.specs.Legal.{is_short, shows_shared}
+use Rattle.mm_life.specs.Located.{zero_page}
+use Rattle.mm_located.specs.Carried.{IsSoiled}
 use Rattle.mm_pages.specs.Accesses.{Aim}
 use Rattle.mm_pages.specs.Reports.{no_calls}
 use Rattle.mm_pages.specs.Shortage.{is_framed}
 use Rattle.mm_parts.specs.Moves.{front}
 use Rattle.mm_moving.specs.Shown.{StateOf, Made, called, SomeFault}
 use Rattle.mm_moving.specs.Doing.{IsFlightOf}
-use Rattle.mm_paged.specs.Pieces.{Went, Calm, LifeKept}
+use Rattle.mm_paged.specs.Pieces.{Went, Stuck, Sought, Took, Calm, InFrame, LifeKept}
 
 -- the access begins here, at this place, for this page
 pub record Reaches (a : Aim) (k : Key) (place : Place) (s : StateOf) : Type 0 where
@@ -108,3 +112,92 @@ pub data Readies (s z : StateOf) : Type 0 where
   Cleared : is_empty s.life.frames.zeroed ≡ true → Made (move.Clear (front s.life.frames.free)) s z → Readies s z
   Taken : (x : StateOf) → is_empty s.life.frames.zeroed ≡ true → is_empty s.life.frames.free ≡ true → Made (move.Steal (front s.life.frames.standby)) s x
       → Made (move.Clear (front x.life.frames.free)) x z → Readies s z
+
+-- ---- what is asked
+
+-- a shared page can be held at a place, to be copied there: the place's own page is not live
+pub record MayHold (k : Key) (place : Place) (s : StateOf) : Type 0 where
+  pub live : is_live s.life k ≡ true
+  pub shared : is_shared k ≡ true
+  pub bound : s.bound place ≡ true
+  pub dead : s.contents (key_of_place place) ≡ None
+  pub own : s.own ≡ None
+  pub aside : s.aside ≡ None
+
+-- a page that is not valid at the place yet, or no frame at hand, asks for an access: a thread could not wait there
+pub record NeedsAccess (place : Place) (s : StateOf) : Type 0 where
+  pub access : s.life.valid place ≡ None → s.life.kind ≡ kind.Access place.pid
+  pub frame : is_short s.life ≡ true → s.life.kind ≡ kind.Access place.pid
+
+-- a page that is valid at the place, in this frame, can be copied there
+pub record MayCopyHeld (k : Key) (f : Frame) (place : Place) (s : StateOf) : Type 0 where
+  pub shared : is_shared k ≡ true
+  pub held : HeldAt k f place s
+  pub dead : s.contents (key_of_place place) ≡ None
+  pub room : s.life.paging_keys < limit_of s.life.machine
+  pub own : s.own ≡ None
+  pub aside : s.aside ≡ None
+
+-- the place is valid for a shared page, and its own page can come to be
+pub record MayCopy (place : Place) (s : StateOf) : Type 0 where
+  pub bound : s.bound place ≡ true
+  pub dead : s.contents (key_of_place place) ≡ None
+  pub room : s.life.paging_keys < limit_of s.life.machine
+  pub shows : shows_shared s.life place ≡ true
+  pub named : is_some (s.names place) ≡ true
+  pub aside : s.aside ≡ None
+
+-- ---- what is promised
+
+-- there is a frame to be taken beside the pinned one
+pub record FindsBeside (pinned : Frame) (s z : StateOf) : Type 0 where
+  pub some : is_short z.life ≡ false
+  pub went : (a : Aim) (place : Place) → Pins a place pinned s → Sought a s z
+
+-- there is none
+pub record NoneBeside (pinned : Frame) (e : PageFault) (s z : StateOf) : Type 0 where
+  pub stuck : (a : Aim) (place : Place) → Pins a place pinned s → Stuck a fault.NoFrame 0 s z
+  pub why : e ≡ fault.NoFrame
+  pub short : is_short s.life ≡ true
+  pub lacks : Lacks s z
+
+-- the place's own page came to be beside the tables, and has this frame
+pub record CopyGiven (place : Place) (f : Frame) (s z : StateOf) : Type 0 where
+  pub took : (a : Aim) → a.need.copy ≡ Some (key_of_place place) → Took a 0 s z
+  pub life : KeyAdded (key_of_place place) s.life z.life
+  pub valid : z.life.valid ≡ s.life.valid
+  pub names : z.names ≡ s.names
+  pub aside : z.aside ≡ Some place
+  pub contents : z.contents ≡ changed same_key s.contents (key_of_place place) (Some zero_page)
+  pub read : z.told.last_failed_read ≡ s.told.last_failed_read
+  pub frame : InFrame (key_of_place place) f z
+  pub soiled : IsSoiled (record_at z.life.frames f.0)
+  pub same : z ≡ record (called s z) { names = z.names; aside = z.aside; contents = z.contents }
+
+-- the place's own page became valid there, in the place of the page that it is a copy of
+pub record CopyPut (place : Place) (f : Frame) (s z : StateOf) : Type 0 where
+  pub went : (a : Aim) → a.place ≡ place → a.need.copy ≡ Some (key_of_place place) → Went a 0 s z
+  pub life : LifeKept s.life z.life
+  pub valid : z.life.valid place ≡ Some f
+  pub young : z.ages place ≡ 0
+  pub stands : z.life.stands ≡ s.life.stands
+  pub quiet : (g : ℕ) → (record_at z.life.frames g).request ≡ (record_at s.life.frames g).request
+  pub flags : (g : ℕ) → (record_at z.life.frames g).changed ≡ (record_at s.life.frames g).changed
+  pub names : z.names ≡ changed same_place s.names place (Some (key_of_place place))
+  pub aside : z.aside ≡ None
+  pub told : z.told ≡ s.told
+  pub same : z ≡ record (called s z) { names = z.names; aside = None }
+
+-- a page was copied to the place's own
+pub record CopiesPage (k : Key) (place : Place) (s z : StateOf) : Type 0 where
+  pub went : (a : Aim) → CopiesFrom a k place s → Went a (most_reads (s.life.valid place)) s z
+  pub copied : Copied k place s z
+
+-- it was not: the page could not be brought, or no frame could be had
+pub record FailsToCopyPage (k : Key) (place : Place) (e : PageFault) (s z : StateOf) : Type 0 where
+  pub stuck : (a : Aim) → CopiesFrom a k place s → Stuck a e 1 s z
+  pub unready : (s.life.valid place ≡ None) ⊎ (is_short s.life ≡ true)
+  pub life : LifeKept s.life z.life
+  pub names : (z.names ≡ s.names) ⊎ (z.names ≡ changed same_place s.names place (Some k))
+  pub fails : FailsToCopy e k s z
+  pub same : z ≡ record (called s z) { names = z.names }

@@ -1,15 +1,22 @@
 ghost use Rattle.std.specs.Prelude.{false};
 
-use crate::paged::Paged;
+use crate::completing::complete_request;
+use crate::copying::copy_page;
+use crate::faults::{fault, fault_to_write, soil};
+use crate::flushing::flush_page;
+use crate::making::build_file;
+use crate::paged::{Paged, Wanted};
+use crate::releasing::{let_all_go, let_own_go};
+use crate::starting::{ready_for, set_wait, start_key};
 use mm_flushing::FlushesMoves;
 use mm_moving::Moving;
 use mm_pages::{Done, Need, Pages, Start};
+use mm_reclaim::{trim, write_out, zero};
 use mm_types::{
     Area, Block, Counts, Device, Direction, Failed, GrowFault, Key, LineKind, MakeFault, NoMemory,
     PageFault, Pid, Place, Tid, Vpn, Wait, WriteFault,
 };
 
-// Each call is the store's own of the same name.
 impl<T: Moving> Pages for Paged<T> {
     ghost use Rattle.mm_paged.specs.Store as paged;
 
@@ -24,120 +31,221 @@ impl<T: Moving> Pages for Paged<T> {
     ghost unpaged = { false };
 
     fn sound(&self) {
-        self.sound();
+        self.state.sound();
     }
 
-    fn open_process(&mut self, pid: Pid, min: u32, max: u32) -> Result<(), NoMemory> {
-        self.open_process(pid, min, max)
+    fn open_process(&mut self, pid: Pid, _min: u32, _max: u32) -> Result<(), NoMemory> {
+        self.state.sound();
+        self.state.open_process(pid)
     }
 
     fn close_process(&mut self, pid: Pid) {
-        self.close_process(pid);
+        self.state.close_process(pid);
     }
 
     fn bind(&mut self, pid: Pid, first: Vpn, n: u32) -> Result<(), NoMemory> {
-        self.bind(pid, first, n)
+        self.state.sound();
+        self.state.bind(pid, first, n)
     }
 
     fn unbind(&mut self, pid: Pid, first: Vpn, n: u32) {
-        self.unbind(pid, first, n);
+        if n == 0 {
+            return;
+        }
+        self.state.sound();
+        let_all_go(&mut self.state, pid, first, n);
+        self.state.sound();
+        self.state.unbind(pid, first, n);
     }
 
-    fn reserve(&mut self, total: u32) -> Result<(), NoMemory> {
-        self.reserve(total)
+    fn reserve(&mut self, _total: u32) -> Result<(), NoMemory> {
+        self.state.sound();
+        Ok(())
     }
 
     fn open_area(&mut self, area: Area, n: u32) -> Result<(), NoMemory> {
-        self.open_area(area, n)
+        self.state.open_area(area, n)
     }
 
     fn close_area(&mut self, area: Area) {
-        self.close_area(area);
+        self.state.sound();
+        self.state.close_area(area);
     }
 
     fn make_file(&mut self, area: Area, first: Block, n: u32, byte: u8) -> Result<(), MakeFault> {
-        self.make_file(area, first, n, byte)
+        self.state.sound();
+        let done = build_file(&mut self.state, area, first, n, byte);
+        self.state.sound();
+        if let Err(why) = done {
+            return Err(why);
+        }
+        self.blocks_used += n;
+        Ok(())
     }
 
     fn add(&mut self, key: Key) {
-        self.add(key);
+        self.state.sound();
+        self.state.add_zero(key);
     }
 
     fn remove(&mut self, key: Key) {
-        self.remove(key);
+        self.state.sound();
+        let_own_go(&mut self.state, key);
+        self.state.sound();
+        self.state.drop_key(key);
+        self.state.sound();
     }
 
     fn read(&mut self, place: Place, key: Key, off: u16, out: &mut [u8]) -> Result<(), PageFault> {
-        self.read(place, key, off, out)
+        self.state.sound();
+        match self.state.valid(place) {
+            Some(_frame) => {
+                self.state.read(place, off, out);
+                Ok(())
+            }
+            None => {
+                self.ready = None;
+                let done = fault(&mut self.state, key, place);
+                self.state.sound();
+                if let Err(why) = done {
+                    return Err(why);
+                }
+                self.state.read(place, off, out);
+                Ok(())
+            }
+        }
     }
 
     fn write(&mut self, place: Place, key: Key, off: u16, bytes: &[u8]) -> Result<(), PageFault> {
-        self.write(place, key, off, bytes)
+        self.state.sound();
+        match self.state.valid(place) {
+            Some(f) => {
+                soil(&mut self.state, place, f);
+                self.state.write(place, off, bytes);
+                Ok(())
+            }
+            None => {
+                self.ready = None;
+                let done = fault_to_write(&mut self.state, key, place);
+                self.state.sound();
+                if let Err(why) = done {
+                    return Err(why);
+                }
+                self.state.write(place, off, bytes);
+                Ok(())
+            }
+        }
     }
 
     fn copy(&mut self, place: Place, from: Key, to: Key) -> Result<(), PageFault> {
-        self.copy(place, from, to)
+        self.state.sound();
+        self.ready = None;
+        let done = copy_page(&mut self.state, place, from);
+        self.state.sound();
+        if let Err(why) = done {
+            return Err(why);
+        }
+        self.ready = Some(Wanted {
+            place,
+            key: to,
+            need: Need::Touch,
+        });
+        Ok(())
     }
 
     fn flush(&mut self, key: Key) -> Result<(), WriteFault> {
-        self.flush(key)
+        self.state.sound();
+        let done = flush_page(&mut self.state, key);
+        self.state.sound();
+        done
     }
 
     fn trim(&mut self, pid: Pid, n: u32) {
-        self.trim(pid, n);
+        self.state.sound();
+        trim(&mut self.state, pid, n);
+        self.state.sound();
     }
 
     fn age(&mut self, pid: Pid) {
-        self.age(pid);
+        self.state.age_all(pid);
     }
 
     fn zero(&mut self, n: u32) {
-        self.zero(n);
+        self.state.sound();
+        zero(&mut self.state, n);
+        self.state.sound();
     }
 
     fn fail(&mut self, device: Device, direction: Direction, k: u32, n: u32) {
-        self.fail(device, direction, k, n);
+        self.state.fail(device, direction, k, n);
     }
 
     fn line(&mut self, line: u32, kind: LineKind) {
-        self.line(line, kind);
+        self.state.sound();
+        self.state.at(line, kind);
+        self.extended = None;
+        self.ready = None;
     }
 
     fn grow(&mut self, line: u32, n: u32) -> Result<(), GrowFault> {
-        self.grow(line, n)
+        self.state.sound();
+        let done = self.state.grow(line, n);
+        match done {
+            Ok(()) => {
+                self.extended = Some(true);
+                self.ready = None;
+            }
+            Err(GrowFault::Failed) => {
+                self.extended = Some(false);
+                self.ready = None;
+            }
+            Err(GrowFault::Memory) => (),
+        }
+        done
     }
 
     fn start(&mut self, tid: Tid, place: Place, key: Key, need: Need) -> Start {
-        self.start(tid, place, key, need)
+        self.state.sound();
+        self.ready = None;
+        let began = start_key(&mut self.state, place, key, need);
+        set_wait(&mut self.state, tid, key, began);
+        self.state.sound();
+        self.ready = ready_for(began, place, key, need);
+        began
     }
 
     fn outcome(&self, tid: Tid) -> Wait {
-        self.outcome(tid)
+        self.state.outcome(tid)
     }
 
     fn forget(&mut self, tid: Tid) {
-        self.forget(tid);
+        self.state.forget(tid);
     }
 
     fn write_out(&mut self, n: u32) {
-        self.write_out(n);
+        self.state.sound();
+        write_out(&mut self.state, n);
+        self.state.sound();
     }
 
     fn complete(&mut self, i: u32) -> Done {
-        self.complete(i)
+        self.state.sound();
+        let ended = complete_request(&mut self.state, i);
+        self.state.sound();
+        ended
     }
 
     fn counts(&self) -> Counts {
-        self.counts()
+        self.state.counts()
     }
 
     fn moves_failed(&self) -> bool {
-        self.moves_failed()
+        self.state.moves_failed()
     }
 }
 
 impl<T: Moving> FlushesMoves for Paged<T> {
     fn flush_moves(&mut self) -> Result<(), Failed> {
-        self.flush_moves()
+        self.state.flush_moves()
     }
 }

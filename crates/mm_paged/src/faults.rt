@@ -1,21 +1,17 @@
-ghost use Rattle.std.specs.Prelude.{◌≡◌, ◌≤◌, ℕ, not, ◌&&◌, ◌||◌, IsSome, true, false, None, Some, OnOk, OnErr, IfOk, IfErr, length, is_ok};
+ghost use Rattle.std.specs.Prelude.{◌≡◌, not, ◌&&◌, ◌||◌, true, false, None, Some, OnOk, IfOk, IfErr};
 ghost use Rattle.mm_types.specs.declared.frames.Held.TheVariants as held;
-ghost use Rattle.mm_life.specs.Frames.{is_empty, record_at, is_read, is_write, is_again, has_request};
-ghost use Rattle.mm_life.specs.Life.{is_live, is_shared, set_of, key_of_place, changed, same_place};
-ghost use Rattle.mm_life.specs.Legal.{is_access, is_touch, touches, is_zero, is_stored, is_short, fits_place, is_below_max, is_at_max};
+ghost use Rattle.mm_life.specs.Frames.{is_empty, record_at, is_write, is_again, has_request};
+ghost use Rattle.mm_life.specs.Life.{is_live, set_of};
+ghost use Rattle.mm_life.specs.Legal.{is_access, is_touch, touches, is_zero, is_short, is_below_max};
 ghost use Rattle.mm_pages.specs.Accesses.{Aim};
-ghost use Rattle.mm_pages.specs.Reports.{no_calls};
 ghost use Rattle.mm_pages.specs.Shortage.{is_framed};
-ghost use Rattle.mm_moving.specs.Shown.{StateOf, Made, called};
-ghost use Rattle.mm_moving.specs.Doing.{IsFlightOf};
+ghost use Rattle.mm_moving.specs.Shown.{Made};
 ghost use Rattle.mm_types.specs.declared.numbers.Place.{Place};
 ghost use Rattle.mm_located.specs.Carried.{IsSoiled};
-ghost use Rattle.mm_parts.specs.Holds.{HasSet};
-ghost use Rattle.mm_parts.specs.Moves.{front, front_for_read};
+ghost use Rattle.mm_parts.specs.Moves.{front};
 ghost use Rattle.mm_types.specs.declared.moves.Move.TheVariants as move;
-ghost use Rattle.mm_types.specs.declared.moves.LineKind.TheVariants as kind;
-ghost use Rattle.mm_types.specs.declared.faults.PageFault.TheVariants as fault;
-ghost use Rattle.mm_paged.specs.Pieces.{Went, Stuck, Sought, Took, Missed, ReadsFor, IsFor, Begins, Keeps, Calm, NamesFor, Later, Soils, Placed, Fails, InFrame, ReadsIn};
+ghost use Rattle.mm_paged.specs.Pieces.{Went, InFrame, Soils};
+ghost use Rattle.mm_paged.specs.Faults.{StandbyAlone, MayReadIn, MayUse, HasFullSet, MayFault, Gives, KeepsNames, ReadsWell, ReadsBadly, TakesIn, MissesIn, Settles, FailsToSettle, SearchKeeps, Finds, Brings, FailsToBring, Puts, Faults, FaultsToWrite, IsCalledOn};
 
 use mm_moving::Moving;
 use mm_reclaim::{NoFrame, find_frame};
@@ -26,17 +22,9 @@ pub(crate) fn give_zeroed<T: Moving>(state: &mut T, key: Key) -> Frame
     requires touch { is_touch (T.shown state.old).life.kind ≡ true }
     requires zero { is_zero ((T.shown state.old).life.stands key) ≡ true }
     requires some { is_empty (T.shown state.old).life.frames.zeroed ≡ false }
-    ensures made { (result ≡ front (T.shown state.old).life.frames.zeroed) × Made (move.Give result key) (T.shown state.old) (T.shown state.new) }
-    ensures went { (a : Aim) → IsFor a key → Took a 0 (T.shown state.old) (T.shown state.new) }
-    ensures keeps { Keeps (T.shown state.old) (T.shown state.new) }
-    ensures stored { ((T.shown state.new).slots ≡ (T.shown state.old).slots) × ((T.shown state.new).blocks ≡ (T.shown state.old).blocks) }
-    ensures calm { (T.shown state.new).told ≡ record ((T.shown state.old).told) { search_writes = no_calls } }
-    ensures names { NamesFor key (T.shown state.old) (T.shown state.new) }
-    ensures frame { InFrame key result (T.shown state.new) }
-    ensures flight { (T.shown state.new).life.flight ≡ (T.shown state.old).life.flight }
-    ensures valid { (T.shown state.new).life.valid ≡ (T.shown state.old).life.valid }
-    ensures beside { (place : Place) → (T.shown state.old).aside ≡ Some place → key ≡ key_of_place place → (T.shown state.new).names ≡ (T.shown state.old).names }
-    ensures soiled { (record_at (T.shown state.new).life.frames result.0).owner ≡ Some key → IsSoiled (record_at (T.shown state.new).life.frames result.0) }
+    ensures front { result ≡ front (T.shown state.old).life.frames.zeroed }
+    ensures made { Made (move.Give result key) (T.shown state.old) (T.shown state.new) }
+    ensures gave { Gives key result (T.shown state.old) (T.shown state.new) }
     ensures loans { T.loans state.new ≡ T.loans state.old }
 {
     state.give(key)
@@ -48,16 +36,7 @@ fn give_free<T: Moving>(state: &mut T, key: Key) -> Frame
     requires zero { is_zero ((T.shown state.old).life.stands key) ≡ true }
     requires none { is_empty (T.shown state.old).life.frames.zeroed ≡ true }
     requires some { is_empty (T.shown state.old).life.frames.free ≡ false }
-    ensures went { (a : Aim) → IsFor a key → Took a 0 (T.shown state.old) (T.shown state.new) }
-    ensures keeps { Keeps (T.shown state.old) (T.shown state.new) }
-    ensures stored { ((T.shown state.new).slots ≡ (T.shown state.old).slots) × ((T.shown state.new).blocks ≡ (T.shown state.old).blocks) }
-    ensures calm { (T.shown state.new).told ≡ record ((T.shown state.old).told) { search_writes = no_calls } }
-    ensures names { NamesFor key (T.shown state.old) (T.shown state.new) }
-    ensures frame { InFrame key result (T.shown state.new) }
-    ensures flight { (T.shown state.new).life.flight ≡ (T.shown state.old).life.flight }
-    ensures valid { (T.shown state.new).life.valid ≡ (T.shown state.old).life.valid }
-    ensures beside { (place : Place) → (T.shown state.old).aside ≡ Some place → key ≡ key_of_place place → (T.shown state.new).names ≡ (T.shown state.old).names }
-    ensures soiled { (record_at (T.shown state.new).life.frames result.0).owner ≡ Some key → IsSoiled (record_at (T.shown state.new).life.frames result.0) }
+    ensures gave { Gives key result (T.shown state.old) (T.shown state.new) }
     ensures loans { T.loans state.new ≡ T.loans state.old }
 {
     state.clear();
@@ -68,19 +47,8 @@ fn give_free<T: Moving>(state: &mut T, key: Key) -> Frame
 fn give_standby<T: Moving>(state: &mut T, key: Key) -> Frame
     requires touch { is_touch (T.shown state.old).life.kind ≡ true }
     requires zero { is_zero ((T.shown state.old).life.stands key) ≡ true }
-    requires none { is_empty (T.shown state.old).life.frames.zeroed ≡ true }
-    requires none_free { is_empty (T.shown state.old).life.frames.free ≡ true }
-    requires some { is_empty (T.shown state.old).life.frames.standby ≡ false }
-    ensures went { (a : Aim) → IsFor a key → Took a 0 (T.shown state.old) (T.shown state.new) }
-    ensures keeps { Keeps (T.shown state.old) (T.shown state.new) }
-    ensures stored { ((T.shown state.new).slots ≡ (T.shown state.old).slots) × ((T.shown state.new).blocks ≡ (T.shown state.old).blocks) }
-    ensures calm { (T.shown state.new).told ≡ record ((T.shown state.old).told) { search_writes = no_calls } }
-    ensures names { NamesFor key (T.shown state.old) (T.shown state.new) }
-    ensures frame { InFrame key result (T.shown state.new) }
-    ensures flight { (T.shown state.new).life.flight ≡ (T.shown state.old).life.flight }
-    ensures valid { (T.shown state.new).life.valid ≡ (T.shown state.old).life.valid }
-    ensures beside { (place : Place) → (T.shown state.old).aside ≡ Some place → key ≡ key_of_place place → (T.shown state.new).names ≡ (T.shown state.old).names }
-    ensures soiled { (record_at (T.shown state.new).life.frames result.0).owner ≡ Some key → IsSoiled (record_at (T.shown state.new).life.frames result.0) }
+    requires only { StandbyAlone (T.shown state.old).life.frames }
+    ensures gave { Gives key result (T.shown state.old) (T.shown state.new) }
     ensures loans { T.loans state.new ≡ T.loans state.old }
 {
     state.sound();
@@ -94,16 +62,7 @@ pub(crate) fn give<T: Moving>(state: &mut T, key: Key) -> Frame
     requires touch { is_touch (T.shown state.old).life.kind ≡ true }
     requires zero { is_zero ((T.shown state.old).life.stands key) ≡ true }
     requires some { is_short (T.shown state.old).life ≡ false }
-    ensures went { (a : Aim) → IsFor a key → Took a 0 (T.shown state.old) (T.shown state.new) }
-    ensures keeps { Keeps (T.shown state.old) (T.shown state.new) }
-    ensures stored { ((T.shown state.new).slots ≡ (T.shown state.old).slots) × ((T.shown state.new).blocks ≡ (T.shown state.old).blocks) }
-    ensures calm { (T.shown state.new).told ≡ record ((T.shown state.old).told) { search_writes = no_calls } }
-    ensures names { NamesFor key (T.shown state.old) (T.shown state.new) }
-    ensures frame { InFrame key result (T.shown state.new) }
-    ensures flight { (T.shown state.new).life.flight ≡ (T.shown state.old).life.flight }
-    ensures valid { (T.shown state.new).life.valid ≡ (T.shown state.old).life.valid }
-    ensures beside { (place : Place) → (T.shown state.old).aside ≡ Some place → key ≡ key_of_place place → (T.shown state.new).names ≡ (T.shown state.old).names }
-    ensures soiled { (record_at (T.shown state.new).life.frames result.0).owner ≡ Some key → IsSoiled (record_at (T.shown state.new).life.frames result.0) }
+    ensures gave { Gives key result (T.shown state.old) (T.shown state.new) }
     ensures loans { T.loans state.new ≡ T.loans state.old }
 {
     if !state.no_zeroed() {
@@ -117,19 +76,12 @@ pub(crate) fn give<T: Moving>(state: &mut T, key: Key) -> Frame
 
 /// A page on a device is read into the first free frame, or else the first zeroed one.
 fn read_free<T: Moving>(state: &mut T, key: Key) -> Result<Frame, PageFault>
-    requires access { is_access (T.shown state.old).life.kind ≡ true }
-    requires stored { is_stored ((T.shown state.old).life.stands key) ≡ true }
-    requires some { is_empty (T.shown state.old).life.frames.zeroed ≡ true → is_empty (T.shown state.old).life.frames.free ≡ false }
-    requires own { (T.shown state.old).own ≡ None }
-    ensures read { IfOk result (λ f. (f ≡ front_for_read (T.shown state.old).life) × ReadsIn key f true (T.shown state.old) (T.shown state.new)) }
-    ensures bad { OnErr result (ReadsIn key (front_for_read (T.shown state.old).life) false (T.shown state.old) (T.shown state.new)) }
-    ensures why { IfErr result (λ e. e ≡ fault.Read) }
-    ensures keeps { Keeps (T.shown state.old) (T.shown state.new) }
-    ensures calm { OnOk result (((T.shown state.new).told.search_writes ≡ no_calls) × ((T.shown state.new).told.last_failed_read ≡ (T.shown state.old).told.last_failed_read)) }
-    ensures names { (T.shown state.new).names ≡ (T.shown state.old).names }
-    ensures frame { IfOk result (λ f. InFrame key f (T.shown state.new)) }
-    ensures fails { IfErr result (λ e. Fails e key (T.shown state.old) (T.shown state.new)) }
-    ensures flight { IfOk result (λ f. IsFlightOf (T.shown state.old).life.flight (Some f) (T.shown state.new).life) }
+    requires may { MayReadIn key (T.shown state.old) }
+    requires some { is_empty (T.shown state.old).life.frames.zeroed ≡ true
+        → is_empty (T.shown state.old).life.frames.free ≡ false }
+    ensures ok { IfOk result (λ f. ReadsWell key f (T.shown state.old) (T.shown state.new)) }
+    ensures err { IfErr result (λ e. ReadsBadly key e (T.shown state.old) (T.shown state.new)) }
+    ensures keeps { KeepsNames (T.shown state.old) (T.shown state.new) }
     ensures loans { T.loans state.new ≡ T.loans state.old }
 {
     let f = state.start_read(key);
@@ -143,21 +95,11 @@ fn read_free<T: Moving>(state: &mut T, key: Key) -> Result<Frame, PageFault>
 
 /// A page on a device is read into the first frame on standby, which is taken.
 fn read_standby<T: Moving>(state: &mut T, key: Key) -> Result<Frame, PageFault>
-    requires access { is_access (T.shown state.old).life.kind ≡ true }
-    requires stored { is_stored ((T.shown state.old).life.stands key) ≡ true }
-    requires none { is_empty (T.shown state.old).life.frames.zeroed ≡ true }
-    requires none_free { is_empty (T.shown state.old).life.frames.free ≡ true }
-    requires some { is_empty (T.shown state.old).life.frames.standby ≡ false }
-    requires own { (T.shown state.old).own ≡ None }
-    ensures went { IfOk result (λ f. (a : Aim) → ReadsFor a key → Took a 1 (T.shown state.old) (T.shown state.new)) }
-    ensures stuck { OnErr result ((a : Aim) → ReadsFor a key → Missed a (T.shown state.old) (T.shown state.new)) }
-    ensures why { IfErr result (λ e. e ≡ fault.Read) }
-    ensures keeps { Keeps (T.shown state.old) (T.shown state.new) }
-    ensures calm { OnOk result (((T.shown state.new).told.search_writes ≡ no_calls) × ((T.shown state.new).told.last_failed_read ≡ (T.shown state.old).told.last_failed_read)) }
-    ensures names { (T.shown state.new).names ≡ (T.shown state.old).names }
-    ensures frame { IfOk result (λ f. InFrame key f (T.shown state.new)) }
-    ensures fails { IfErr result (λ e. Fails e key (T.shown state.old) (T.shown state.new)) }
-    ensures flight { IfOk result (λ f. IsFlightOf (T.shown state.old).life.flight (Some f) (T.shown state.new).life) }
+    requires may { MayReadIn key (T.shown state.old) }
+    requires only { StandbyAlone (T.shown state.old).life.frames }
+    ensures ok { IfOk result (λ f. TakesIn key f (T.shown state.old) (T.shown state.new)) }
+    ensures err { IfErr result (λ e. MissesIn key e (T.shown state.old) (T.shown state.new)) }
+    ensures keeps { KeepsNames (T.shown state.old) (T.shown state.new) }
     ensures loans { T.loans state.new ≡ T.loans state.old }
 {
     state.sound();
@@ -167,19 +109,11 @@ fn read_standby<T: Moving>(state: &mut T, key: Key) -> Result<Frame, PageFault>
 
 /// A page on a device is read into a frame, where there is one.
 fn read_in<T: Moving>(state: &mut T, key: Key) -> Result<Frame, PageFault>
-    requires access { is_access (T.shown state.old).life.kind ≡ true }
-    requires stored { is_stored ((T.shown state.old).life.stands key) ≡ true }
+    requires may { MayReadIn key (T.shown state.old) }
     requires some { is_short (T.shown state.old).life ≡ false }
-    requires own { (T.shown state.old).own ≡ None }
-    ensures went { IfOk result (λ f. (a : Aim) → ReadsFor a key → Took a 1 (T.shown state.old) (T.shown state.new)) }
-    ensures stuck { OnErr result ((a : Aim) → ReadsFor a key → Missed a (T.shown state.old) (T.shown state.new)) }
-    ensures why { IfErr result (λ e. e ≡ fault.Read) }
-    ensures keeps { Keeps (T.shown state.old) (T.shown state.new) }
-    ensures calm { OnOk result (((T.shown state.new).told.search_writes ≡ no_calls) × ((T.shown state.new).told.last_failed_read ≡ (T.shown state.old).told.last_failed_read)) }
-    ensures names { (T.shown state.new).names ≡ (T.shown state.old).names }
-    ensures frame { IfOk result (λ f. InFrame key f (T.shown state.new)) }
-    ensures fails { IfErr result (λ e. Fails e key (T.shown state.old) (T.shown state.new)) }
-    ensures flight { IfOk result (λ f. IsFlightOf (T.shown state.old).life.flight (Some f) (T.shown state.new).life) }
+    ensures ok { IfOk result (λ f. TakesIn key f (T.shown state.old) (T.shown state.new)) }
+    ensures err { IfErr result (λ e. MissesIn key e (T.shown state.old) (T.shown state.new)) }
+    ensures keeps { KeepsNames (T.shown state.old) (T.shown state.new) }
     ensures loans { T.loans state.new ≡ T.loans state.old }
 {
     if state.no_zeroed() {
@@ -196,14 +130,9 @@ fn settle<T: Moving>(state: &mut T, key: Key, f: Frame) -> Result<Frame, PageFau
     requires stands { (T.shown state.old).life.stands key ≡ held.Frame f }
     requires own { (T.shown state.old).own ≡ None }
     ensures same { IfOk result (λ g. g ≡ f) }
-    ensures went { IfOk result (λ g. (a : Aim) → a.need.key ≡ key → Went a 0 (T.shown state.old) (T.shown state.new)) }
-    ensures stuck { IfErr result (λ e. (a : Aim) → a.need.key ≡ key → Stuck a e 0 (T.shown state.old) (T.shown state.new)) }
-    ensures keeps { Keeps (T.shown state.old) (T.shown state.new) }
-    ensures calm { OnOk result (Calm (T.shown state.old) (T.shown state.new)) }
-    ensures names { (T.shown state.new).names ≡ (T.shown state.old).names }
-    ensures frame { IfOk result (λ g. InFrame key g (T.shown state.new)) }
-    ensures fails { IfErr result (λ e. Fails e key (T.shown state.old) (T.shown state.new)) }
-    ensures flight { IfOk result (λ f. IsFlightOf (T.shown state.old).life.flight (Some f) (T.shown state.new).life) }
+    ensures ok { IfOk result (λ g. Settles key g (T.shown state.old) (T.shown state.new)) }
+    ensures err { IfErr result (λ e. FailsToSettle key e (T.shown state.old) (T.shown state.new)) }
+    ensures keeps { KeepsNames (T.shown state.old) (T.shown state.new) }
     ensures loans { T.loans state.new ≡ T.loans state.old }
 {
     state.sound();
@@ -220,17 +149,9 @@ fn find<T: Moving>(state: &mut T, key: Key) -> Result<(), PageFault>
     requires access { is_access (T.shown state.old).life.kind ≡ true }
     requires unframed { is_framed ((T.shown state.old).life.stands key) ≡ false }
     requires own { (T.shown state.old).own ≡ None }
-    ensures some { OnOk result (is_short (T.shown state.new).life ≡ false) }
-    ensures went { OnOk result ((a : Aim) → Begins a key (T.shown state.old) → Sought a (T.shown state.old) (T.shown state.new)) }
-    ensures stuck { IfErr result (λ e. (a : Aim) → Begins a key (T.shown state.old) → Stuck a e 0 (T.shown state.old) (T.shown state.new)) }
-    ensures keeps { OnOk result (Keeps (T.shown state.old) (T.shown state.new)) }
-    ensures read { (T.shown state.new).told.last_failed_read ≡ (T.shown state.old).told.last_failed_read }
-    ensures names { (T.shown state.new).names ≡ (T.shown state.old).names }
-    ensures stands { (T.shown state.new).life.stands ≡ (T.shown state.old).life.stands }
-    ensures later { Later (T.shown state.old) (T.shown state.new) }
-    ensures same { (T.shown state.new) ≡ called (T.shown state.old) (T.shown state.new) }
-    ensures fails { IfErr result (λ e. Fails e key (T.shown state.old) (T.shown state.new)) }
-    ensures flight { OnOk result (IsFlightOf (T.shown state.old).life.flight None (T.shown state.new).life) }
+    ensures ok { OnOk result (Finds key (T.shown state.old) (T.shown state.new)) }
+    ensures err { IfErr result (λ e. FailsToBring key e 0 (T.shown state.old) (T.shown state.new)) }
+    ensures keeps { SearchKeeps (T.shown state.old) (T.shown state.new) }
     ensures loans { T.loans state.new ≡ T.loans state.old }
 {
     state.sound();
@@ -248,14 +169,8 @@ fn bring<T: Moving>(state: &mut T, key: Key) -> Result<Frame, PageFault>
     requires live { is_live (T.shown state.old).life key ≡ true }
     requires own { (T.shown state.old).own ≡ None }
     requires aside { (T.shown state.old).aside ≡ None }
-    ensures went { OnOk result ((a : Aim) → Begins a key (T.shown state.old) → Went a 1 (T.shown state.old) (T.shown state.new)) }
-    ensures stuck { IfErr result (λ e. (a : Aim) → Begins a key (T.shown state.old) → Stuck a e 1 (T.shown state.old) (T.shown state.new)) }
-    ensures keeps { OnOk result (Keeps (T.shown state.old) (T.shown state.new)) }
-    ensures calm { OnOk result (Calm (T.shown state.old) (T.shown state.new)) }
-    ensures names { OnOk result (NamesFor key (T.shown state.old) (T.shown state.new)) }
-    ensures frame { IfOk result (λ f. InFrame key f (T.shown state.new)) }
-    ensures fails { IfErr result (λ e. Fails e key (T.shown state.old) (T.shown state.new)) }
-    ensures flight { IfOk result (λ f. IsFlightOf (T.shown state.old).life.flight (Some f) (T.shown state.new).life) }
+    ensures ok { IfOk result (λ f. Brings key f (T.shown state.old) (T.shown state.new)) }
+    ensures err { IfErr result (λ e. FailsToBring key e 1 (T.shown state.old) (T.shown state.new)) }
     ensures loans { T.loans state.new ≡ T.loans state.old }
 {
     state.sound();
@@ -272,14 +187,8 @@ fn bring_zero<T: Moving>(state: &mut T, key: Key) -> Result<Frame, PageFault>
     requires zero { is_zero ((T.shown state.old).life.stands key) ≡ true }
     requires own { (T.shown state.old).own ≡ None }
     requires aside { (T.shown state.old).aside ≡ None }
-    ensures went { OnOk result ((a : Aim) → Begins a key (T.shown state.old) → Went a 1 (T.shown state.old) (T.shown state.new)) }
-    ensures stuck { IfErr result (λ e. (a : Aim) → Begins a key (T.shown state.old) → Stuck a e 1 (T.shown state.old) (T.shown state.new)) }
-    ensures keeps { OnOk result (Keeps (T.shown state.old) (T.shown state.new)) }
-    ensures calm { OnOk result (Calm (T.shown state.old) (T.shown state.new)) }
-    ensures names { OnOk result (NamesFor key (T.shown state.old) (T.shown state.new)) }
-    ensures frame { IfOk result (λ f. InFrame key f (T.shown state.new)) }
-    ensures fails { IfErr result (λ e. Fails e key (T.shown state.old) (T.shown state.new)) }
-    ensures flight { IfOk result (λ f. IsFlightOf (T.shown state.old).life.flight (Some f) (T.shown state.new).life) }
+    ensures ok { IfOk result (λ f. Brings key f (T.shown state.old) (T.shown state.new)) }
+    ensures err { IfErr result (λ e. FailsToBring key e 1 (T.shown state.old) (T.shown state.new)) }
     ensures loans { T.loans state.new ≡ T.loans state.old }
 {
     find(state, key)?;
@@ -288,17 +197,9 @@ fn bring_zero<T: Moving>(state: &mut T, key: Key) -> Result<Frame, PageFault>
 
 /// A page on a device is read into a frame that is found for it.
 fn bring_stored<T: Moving>(state: &mut T, key: Key) -> Result<Frame, PageFault>
-    requires access { is_access (T.shown state.old).life.kind ≡ true }
-    requires stored { is_stored ((T.shown state.old).life.stands key) ≡ true }
-    requires own { (T.shown state.old).own ≡ None }
-    ensures went { OnOk result ((a : Aim) → Begins a key (T.shown state.old) → Went a 1 (T.shown state.old) (T.shown state.new)) }
-    ensures stuck { IfErr result (λ e. (a : Aim) → Begins a key (T.shown state.old) → Stuck a e 1 (T.shown state.old) (T.shown state.new)) }
-    ensures keeps { OnOk result (Keeps (T.shown state.old) (T.shown state.new)) }
-    ensures calm { OnOk result (Calm (T.shown state.old) (T.shown state.new)) }
-    ensures names { OnOk result (NamesFor key (T.shown state.old) (T.shown state.new)) }
-    ensures frame { IfOk result (λ f. InFrame key f (T.shown state.new)) }
-    ensures fails { IfErr result (λ e. Fails e key (T.shown state.old) (T.shown state.new)) }
-    ensures flight { IfOk result (λ f. IsFlightOf (T.shown state.old).life.flight (Some f) (T.shown state.new).life) }
+    requires may { MayReadIn key (T.shown state.old) }
+    ensures ok { IfOk result (λ f. Brings key f (T.shown state.old) (T.shown state.new)) }
+    ensures err { IfErr result (λ e. FailsToBring key e 1 (T.shown state.old) (T.shown state.new)) }
     ensures loans { T.loans state.new ≡ T.loans state.old }
 {
     find(state, key)?;
@@ -309,16 +210,11 @@ fn bring_stored<T: Moving>(state: &mut T, key: Key) -> Result<Frame, PageFault>
 fn put_below<T: Moving>(state: &mut T, key: Key, f: Frame, place: Place)
     requires touch { touches place.pid.0 (T.shown state.old).life.kind ≡ true }
     requires frame { InFrame key f (T.shown state.old) }
-    requires bound { (T.shown state.old).bound place ≡ true }
-    requires fits { fits_place place key ≡ true }
-    requires alone { is_shared key ≡ true → (T.shown state.old).contents (key_of_place place) ≡ None }
+    requires usable { MayUse key place (T.shown state.old) }
     requires free { (T.shown state.old).life.valid place ≡ None }
     requires below { is_below_max (set_of (T.shown state.old).life place.pid.0) ≡ true }
-    requires aside { (T.shown state.old).aside ≡ None }
     ensures made { Made (move.Map f place) (T.shown state.old) (T.shown state.new) }
-    ensures stored { ((T.shown state.new).slots ≡ (T.shown state.old).slots) × ((T.shown state.new).blocks ≡ (T.shown state.old).blocks) }
-    ensures placed { Placed key f place (T.shown state.old) (T.shown state.new) }
-    ensures flight { (T.shown state.new).life.flight ≡ (T.shown state.old).life.flight }
+    ensures puts { Puts key f place (T.shown state.old) (T.shown state.new) }
     ensures loans { T.loans state.new ≡ T.loans state.old }
 {
     state.sound();
@@ -329,17 +225,11 @@ fn put_below<T: Moving>(state: &mut T, key: Key, f: Frame, place: Place)
 fn put_full<T: Moving>(state: &mut T, key: Key, f: Frame, place: Place)
     requires touch { touches place.pid.0 (T.shown state.old).life.kind ≡ true }
     requires frame { InFrame key f (T.shown state.old) }
-    requires bound { (T.shown state.old).bound place ≡ true }
-    requires fits { fits_place place key ≡ true }
-    requires alone { is_shared key ≡ true → (T.shown state.old).contents (key_of_place place) ≡ None }
+    requires usable { MayUse key place (T.shown state.old) }
     requires free { (T.shown state.old).life.valid place ≡ None }
-    requires set { HasSet (T.shown state.old).life place.pid.0 }
-    requires full { is_at_max (set_of (T.shown state.old).life place.pid.0) ≡ true }
-    requires aside { (T.shown state.old).aside ≡ None }
+    requires set { HasFullSet (T.shown state.old).life place.pid.0 }
     ensures went { (a : Aim) → a.place ≡ place → Went a 0 (T.shown state.old) (T.shown state.new) }
-    ensures stored { ((T.shown state.new).slots ≡ (T.shown state.old).slots) × ((T.shown state.new).blocks ≡ (T.shown state.old).blocks) }
-    ensures placed { Placed key f place (T.shown state.old) (T.shown state.new) }
-    ensures flight { (T.shown state.new).life.flight ≡ (T.shown state.old).life.flight }
+    ensures puts { Puts key f place (T.shown state.old) (T.shown state.new) }
     ensures loans { T.loans state.new ≡ T.loans state.old }
 {
     state.sound();
@@ -360,15 +250,10 @@ fn put_full<T: Moving>(state: &mut T, key: Key, f: Frame, place: Place)
 pub(crate) fn put<T: Moving>(state: &mut T, key: Key, f: Frame, place: Place)
     requires touch { touches place.pid.0 (T.shown state.old).life.kind ≡ true }
     requires frame { InFrame key f (T.shown state.old) }
-    requires bound { (T.shown state.old).bound place ≡ true }
-    requires fits { fits_place place key ≡ true }
-    requires alone { is_shared key ≡ true → (T.shown state.old).contents (key_of_place place) ≡ None }
+    requires usable { MayUse key place (T.shown state.old) }
     requires free { (T.shown state.old).life.valid place ≡ None }
-    requires aside { (T.shown state.old).aside ≡ None }
     ensures went { (a : Aim) → a.place ≡ place → Went a 0 (T.shown state.old) (T.shown state.new) }
-    ensures stored { ((T.shown state.new).slots ≡ (T.shown state.old).slots) × ((T.shown state.new).blocks ≡ (T.shown state.old).blocks) }
-    ensures placed { Placed key f place (T.shown state.old) (T.shown state.new) }
-    ensures flight { (T.shown state.new).life.flight ≡ (T.shown state.old).life.flight }
+    ensures puts { Puts key f place (T.shown state.old) (T.shown state.new) }
     ensures loans { T.loans state.new ≡ T.loans state.old }
 {
     state.sound();
@@ -381,24 +266,10 @@ pub(crate) fn put<T: Moving>(state: &mut T, key: Key, f: Frame, place: Place)
 
 /// A page that is not valid at a place becomes so.
 pub(crate) fn fault<T: Moving>(state: &mut T, key: Key, place: Place) -> Result<(), PageFault>
-    requires access { (T.shown state.old).life.kind ≡ kind.Access place.pid }
-    requires live { is_live (T.shown state.old).life key ≡ true }
-    requires bound { (T.shown state.old).bound place ≡ true }
-    requires fits { fits_place place key ≡ true }
-    requires alone { is_shared key ≡ true → (T.shown state.old).contents (key_of_place place) ≡ None }
-    requires free { (T.shown state.old).life.valid place ≡ None }
-    requires own { (T.shown state.old).own ≡ None }
-    requires aside { (T.shown state.old).aside ≡ None }
-    ensures went { OnOk result ((a : Aim) → a.place ≡ place → Begins a key (T.shown state.old) → Went a 1 (T.shown state.old) (T.shown state.new)) }
-    ensures stuck { IfErr result (λ e. (a : Aim) → Begins a key (T.shown state.old) → Stuck a e 1 (T.shown state.old) (T.shown state.new)) }
-    ensures calm { OnOk result (Calm (T.shown state.old) (T.shown state.new)) }
-    ensures kind { OnOk result ((T.shown state.new).life.kind ≡ (T.shown state.old).life.kind) }
-    ensures valid { OnOk result (IsSome ((T.shown state.new).life.valid place)) }
-    ensures frame { OnOk result ((f : Frame) × InFrame key f (T.shown state.new)) }
-    ensures names { OnOk result ((T.shown state.new).names ≡ changed same_place (T.shown state.old).names place (Some key)) }
-    ensures same { (T.shown state.new) ≡ record (called (T.shown state.old) (T.shown state.new)) { names = (T.shown state.new).names } }
-    ensures fails { IfErr result (λ e. Fails e key (T.shown state.old) (T.shown state.new)) }
-    ensures flight { OnOk result ((f : Frame) → (T.shown state.new).life.valid place ≡ Some f → IsFlightOf (T.shown state.old).life.flight (Some f) (T.shown state.new).life) }
+    requires may { MayFault key place (T.shown state.old) }
+    ensures ok { OnOk result (Faults key place (T.shown state.old) (T.shown state.new)) }
+    ensures err { IfErr result (λ e. FailsToBring key e 1 (T.shown state.old) (T.shown state.new)) }
+    ensures same { IsCalledOn (T.shown state.old) (T.shown state.new) }
     ensures loans { T.loans state.new ≡ T.loans state.old }
 {
     let f = bring(state, key)?;
@@ -408,7 +279,8 @@ pub(crate) fn fault<T: Moving>(state: &mut T, key: Key, place: Place) -> Result<
 
 /// Whether a page that is valid must be soiled before it is written.
 fn must_soil(r: &Record) -> bool
-    ensures { result ≡ ((not r.now.changed && not (has_request r.now.request)) || (is_write r.now.request && not (is_again r.now.request))) }
+    ensures { result ≡ ((not r.now.changed && not (has_request r.now.request)) ||
+        (is_write r.now.request && not (is_again r.now.request))) }
 {
     match r.request {
         Request::None => !r.changed,
@@ -439,23 +311,10 @@ pub(crate) fn fault_to_write<T: Moving>(
     key: Key,
     place: Place,
 ) -> Result<(), PageFault>
-    requires access { (T.shown state.old).life.kind ≡ kind.Access place.pid }
-    requires live { is_live (T.shown state.old).life key ≡ true }
-    requires bound { (T.shown state.old).bound place ≡ true }
-    requires fits { fits_place place key ≡ true }
-    requires alone { is_shared key ≡ true → (T.shown state.old).contents (key_of_place place) ≡ None }
-    requires free { (T.shown state.old).life.valid place ≡ None }
-    requires own { (T.shown state.old).own ≡ None }
-    requires aside { (T.shown state.old).aside ≡ None }
-    ensures went { OnOk result ((a : Aim) → a.place ≡ place → a.writes ≡ true → Begins a key (T.shown state.old) → Went a 1 (T.shown state.old) (T.shown state.new)) }
-    ensures stuck { IfErr result (λ e. (a : Aim) → Begins a key (T.shown state.old) → Stuck a e 1 (T.shown state.old) (T.shown state.new)) }
-    ensures calm { OnOk result (Calm (T.shown state.old) (T.shown state.new)) }
-    ensures framed { OnOk result (is_framed ((T.shown state.new).life.stands key) ≡ true) }
-    ensures valid { OnOk result (IsSome ((T.shown state.new).life.valid place)) }
-    ensures soiled { OnOk result ((f : Frame) → (T.shown state.new).life.valid place ≡ Some f → IsSoiled (record_at (T.shown state.new).life.frames f.0)) }
-    ensures names { OnOk result ((T.shown state.new).names ≡ changed same_place (T.shown state.old).names place (Some key)) }
-    ensures same { (T.shown state.new) ≡ record (called (T.shown state.old) (T.shown state.new)) { names = (T.shown state.new).names } }
-    ensures fails { IfErr result (λ e. Fails e key (T.shown state.old) (T.shown state.new)) }
+    requires may { MayFault key place (T.shown state.old) }
+    ensures ok { OnOk result (FaultsToWrite key place (T.shown state.old) (T.shown state.new)) }
+    ensures err { IfErr result (λ e. FailsToBring key e 1 (T.shown state.old) (T.shown state.new)) }
+    ensures same { IsCalledOn (T.shown state.old) (T.shown state.new) }
     ensures loans { T.loans state.new ≡ T.loans state.old }
 {
     fault(state, key, place)?;

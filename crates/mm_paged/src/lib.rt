@@ -2,13 +2,10 @@
 #![tactic(auto)]
 
 mod calls;
-mod chores;
 mod completing;
 mod copying;
 mod faults;
 mod flushing;
-mod flushing_moves;
-mod homes;
 mod making;
 mod paged;
 mod releasing;

@@ -1,29 +1,25 @@
-ghost use Rattle.std.specs.Prelude.{◌≡◌, ◌⊎◌, ◌==◌, ◌&&◌, Bool, true, false, None, Some};
+ghost use Rattle.std.specs.Prelude.{◌≡◌, ◌⊎◌, ◌==◌, ◌&&◌, true, false, None, Some};
 ghost use Rattle.mm_types.specs.declared.answers.Why.{Why};
 ghost use Rattle.mm_types.specs.declared.answers.Why.TheVariants as why;
 ghost use Rattle.mm_types.specs.declared.frames.Held.TheVariants as held;
 ghost use Rattle.mm_types.specs.declared.moves.LineKind.TheVariants as kind;
 ghost use Rattle.mm_life.specs.Frames.{is_empty};
-ghost use Rattle.mm_life.specs.Life.{is_live, is_shared, key_of_place};
-ghost use Rattle.mm_life.specs.Legal.{is_zero, is_stored, is_short, is_thread, fits_place, has_depth};
-ghost use Rattle.mm_world.specs.Failure.{pending};
-ghost use Rattle.mm_world.specs.Report.{BeingRead};
-ghost use Rattle.mm_pages.specs.Accesses.{Starts, wait_begun};
-ghost use Rattle.mm_pages.specs.Conditions.{IsAt, IsReady, need_for, waits_at_once, wait_after};
-ghost use Rattle.mm_pages.specs.Passing.{PassesIn};
-ghost use Rattle.mm_pages.specs.Reports.{started};
-ghost use Rattle.mm_pages.specs.Store.{changed, same_place, own_key};
+ghost use Rattle.mm_life.specs.Life.{is_live};
+ghost use Rattle.mm_life.specs.Legal.{is_zero, is_stored, is_short, is_thread, has_depth};
+ghost use Rattle.mm_pages.specs.Accesses.{wait_begun};
+ghost use Rattle.mm_pages.specs.Store.{changed};
 ghost use Rattle.mm_pages.specs.declared.outcomes.Need.TheVariants as wanted;
 ghost use Rattle.mm_pages.specs.declared.outcomes.Start.TheVariants as start_of;
 ghost use Rattle.mm_moving.specs.Shown.{Made, moved};
 ghost use Rattle.mm_parts.specs.Moves.{front_for_read};
 ghost use Rattle.mm_types.specs.declared.moves.Move.TheVariants as move;
 ghost use Rattle.mm_paged.specs.Shown.{ready_at};
+ghost use Rattle.mm_paged.specs.Faults.{StandbyAlone, MayUse};
 ghost use Rattle.mm_paged.specs.Started.{Begun, IsBeingRead, Reads, answered, ready_after};
 
 use crate::completing::is_reading;
 use crate::faults::{give, put};
-use crate::paged::{Paged, Wanted};
+use crate::paged::Wanted;
 use mm_moving::Moving;
 use mm_pages::{Need, Start};
 use mm_types::{Frame, Held, Key, Place, Tid, Why};
@@ -39,11 +35,8 @@ fn is_starved<T: Moving>(state: &T) -> bool
 fn start_in_frame<T: Moving>(state: &mut T, key: Key, f: Frame, place: Place) -> Start
     requires thread { (T.shown state.old).life.kind ≡ kind.Thread place.pid }
     requires stands { (T.shown state.old).life.stands key ≡ held.Frame f }
-    requires bound { (T.shown state.old).bound place ≡ true }
-    requires fits { fits_place place key ≡ true }
-    requires alone { is_shared key ≡ true → (T.shown state.old).contents (key_of_place place) ≡ None }
+    requires usable { MayUse key place (T.shown state.old) }
     requires free { (T.shown state.old).life.valid place ≡ None }
-    requires aside { (T.shown state.old).aside ≡ None }
     ensures begun { Begun wanted.Touch key place result (T.shown state.old) (T.shown state.new) }
     ensures loans { T.loans state.new ≡ T.loans state.old }
 {
@@ -60,11 +53,8 @@ fn start_in_frame<T: Moving>(state: &mut T, key: Key, f: Frame, place: Place) ->
 fn start_zero<T: Moving>(state: &mut T, key: Key, place: Place) -> Start
     requires thread { (T.shown state.old).life.kind ≡ kind.Thread place.pid }
     requires zero { is_zero ((T.shown state.old).life.stands key) ≡ true }
-    requires bound { (T.shown state.old).bound place ≡ true }
-    requires fits { fits_place place key ≡ true }
-    requires alone { is_shared key ≡ true → (T.shown state.old).contents (key_of_place place) ≡ None }
+    requires usable { MayUse key place (T.shown state.old) }
     requires free { (T.shown state.old).life.valid place ≡ None }
-    requires aside { (T.shown state.old).aside ≡ None }
     ensures begun { Begun wanted.Touch key place result (T.shown state.old) (T.shown state.new) }
     ensures loans { T.loans state.new ≡ T.loans state.old }
 {
@@ -81,8 +71,10 @@ fn begin_free<T: Moving>(state: &mut T, key: Key)
     requires thread { is_thread (T.shown state.old).life.kind ≡ true }
     requires depth { has_depth (T.shown state.old).life ≡ true }
     requires stored { is_stored ((T.shown state.old).life.stands key) ≡ true }
-    requires some { is_empty (T.shown state.old).life.frames.zeroed ≡ true → is_empty (T.shown state.old).life.frames.free ≡ false }
-    ensures made { Made (move.Read (front_for_read (T.shown state.old).life) key) (T.shown state.old) (T.shown state.new) }
+    requires some { is_empty (T.shown state.old).life.frames.zeroed ≡ true
+        → is_empty (T.shown state.old).life.frames.free ≡ false }
+    ensures made { Made (move.Read (front_for_read (T.shown state.old).life) key)
+        (T.shown state.old) (T.shown state.new) }
     ensures rest { T.shown state.new ≡ moved (T.shown state.old) (T.shown state.new) }
     ensures loans { T.loans state.new ≡ T.loans state.old }
 {
@@ -94,9 +86,7 @@ fn begin_standby<T: Moving>(state: &mut T, key: Key)
     requires thread { is_thread (T.shown state.old).life.kind ≡ true }
     requires depth { has_depth (T.shown state.old).life ≡ true }
     requires stored { is_stored ((T.shown state.old).life.stands key) ≡ true }
-    requires none { is_empty (T.shown state.old).life.frames.zeroed ≡ true }
-    requires none_free { is_empty (T.shown state.old).life.frames.free ≡ true }
-    requires some { is_empty (T.shown state.old).life.frames.standby ≡ false }
+    requires only { StandbyAlone (T.shown state.old).life.frames }
     ensures reads { Reads key (T.shown state.old) (T.shown state.new) }
     ensures loans { T.loans state.new ≡ T.loans state.old }
 {
@@ -123,11 +113,13 @@ fn begin_read<T: Moving>(state: &mut T, key: Key)
     begin_free(state, key);
 }
 
-/// The access of a page on a device: a read of it begins, if there is room for a request and a frame.
+/// The access of a page on a device: a read of it begins, if there is room for a request and a
+/// frame.
 fn start_stored<T: Moving>(state: &mut T, key: Key) -> Start
     requires thread { is_thread (T.shown state.old).life.kind ≡ true }
     requires stored { is_stored ((T.shown state.old).life.stands key) ≡ true }
-    ensures begun { (place : Place) → Begun wanted.Touch key place result (T.shown state.old) (T.shown state.new) }
+    ensures begun { (place : Place)
+        → Begun wanted.Touch key place result (T.shown state.old) (T.shown state.new) }
     ensures loans { T.loans state.new ≡ T.loans state.old }
 {
     if !state.has_depth() {
@@ -145,11 +137,8 @@ fn start_stored<T: Moving>(state: &mut T, key: Key) -> Start
 fn start_fault<T: Moving>(state: &mut T, key: Key, place: Place) -> Start
     requires thread { (T.shown state.old).life.kind ≡ kind.Thread place.pid }
     requires live { is_live (T.shown state.old).life key ≡ true }
-    requires bound { (T.shown state.old).bound place ≡ true }
-    requires fits { fits_place place key ≡ true }
-    requires alone { is_shared key ≡ true → (T.shown state.old).contents (key_of_place place) ≡ None }
+    requires usable { MayUse key place (T.shown state.old) }
     requires free { (T.shown state.old).life.valid place ≡ None }
-    requires aside { (T.shown state.old).aside ≡ None }
     ensures begun { Begun wanted.Touch key place result (T.shown state.old) (T.shown state.new) }
     ensures loans { T.loans state.new ≡ T.loans state.old }
 {
@@ -165,11 +154,9 @@ fn start_fault<T: Moving>(state: &mut T, key: Key, place: Place) -> Start
 fn start_page<T: Moving>(state: &mut T, key: Key, place: Place) -> Start
     requires thread { (T.shown state.old).life.kind ≡ kind.Thread place.pid }
     requires live { is_live (T.shown state.old).life key ≡ true }
-    requires bound { (T.shown state.old).bound place ≡ true }
-    requires named { ((T.shown state.old).names place ≡ None) ⊎ ((T.shown state.old).names place ≡ Some key) }
-    requires fits { fits_place place key ≡ true }
-    requires alone { is_shared key ≡ true → (T.shown state.old).contents (key_of_place place) ≡ None }
-    requires aside { (T.shown state.old).aside ≡ None }
+    requires usable { MayUse key place (T.shown state.old) }
+    requires named { ((T.shown state.old).names place ≡ None)
+        ⊎ ((T.shown state.old).names place ≡ Some key) }
     ensures begun { Begun wanted.Touch key place result (T.shown state.old) (T.shown state.new) }
     ensures loans { T.loans state.new ≡ T.loans state.old }
 {
@@ -199,14 +186,12 @@ fn with_frame<T: Moving>(state: &T, need: Need, began: Start) -> Start
 }
 
 /// The access of a page, or of a page that is to be copied.
-fn start_key<T: Moving>(state: &mut T, place: Place, key: Key, need: Need) -> Start
+pub(crate) fn start_key<T: Moving>(state: &mut T, place: Place, key: Key, need: Need) -> Start
     requires thread { (T.shown state.old).life.kind ≡ kind.Thread place.pid }
     requires live { is_live (T.shown state.old).life key ≡ true }
-    requires bound { (T.shown state.old).bound place ≡ true }
-    requires named { ((T.shown state.old).names place ≡ None) ⊎ ((T.shown state.old).names place ≡ Some key) }
-    requires fits { fits_place place key ≡ true }
-    requires alone { is_shared key ≡ true → (T.shown state.old).contents (key_of_place place) ≡ None }
-    requires aside { (T.shown state.old).aside ≡ None }
+    requires usable { MayUse key place (T.shown state.old) }
+    requires named { ((T.shown state.old).names place ≡ None)
+        ⊎ ((T.shown state.old).names place ≡ Some key) }
     ensures begun { Begun need key place result (T.shown state.old) (T.shown state.new) }
     ensures loans { T.loans state.new ≡ T.loans state.old }
 {
@@ -215,10 +200,13 @@ fn start_key<T: Moving>(state: &mut T, place: Place, key: Key, need: Need) -> St
 }
 
 /// The thread waits for a read of its page that is in flight, or for nothing.
-fn set_wait<T: Moving>(state: &mut T, tid: Tid, key: Key, began: Start)
+pub(crate) fn set_wait<T: Moving>(state: &mut T, tid: Tid, key: Key, began: Start)
     requires reading { began ≡ start_of.Pending why.Read → IsBeingRead key (T.shown state.old) }
     requires own { (T.shown state.old).own ≡ None }
-    ensures rest { T.shown state.new ≡ record (T.shown state.old) { waits = changed ◌==◌ (T.shown state.old).waits tid.0 (wait_begun began ((T.shown state.old).life.stands key)) } }
+    ensures rest { T.shown state.new ≡ record (T.shown state.old) {
+      waits = changed ◌==◌ (T.shown state.old).waits tid.0
+          (wait_begun began ((T.shown state.old).life.stands key));
+    } }
     ensures loans { T.loans state.new ≡ T.loans state.old }
 {
     state.sound();
@@ -234,41 +222,11 @@ fn set_wait<T: Moving>(state: &mut T, tid: Tid, key: Key, began: Start)
 }
 
 /// What is ready, once an access has begun.
-fn ready_for(began: Start, place: Place, key: Key, need: Need) -> Option<Wanted>
+pub(crate) fn ready_for(began: Start, place: Place, key: Key, need: Need) -> Option<Wanted>
     ensures { ready_at result ≡ ready_after began need key place }
 {
     match began {
         Start::Ready => Some(Wanted { place, key, need }),
         Start::Pending(_) => None,
-    }
-}
-
-impl<T: Moving> Paged<T> {
-    ghost use Rattle.mm_paged.specs.Store.{contents, store, behind, loans};
-
-    /// An access of a thread begins, and waits for no device: it is ready, or it waits as the definition of worlds says, by the
-    /// report before the line and the one after this call. The place may come to name the key. Bytes stay.
-    pub fn start(&mut self, tid: Tid, place: Place, key: Key, need: Need) -> Start
-        requires at { IsAt (contents self.old) (store self.old) place key }
-        requires dead { need ≡ wanted.Copy → contents self.old (own_key place) ≡ None }
-        requires kind { (store self.old).kind ≡ kind.Thread place.pid }
-        ensures contents { contents self.new ≡ contents self.old }
-        ensures store { store self.new ≡ started (store self.old) (store self.new) }
-        ensures names { ((store self.new).names ≡ (store self.old).names) ⊎ ((store self.new).names ≡ changed same_place (store self.old).names place (Some key)) }
-        ensures ready { result ≡ start_of.Ready → IsReady (store self.new) place (need_for need key place) }
-        ensures at_once { result ≡ start_of.Ready → waits_at_once (store self.old).machine.depth key (store self.old).report ≡ None }
-        ensures pending { (why : Why) → result ≡ start_of.Pending why → pending (store self.old).machine.depth (need_for need key place) (store self.old).report (store self.new).report ≡ Some why }
-        ensures awaited { result ≡ start_of.Pending why.Read → (store self.new).report.whereabouts key ≡ Some BeingRead }
-        ensures wait { (store self.new).report.wait ≡ changed ◌==◌ (store self.old).report.wait tid.0 (wait_after result) }
-        ensures passes { (writes : Bool) → PassesIn false (Starts (record { place = place; need = need_for need key place; writes = writes; start = (behind self.old).life }) tid.0 result) (store self.old) (store self.new) (behind self.old) (behind self.new) }
-        ensures loans { loans self.new ≡ loans self.old }
-    {
-        self.state.sound();
-        self.ready = None;
-        let began = start_key(&mut self.state, place, key, need);
-        set_wait(&mut self.state, tid, key, began);
-        self.state.sound();
-        self.ready = ready_for(began, place, key, need);
-        began
     }
 }

@@ -20,8 +20,14 @@ pub(crate) fn read_device<B: Inject>(device: &mut B, block: u32, page: &mut [u8;
     requires { block < length (B.blocks device.old) }
     ensures ok { OnTrue result (slice_get (B.blocks device.old) block ≡ Some page.new) }
     ensures blocks { B.blocks device.new ≡ B.blocks device.old }
-    ensures served { Serves (record { way = way.Read; block = block; succeeded = result; named = is_named way.Read (B.named device.old) })
-        (device_with (B.log device.old) (B.named device.old) (B.faults device.old)) (device_with (B.log device.new) (B.named device.new) (B.faults device.new)) }
+    ensures served { Serves (record {
+      way = way.Read;
+      block = block;
+      succeeded = result;
+      named = is_named way.Read (B.named device.old);
+    })
+        (device_with (B.log device.old) (B.named device.old) (B.faults device.old))
+        (device_with (B.log device.new) (B.named device.new) (B.faults device.new)) }
     ensures loans { B.loans device.new ≡ B.loans device.old }
 {
     match device.read(block, page) {
@@ -33,10 +39,17 @@ pub(crate) fn read_device<B: Inject>(device: &mut B, block: u32, page: &mut [u8;
 /// One write of a device: true where it succeeded.
 pub(crate) fn write_device<B: Inject>(device: &mut B, block: u32, page: &[u8; 4096]) -> bool
     requires { block < length (B.blocks device.old) }
-    ensures ok { OnTrue result (B.blocks device.new ≡ slice_set (B.blocks device.old) block page.now) }
+    ensures ok { OnTrue result
+        (B.blocks device.new ≡ slice_set (B.blocks device.old) block page.now) }
     ensures err { OnFalse result (B.blocks device.new ≡ B.blocks device.old) }
-    ensures served { Serves (record { way = way.Write; block = block; succeeded = result; named = is_named way.Write (B.named device.old) })
-        (device_with (B.log device.old) (B.named device.old) (B.faults device.old)) (device_with (B.log device.new) (B.named device.new) (B.faults device.new)) }
+    ensures served { Serves (record {
+      way = way.Write;
+      block = block;
+      succeeded = result;
+      named = is_named way.Write (B.named device.old);
+    })
+        (device_with (B.log device.old) (B.named device.old) (B.faults device.old))
+        (device_with (B.log device.new) (B.named device.new) (B.faults device.new)) }
     ensures loans { B.loans device.new ≡ B.loans device.old }
 {
     match device.write(block, page) {
@@ -55,14 +68,17 @@ pub(crate) fn get_page<P: Inject, F: Inject>(
     requires backed { is_backed home ≡ true }
     requires slot { (s : ℕ) → slot_of home ≡ Some s → s < length (P.blocks paging.old) }
     requires block { (b : ℕ) → block_of home ≡ Some b → b < length (F.blocks files.old) }
-    ensures ok { OnTrue result (bytes_at [] (P.blocks paging.old) (F.blocks files.old) (home_at home) ≡ Some page.new) }
+    ensures ok { OnTrue result (bytes_at [] (P.blocks paging.old) (F.blocks files.old) (home_at home)
+        ≡ Some page.new) }
     ensures slots { P.blocks paging.new ≡ P.blocks paging.old }
     ensures blocks { F.blocks files.new ≡ F.blocks files.old }
     ensures called { CalledFor way.Read home result
-        (device_with (P.log paging.old) (P.named paging.old) (P.faults paging.old)) (device_with (F.log files.old) (F.named files.old) (F.faults files.old))
-        (device_with (P.log paging.new) (P.named paging.new) (P.faults paging.new)) (device_with (F.log files.new) (F.named files.new) (F.faults files.new)) }
-    ensures paging_loans { P.loans paging.new ≡ P.loans paging.old }
-    ensures files_loans { F.loans files.new ≡ F.loans files.old }
+        (device_with (P.log paging.old) (P.named paging.old) (P.faults paging.old))
+        (device_with (F.log files.old) (F.named files.old) (F.faults files.old))
+        (device_with (P.log paging.new) (P.named paging.new) (P.faults paging.new))
+        (device_with (F.log files.new) (F.named files.new) (F.faults files.new)) }
+    ensures loans { (P.loans paging.new ≡ P.loans paging.old)
+        × (F.loans files.new ≡ F.loans files.old) }
 {
     match home {
         Backing::Slot(s) => read_device(paging, s.0, page),
@@ -81,13 +97,17 @@ pub(crate) fn put_page<P: Inject, F: Inject>(
     requires backed { is_backed home ≡ true }
     requires slot { (s : ℕ) → slot_of home ≡ Some s → s < length (P.blocks paging.old) }
     requires block { (b : ℕ) → block_of home ≡ Some b → b < length (F.blocks files.old) }
-    ensures slots { P.blocks paging.new ≡ written_if result (slots_written home page.now) (P.blocks paging.old) }
-    ensures blocks { F.blocks files.new ≡ written_if result (blocks_written home page.now) (F.blocks files.old) }
+    ensures slots { P.blocks paging.new
+        ≡ written_if result (slots_written home page.now) (P.blocks paging.old) }
+    ensures blocks { F.blocks files.new
+        ≡ written_if result (blocks_written home page.now) (F.blocks files.old) }
     ensures called { CalledFor way.Write home result
-        (device_with (P.log paging.old) (P.named paging.old) (P.faults paging.old)) (device_with (F.log files.old) (F.named files.old) (F.faults files.old))
-        (device_with (P.log paging.new) (P.named paging.new) (P.faults paging.new)) (device_with (F.log files.new) (F.named files.new) (F.faults files.new)) }
-    ensures paging_loans { P.loans paging.new ≡ P.loans paging.old }
-    ensures files_loans { F.loans files.new ≡ F.loans files.old }
+        (device_with (P.log paging.old) (P.named paging.old) (P.faults paging.old))
+        (device_with (F.log files.old) (F.named files.old) (F.faults files.old))
+        (device_with (P.log paging.new) (P.named paging.new) (P.faults paging.new))
+        (device_with (F.log files.new) (F.named files.new) (F.faults files.new)) }
+    ensures loans { (P.loans paging.new ≡ P.loans paging.old)
+        × (F.loans files.new ≡ F.loans files.old) }
 {
     match home {
         Backing::Slot(s) => write_device(paging, s.0, page),

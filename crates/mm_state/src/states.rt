@@ -17,7 +17,8 @@ use std::alloc::Global;
 
 /// The parts of a machine, over a paging device, a device of files and a sink of moves.
 ///
-/// Contracts see what it shows (`StateOf`): the state of the replay with its log, the bytes of each live key, and what the line told of devices.
+/// Contracts see what it shows (`StateOf`): the state of the replay with its log, the bytes of each
+/// live key, and what the line told of devices.
 #[derive(Drop)]
 pub struct State<P: Inject, F: Inject, M: Moves> {
     pub parts: Parts,
@@ -25,9 +26,11 @@ pub struct State<P: Inject, F: Inject, M: Moves> {
     pub files: F,
     pub(crate) moves: M,
     pub(crate) told: Tallies,
-    /// Where the page of a device call stands. It is kept so that none is filled with zeros at each call.
+    /// Where the page of a device call stands. It is kept so that none is filled with zeros at each
+    /// call.
     pub(crate) page: [u8; 4096],
-    ghost located: { BytesLocated (parts_of.shown parts).life (parts_of.shown parts).bytes (P.blocks paging) (F.blocks files) },
+    ghost located: { BytesLocated (parts_of.shown parts).life (parts_of.shown parts).bytes
+        (P.blocks paging) (F.blocks files) },
     ghost tallied: { IsTallied told },
     ghost slots_whole: { AreWhole (P.blocks paging) },
     ghost blocks_whole: { AreWhole (F.blocks files) },
@@ -51,8 +54,9 @@ fn first_move(machine: Machine) -> Move
 impl<P: Inject, F: Inject, M: Moves> State<P, F, M> {
     ghost use Rattle.mm_state.specs.StateShown.{shown, loans};
 
-    /// A machine at rest, whose first line has begun and is noted, over two devices that were opened with its slots and its blocks. It
-    /// takes the memory of all frames, slots, blocks and requests. After an error the devices and the sink are given back as they were.
+    /// A machine at rest, whose first line has begun and is noted, over two devices that were opened
+    /// with its slots and its blocks. It takes the memory of all frames, slots, blocks and requests.
+    /// After an error the devices and the sink are given back as they were.
     pub fn new(
         alloc: Global,
         machine: Machine,
@@ -64,9 +68,13 @@ impl<P: Inject, F: Inject, M: Moves> State<P, F, M> {
         requires blocks { length (F.blocks files) ≡ machine.blocks }
         requires slots_whole { AreWhole (P.blocks paging) }
         requires blocks_whole { AreWhole (F.blocks files) }
-        ensures starts { IfOk result (λ s. Starts machine (M.log moves) (device_with (P.log paging) (P.named paging) (P.faults paging)) (device_with (F.log files) (F.named files) (F.faults files)) (P.blocks paging) (F.blocks files) (shown s)) }
+        ensures starts { IfOk result (λ s. Starts machine (M.log moves)
+            (device_with (P.log paging) (P.named paging) (P.faults paging))
+            (device_with (F.log files) (F.named files) (F.faults files))
+            (P.blocks paging) (F.blocks files) (shown s)) }
         ensures devices { IfOk result (λ s. (s.paging ≡ paging) × (s.files ≡ files)) }
-        ensures loans { IfOk result (λ s. loans s ≡ Both (Both (P.loans paging) (F.loans files)) (M.loans moves)) }
+        ensures loans { IfOk result
+            (λ s. loans s ≡ Both (Both (P.loans paging) (F.loans files)) (M.loans moves)) }
         ensures err { IfErr result (λ e. e.back ≡ (paging, files, moves)) }
     {
         match Parts::new(alloc, machine) {

@@ -7,7 +7,8 @@ ghost use Rattle.mm_state.specs.Tallied.{searched_anew, read_told};
 use mm_types::{Backing, Key};
 use std::marker::Model;
 
-/// How many calls of a device succeeded, and how many failed. Each count stands still at its type's end.
+/// How many calls of a device succeeded, and how many failed. Each count stands still at its type's
+/// end.
 #[derive(Drop)]
 pub(crate) struct Tally {
     succeeded: u64,

@@ -1,12 +1,19 @@
-use Rattle.std.proofs.Common.{sym, ap, ◌∙◌}
+use Rattle.std.proofs.Common.{rules, sym, ap, ◌∙◌}
 use Rattle.mm_life.specs.Legal.{is_touch}
 use Rattle.mm_paged.proofs.Doing.{went_then}
 use Rattle.mm_paged.proofs.Ending.{went_soil}
 use Rattle.mm_paged.proofs.faults.fault_to_write.Goals as goal
 
 pub soil-requires-clause-touch : goal.soil-requires-clause-touch
-soil-requires-clause-touch g c = ap is_touch (c.in_ok-fault.ensures.kind ∙ c.requires.access)
+soil-requires-clause-touch g c = ap is_touch (c.in_ok-fault.ensures.ok.kind ∙ c.requires.may.access)
 
-pub returns-clause-went : goal.returns-clause-went
-returns-clause-went g c a e w b = went_then a 1 0 _ _ _ (c.in_ok-fault.ensures.went a e b)
-    (went_soil a c.in-Some.f _ _ w (ap (g.T.Moving.shown c.fault.new.state).life.valid e ∙ (sym c.valid.ensures ∙ c.in-Some.is)) c.soil.ensures.soils)
+pub returns-clause-ok : goal.returns-clause-ok
+returns-clause-ok g c = record {
+  went = λ a e w b. went_then a 1 0 _ _ _ (c.in_ok-fault.ensures.ok.went a e b)
+      (went_soil a c.in-Some.f _ _ w (ap (g.T.Moving.shown c.fault.new.state).life.valid e ∙ (sym c.valid.ensures ∙ c.in-Some.is)) c.soil.ensures.soils);
+  calm = search rules;
+  framed = search rules;
+  valid = search rules;
+  soiled = search rules;
+  names = search rules;
+}

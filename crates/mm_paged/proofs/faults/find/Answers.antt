@@ -1,40 +1,63 @@
-use Rattle.std.proofs.Common.{ap, true, false, refl, None}
+use Rattle.std.proofs.Common.{rules, ap, true, false, refl, None}
 use Rattle.std.specs.Prelude.{is_ok}
+use Rattle.mm_blocks.proofs.Serving.{later_same}
+use Rattle.mm_moving.specs.Shown.{StateOf}
 use Rattle.mm_paged.proofs.Doing.{sought_nothing}
 use Rattle.mm_paged.proofs.Bringing.{does_later}
 use Rattle.mm_paged.proofs.Sought.{sought_by, stuck_by, search_fails, search_stands, search_as, search_keeps}
 use Rattle.mm_paged.proofs.InFlight.{search_flight, flight_same}
+use Rattle.mm_paged.proofs.FaultSteps.{keeps_nothing}
 use Rattle.mm_paged.proofs.faults.find.Goals as goal
 
-pub returns-in-Err-clause-stuck : goal.returns-in-Err-clause-stuck
-returns-in-Err-clause-stuck g c a b = stuck_by a c.args.key _ _ c.requires.unframed b (search_as _ false _ _ (ap is_ok c.in-Err.is) c.find_frame.ensures.searched)
+pub returns-in-Err-clause-err : goal.returns-in-Err-clause-err
+returns-in-Err-clause-err g c =
+    let searched = search_as _ false _ _ (ap is_ok c.in-Err.is) c.find_frame.ensures.searched in
+    record {
+      stuck = λ a b. stuck_by a c.args.key _ _ c.requires.unframed b searched;
+      fails = search_fails c.args.key _ _ c.requires.unframed searched;
+    }
 
-pub returns-in-Err-clause-stands : goal.returns-in-Err-clause-stands
-returns-in-Err-clause-stands g c = search_stands _ _ _ c.find_frame.ensures.searched
+pub returns-in-Err-clause-keeps : goal.returns-in-Err-clause-keeps
+returns-in-Err-clause-keeps g c = record {
+  read = c.find_frame.ensures.searched.read;
+  names = ap (λ (x : StateOf). x.names) c.find_frame.ensures.searched.same;
+  stands = search_stands _ _ _ c.find_frame.ensures.searched;
+  later = does_later _ _ _ c.find_frame.ensures.searched.does;
+  same = c.find_frame.ensures.searched.same;
+}
 
-pub returns-in-Err-clause-fails : goal.returns-in-Err-clause-fails
-returns-in-Err-clause-fails g c = search_fails c.args.key _ _ c.requires.unframed (search_as _ false _ _ (ap is_ok c.in-Err.is) c.find_frame.ensures.searched)
-
-pub returns-in_default-clause-went : goal.returns-in_default-clause-went
-returns-in_default-clause-went g c a b = sought_by a c.args.key _ _ c.requires.unframed b (search_as _ true _ _ (ap is_ok c.in_default.is) c.find_frame.ensures.searched)
+pub returns-in_default-clause-ok : goal.returns-in_default-clause-ok
+returns-in_default-clause-ok g c = record {
+  some = (search_as _ true _ _ (ap is_ok c.in_default.is) c.find_frame.ensures.searched).got refl;
+  went = λ a b. sought_by a c.args.key _ _ c.requires.unframed b (search_as _ true _ _ (ap is_ok c.in_default.is) c.find_frame.ensures.searched);
+  keeps = search_keeps _ _ _ c.find_frame.ensures.searched;
+  flight = search_flight _ (g.T.Moving.shown c.args.state.now) (g.T.Moving.shown c.find_frame.new.state) c.find_frame.ensures.searched;
+}
 
 pub returns-in_default-clause-keeps : goal.returns-in_default-clause-keeps
-returns-in_default-clause-keeps g c = search_keeps _ _ _ c.find_frame.ensures.searched
+returns-in_default-clause-keeps g c = record {
+  read = c.find_frame.ensures.searched.read;
+  names = ap (λ (x : StateOf). x.names) c.find_frame.ensures.searched.same;
+  stands = search_stands _ _ _ c.find_frame.ensures.searched;
+  later = does_later _ _ _ c.find_frame.ensures.searched.does;
+  same = c.find_frame.ensures.searched.same;
+}
 
-pub returns-in_default-clause-stands : goal.returns-in_default-clause-stands
-returns-in_default-clause-stands g c = search_stands _ _ _ c.find_frame.ensures.searched
+pub returns-else-no_zeroed-clause-ok : goal.returns-else-no_zeroed-clause-ok
+returns-else-no_zeroed-clause-ok g c = record {
+  some = search rules;
+  went = λ a b. sought_nothing a _;
+  keeps = keeps_nothing (g.T.Moving.shown c.args.state.now);
+  flight = flight_same (g.T.Moving.shown c.args.state.now).life.flight None (g.T.Moving.shown c.args.state.now).life refl;
+}
 
-pub returns-else-no_zeroed-clause-went : goal.returns-else-no_zeroed-clause-went
-returns-else-no_zeroed-clause-went g c a b = sought_nothing a _
-
-pub returns-in-Err-clause-later : goal.returns-in-Err-clause-later
-returns-in-Err-clause-later g c = does_later _ _ _ c.find_frame.ensures.searched.does
-
-pub returns-in_default-clause-later : goal.returns-in_default-clause-later
-returns-in_default-clause-later g c = does_later _ _ _ c.find_frame.ensures.searched.does
-
-pub returns-in_default-clause-flight : goal.returns-in_default-clause-flight
-returns-in_default-clause-flight g c = search_flight _ (g.T.Moving.shown c.args.state.now) (g.T.Moving.shown c.find_frame.new.state) c.find_frame.ensures.searched
-
-pub returns-else-no_zeroed-clause-flight : goal.returns-else-no_zeroed-clause-flight
-returns-else-no_zeroed-clause-flight g c = flight_same (g.T.Moving.shown c.args.state.now).life.flight None (g.T.Moving.shown c.args.state.now).life refl
+pub returns-else-no_zeroed-clause-keeps : goal.returns-else-no_zeroed-clause-keeps
+returns-else-no_zeroed-clause-keeps g c =
+    let s = g.T.Moving.shown c.args.state.now in
+    record {
+      read = refl;
+      names = refl;
+      stands = refl;
+      later = record { paging = later_same s.paging s.paging refl; files = later_same s.files s.files refl };
+      same = refl;
+    }

@@ -1,0 +1,47 @@
+use Rattle.std.proofs.Common.{refl, sym, ap, subst, ◌∙◌}
+use Rattle.mm_types.specs.Outside.{Loans, Both}
+use Rattle.mm_types.specs.declared.numbers.Frame.{Frame}
+use Rattle.mm_types.specs.declared.moves.Move.TheVariants as move
+use Rattle.mm_parts.specs.Shown.{PartsOf}
+use Rattle.mm_parts.specs.PartsShown as parts_of
+use Rattle.mm_parts.specs.Reading.{waits_of}
+use Rattle.mm_located.proofs.Carrying.{carries_give}
+use Rattle.mm_state.specs.Tallied.{IsTallied}
+use Rattle.mm_state.proofs.Legals.{legal_at}
+use Rattle.mm_state.proofs.Making.{made_quiet, rest_of, carried}
+use Rattle.mm_state.proofs.Tallying.{tallied_search}
+use Rattle.mm_life.specs.Frames.{record_at, is_read}
+use Rattle.mm_state.proofs.After.{give_quiet}
+use Rattle.mm_state.proofs.calls.StateMoving.give.Goals as goal
+
+pub invariant_of-self : goal.invariant_of-self
+invariant_of-self g c =
+    let s = c.args.self.now in
+    let u = parts_of.shown s.parts in
+    let now = carried _ _ _ _ _ c.give-f.ensures.made (carries_give u.life s.parts.kept.reached u.bytes _ _ s.located c.give-f.result c.args.key (legal_at u.life _ _ (ap (λ (f : Frame). move.Give f c.args.key) c.give-f.ensures.frame) c.requires.legal)) in
+    record { located = now.located; tallied = subst IsTallied (sym c.search.ensures) (tallied_search s.told s.tallied); slots_whole = s.slots_whole; blocks_whole = s.blocks_whole }
+
+pub returns-clause-made : goal.returns-clause-made
+returns-clause-made g c =
+    let u = parts_of.shown c.args.self.now.parts in
+    let e = c.give-f.ensures.made in
+    made_quiet (move.Give c.give-f.result c.args.key) _ _ (legal_at u.life _ _ (ap (λ (f : Frame). move.Give f c.args.key) c.give-f.ensures.frame) c.requires.legal) c.note.ensures.in_range c.note.ensures.grew (ap (λ (x : PartsOf). x.life) e) (ap (λ (x : PartsOf). x.ages) e) (ap (λ (x : PartsOf). waits_of x.waits) e) c.search.ensures (refl, refl) refl refl
+
+pub returns-clause-rest : goal.returns-clause-rest
+returns-clause-rest g c =
+    let s = c.args.self.now in
+    let u = parts_of.shown s.parts in
+    let e = c.give-f.ensures.made in
+    let now = carried _ _ _ _ _ e (carries_give u.life s.parts.kept.reached u.bytes _ _ s.located c.give-f.result c.args.key (legal_at u.life _ _ (ap (λ (f : Frame). move.Give f c.args.key) c.give-f.ensures.frame) c.requires.legal)) in
+    rest_of _ _ _ _ _ _ _ _ _ e now.bytes
+
+pub returns-clause-loans : goal.returns-clause-loans
+returns-clause-loans g c = ap (λ (x : Loans). Both (Both (g.P.Inject.loans c.args.self.now.paging) (g.F.Inject.loans c.args.self.now.files)) x) c.note.ensures.loans
+
+pub returns-clause-quiet : goal.returns-clause-quiet
+returns-clause-quiet g c =
+    let s = c.args.self.now in
+    let u = parts_of.shown s.parts in
+    let f = c.give-f.result in
+    ap (λ (x : PartsOf). is_read (record_at x.life.frames f.0).request) c.give-f.ensures.made
+    ∙ give_quiet u.life s.parts.kept.reached f c.args.key (legal_at u.life _ _ (ap (λ (f : Frame). move.Give f c.args.key) c.give-f.ensures.frame) c.requires.legal)

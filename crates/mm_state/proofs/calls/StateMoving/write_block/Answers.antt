@@ -1,0 +1,36 @@
+use Rattle.std.proofs.Common.{sym, subst, arith, replicate}
+use Rattle.std.specs.Prelude.{slice_set}
+use Rattle.std.proofs.lemmas.List.{length-replicate}
+use Rattle.mm_types.specs.declared.frames.Backing.TheVariants as backing
+use Rattle.mm_parts.specs.PartsShown as parts_of
+use Rattle.mm_state.specs.Tallied.{IsTallied}
+use Rattle.mm_state.proofs.Blocks.{block_written, block_carries, rest_block}
+use Rattle.mm_state.proofs.Tallying.{tallied_write}
+use Rattle.mm_state.proofs.Whole.{block_whole}
+use Rattle.mm_state.proofs.calls.StateMoving.write_block.Goals as goal
+
+pub write_device-ok-requires : goal.write_device-ok-requires
+write_device-ok-requires g c = let s = c.args.self.now in let size = s.located.file_room in let low = c.requires.there in omega (arith, size, low)
+
+pub returns-clause-written : goal.returns-clause-written
+returns-clause-written g c = block_written c.write_device-ok.result _ _ (λ blocks. slice_set blocks c.args.b.0 (replicate 4096 c.args.byte)) c.write_device-ok.ensures.ok c.write_device-ok.ensures.err
+
+pub invariant_of-self : goal.invariant_of-self
+invariant_of-self g c =
+    let s = c.args.self.now in
+    let u = parts_of.shown s.parts in
+    let ok = c.write_device-ok.result in
+    let page = replicate 4096 c.args.byte in
+    let now = block_carries ok u.life s.parts.kept.reached u.bytes (g.P.Inject.blocks s.paging) (g.F.Inject.blocks s.files) s.located c.args.b.0 page c.requires.new _
+    (block_written ok _ _ (λ blocks. slice_set blocks c.args.b.0 page) c.write_device-ok.ensures.ok c.write_device-ok.ensures.err) in
+    record { located = now.located; tallied = subst IsTallied (sym c.wrote.ensures) (tallied_write s.told ok (backing.Block c.args.b) s.tallied); slots_whole = s.slots_whole; blocks_whole = block_whole ok c.args.b.0 page (length-replicate 4096 c.args.byte) _ _ (block_written ok _ _ (λ blocks. slice_set blocks c.args.b.0 page) c.write_device-ok.ensures.ok c.write_device-ok.ensures.err) s.blocks_whole }
+
+pub returns-clause-rest : goal.returns-clause-rest
+returns-clause-rest g c =
+    let s = c.args.self.now in
+    let u = parts_of.shown s.parts in
+    let ok = c.write_device-ok.result in
+    let page = replicate 4096 c.args.byte in
+    let now = block_carries ok u.life s.parts.kept.reached u.bytes (g.P.Inject.blocks s.paging) (g.F.Inject.blocks s.files) s.located c.args.b.0 page c.requires.new _
+    (block_written ok _ _ (λ blocks. slice_set blocks c.args.b.0 page) c.write_device-ok.ensures.ok c.write_device-ok.ensures.err) in
+    rest_block _ _ _ _ _ _ _ _ now.bytes

@@ -1,8 +1,0 @@
-use Rattle.mm_state.proofs.Making.{located_on, rest_waits}
-use Rattle.mm_state.proofs.states.State.wait.Goals as goal
-
-pub invariant_of-self : goal.invariant_of-self
-invariant_of-self g c = let s = c.args.self.now in record { located = located_on _ _ _ _ c.wait.ensures.made s.located; tallied = s.tallied; slots_whole = s.slots_whole; blocks_whole = s.blocks_whole }
-
-pub returns-clause-rest : goal.returns-clause-rest
-returns-clause-rest g c = rest_waits _ _ _ _ _ _ _ _ _ c.wait.ensures.made c.wait.ensures.walked

@@ -1,0 +1,74 @@
+ghost use Rattle.std.specs.Prelude.{◌≡◌, ◌≤◌, false, map};
+ghost use Rattle.std.specs.Bool.{OnTrue};
+ghost use Rattle.mm_life.specs.Frames.{is_empty};
+ghost use Rattle.mm_life.specs.Legal.{IsLegal};
+ghost use Rattle.mm_flight.specs.Requests.{ended};
+ghost use Rattle.mm_parts.specs.PartsShown as parts_of;
+ghost use Rattle.mm_parts.specs.Moves.{after, front, own_ended, read_end, write_end, page_filled};
+ghost use Rattle.mm_state.specs.Tallied.{page_if};
+
+use mm_parts::Parts;
+use mm_types::{Frame, Move, NoMemory};
+
+/// Takes the memory for further slots, if it is there. Nothing changes but how many can be added.
+pub(crate) fn reserve(parts: &mut Parts, n: u32) -> bool
+    ensures shown { parts_of.shown parts.new ≡ parts_of.shown parts.old }
+    ensures spare { OnTrue result (n ≤ parts_of.spare_slots parts.new) }
+{
+    match parts.reserve_slots(n) {
+        Ok(()) => true,
+        Err(NoMemory) => false,
+    }
+}
+
+/// The first free frame, where there is one.
+pub(crate) fn first_free(parts: &Parts) -> Frame
+    requires { is_empty (parts_of.shown parts.now).life.frames.free ≡ false }
+    ensures { result ≡ front (parts_of.shown parts.now).life.frames.free }
+{
+    match parts.front_free() {
+        Some(f) => f,
+        None => unreachable!(),
+    }
+}
+
+/// The first frame on standby, where there is one.
+pub(crate) fn first_standby(parts: &Parts) -> Frame
+    requires { is_empty (parts_of.shown parts.now).life.frames.standby ≡ false }
+    ensures { result ≡ front (parts_of.shown parts.now).life.frames.standby }
+{
+    match parts.front_standby() {
+        Some(f) => f,
+        None => unreachable!(),
+    }
+}
+
+/// The move with which a read ends.
+pub(crate) fn read_move(f: Frame, ok: bool) -> Move
+    ensures { result ≡ read_end ok f }
+{
+    if ok { Move::Got(f) } else { Move::Bad(f) }
+}
+
+/// The move with which a write ends.
+pub(crate) fn write_move(f: Frame, ok: bool) -> Move
+    ensures { result ≡ write_end ok f }
+{
+    if ok { Move::Wrote(f) } else { Move::Lost(f) }
+}
+
+/// A read ends in the parts: well, with this page, or not.
+pub(crate) fn settle_read(parts: &mut Parts, f: Frame, ok: bool, page: &[u8; 4096])
+    requires { IsLegal (read_end ok f) (parts_of.shown parts.old).life }
+    ensures { parts_of.shown parts.new ≡ record (after (parts_of.shown parts.old) (read_end ok f)) {
+      bytes = page_filled (page_if ok page.now) (parts_of.shown parts.old).bytes f.0;
+      waits = map (ended f.0 ok) (parts_of.shown parts.old).waits;
+      own = own_ended (parts_of.shown parts.old).own f.0;
+    } }
+{
+    if ok {
+        parts.end_read(f, Some(page));
+    } else {
+        parts.end_read(f, None);
+    }
+}
