@@ -3,5 +3,7 @@ pub mod Counts
 pub mod Decided
 pub mod Areas
 pub mod Pages
+pub mod Watched
+pub mod Allocated
 pub mod Beginning
 pub mod Marks

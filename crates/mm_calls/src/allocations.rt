@@ -19,7 +19,7 @@ use mm_tables::Tables;
 use mm_types::{Answer, Code, Kind, NoMemory, PAGE_SIZE, Pid, View};
 use std::alloc::Global;
 
-/// Reserves pages of a living process, and commits them where the type says so.
+/// Reserves pages of a living process, watched or not, and commits them where the type says so.
 #[tactic(auto, using(mm_pages::proofs::Passed::turns_same))]
 pub(crate) fn reserve<G: Pages>(
     allocator: Global,
@@ -28,6 +28,7 @@ pub(crate) fn reserve<G: Pages>(
     pid: Pid,
     addr: u32,
     size: u32,
+    watched: bool,
     kind: u32,
     prot: u32,
 ) -> Result<Answer, NoMemory>
@@ -36,7 +37,7 @@ pub(crate) fn reserve<G: Pages>(
     requires lives { is_some (process_of t.old pid.0) ≡ true }
     requires some { 1 ≤ size }
     requires prot { is_protection_among private_protections prot ≡ true }
-    ensures ok { IfOk result (λ a. (p : ProcessOf (Unit {0})) → process_of t.old pid.0 ≡ Some p → reserve blank t.old pid.0 p addr size kind prot ≡ record { answer = a; world = t.new }) }
+    ensures ok { IfOk result (λ a. (p : ProcessOf (Unit {0})) → process_of t.old pid.0 ≡ Some p → reserve blank t.old pid.0 p addr size watched kind prot ≡ record { answer = a; world = t.new }) }
     ensures err { OnErr result ((t.new ≡ t.old) × (G.contents g.new ≡ G.contents g.old)) }
     ensures settled { Settled t.new (G.contents g.old) (G.contents g.new) (G.store g.old) (G.store g.new) }
     ensures passes { PassesIn G.unpaged (Turns Makes) (G.store g.old) (G.store g.new) (G.behind g.old) (G.behind g.new) }
@@ -50,7 +51,7 @@ pub(crate) fn reserve<G: Pages>(
     if !t.can_charge(new_pages(kind, range)) {
         return Ok(Answer::Error(Code::CommitmentLimit));
     }
-    t.reserve(allocator, g, pid, range, kind, prot)?;
+    t.reserve(allocator, g, pid, range, watched, kind, prot)?;
     Ok(Answer::At(range.first * PAGE_SIZE))
 }
 

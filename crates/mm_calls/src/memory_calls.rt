@@ -15,6 +15,7 @@ use crate::allocations::{commit, reserve};
 use crate::frees::{decommit_range, decommit_region, release};
 use crate::parameters::{
     are_alloc_parameters, are_free_parameters, are_protect_parameters, is_reserving,
+    is_watched_type, plain_type,
 };
 use crate::protections::protect_range;
 use mm_pages::Pages;
@@ -23,7 +24,8 @@ use mm_tables::Tables;
 use mm_types::{AllocFlags, Answer, Code, NoMemory, Pid};
 use std::alloc::Global;
 
-/// `alloc` (VirtualAlloc): reserves pages, commits reserved ones, or both. The answer is the address of the first.
+/// `alloc` (VirtualAlloc): reserves pages, commits reserved ones, or both. The answer is the address of the first. With MEM_WRITE_WATCH
+/// (0x202000, 0x203000) the new region is watched.
 ///
 /// In this order: `InvalidHandle` for a process that does not live; `InvalidParameter` for a type, a size or a
 /// protection that no private page can have; `InvalidAddress` where pages to be reserved are not free, or pages to be
@@ -54,11 +56,13 @@ pub fn valloc<G: Pages>(
     if !t.has(pid) {
         return Ok(Answer::Error(Code::InvalidHandle));
     }
-    if !are_alloc_parameters(size, kind, prot) {
+    let plain = plain_type(kind);
+    if !are_alloc_parameters(size, plain, prot) {
         return Ok(Answer::Error(Code::InvalidParameter));
     }
-    if is_reserving(addr, kind) {
-        reserve(allocator, t, g, pid, addr, size, kind, prot)
+    if is_reserving(addr, plain) {
+        let watched = is_watched_type(kind);
+        reserve(allocator, t, g, pid, addr, size, watched, plain, prot)
     } else {
         commit(t, g, pid, PageRange::of(addr, size), prot)
     }

@@ -1,6 +1,6 @@
 ghost use Rattle.std.specs.Prelude.{◌≡◌};
 ghost use Rattle.mm_types.specs.Address.{is_user_page};
-ghost use Rattle.mm_world.specs.Alloc.{are_alloc_parameters, is_reserving};
+ghost use Rattle.mm_world.specs.Alloc.{are_alloc_parameters, is_reserving, is_watched_type, plain_type};
 ghost use Rattle.mm_world.specs.Free.{are_free_parameters};
 ghost use Rattle.mm_world.specs.Protect.{are_protect_parameters};
 ghost use Rattle.mm_world.specs.Rows.{is_protection_among, private_protections, all_protections};
@@ -8,6 +8,9 @@ ghost use Rattle.mm_tables.specs.Fits.{new_pages};
 
 use mm_spaces::PageRange;
 use mm_types::{AllocFlags, END_OF_USER_PAGES, FIRST_USER_PAGE, Prot};
+
+/// MEM_WRITE_WATCH and MEM_RESERVE.
+const WATCHED_RESERVE: u32 = AllocFlags::WRITE_WATCH.0 + AllocFlags::RESERVE.0;
 
 /// PAGE_NOACCESS with PAGE_GUARD, which no page can have.
 const GUARDED_NO_ACCESS: u32 = 0x101;
@@ -32,6 +35,24 @@ fn is_protection(prot: u32) -> bool
         0x01 | 0x02 | 0x04 | 0x08 | 0x10 | 0x20 | 0x40 | 0x80
     ) && prot < 0x200
         && prot != GUARDED_NO_ACCESS
+}
+
+/// Whether an `alloc` of this type makes a watched region: MEM_WRITE_WATCH together with MEM_RESERVE.
+pub(crate) fn is_watched_type(kind: u32) -> bool
+    ensures { result ≡ is_watched_type kind }
+{
+    kind == WATCHED_RESERVE || kind == WATCHED_RESERVE + AllocFlags::COMMIT.0
+}
+
+/// The type without MEM_WRITE_WATCH, where it makes a watched region; any other type as it is.
+pub(crate) fn plain_type(kind: u32) -> u32
+    ensures { result ≡ plain_type kind }
+{
+    if is_watched_type(kind) {
+        kind - AllocFlags::WRITE_WATCH.0
+    } else {
+        kind
+    }
 }
 
 /// Whether an `alloc` with these can be tried.

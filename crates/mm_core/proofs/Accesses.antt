@@ -1,18 +1,20 @@
 -- An access to the world of some tables with bytes, by what the tables have at its page.
-use Rattle.std.proofs.Common.{◌≡◌, ℕ, ◌+◌, ◌-◌, ◌≤◌, ◌%◌, Bool, true, false, Option, Some, None, List, refl, sym, ◌∙◌, ap, cond, take, drop, option_map, unwrap_or, not, ◌&&◌, nat_le, nat_lt}
+use Rattle.std.proofs.Common.{◌≡◌, ℕ, ◌+◌, ◌-◌, ◌≤◌, ◌%◌, Bool, true, false, Option, Some, None, is_some, List, refl, sym, ◌∙◌, ap, subst, cond, take, drop, option_map, unwrap_or, not, ◌&&◌, nat_le, nat_lt}
 use Rattle.std.specs.Prelude.{option_and_then}
 use Rattle.std.proofs.lemmas.Bool.{leb-true}
 use Rattle.mm_types.specs.declared.answers.Answer.TheVariants as answer
 use Rattle.mm_types.specs.declared.codes.Code.TheVariants as code
 use Rattle.mm_types.specs.declared.codes.Raise.TheVariants as raise
+use Rattle.mm_types.specs.declared.protections.Access.{Access}
 use Rattle.mm_types.specs.declared.numbers.Key.{Key}
 use Rattle.mm_types.specs.declared.views.View.{View}
 use Rattle.mm_types.specs.declared.views.Kind.TheVariants as kind
 use Rattle.mm_types.specs.Address.{page_of, page_size, end_of}
 use Rattle.mm_types.specs.Protection.{permits}
-use Rattle.mm_world.specs.World.{Page, World, RowOf, ProcessOf, pages_of, filled}
-use Rattle.mm_world.specs.Find.{process_of, shared_page}
-use Rattle.mm_world.specs.Keys.{Home, Own, InSection, Committed, committed_at, key_of, private_key, shared_key, set_row, set_shared, guard_off}
+use Rattle.mm_world.specs.World.{Page, World, RowOf, RegionOf, ProcessOf, pages_of, filled}
+use Rattle.mm_world.specs.Find.{process_of, shared_page, set_region, change_range}
+use Rattle.mm_world.specs.Rows.{mark_written, one_page}
+use Rattle.mm_world.specs.Keys.{Home, Own, InSection, Committed, committed_at, key_of, private_key, shared_key, with_row, set_row, set_shared, guard_off}
 use Rattle.mm_world.specs.Access.{Attempt, ReadOf, WriteOf, Execute, access, access_at, access_of, is_permitted, perform, write_to, written, bytes_of}
 use Rattle.mm_world.specs.Failure.{Need, need_of, copies, same_key}
 use Rattle.mm_world.specs.Outcome.{OutcomeOf, done, find_or}
@@ -22,12 +24,15 @@ use Rattle.mm_world.specs.WellFormed.{Spaces}
 use Rattle.mm_pages.specs.Conditions.{touch}
 use Rattle.mm_tables.specs.declared.looks.CommittedRow.{CommittedRow}
 use Rattle.mm_tables.specs.Looks.{is_own}
-use Rattle.mm_core.specs.Accessing.{Refuses, Admits}
+use Rattle.mm_tables.specs.References.{MadeAtMost}
+use Rattle.mm_core.specs.Accessing.{Refuses, Admits, Marks}
 use Rattle.mm_world.proofs.Finding.{found_stands, IsCommitted, committed_is, HomeCases, IsOwn, IsShared, home_cases}
 use Rattle.mm_types.proofs.Booleans.{parts}
 use Rattle.mm_core.proofs.Rows.{Lives}
 use Rattle.mm_core.proofs.With.{committed_with, home_with, process-with, committed-with, guard_off-with, shared-with}
-use Rattle.mm_core.proofs.Writing.{written-with, copied-with, shared-written}
+use Rattle.mm_types.proofs.Options.{none_of}
+use Rattle.mm_core.proofs.Making.{made-set_region}
+use Rattle.mm_core.proofs.Writing.{written-with, marked-with, copied-with, shared-written}
 
 -- ---- a line for the store alone
 
@@ -229,19 +234,42 @@ module _ (t : Tables) (b : Key → Page) (pid addr : ℕ) where
     abbrev stored : Page
     stored = written (b told.key) (addr % page_size) bytes
 
-    -- the bytes of the row's key are changed in the write, and no others
-    module _ (new : Key → Page) (spaces : Spaces t) (others : (k : Key) → same_key k told.key ≡ false → new k ≡ b k) (at : new told.key ≡ stored) where
-      in-own : (u : Unit {0}) → c.row.own ≡ Some u → c.home ≡ Own u → write_to w pid holder at_page page (addr % page_size) bytes (home_with b pid page c.home) ≡ world_with t new
+    watched-told : (is_some c.region.thing.watched && is_own c.home) ≡ told.watched
+    watched-told = ap (λ (r : CommittedRow). r.watched) h.is_told
+
+    -- the bytes of the row's key are changed in the write, and no others, and its page is marked
+    module _ (after : Tables) (marks : Marks t pid page told after) (new : Key → Page) (spaces : Spaces t) (others : (k : Key) → same_key k told.key ≡ false → new k ≡ b k) (at : new told.key ≡ stored) where
+      unwatched : told.watched ≡ false → world_with t new ≡ world_with after new
+      unwatched e = ap (λ (v : Tables). world_with v new) (sym (marks.plain e))
+
+      -- the region with the row's new bytes
+      abbrev stored_region : RegionOf Page
+      stored_region = with_row page (row_with new pid page c.row) at_page.region.thing
+
+      in-own : (u : Unit {0}) → c.row.own ≡ Some u → c.home ≡ Own u → write_to w pid holder at_page page (addr % page_size) bytes (home_with b pid page c.home) ≡ world_with after new
       in-own u own at_home =
           let key-is : private_key pid page ≡ told.key = sym (ap (key_of pid page) at_home) ∙ key-told (WriteOf bytes) told h in
           let row : RowOf Page = record at_page.row { own = Some (written (b (private_key pid page)) (addr % page_size) bytes) } in
           let new_at : new (private_key pid page) ≡ written (b (private_key pid page)) (addr % page_size) bytes = ap new key-is ∙ at ∙ sym (ap (λ (k : Key). written (b k) (addr % page_size) bytes) key-is) in
           let row_is : row_with new pid page c.row ≡ row = λ i. record { prot = c.row.prot; guard = c.row.guard; marked = c.row.marked; own = (ap (option_map (λ u. new (private_key pid page))) own ∙ ap (λ (x : Page). Some x) new_at) i } in
           ap (λ home. write_to w pid holder at_page page (addr % page_size) bytes (home_with b pid page home)) at_home
-          ∙ ap (λ (row : RowOf Page). set_row w pid holder at_page.region page row) (sym row_is)
-          ∙ sym (written-with b new pid page (λ k other. others k (ap (same_key k) (sym key-is) ∙ other)) t h.process c spaces h.lives h.committed)
+          ∙ ap (λ (row : RowOf Page). set_region w pid holder at_page.region.place (mark_written true (one_page page) (with_row page row at_page.region.thing))) (sym row_is)
+          ∙ by_flags (is_some c.region.thing.watched) refl
+        where
+          other : (k : Key) → same_key k (private_key pid page) ≡ false → new k ≡ b k
+          other k is = others k (ap (same_key k) (sym (sym (ap (key_of pid page) at_home) ∙ key-told (WriteOf bytes) told h)) ∙ is)
 
-      in-section : (area i : ℕ) (u : Unit {0}) → told.copies ≡ false → shared_page t area i ≡ Some u → c.home ≡ InSection area i → write_to w pid holder at_page page (addr % page_size) bytes (home_with b pid page c.home) ≡ world_with t new
+          by_flags : (b' : Bool) → is_some c.region.thing.watched ≡ b' → set_region w pid holder at_page.region.place (mark_written true (one_page page) stored_region) ≡ world_with after new
+          by_flags true e =
+              sym (marked-with b new pid page other t h.process c spaces h.lives h.committed)
+              ∙ ap (λ (v : Tables). world_with v new) (sym (marks.watched (sym watched-told ∙ (λ i. e i && is_own (at_home i))) h.process c h.lives h.committed))
+          by_flags false e =
+              let none : c.region.thing.watched ≡ None = none_of c.region.thing.watched e in
+              ap (λ (flags : Option (List Bool)). set_region w pid holder at_page.region.place (record stored_region { watched = flags })) (ap (option_map (change_range (λ was. true) (page - c.region.thing.base) 1)) none ∙ sym none)
+              ∙ sym (written-with b new pid page other t h.process c spaces h.lives h.committed)
+              ∙ unwatched (sym watched-told ∙ (λ i. e i && is_own c.home))
+
+      in-section : (area i : ℕ) (u : Unit {0}) → told.copies ≡ false → shared_page t area i ≡ Some u → c.home ≡ InSection area i → write_to w pid holder at_page page (addr % page_size) bytes (home_with b pid page c.home) ≡ world_with after new
       in-section area i u stays there at_home =
           let key-is : shared_key area i ≡ told.key = sym (ap (key_of pid page) at_home) ∙ key-told (WriteOf bytes) told h in
           let unmarked : c.row.marked ≡ false = sym (and_true c.row.marked) ∙ sym (ap (λ home. c.row.marked && not (is_own home)) at_home) ∙ marked-told ∙ stays in
@@ -251,12 +279,13 @@ module _ (t : Tables) (b : Key → Page) (pid addr : ℕ) where
           ∙ ap (λ (m : Bool). cond m (set_row w pid holder at_page.region page (record at_page.row { own = Some (written (bytes_of w (InSection area i)) (addr % page_size) bytes); prot = 0x04 })) (set_shared w area i (written (bytes_of w (InSection area i)) (addr % page_size) bytes))) unmarked
           ∙ ap (λ (x : Page). set_shared w area i x) (sym new_at)
           ∙ sym (shared-written b new area i (λ k other. others k (ap (same_key k) (sym key-is) ∙ other)) t u there)
+          ∙ unwatched (sym watched-told ∙ ap (λ home. is_some c.region.thing.watched && is_own home) at_home ∙ and_false (is_some c.region.thing.watched))
 
-      in-place : told.copies ≡ false → HomeCases t (page - c.region.thing.base) c.region.thing.kind c.row.own c.home → write_to w pid holder at_page page (addr % page_size) bytes (home_with b pid page c.home) ≡ world_with t new
+      in-place : told.copies ≡ false → HomeCases t (page - c.region.thing.base) c.region.thing.kind c.row.own c.home → write_to w pid holder at_page page (addr % page_size) bytes (home_with b pid page c.home) ≡ world_with after new
       in-place stays (IsOwn u own at_home) = in-own u own at_home
       in-place stays (IsShared v u is none there at_home) = in-section v.area.0 (v.first + (page - c.region.thing.base)) u stays there at_home
 
-      pub writes : told.copies ≡ false → access w pid addr (WriteOf bytes) ≡ done answer.Ok (world_with t new)
+      pub writes : told.copies ≡ false → access w pid addr (WriteOf bytes) ≡ done answer.Ok (world_with after new)
       writes stays = does (WriteOf bytes) told h ∙ ap (λ (v : World). done answer.Ok v) (in-place stays (cases (WriteOf bytes) told h))
 
     -- the row has bytes of its own from now on, and no others change
@@ -285,6 +314,14 @@ module _ (t : Tables) (b : Key → Page) (pid addr : ℕ) where
 
       pub copies-write : told.copies ≡ true → access w pid addr (WriteOf bytes) ≡ done answer.Ok (world_with after new)
       copies-write makes = does (WriteOf bytes) told h ∙ ap (λ (v : World). done answer.Ok v) (copied makes (cases (WriteOf bytes) told h))
+
+-- a page that was marked makes nothing
+pub made-marks : (t : Tables) (n pid addr : ℕ) (form : Access) (told : CommittedRow) → Admits t pid addr form told → (after : Tables) → Marks t pid (page_of addr) told after → MadeAtMost n t → MadeAtMost n after
+made-marks t n pid addr form told h after marks few = by_flags told.watched refl
+  where
+    by_flags : (b : Bool) → told.watched ≡ b → MadeAtMost n after
+    by_flags true e = subst (λ (v : Tables). MadeAtMost n v) (sym (marks.watched e h.process h.row h.lives h.committed)) (made-set_region t n pid h.row.region.place h.process _ h.lives few)
+    by_flags false e = subst (λ (v : Tables). MadeAtMost n v) (sym (marks.plain e)) few
 
 -- a page that a write copies: its row is marked, and its bytes stand in a section
 pub record IsCopying (c : Committed (Unit {0})) : Type 0 where

@@ -9,8 +9,8 @@ use Rattle.mm_types.specs.declared.views.Kind.TheVariants as kind
 use Rattle.mm_types.specs.Address.{Range, address_of, page_of}
 use Rattle.mm_types.specs.Spelling.{Text}
 use Rattle.mm_world.specs.World.{WorldOf, ProcessOf, RegionOf, AreaOf, SectionOf, FileOf, StackOf, RowOf, Numbered, numbered}
-use Rattle.mm_world.specs.Find.{Found, process_of, set_process, set_regions, set_area, stack_by, set_stack, end_stacks}
-use Rattle.mm_world.specs.Keys.{Committed, committed_at, set_row, guard_off}
+use Rattle.mm_world.specs.Find.{Found, process_of, set_process, set_region, set_regions, set_area, stack_by, set_stack, end_stacks}
+use Rattle.mm_world.specs.Keys.{Committed, committed_at, with_row, set_row, guard_off}
 use Rattle.mm_world.specs.Outcome.{OutcomeOf, done, refused}
 use Rattle.mm_types.specs.Allocation.{commit_type}
 use Rattle.mm_world.specs.Alloc.{alloc, commit_in}
@@ -20,6 +20,7 @@ use Rattle.mm_world.specs.Query.{query}
 use Rattle.mm_world.specs.Sections.{create, create_file, open_section, close, handle_or, new_section, settle, settled_sections, settled_areas, with_handle}
 use Rattle.mm_world.specs.Views.{map_view, unmap, flush}
 use Rattle.mm_world.specs.Processes.{new_process, exit, new_file, take_fail, no_regions, kept_of_others}
+use Rattle.mm_world.specs.Watch.{watch, reset_watch}
 use Rattle.mm_world.specs.Stack.{stack, made, probe, probe_at, probe_in, probe_of, grown}
 use Rattle.mm_tables.specs.References.{MadeAtMost}
 use Rattle.mm_core.specs.Serving.{IsFailure}
@@ -230,21 +231,35 @@ module _ {B : Type 0} where
   pub in_take_fail : (w : WorldOf B) → Holds (Makes w) (take_fail w)
   in_take_fail w = search (tables, unchanged, by_count) depth 14
 
-  -- ---- one row
+  -- ---- one region, one row
 
-  pub made-set_row : (w : WorldOf B) (n pid page : ℕ) (p : ProcessOf B) (r : Found (RegionOf B)) (row : RowOf B) → process_of w pid ≡ Some p → MadeAtMost n w → MadeAtMost n (set_row w pid p r page row)
-  made-set_row w n pid page p r row lives h =
+  pub made-set_region : (w : WorldOf B) (n pid place : ℕ) (p : ProcessOf B) (new : RegionOf B) → process_of w pid ≡ Some p → MadeAtMost n w → MadeAtMost n (set_region w pid p place new)
+  made-set_region w n pid place p new lives h =
       record {
         sections = h.sections;
         areas = h.areas;
         handles = λ j q there.
             elim (same_or_not j pid) [
               | inl same ↦
-                  let is : Some (record p { regions = set p.regions r.place _ }) ≡ Some q = sym (get_or-set_same w.processes pid _ None (numbered_inside w.processes pid p lives)) ∙ ap (λ (k : ℕ). process_of (set_row w pid p r page row) k) (sym same) ∙ there in
+                  let is : Some (record p { regions = set p.regions place new }) ≡ Some q = sym (get_or-set_same w.processes pid _ None (numbered_inside w.processes pid p lives)) ∙ ap (λ (k : ℕ). process_of (set_region w pid p place new) k) (sym same) ∙ there in
                   (let handles : p.handles ≡ q.handles = cc in omega (arith, h.handles pid p lives, ap (λ (hs : Numbered ℕ). length hs) handles))
               | inr other ↦ h.handles j q (sym (get_or-set_other w.processes pid j _ None other) ∙ there)
             ];
       }
+
+  pub made-set_row : (w : WorldOf B) (n pid page : ℕ) (p : ProcessOf B) (r : Found (RegionOf B)) (row : RowOf B) → process_of w pid ≡ Some p → MadeAtMost n w → MadeAtMost n (set_row w pid p r page row)
+  made-set_row w n pid page p r row lives h = made-set_region w n pid r.place p (with_row page row r.thing) lives h
+
+  -- ---- watched regions
+
+  by_flags : (w : WorldOf B) (pid : ℕ) (p : ProcessOf B) (place : ℕ) (new : RegionOf B) (a : Answer) → (IsFailure a → ⊥) → process_of w pid ≡ Some p → Holds (Makes w) (done a (set_region w pid p place new))
+  by_flags w pid p place new a fine lives = by_regions w pid p _ a fine lives
+
+  pub in_watch : (w : WorldOf B) (pid : ℕ) (unwrites : Bool) (addr size count : ℕ) → Holds (Makes w) (watch w pid unwrites addr size count)
+  in_watch w pid unwrites addr size count = search (tables, by_refusal, unchanged, by_flags) depth 14
+
+  pub in_reset_watch : (w : WorldOf B) (pid addr size : ℕ) → Holds (Makes w) (reset_watch w pid addr size)
+  in_reset_watch w pid addr size = search (tables, by_refusal, by_flags) depth 14
 
   -- ---- stacks
 

@@ -21,7 +21,7 @@ use Rattle.mm_tables.specs.References.{IsTidy}
 use Rattle.mm_core.specs.Deciding.{Decided, Idle}
 use Rattle.mm_core.specs.Forgetting.{EndsWaits}
 use Rattle.mm_core.specs.Noting.{MarkedIn, HaltedIn}
-use Rattle.mm_core.specs.Promise.{Scene, Sound, Notes, Decides, DecidesStep, Breaks, scene_of}
+use Rattle.mm_core.specs.Promise.{Scene, Sound, Notes, Decides, Breaks, scene_of}
 use Rattle.mm_core.specs.Serving.{AskedBeside}
 use Rattle.mm_core.proofs.Charged.{charge-with}
 use Rattle.mm_core.proofs.Noted.{line-noted, line-broken}
@@ -82,11 +82,11 @@ module _ (u : Bool) (n : ℕ) (t : Tables) (old : Key → Option Page) (s : Stor
     unwaited = λ never tid. idle_in u new z c h.stands_after never tid;
   }
 
-  pub decides : (e : Event) (a : Answer) → Fits t old s → Standing → Decided u e n t old s a after new z → EndsWaits t e a z.report → (u ≡ false → AskedBeside t.blocks_used e a s.paging_device z.paging_device s.file_device z.file_device s.file_blocks z.file_blocks × HoldsBeside (world_with t (bytes_of old)) e a b.slots c.slots s.file_blocks z.file_blocks) → MarkedIn u e n t old s b a after new z c → DecidesStep u before e a behind
+  pub decides : (e : Event) (a : Answer) → Fits t old s → Standing → Decided u e n t old s a after new z → EndsWaits t e a z.report → (u ≡ false → AskedBeside t.blocks_used e a s.paging_device z.paging_device s.file_device z.file_device s.file_blocks z.file_blocks × HoldsBeside (world_with t (bytes_of old)) e a b.slots c.slots s.file_blocks z.file_blocks) → MarkedIn u e n t old s b a after new z c → Decides u before e a behind
   decides e a fits h d waits beside marked =
       let p = piece_in u before e a behind (λ paging. line-noted u e n t old s b a after new z c paging h.next fits d.keeps h.stands h.stands_after (beside paging).1 marked) in
       record {
-        outcome = d.stepped;
+        stepped = d.stepped;
         moves = p.moves;
         notes = p.notes;
         told = record {
@@ -116,24 +116,6 @@ module _ (u : Bool) (n : ℕ) (t : Tables) (old : Key → Option Page) (s : Stor
     broken = λ paging. line-broken u n old new s z b c paging h.next i.contents h.stands h.stands_after halted;
   }
 
--- a line that has not begun
-pub unbegun : (u : Bool) (s : Scene) → Sound u s s → Breaks u s s
-unbegun u s h = record {
-  sound = h;
-  world = refl;
-  paging = refl;
-  files = refl;
-  blocks = refl;
-  broken = λ paging. record {
-    piece = [];
-    in_range = tt;
-    grew = grew_nothing s.behind.log;
-    replays = refl;
-    slots = refl;
-    at_most = inl refl;
-  };
-}
-
 -- ---- results
 
 -- what follows where a line was decided
@@ -145,16 +127,3 @@ at-ok P (Err x) h = tt
 pub at-err : {A E : Type 0} {P : Type 0} (r : Result A E) → ((x : E) → r ≡ Err x → P) → OnErr r P
 at-err (Ok a) h = tt
 at-err (Err x) h = h x refl
-
--- ---- a promise handed on, with other words of the answer and of what is there after it
-
-pub swap : {P Q : Type 0} (u : Bool) (s : Scene) (e : Event) (a : Answer) (z : Scene) → Decides P u s e a z → Q → Decides Q u s e a z
-swap u s e a z d outcome = record { outcome = outcome; moves = d.moves; notes = d.notes; told = d.told }
-
-pub if-decided : {E : Type 0} {P Q : Answer → Type 0} (u : Bool) (s : Scene) (e : Event) (z : Scene) (r : Result Answer E) → IfOk r (λ a. Decides (P a) u s e a z) → ((a : Answer) → P a → Q a) → IfOk r (λ a. Decides (Q a) u s e a z)
-if-decided u s e z (Ok a) d f = swap u s e a z d (f a d.outcome)
-if-decided u s e z (Err x) d f = tt
-
-pub if-decided-with : {E : Type 0} {P Q S : Answer → Type 0} (u : Bool) (s : Scene) (e : Event) (z : Scene) (r : Result Answer E) → IfOk r (λ a. Decides (P a) u s e a z) → IfOk r S → ((a : Answer) → P a → S a → Q a) → IfOk r (λ a. Decides (Q a) u s e a z)
-if-decided-with u s e z (Ok a) d h f = swap u s e a z d (f a d.outcome h)
-if-decided-with u s e z (Err x) d h f = tt

@@ -200,9 +200,9 @@ makes_keep (move.Add k b ∷ ms) a = (refl, makes_keep ms a.1)
 makes_keep (_ ∷ ms) a = let bad = a.0 in cc
 
 -- so do those of a new stack
-pub stack_makes : (ms : List Move) → AllTurn MakesStack ms → AllTurn Makes ms
-stack_makes [] a = tt
-stack_makes (m ∷ ms) a = (a.0, stack_makes ms a.1)
+pub stack_makes : (guard : ℕ) (ms : List Move) → AllTurn (MakesStack guard) ms → AllTurn Makes ms
+stack_makes guard [] a = tt
+stack_makes guard (m ∷ ms) a = (a.0, stack_makes guard ms a.1)
 
 pub ends_take : (held : Place → Bool) (from to : ℕ) (ms : List Move) → AllTurn (Ends held from to) ms → Each takes_away ms
 ends_take held from to [] a = tt

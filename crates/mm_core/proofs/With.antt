@@ -152,7 +152,7 @@ module _ (b : Key → Page) where
       (set-processes 0 pid t.processes (Some q)
       ∙ ap (λ (k : ℕ). set (processes_with b 0 t.processes) pid (Some (process_with b k q))) (let k : 0 + pid ≡ pid = omega arith in k)
       ∙ ap (λ (rs : List (RegionOf Page)). set (processes_with b 0 t.processes) pid (Some (record { regions = rs; handles = p.handles }))) (set-regions pid r.place p.regions new)
-      ∙ ap (λ (rows : List (RowOf Page)). set (processes_with b 0 t.processes) pid (Some (record { regions = set (map (region_with_bytes b pid) p.regions) r.place (record { base = r.thing.base; alloc_prot = r.thing.alloc_prot; kind = r.thing.kind; rows = rows }); handles = p.handles }))) rows)
+      ∙ ap (λ (rows : List (RowOf Page)). set (processes_with b 0 t.processes) pid (Some (record { regions = set (map (region_with_bytes b pid) p.regions) r.place (record { base = r.thing.base; alloc_prot = r.thing.alloc_prot; kind = r.thing.kind; rows = rows; watched = r.thing.watched }); handles = p.handles }))) rows)
 
   pub guard_off-with : (t : Tables) (pid page : ℕ) (p : ProcessOf (Unit {0})) (c : Committed (Unit {0})) → c.region.thing.base ≤ page → world_with (guard_off t pid p c page) b ≡ guard_off (world_with t b) pid (process_with b pid p) (committed_with pid page c) page
   guard_off-with t pid page p c low = set_row-with t pid page p c.region (record c.row { guard = false }) low

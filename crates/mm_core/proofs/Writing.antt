@@ -7,9 +7,10 @@ use Rattle.mm_types.specs.declared.numbers.Key.{Key}
 use Rattle.mm_types.specs.declared.numbers.Key.TheVariants as key
 use Rattle.mm_types.specs.Address.{end_of, first_user_page}
 use Rattle.mm_world.specs.World.{Page, RowOf, RegionOf, ProcessOf, AreaOf, Numbered, pages_of}
-use Rattle.mm_world.specs.Find.{process_of, area_at, no_area, shared_page}
+use Rattle.mm_world.specs.Find.{process_of, area_at, no_area, shared_page, set_region}
+use Rattle.mm_world.specs.Rows.{mark_written, one_page}
 use Rattle.mm_world.specs.Failure.{same_key}
-use Rattle.mm_world.specs.Keys.{Committed, committed_at, private_key, shared_key, set_row, set_shared}
+use Rattle.mm_world.specs.Keys.{Committed, committed_at, private_key, shared_key, with_row, set_row, set_shared}
 use Rattle.mm_world.specs.Contents.{Tables, row_with, rows_with, region_with_bytes, process_with, processes_with, pages_with, area_with, areas_with, world_with}
 use Rattle.mm_world.specs.WellFormed.{LaidOut, Spaces}
 use Rattle.mm_world.proofs.Finding.{found_stands, numbered_there, committed_is}
@@ -80,10 +81,10 @@ module _ (b c : Key → Page) (pid page : ℕ) (others : (k : Key) → same_key 
 
   regions-process : (q : ℕ) (rs : List (RegionOf (Unit {0}))) → q ≢ pid → map (region_with_bytes c q) rs ≡ map (region_with_bytes b q) rs
   regions-process q [] h = refl
-  regions-process q (r ∷ rs) h = λ i. record { base = r.base; alloc_prot = r.alloc_prot; kind = r.kind; rows = rows-process q r.base r.rows h i } ∷ regions-process q rs h i
+  regions-process q (r ∷ rs) h = λ i. record { base = r.base; alloc_prot = r.alloc_prot; kind = r.kind; rows = rows-process q r.base r.rows h i; watched = r.watched } ∷ regions-process q rs h i
 
   region-before : (r : RegionOf (Unit {0})) → (page < r.base) ⊎ (r.base + length r.rows ≤ page) → region_with_bytes c pid r ≡ region_with_bytes b pid r
-  region-before r h = λ i. record { base = r.base; alloc_prot = r.alloc_prot; kind = r.kind; rows = rows-before r.base r.rows h i }
+  region-before r h = λ i. record { base = r.base; alloc_prot = r.alloc_prot; kind = r.kind; rows = rows-before r.base r.rows h i; watched = r.watched }
 
   regions-behind : (from : ℕ) (rs : List (RegionOf (Unit {0}))) → LaidOut from rs → page < from → map (region_with_bytes c pid) rs ≡ map (region_with_bytes b pid) rs
   regions-behind from [] laid low = refl
@@ -163,13 +164,43 @@ module _ (b c : Key → Page) (pid page : ℕ) (others : (k : Key) → same_key 
       let high : page < r.base + length r.rows = less _ _ inside.1 in
       let rows : rows_with c pid r.base r.rows ≡ set (rows_with b pid r.base r.rows) (page - r.base) (row_with c pid page d.row) =
       rows-at r.base (page - r.base) r.rows d.row (omega (arith, low)) h.row_there in
-      let regions : map (region_with_bytes c pid) p.regions ≡ set (map (region_with_bytes b pid) p.regions) d.region.place (record { base = r.base; alloc_prot = r.alloc_prot; kind = r.kind; rows = set (rows_with b pid r.base r.rows) (page - r.base) (row_with c pid page d.row) }) =
+      let regions : map (region_with_bytes c pid) p.regions ≡ set (map (region_with_bytes b pid) p.regions) d.region.place (record { base = r.base; alloc_prot = r.alloc_prot; kind = r.kind; rows = set (rows_with b pid r.base r.rows) (page - r.base) (row_with c pid page d.row); watched = r.watched }) =
       regions-at first_user_page d.region.place p.regions r (spaces pid p lives).laid_out stands.there low high
-      ∙ ap (λ (rows : List (RowOf Page)). set (map (region_with_bytes b pid) p.regions) d.region.place (record { base = r.base; alloc_prot = r.alloc_prot; kind = r.kind; rows = rows })) rows in
-      let processes : processes_with c 0 t.processes ≡ set (processes_with b 0 t.processes) pid (Some (record { regions = set (map (region_with_bytes b pid) p.regions) d.region.place (record { base = r.base; alloc_prot = r.alloc_prot; kind = r.kind; rows = set (rows_with b pid r.base r.rows) (page - r.base) (row_with c pid page d.row) }); handles = p.handles })) =
+      ∙ ap (λ (rows : List (RowOf Page)). set (map (region_with_bytes b pid) p.regions) d.region.place (record { base = r.base; alloc_prot = r.alloc_prot; kind = r.kind; rows = rows; watched = r.watched })) rows in
+      let processes : processes_with c 0 t.processes ≡ set (processes_with b 0 t.processes) pid (Some (record { regions = set (map (region_with_bytes b pid) p.regions) d.region.place (record { base = r.base; alloc_prot = r.alloc_prot; kind = r.kind; rows = set (rows_with b pid r.base r.rows) (page - r.base) (row_with c pid page d.row); watched = r.watched }); handles = p.handles })) =
       processes-at 0 pid t.processes (Some p) (omega arith) (numbered_there t.processes pid p lives)
       ∙ ap (λ (rs : List (RegionOf Page)). set (processes_with b 0 t.processes) pid (Some (record { regions = rs; handles = p.handles }))) regions in
       λ i. record (world_with t b) { processes = processes i; areas = areas-same 0 t.areas i }
+
+  -- another region stands in place of the row's, and other bytes of the page
+  region-changed : (t : Tables) (p : ProcessOf (Unit {0})) (d : Committed (Unit {0})) (new : RegionOf (Unit {0})) → Spaces t → process_of t pid ≡ Some p → committed_at t p.regions page ≡ Some d → world_with (set_region t pid p d.region.place new) c ≡ set_region (world_with t b) pid (process_with b pid p) d.region.place (region_with_bytes c pid new)
+  region-changed t p d new spaces lives committed =
+      let h = committed_is t p.regions page d committed in
+      let r = d.region.thing in
+      let stands = found_stands _ p.regions d.region h.region in
+      let inside = parts (nat_le r.base page) (nat_lt page (end_of (pages_of r))) stands.passes in
+      let low : r.base ≤ page = leb-true _ _ inside.0 in
+      let high : page < r.base + length r.rows = less _ _ inside.1 in
+      let q : ProcessOf (Unit {0}) = record p { regions = set p.regions d.region.place new } in
+      let regions : map (region_with_bytes c pid) q.regions ≡ set (map (region_with_bytes b pid) p.regions) d.region.place (region_with_bytes c pid new) =
+      regions-new first_user_page d.region.place p.regions r new (spaces pid p lives).laid_out stands.there low high in
+      let processes : processes_with c 0 (set t.processes pid (Some q)) ≡ set (processes_with b 0 t.processes) pid (Some (record { regions = set (map (region_with_bytes b pid) p.regions) d.region.place (region_with_bytes c pid new); handles = p.handles })) =
+      processes-new 0 pid t.processes (Some p) (Some q) (omega arith) (numbered_there t.processes pid p lives)
+      ∙ ap (λ (rs : List (RegionOf Page)). set (processes_with b 0 t.processes) pid (Some (record { regions = rs; handles = p.handles }))) regions in
+      λ i. record (world_with t b) { processes = processes i; areas = areas-same 0 t.areas i }
+
+  -- the page is marked as written, and has other bytes
+  pub marked-with : (t : Tables) (p : ProcessOf (Unit {0})) (d : Committed (Unit {0})) → Spaces t → process_of t pid ≡ Some p → committed_at t p.regions page ≡ Some d → world_with (set_region t pid p d.region.place (mark_written true (one_page page) d.region.thing)) c ≡ set_region (world_with t b) pid (process_with b pid p) d.region.place (mark_written true (one_page page) (with_row page (row_with c pid page d.row) (region_with_bytes b pid d.region.thing)))
+  marked-with t p d spaces lives committed =
+      let h = committed_is t p.regions page d committed in
+      let r = d.region.thing in
+      let stands = found_stands _ p.regions d.region h.region in
+      let low : r.base ≤ page = leb-true _ _ (parts (nat_le r.base page) (nat_lt page (end_of (pages_of r))) stands.passes).0 in
+      let marked : RegionOf (Unit {0}) = mark_written true (one_page page) r in
+      let rows : rows_with c pid r.base r.rows ≡ set (rows_with b pid r.base r.rows) (page - r.base) (row_with c pid page d.row) =
+      rows-at r.base (page - r.base) r.rows d.row (omega (arith, low)) h.row_there in
+      region-changed t p d marked spaces lives committed
+      ∙ ap (λ (rows : List (RowOf Page)). set_region (world_with t b) pid (process_with b pid p) d.region.place (record { base = r.base; alloc_prot = r.alloc_prot; kind = r.kind; rows = rows; watched = marked.watched })) rows
 
   -- another row of the tables, and other bytes of its page
   pub copied-with : (t : Tables) (p : ProcessOf (Unit {0})) (d : Committed (Unit {0})) (new : RowOf (Unit {0})) → Spaces t → process_of t pid ≡ Some p → committed_at t p.regions page ≡ Some d → world_with (set_row t pid p d.region page new) c ≡ set_row (world_with t b) pid (process_with b pid p) (found_with b pid d.region) page (row_with c pid page new)
@@ -177,20 +208,11 @@ module _ (b c : Key → Page) (pid page : ℕ) (others : (k : Key) → same_key 
       let h = committed_is t p.regions page d committed in
       let r = d.region.thing in
       let stands = found_stands _ p.regions d.region h.region in
-      let inside = parts (nat_le r.base page) (nat_lt page (end_of (pages_of r))) stands.passes in
-      let low : r.base ≤ page = leb-true _ _ inside.0 in
-      let high : page < r.base + length r.rows = less _ _ inside.1 in
-      let changed : RegionOf (Unit {0}) = record r { rows = set r.rows (page - r.base) new } in
-      let q : ProcessOf (Unit {0}) = record p { regions = set p.regions d.region.place changed } in
-      let rows : rows_with c pid r.base changed.rows ≡ set (rows_with b pid r.base r.rows) (page - r.base) (row_with c pid page new) =
+      let low : r.base ≤ page = leb-true _ _ (parts (nat_le r.base page) (nat_lt page (end_of (pages_of r))) stands.passes).0 in
+      let rows : rows_with c pid r.base (set r.rows (page - r.base) new) ≡ set (rows_with b pid r.base r.rows) (page - r.base) (row_with c pid page new) =
       rows-new r.base (page - r.base) r.rows d.row new (omega (arith, low)) h.row_there in
-      let regions : map (region_with_bytes c pid) q.regions ≡ set (map (region_with_bytes b pid) p.regions) d.region.place (record { base = r.base; alloc_prot = r.alloc_prot; kind = r.kind; rows = set (rows_with b pid r.base r.rows) (page - r.base) (row_with c pid page new) }) =
-      regions-new first_user_page d.region.place p.regions r changed (spaces pid p lives).laid_out stands.there low high
-      ∙ ap (λ (rows : List (RowOf Page)). set (map (region_with_bytes b pid) p.regions) d.region.place (record { base = r.base; alloc_prot = r.alloc_prot; kind = r.kind; rows = rows })) rows in
-      let processes : processes_with c 0 (set t.processes pid (Some q)) ≡ set (processes_with b 0 t.processes) pid (Some (record { regions = set (map (region_with_bytes b pid) p.regions) d.region.place (record { base = r.base; alloc_prot = r.alloc_prot; kind = r.kind; rows = set (rows_with b pid r.base r.rows) (page - r.base) (row_with c pid page new) }); handles = p.handles })) =
-      processes-new 0 pid t.processes (Some p) (Some q) (omega arith) (numbered_there t.processes pid p lives)
-      ∙ ap (λ (rs : List (RegionOf Page)). set (processes_with b 0 t.processes) pid (Some (record { regions = rs; handles = p.handles }))) regions in
-      λ i. record (world_with t b) { processes = processes i; areas = areas-same 0 t.areas i }
+      region-changed t p d (with_row page new r) spaces lives committed
+      ∙ ap (λ (rows : List (RowOf Page)). set_region (world_with t b) pid (process_with b pid p) d.region.place (record { base = r.base; alloc_prot = r.alloc_prot; kind = r.kind; rows = rows; watched = r.watched })) rows
 
 -- the bytes of one shared key are changed
 module _ (b c : Key → Page) (area index : ℕ) (others : (k : Key) → same_key k (shared_key area index) ≡ false → c k ≡ b k) where
@@ -254,7 +276,7 @@ module _ (b c : Key → Page) (area index : ℕ) (others : (k : Key) → same_ke
 
   regions-shared : (q : ℕ) (rs : List (RegionOf (Unit {0}))) → map (region_with_bytes c q) rs ≡ map (region_with_bytes b q) rs
   regions-shared q [] = refl
-  regions-shared q (r ∷ rs) = λ i. record { base = r.base; alloc_prot = r.alloc_prot; kind = r.kind; rows = rows-shared q r.base r.rows i } ∷ regions-shared q rs i
+  regions-shared q (r ∷ rs) = λ i. record { base = r.base; alloc_prot = r.alloc_prot; kind = r.kind; rows = rows-shared q r.base r.rows i; watched = r.watched } ∷ regions-shared q rs i
 
   process-shared : (q : ℕ) (p : Option (ProcessOf (Unit {0}))) → option_map (process_with c q) p ≡ option_map (process_with b q) p
   process-shared q None = refl

@@ -8,7 +8,8 @@ use Rattle.mm_types.specs.declared.protections.Access.{Access}
 use Rattle.mm_types.specs.Address.{page_of}
 use Rattle.mm_types.specs.Protection.{permits}
 use Rattle.mm_world.specs.World.{World, ProcessOf}
-use Rattle.mm_world.specs.Find.{process_of}
+use Rattle.mm_world.specs.Find.{process_of, set_region}
+use Rattle.mm_world.specs.Rows.{mark_written, one_page}
 use Rattle.mm_world.specs.Keys.{Committed, committed_at}
 use Rattle.mm_world.specs.Access.{Attempt, access}
 use Rattle.mm_world.specs.Failure.{Need, access_fails, still_needs_frame}
@@ -34,6 +35,13 @@ pub record Admits (t : Tables) (pid addr : ℕ) (kind : Access) (told : Committe
   pub unguarded : row.row.guard ≡ false
   pub permitted : permits row.row.prot kind ≡ true
   pub is_told : told_row pid (page_of addr) row ≡ told
+
+-- after a write to bytes of the page's own it is written, where its region is watched
+pub record Marks (t : Tables) (pid page : ℕ) (told : CommittedRow) (after : Tables) : Type 0 where
+  pub watched : told.watched ≡ true → (p : ProcessOf (Unit {0})) (c : Committed (Unit {0})) →
+      process_of t pid ≡ Some p → committed_at t p.regions page ≡ Some c →
+      after ≡ set_region t pid p c.region.place (mark_written true (one_page page) c.region.thing)
+  pub plain : told.watched ≡ false → after ≡ t
 
 -- a permitted access failed: a device did, and the world is as before
 pub record Lost (never_fails : Bool) (w : World) (m z : StoreOf) (a : Answer) (v : World) : Type 0 where

@@ -1,18 +1,19 @@
--- Which lines a world decides, and which lines may take memory.
+-- Which line makes a world, and which lines may take memory.
 -- Profile, "Script".
-use Rattle.std.specs.Prelude.{ℕ, Bool, true, false}
+use Rattle.std.specs.Prelude.{ℕ, Bool, true, false, nat_le, length}
 use Rattle.mm_types.specs.declared.events.Event.{Event}
 use Rattle.mm_types.specs.declared.events.Event.TheVariants as line
 use Rattle.mm_world.specs.World.{WorldOf}
+use Rattle.mm_world.specs.Processes.{most_processes}
+use Rattle.mm_world.specs.Stack.{stack}
+use Rattle.mm_world.specs.Laws.{is_success}
 use Rattle.mm_calls.specs.Marking.{marks_anew}
 use Rattle.mm_stack.specs.Growth.{grows}
 
--- The first line makes the world, and written pages are told beside it.
-abbrev pub is_built : Event → Bool
-is_built (line.Machine machine) = false
-is_built (line.Watch pid unwrites addr size count) = false
-is_built (line.ResetWatch pid addr size) = false
-is_built _ = true
+-- the line that tells the machine, which comes first and never again
+abbrev pub is_machine : Event → Bool
+is_machine (line.Machine machine) = true
+is_machine _ = false
 
 -- a line that makes an access itself, which no thread keeps
 abbrev pub is_access_line : Event → Bool
@@ -21,10 +22,11 @@ is_access_line (line.Write pid addr bytes) = true
 is_access_line (line.Exec pid addr) = true
 is_access_line _ = false
 
--- a line that may run out of memory in this world: of `protect`, one that gives a page its first mark,
--- of `probe`, one that makes a stack grow
+-- a line that may run out of memory in this world: of `process`, one for which a number is left, of
+-- `protect`, one that gives a page its first mark, of `stack`, one that makes a stack, of `probe`, one
+-- that makes a stack grow
 abbrev pub takes_memory : {B : Type 0} → (ℕ → B) → WorldOf B → Event → Bool
-takes_memory fill w (line.Process min max) = true
+takes_memory fill w (line.Process min max) = nat_le (length w.processes) most_processes
 takes_memory fill w (line.File name pages byte) = true
 takes_memory fill w (line.Alloc pid addr size type prot) = true
 takes_memory fill w (line.Protect pid addr size prot) = marks_anew w pid.0 addr size prot
@@ -33,6 +35,6 @@ takes_memory fill w (line.CreateFile pid file flags name) = true
 takes_memory fill w (line.Open pid name) = true
 takes_memory fill w (line.Map pid handle access offset len addr) = true
 takes_memory fill w (line.Grow n) = true
-takes_memory fill w (line.Stack tid pid reserve commit) = true
+takes_memory fill w (line.Stack tid pid reserve commit) = is_success (stack fill w tid.0 pid.0 reserve commit).answer
 takes_memory fill w (line.Probe tid addr) = grows fill w tid.0 addr
 takes_memory fill w _ = false

@@ -10,6 +10,7 @@ use Rattle.mm_types.specs.declared.events.Event.TheVariants as event
 use Rattle.mm_world.specs.World.{WorldOf, KeptOf}
 use Rattle.mm_world.specs.Report.{Report}
 use Rattle.mm_world.specs.Step.{kept_by}
+use Rattle.mm_world.specs.Writes.{ends_none}
 use Rattle.mm_world.specs.Contents.{Tables}
 use Rattle.mm_pages.specs.Store.{StoreOf, changed}
 
@@ -33,12 +34,6 @@ waited s z = record s { report = record (s.report) { wait = z.report.wait } }
 pub record Forgot (t : Tables) (pid end : ℕ) (s z : StoreOf) : Type 0 where
   pub waits : (tid : ℕ) → z.report.wait tid ≡ wait_left t pid end s.report.wait tid
   pub rest : z ≡ waited s z
-
--- answers of a `resume` that end no access: it goes on waiting, or there is none
-abbrev pub ends_none : Answer → Bool
-ends_none (answer.Pending why) = true
-ends_none answer.Nothing = true
-ends_none _ = false
 
 -- after a `resume` that ended its access its thread waits no more, and after an `exit` no thread whose access was of the process
 abbrev pub EndsWaits : {B : Type 0} → WorldOf B → Event → Answer → Report → Type 0

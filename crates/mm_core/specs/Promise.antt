@@ -101,19 +101,14 @@ pub record Notes (b : Behind) (moves : List Move) (c : Behind) : Type 0 where
   pub grew : Grew b.log c.log (spelled_moves moves)
   pub replays : Replays moves b.life c.life
 
--- A line was decided: this is said of its answer and of what is there after it, and all that is
--- told beside, with some moves.
-pub record Decides (Outcome : Type 0) (never_fails : Bool) (s : Scene) (e : Event) (a : Answer)
-    (z : Scene) : Type 0 where
-  pub outcome : Outcome
-  pub moves : List Move
-  pub notes : never_fails ≡ false → Notes s.behind moves z.behind
-  pub told : Told never_fails s e a moves z
-
--- as the definitions' step from the old world says, by the reports before and after
-abbrev pub DecidesStep : Bool → Scene → Event → Answer → Scene → Type 0
-DecidesStep never_fails s e a z =
-    Decides (Stepped never_fails s.world e s.report z.report a z.world) never_fails s e a z
+-- A line was decided as the definitions' step from the old world says, by the reports before and
+-- after, and all that is told beside, with some moves.
+pub record Decides (never_fails : Bool) (s : Scene) (e : Event) (a : Answer) (z : Scene) : Type 0
+  where
+    pub stepped : Stepped never_fails s.world e s.report z.report a z.world
+    pub moves : List Move
+    pub notes : never_fails ≡ false → Notes s.behind moves z.behind
+    pub told : Told never_fails s e a moves z
 
 -- ---- a line that ran out of memory
 

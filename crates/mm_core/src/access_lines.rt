@@ -1,13 +1,16 @@
-ghost use Rattle.std.specs.Prelude.{◌≡◌, ◌≤◌, ◌+◌, ◌%◌, true, false, Some, length};
+ghost use Rattle.std.specs.Prelude.{◌≡◌, ◌≤◌, ◌+◌, ◌%◌, true, false, Option, Some, length};
 ghost use Rattle.mm_types.specs.declared.events.Event.TheVariants as event;
 ghost use Rattle.mm_types.specs.declared.protections.Access.TheVariants as access_kind;
+ghost use Rattle.mm_types.specs.declared.numbers.Key.{Key};
 ghost use Rattle.mm_types.specs.Address.{page_of};
+ghost use Rattle.mm_world.specs.World.{Page};
 ghost use Rattle.mm_world.specs.Access.{ReadOf, WriteOf, Execute};
 ghost use Rattle.mm_world.specs.WellFormed.{Spaces};
 ghost use Rattle.mm_pages.specs.Reports.{IsBegun};
 ghost use Rattle.mm_pages.specs.Conditions.{place_at, touch, copying, IsReady, MayAccess};
-ghost use Rattle.mm_tables.specs.Fits.{key_at};
-ghost use Rattle.mm_core.specs.Accessing.{Admits, Accessed, IsHad};
+ghost use Rattle.mm_pages.specs.Store.{StoreOf};
+ghost use Rattle.mm_tables.specs.Fits.{Fits, key_at};
+ghost use Rattle.mm_core.specs.Accessing.{Admits, Accessed, IsHad, Marks};
 ghost use Rattle.mm_core.specs.Answering.{Answered};
 ghost use Rattle.mm_core.specs.Lining.{Lined};
 ghost use Rattle.mm_core.specs.Over.{DecidedOver, KeepsOver, PassesOver, aim_over, world_over};
@@ -17,7 +20,7 @@ use crate::fetching::{fetch, put, put_copy, read_bytes};
 use crate::refusals::admit;
 use mm_pages::Pages;
 use mm_tables::{CommittedRow, Tables};
-use mm_types::{Access, Answer, ByteBuf, Code, Pid, Raise};
+use mm_types::{Access, Answer, ByteBuf, Code, PAGE_SIZE, Pid, Raise};
 
 /// Reads 1 to 64 bytes, which the row of their page permits.
 #[tactic(auto, using(crate::proofs::Readiness::had_ready))]
@@ -79,33 +82,50 @@ pub(crate) fn execute_at<G: Pages>(
     }
 }
 
-/// Writes bytes where they are, which the row of their page permits.
+/// The page of an address, whose own bytes were written, is written from now on, where its region
+/// is watched.
+fn mark_written(t: &mut Tables, pid: Pid, addr: u32, row: CommittedRow)
+    requires admitted { Admits t.old pid.0 addr access_kind.Write row }
+    ensures marks { Marks t.old pid.0 (page_of addr) row t.new }
+    ensures fits { (contents : Key → Option Page) (s : StoreOf) →
+        Fits t.old contents s → Fits t.new contents s }
+{
+    if row.watched {
+        t.mark(pid, addr / PAGE_SIZE);
+    }
+}
+
+/// Writes bytes where they are, which the row of their page permits. A page of a watched region is
+/// written from then on.
 #[tactic(auto, using(crate::proofs::Readiness::had_ready))]
 pub(crate) fn write_at<G: Pages>(
-    t: &Tables,
+    t: &mut Tables,
     g: &mut G,
     pid: Pid,
     addr: u32,
     row: CommittedRow,
     bytes: &ByteBuf,
 ) -> Answer
-    requires keeps { KeepsOver G.Pages t.now g.old }
-    requires spaces { Spaces t.now }
-    requires admitted { Admits t.now pid.0 addr access_kind.Write row }
-    requires at { key_at t.now (place_at pid (page_of addr)) ≡ Some row.key }
+    requires keeps { KeepsOver G.Pages t.old g.old }
+    requires spaces { Spaces t.old }
+    requires admitted { Admits t.old pid.0 addr access_kind.Write row }
+    requires at { key_at t.old (place_at pid (page_of addr)) ≡ Some row.key }
     requires may { MayAccess (G.store g.old) (place_at pid (page_of addr)) (touch row.key) }
     requires begun { IsBegun (G.store g.old).report }
     requires stays { row.copies ≡ false }
     requires inside { addr % 4096 + length bytes.now ≤ 4096 }
-    ensures accessed { Accessed G.unpaged (world_over G.Pages t.now g.old) pid.0 addr (WriteOf bytes.now) (G.store g.old) (G.store g.new) result (world_over G.Pages t.now g.new) }
-    ensures keeps { KeepsOver G.Pages t.now g.new }
+    ensures accessed { Accessed G.unpaged (world_over G.Pages t.old g.old) pid.0 addr (WriteOf bytes.now) (G.store g.old) (G.store g.new) result (world_over G.Pages t.new g.new) }
+    ensures keeps { KeepsOver G.Pages t.new g.new }
     ensures had { IsReady (G.store g.old) (place_at pid (page_of addr)) (touch row.key) → IsHad (touch row.key) (G.store g.new).report }
     ensures line { (G.store g.new).line ≡ (G.store g.old).line }
-    ensures passes { PassesOver G.Pages (Answered (aim_over G.Pages t.now g.old pid addr (WriteOf bytes.now)) (IsReady (G.store g.old) (place_at pid (page_of addr)) (touch row.key)) result (G.store g.new).report) g.old g.new }
+    ensures passes { PassesOver G.Pages (Answered (aim_over G.Pages t.old g.old pid addr (WriteOf bytes.now)) (IsReady (G.store g.old) (place_at pid (page_of addr)) (touch row.key)) result (G.store g.new).report) g.old g.new }
     ensures loans { G.loans g.new ≡ G.loans g.old }
 {
     match put(t, g, pid, addr, row.key, bytes.as_slice()) {
-        Ok(()) => Answer::Ok,
+        Ok(()) => {
+            mark_written(t, pid, addr, row);
+            Answer::Ok
+        }
         Err(_) => Answer::Raised(Raise::InPageError),
     }
 }

@@ -1,14 +1,12 @@
 ghost use Rattle.std.specs.Prelude.{◌≡◌};
-ghost use Rattle.mm_core.specs.Built.{is_built};
+ghost use Rattle.mm_core.specs.Built.{is_machine};
 
 use mm_types::Event;
 
-/// Whether a world decides the line: all but `machine`, `watch` and `resetwatch`.
-pub fn is_built(event: &Event) -> bool
-    ensures { result ≡ is_built event.now }
+/// Whether this is the line that tells the machine, which comes first and never again. A world
+/// decides each other one.
+pub fn is_machine(event: &Event) -> bool
+    ensures { result ≡ is_machine event.now }
 {
-    match event {
-        Event::Machine(_) | Event::Watch { .. } | Event::ResetWatch { .. } => false,
-        _ => true,
-    }
+    matches!(event, Event::Machine(_))
 }

@@ -2,7 +2,7 @@ ghost use Rattle.std.specs.Prelude.{◌≡◌, ◌≤◌, ◌+◌, ℕ, true, fa
 ghost use Rattle.mm_types.specs.declared.answers.Wait.TheVariants as wait;
 ghost use Rattle.mm_script.specs.Printed.{IsWellFormed};
 ghost use Rattle.mm_world.specs.Contents.{blank};
-ghost use Rattle.mm_core.specs.Built.{is_access_line, is_built, takes_memory};
+ghost use Rattle.mm_core.specs.Built.{is_access_line, is_machine, takes_memory};
 ghost use Rattle.mm_core.specs.Forgetting.{EndsWaits};
 ghost use Rattle.mm_core.specs.Over.{AskedBesideOver, DecidedOver, HaltedOver, IdleOver, KeepsOver, MarkedOver};
 
@@ -20,6 +20,7 @@ use crate::section_lines::{
 };
 use crate::stack_lines::{probe_line, stack_line};
 use crate::thread_lines::{begin_line, resume_line};
+use crate::watch_lines::{reset_watch_line, watch_line};
 use mm_pages::Pages;
 use mm_tables::Tables;
 use mm_types::{Answer, Event, NoMemory};
@@ -36,7 +37,7 @@ fn decide_other<G: Pages>(
     event: &Event,
 ) -> Result<Answer, NoMemory>
     requires well_formed { IsWellFormed event.now }
-    requires built { is_built event.now ≡ true }
+    requires later { is_machine event.now ≡ false }
     requires other { is_access_line event.now ≡ false }
     requires keeps { KeepsOver G.Pages t.old g.old }
     requires next { line ≡ (G.store g.old).line + 1 }
@@ -124,6 +125,16 @@ fn decide_other<G: Pages>(
             commit,
         } => stack_line(alloc, t, g, line, *tid, *pid, *reserve, *commit),
         Event::Probe { tid, addr } => probe_line(t, g, line, *tid, *addr),
+        Event::Watch {
+            pid,
+            reset: unwrites,
+            addr,
+            size,
+            count,
+        } => Ok(watch_line(t, g, line, *pid, *unwrites, *addr, *size, *count)),
+        Event::ResetWatch { pid, addr, size } => {
+            Ok(reset_watch_line(t, g, line, *pid, *addr, *size))
+        }
         _ => unreachable!(),
     }
 }
@@ -137,7 +148,7 @@ pub(crate) fn decide<G: Pages>(
     event: &Event,
 ) -> Result<Answer, NoMemory>
     requires well_formed { IsWellFormed event.now }
-    requires built { is_built event.now ≡ true }
+    requires later { is_machine event.now ≡ false }
     requires keeps { KeepsOver G.Pages t.old g.old }
     requires next { line ≡ (G.store g.old).line + 1 }
     requires few { line ≤ 1000000 }

@@ -18,7 +18,8 @@ mod section_lines;
 mod stack_lines;
 mod thread_lines;
 mod threads;
+mod watch_lines;
 mod worlds;
 
-pub use built::is_built;
+pub use built::is_machine;
 pub use worlds::World;

@@ -1,5 +1,6 @@
-ghost use Rattle.std.specs.Prelude.{◌≡◌, ◌≤◌, ◌+◌, false, IfOk, OnErr, IsOk};
+ghost use Rattle.std.specs.Prelude.{◌≡◌, ◌≤◌, ◌+◌, false, length, nat_le, IfOk, OnErr, IsOk};
 ghost use Rattle.mm_types.specs.declared.events.Event.TheVariants as event;
+ghost use Rattle.mm_world.specs.Processes.{most_processes};
 ghost use Rattle.mm_calls.specs.Marking.{marks_anew};
 ghost use Rattle.mm_core.specs.Forgetting.{EndsWaits};
 ghost use Rattle.mm_core.specs.Over.{AskedBesideOver, DecidedOver, HaltedOver, IdleOver, KeepsOver, MarkedOver};
@@ -29,6 +30,7 @@ pub(crate) fn process_line<G: Pages>(
     requires most { max ≤ 65536 }
     ensures ok { IfOk result (λ a. DecidedOver G.Pages (event.Process min max) line t.old g.old a t.new g.new) }
     ensures err { OnErr result (IdleOver G.Pages t.old g.old t.new g.new) }
+    ensures no_memory { nat_le (length t.old.processes) most_processes ≡ false → IsOk result }
     ensures marked { IfOk result (λ a. MarkedOver G.Pages (event.Process min max) line t.old g.old a t.new g.new) }
     ensures halted { OnErr result (HaltedOver G.Pages line g.old g.new) }
     ensures loans { G.loans g.new ≡ G.loans g.old }

@@ -71,7 +71,7 @@ pub(crate) fn read_on<G: Pages>(
 
 /// A thread writes bytes where they are, which the row of their page permits, or has to wait for the page.
 pub(crate) fn write_on<G: Pages>(
-    t: &Tables,
+    t: &mut Tables,
     g: &mut G,
     tid: Tid,
     pid: Pid,
@@ -79,21 +79,21 @@ pub(crate) fn write_on<G: Pages>(
     row: CommittedRow,
     bytes: &ByteBuf,
 ) -> Result<Answer, Why>
-    requires keeps { KeepsOver G.Pages t.now g.old }
-    requires spaces { Spaces t.now }
-    requires admitted { Admits t.now pid.0 addr access_kind.Write row }
-    requires at { key_at t.now (place_at pid (page_of addr)) ≡ Some row.key }
+    requires keeps { KeepsOver G.Pages t.old g.old }
+    requires spaces { Spaces t.old }
+    requires admitted { Admits t.old pid.0 addr access_kind.Write row }
+    requires at { key_at t.old (place_at pid (page_of addr)) ≡ Some row.key }
     requires form { (G.store g.old).kind ≡ line_kind.Thread pid }
     requires begun { IsBegun (G.store g.old).report }
     requires stays { row.copies ≡ false }
     requires inside { addr % 4096 + length bytes.now ≤ 4096 }
-    ensures went { IfOk result (λ a. Went t.now.machine.depth (world_over G.Pages t.now g.old) pid.0 addr (WriteOf bytes.now) (G.store g.old) (G.store g.new) a (world_over G.Pages t.now g.new)) }
-    ensures waits { IfErr result (λ why. Waits t.now.machine.depth (world_over G.Pages t.now g.old) pid.0 addr (WriteOf bytes.now) (G.store g.old) (G.store g.new) why) }
-    ensures same { OnErr result (G.contents g.new ≡ G.contents g.old) }
-    ensures keeps { KeepsOver G.Pages t.now g.new }
+    ensures went { IfOk result (λ a. Went t.old.machine.depth (world_over G.Pages t.old g.old) pid.0 addr (WriteOf bytes.now) (G.store g.old) (G.store g.new) a (world_over G.Pages t.new g.new)) }
+    ensures waits { IfErr result (λ why. Waits t.old.machine.depth (world_over G.Pages t.old g.old) pid.0 addr (WriteOf bytes.now) (G.store g.old) (G.store g.new) why) }
+    ensures same { OnErr result ((t.new ≡ t.old) × (G.contents g.new ≡ G.contents g.old)) }
+    ensures keeps { KeepsOver G.Pages t.new g.new }
     ensures line { (G.store g.new).line ≡ (G.store g.old).line }
     ensures unpaged { G.unpaged ≡ true → IsOk result }
-    ensures passes { PassesOver G.Pages (WentBy (aim_over G.Pages t.now g.old pid addr (WriteOf bytes.now)) tid.0 result (G.store g.new).report) g.old g.new }
+    ensures passes { PassesOver G.Pages (WentBy (aim_over G.Pages t.old g.old pid addr (WriteOf bytes.now)) tid.0 result (G.store g.new).report) g.old g.new }
     ensures loans { G.loans g.new ≡ G.loans g.old }
 {
     g.sound();

@@ -6,7 +6,7 @@ ghost use Rattle.mm_pages.specs.Conditions.{IsNew};
 ghost use Rattle.mm_script.specs.Printed.{IsWellFormed};
 ghost use Rattle.mm_tables.specs.Fits.{Fits};
 ghost use Rattle.mm_tables.specs.References.{MadeAtMost};
-ghost use Rattle.mm_core.specs.Built.{is_built, takes_memory};
+ghost use Rattle.mm_core.specs.Built.{is_machine, takes_memory};
 
 use crate::deciding::decide;
 use mm_pages::Pages;
@@ -28,7 +28,7 @@ pub struct World<G: Pages> {
 }
 
 impl<G: Pages> World<G> {
-    ghost use Rattle.mm_core.specs.Promise.{DecidesStep, Breaks, scene};
+    ghost use Rattle.mm_core.specs.Promise.{Decides, Breaks, scene};
     ghost use Rattle.mm_paging.specs.Lines.{Agrees};
     ghost use Rattle.mm_core.specs.Shown.{world, report, behind, line_of, loans};
 
@@ -76,13 +76,12 @@ impl<G: Pages> World<G> {
     /// is the step's.
     ///
     /// Each form is the Windows call that `mm_calls` and `mm_views` name at its function, or this
-    /// profile's own. `line` is the number of the line in its script, where `machine` is line 1.
-    /// No line is `machine`, `watch` or `resetwatch`: the first is a world's beginning, and written
-    /// pages are told beside it.
+    /// profile's own. `line` is the number of the line in its script, where `machine` is line 1,
+    /// which is a world's beginning and no line for this call.
     ///
-    /// `NoMemory` comes only from `process`, `file`, `alloc`, `create`, `createfile`, `open`,
-    /// `map`, `grow`, `stack`, a `protect` that gives a page its first mark, and a `probe` that makes
-    /// a stack grow. Then the world is as it was, and no further line can be decided. A failed access and a
+    /// `NoMemory` comes only from `file`, `alloc`, `create`, `createfile`, `open`, `map`, `grow`, a
+    /// `process` for which a number is left, a `protect` that gives a page its first mark, a `stack`
+    /// that would be made, and a `probe` that makes a stack grow. Then the world is as it was, and no further line can be decided. A failed access and a
     /// `fault` come only where a device's count of faults rose in the line, or, of a `resume`,
     /// where the read that its thread waited for failed before.
     ///
@@ -93,12 +92,12 @@ impl<G: Pages> World<G> {
     #[tactic(auto, using(crate::proofs::Readiness::idle_in))]
     pub fn step(&mut self, alloc: Global, line: u32, event: &Event) -> Result<Answer, NoMemory>
         requires well_formed { IsWellFormed event.now }
-        requires built { is_built event.now ≡ true }
+        requires later { is_machine event.now ≡ false }
         requires next { line ≡ line_of self.old + 1 }
         requires few { line ≤ 1000000 }
         requires ready { self.old.spent ≡ false }
         ensures decided { IfOk result (λ a.
-            DecidesStep G.unpaged (scene self.old) event.now a (scene self.new)) }
+            Decides G.unpaged (scene self.old) event.now a (scene self.new)) }
         ensures broke { OnErr result (Breaks G.unpaged (scene self.old) (scene self.new)) }
         ensures no_memory { takes_memory filled (world self.old) event.now ≡ false → IsOk result }
         ensures line { OnOk result (line_of self.new ≡ line) }

@@ -167,9 +167,9 @@ all_adds : (from to low high : ℕ) (xs : List Move) → AllTurn (MakesFrom from
 all_adds from to low high [] a = tt
 all_adds from to low high (x ∷ xs) a = (a.0, all_adds from to low high xs a.1)
 
-all_of_stack : (from to : ℕ) (xs : List Move) → AllTurn (MakesFrom from to) xs → AllTurn MakesStack xs
-all_of_stack from to [] a = tt
-all_of_stack from to (x ∷ xs) a = (a.0, all_of_stack from to xs a.1)
+all_of_stack : (guard from to : ℕ) (xs : List Move) → AllTurn (MakesFrom from to) xs → AllTurn (MakesStack guard) xs
+all_of_stack guard from to [] a = tt
+all_of_stack guard from to (x ∷ xs) a = (a.0, all_of_stack guard from to xs a.1)
 
 all_ends : (held : Place → Bool) (from to low high : ℕ) (xs : List Move) → AllTurn (Ends held from to) xs → AllTurn (Ends held low high) xs
 all_ends held from to low high xs a = all_turn_more held held from to low high (λ p e. e) xs a
@@ -186,12 +186,12 @@ makes_then u from mid to s y z b c d l h p q =
     (turns_join (MakesFrom from mid) (MakesFrom mid to) (MakesFrom from to) (made_behind from mid to l h)) p q
 
 -- the pages of a new stack above its guard page, and then that
-pub stack_then : (u : Bool) (guard : ℕ) (s y z : StoreOf) (b c d : Behind) → PassesIn u (Turns (MakesFrom (guard + 1) (2 ^ 32))) s y b c → PassesIn u (Turns (MakesFrom guard (guard + 1))) y z c d → PassesIn u (Turns MakesStack) s z b d
+pub stack_then : (u : Bool) (guard : ℕ) (s y z : StoreOf) (b c d : Behind) → PassesIn u (Turns (MakesFrom (guard + 1) (2 ^ 32))) s y b c → PassesIn u (Turns (MakesFrom guard (guard + 1))) y z c d → PassesIn u (Turns (MakesStack guard)) s z b d
 stack_then u guard s y z b c d p q =
-    passes_then u (Turns (MakesFrom (guard + 1) (2 ^ 32))) (Turns (MakesFrom guard (guard + 1))) (Turns MakesStack) s y z b c d
-    (turns_join (MakesFrom (guard + 1) (2 ^ 32)) (MakesFrom guard (guard + 1)) MakesStack
-    (turned_then (MakesFrom (guard + 1) (2 ^ 32)) (MakesFrom guard (guard + 1)) MakesStack (all_of_stack (guard + 1) (2 ^ 32)) (all_of_stack guard (guard + 1))
-    (λ xs ys v w. record { guard = guard; pages = numbers_made xs; last = numbers_made ys; whole = made_then xs ys; above = v; below = w }))) p q
+    passes_then u (Turns (MakesFrom (guard + 1) (2 ^ 32))) (Turns (MakesFrom guard (guard + 1))) (Turns (MakesStack guard)) s y z b c d
+    (turns_join (MakesFrom (guard + 1) (2 ^ 32)) (MakesFrom guard (guard + 1)) (MakesStack guard)
+    (turned_then (MakesFrom (guard + 1) (2 ^ 32)) (MakesFrom guard (guard + 1)) (MakesStack guard) (all_of_stack guard (guard + 1) (2 ^ 32)) (all_of_stack guard guard (guard + 1))
+    (λ xs ys v w. record { pages = numbers_made xs; last = numbers_made ys; whole = made_then xs ys; above = v; below = w }))) p q
 
 -- pages go in both calls
 pub ends_then : (u : Bool) (held : Place → Bool) (from mid to : ℕ) (s y z : StoreOf) (b c d : Behind) → from ≤ mid → mid ≤ to → PassesIn u (Turns (Ends held from mid)) s y b c → PassesIn u (Turns (Ends held mid to)) y z c d → PassesIn u (Turns (Ends held from to)) s z b d
@@ -244,7 +244,7 @@ ends_anywhere u held from to s z b c p =
 
 pub turned_none : (t : Turn) (l : FrameLife) → Turned t l []
 turned_none (MakesFrom from to) l = record { all = tt; order = tt; lowest = tt }
-turned_none MakesStack l = record { all = tt; order = record { guard = 0; pages = []; last = []; whole = refl; above = tt; below = tt }; lowest = tt }
+turned_none (MakesStack guard) l = record { all = tt; order = record { pages = []; last = []; whole = refl; above = tt; below = tt }; lowest = tt }
 turned_none (Ends held from to) l = record { all = tt; order = tt; lowest = tt }
 
 -- where pages come to be and none has a number, none does

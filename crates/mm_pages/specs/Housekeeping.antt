@@ -4,6 +4,9 @@ use Rattle.std.specs.Prelude.{◌≡◌, ◌≤◌, ◌<◌, ℕ, Option, None, 
 use Rattle.mm_types.specs.declared.moves.LineKind.TheVariants as kind
 use Rattle.mm_types.specs.declared.faults.GrowFault.{GrowFault}
 use Rattle.mm_types.specs.declared.faults.GrowFault.TheVariants as grow_fault
+use Rattle.mm_types.specs.declared.answers.Answer.{Answer}
+use Rattle.mm_types.specs.declared.answers.Answer.TheVariants as answer
+use Rattle.mm_types.specs.Address.{page_of}
 use Rattle.mm_world.specs.World.{filled}
 use Rattle.mm_pages.specs.declared.outcomes.Done.{Done}
 use Rattle.mm_pages.specs.declared.outcomes.Done.TheVariants as done
@@ -29,11 +32,11 @@ pub record ByMoves (b : Behind) (moves : List Move) (c : Behind) : Type 0 where
 
 -- ---- calls that make pages and calls that end them
 
--- pages come to be, from the first number to before the last; or those of a new stack do; or pages go: places among these are valid no more, page by
+-- pages come to be, from the first number to before the last; or those of a new stack with this guard page do; or pages go: places among these are valid no more, page by
 -- page, from the first number to before the last
 pub data Turn : Type 0 where
   MakesFrom : ℕ → ℕ → Turn
-  MakesStack : Turn
+  MakesStack : ℕ → Turn
   Ends : (Place → Bool) → ℕ → ℕ → Turn
 
 -- whatever the number: pages and indices are below 2^32
@@ -46,7 +49,7 @@ is_add _ = false
 
 abbrev pub is_turn : Turn → Move → Bool
 is_turn (MakesFrom from to) m = is_add m
-is_turn MakesStack m = is_add m
+is_turn (MakesStack guard) m = is_add m
 is_turn (Ends held from to) (move.Unmap p) = held p
 is_turn (Ends held from to) (move.Drop k) = true
 is_turn (Ends held from to) _ = false
@@ -79,9 +82,13 @@ abbrev pub Climbs : ℕ → ℕ → List ℕ → Type 0
 Climbs from to [] = Unit {0}
 Climbs from to (n ∷ ns) = (from ≤ n) × (n < to) × Climbs (n + 1) to ns
 
--- of a new stack: its pages above the guard page, and then the guard page
-pub record IsStack (ns : List ℕ) : Type 0 where
-  pub guard : ℕ
+-- the guard page that a `stack` line answers
+abbrev pub guard_told : Answer → ℕ
+guard_told (answer.Stack base size guard) = page_of guard
+guard_told _ = 0
+
+-- of a new stack with this guard page: its pages above that, and then the guard page
+pub record IsStack (guard : ℕ) (ns : List ℕ) : Type 0 where
   pub pages : List ℕ
   pub last : List ℕ
   pub whole : ns ≡ pages ++ last
@@ -119,7 +126,7 @@ LowestFirst l (m ∷ ms) = IsLowest l m × LowestFirst (after_move l m) ms
 
 abbrev pub IsInOrder : Turn → List Move → Type 0
 IsInOrder (MakesFrom from to) ms = Climbs from to (numbers_made ms)
-IsInOrder MakesStack ms = IsStack (numbers_made ms)
+IsInOrder (MakesStack guard) ms = IsStack guard (numbers_made ms)
 IsInOrder (Ends held from to) ms = Rises from to (pages_gone ms)
 
 pub record Turned (t : Turn) (l : FrameLife) (moves : List Move) : Type 0 where

@@ -1,5 +1,5 @@
 -- A line has one log: pages that go oldest first, requests that end, pages that come to be.
-use Rattle.std.proofs.Common.{◌≡◌, ◌≤◌, ◌<◌, ◌^◌, ℕ, ◌+◌, ◌-◌, Bool, true, false, cond, List, [], ◌∷◌, Option, Some, None, refl, sym, ap, ◌∙◌, subst, inl, inr, ◌⊎◌, arith}
+use Rattle.std.proofs.Common.{◌≡◌, ◌≤◌, ◌<◌, ◌^◌, ℕ, ◌+◌, ◌-◌, Bool, true, false, cond, List, [], ◌∷◌, ◌++◌, map, Option, Some, None, refl, sym, ap, ◌∙◌, subst, inl, inr, ◌⊎◌, arith}
 use Rattle.std.proofs.lemmas.Bool.{eqb-true, and_parts, cases_lt}
 use Rattle.std.specs.Prelude.{IsTrue, not, ◌&&◌, ◌||◌, ◌==◌, nat_lt, if◌then◌else◌, is_some, length, min, slice_get}
 use Rattle.mm_types.proofs.Booleans.{not_left, not_third}
@@ -27,11 +27,12 @@ use Rattle.mm_walks.specs.Chores.{TrimMove, spare_of, ending, frame_of}
 use Rattle.mm_walks.specs.Order.{IsOldest, page_first, may_go}
 use Rattle.mm_walks.specs.Walks.{Walk, walked, Through}
 use Rattle.mm_pages.specs.Behind.{Behind}
-use Rattle.mm_pages.specs.Housekeeping.{Makes, MakesFrom, Turned, AllTurn, number_of, numbers_made, Climbs, Trims, Completes}
+use Rattle.mm_pages.specs.Housekeeping.{Makes, MakesFrom, MakesStack, Turned, AllTurn, number_of, numbers_made, Climbs, IsStack, guard_told, Trims, Completes}
 use Rattle.mm_pages.specs.Standing.{backed_by, block_at}
 use Rattle.mm_paging.specs.Kinds.{lives}
-use Rattle.mm_paging.specs.Lines.{Does, Agrees, Trimming, Completing}
-use Rattle.mm_paging.specs.OneLog.{has_one_log, Did}
+use Rattle.mm_paging.specs.Lines.{Does, Agrees, Trimming, Completing, flushed_keys}
+use Rattle.mm_paging.specs.OneLog.{has_one_log, AnsweredAlike, Did}
+use Rattle.mm_paging.proofs.OneFlush.{flushed}
 
 -- ---- the oldest page is one
 
@@ -107,26 +108,9 @@ dead_before : (l : FrameLife) (k : Key) (b : Option Block) → IsTrue (is_legal_
 dead_before l k None h = not_left (is_live l k) _ _ h
 dead_before l k (Some b) h = not_third (is_call l.kind) (is_shared k) (is_live l k) _ _ h
 
-other_number : (k q : Key) (b : Bool) → same_key q k ≡ b → number_of q < number_of k → b ≡ false
-other_number k q true e h = let same : number_of q ≡ number_of k = ap number_of (same_key-true q k e) in absurd (omega (arith, same, h))
-other_number k q false e h = refl
-
--- pages of greater numbers leave a key where it stands
-untouched : (ms : List Move) (l m : FrameLife) (from to : ℕ) (q : Key) → AllTurn Makes ms → Climbs from to (numbers_made ms) → Replays ms l m → number_of q < from → m.stands q ≡ l.stands q
-untouched [] l m from to q a c r h = ap (λ (x : FrameLife). x.stands q) r
-untouched (move.Add k b ∷ ms) l m from to q a c r h =
-    let less : number_of q < number_of k = omega (arith, c.0, h) in
-    untouched ms (after_add l k b) m (number_of k + 1) to q a.1 c.2 r.1 (omega (arith, less))
-    ∙ stands_add l k q b ∙ ap (λ (x : Bool). cond x (made_at b) (l.stands q)) (other_number k q (same_key q k) refl less)
-untouched (_ ∷ ms) l m from to q a c r h = let bad = a.0 in cc
-
 made_lives : (b : Option Block) → is_dead (made_at b) ≡ false
 made_lives None = refl
 made_lives (Some b) = refl
-
--- the first of them lives at the end, where it came to be
-made_stands : (ms : List Move) (l m : FrameLife) (to : ℕ) (k : Key) (b : Option Block) → AllTurn Makes ms → Climbs (number_of k + 1) to (numbers_made ms) → Replays ms (after_add l k b) m → m.stands k ≡ made_at b
-made_stands ms l m to k b a c r = untouched ms (after_add l k b) m (number_of k + 1) to k a c r (omega arith) ∙ stands_add l k k b ∙ ap (λ (x : Bool). cond x (made_at b) (l.stands k)) (same_again k)
 
 lives_at : (l : FrameLife) (k : Key) (b : Option Block) → l.stands k ≡ made_at b → is_live l k ≡ true
 lives_at l k b e = ap (λ (h : Held). not (is_dead h)) e ∙ ap not (made_lives b)
@@ -138,14 +122,6 @@ record Alike (m n : FrameLife) : Type 0 where
 
 alike_back : (m n : FrameLife) → Alike m n → Alike n m
 alike_back m n h = record { live = λ k. sym (h.live k); blocks = λ k. sym (h.blocks k) }
-
--- a key that did not live, and comes to be in one run, does in the other
-comes_in_both : (xs ys : List Move) (l m n : FrameLife) (from to high : ℕ) (k : Key) (b : Option Block) → Alike m n → is_live l k ≡ false → AllTurn Makes xs → Climbs (number_of k + 1) high (numbers_made xs) → Replays xs (after_add l k b) m
-    → AllTurn Makes ys → Climbs from to (numbers_made ys) → Replays ys l n → number_of k < from → ⊥
-comes_in_both xs ys l m n from to high k b alike dead a c r p d q less =
-    let lives : is_live m k ≡ true = lives_at m k b (made_stands xs l m high k b a c r) in
-    let still : is_live n k ≡ is_live l k = ap (λ (h : Held). not (is_dead h)) (untouched ys l n from to k p d q less) in
-    let bad : true ≡ false = sym lives ∙ alike.live k ∙ still ∙ dead in cc
 
 abbrev number_in : Option Block → Option ℕ
 number_in None = None
@@ -161,50 +137,135 @@ one_block None (Some e) h = cc
 one_block (Some b) None h = cc
 one_block (Some b) (Some e) h = let same : e.0 ≡ b.0 = cc in (λ i. Some (record { 0 = same i }))
 
--- of two first keys of one number, each is the other
-one_key : (xs ys : List Move) (l m n : FrameLife) (to high : ℕ) (k j : Key) (b e : Option Block) → Alike m n → is_live l k ≡ false → AllTurn Makes xs → Climbs (number_of k + 1) to (numbers_made xs) → Replays xs (after_add l k b) m
-    → AllTurn Makes ys → Climbs (number_of j + 1) high (numbers_made ys) → Replays ys (after_add l j e) n → number_of k ≡ number_of j → k ≡ j
-one_key xs ys l m n to high k j b e alike dead a c r p d q same = at (same_key k j) refl
-  where
-    at : (t : Bool) → same_key k j ≡ t → k ≡ j
-    at true h = same_key-true k j h
-    at false h =
-        let lives : is_live m k ≡ true = lives_at m k b (made_stands xs l m to k b a c r) in
-        let still : n.stands k ≡ l.stands k = untouched ys (after_add l j e) n (number_of j + 1) high k p d q (omega (arith, same)) ∙ stands_add l j k e ∙ ap (λ (x : Bool). cond x (made_at e) (l.stands k)) h in
-        let bad : true ≡ false = sym lives ∙ alike.live k ∙ ap (λ (h : Held). not (is_dead h)) still ∙ dead in
-        cc
-
 one_made : (l m n : FrameLife) (k : Key) (b e : Option Block) → Alike m n → m.stands k ≡ made_at b → n.stands k ≡ made_at e → e ≡ b
 one_made l m n k b e alike p q =
     one_block b e
     (sym (block_of_made n e) ∙ ap (λ (h : Held). block_at (backed_by n h)) (sym q) ∙ sym (alike.blocks k) ∙ ap (λ (h : Held). block_at (backed_by m h)) p ∙ block_of_made m b)
 
-makes_one : (xs ys : List Move) (l m n : FrameLife) (from to : ℕ) → Alike m n → AllTurn Makes xs → Climbs from to (numbers_made xs) → Replays xs l m → AllTurn Makes ys → Climbs from to (numbers_made ys) → Replays ys l n → ys ≡ xs
-makes_one [] [] l m n from to alike a c r p d q = refl
-makes_one [] (move.Add k b ∷ ys) l m n from to alike a c r p d q =
-    absurd (comes_in_both ys [] l n m (number_of k + 1) to to k b (alike_back m n alike) (dead_before l k b q.0) p.1 d.2 q.1 tt tt r (omega arith))
-makes_one (move.Add k b ∷ xs) [] l m n from to alike a c r p d q =
-    absurd (comes_in_both xs [] l m n (number_of k + 1) to to k b alike (dead_before l k b r.0) a.1 c.2 r.1 tt tt q (omega arith))
-makes_one (move.Add k b ∷ xs) (move.Add j e ∷ ys) l m n from to alike a c r p d q = elim (cases_lt (number_of k) (number_of j)) [
-  | inl less ↦ absurd (comes_in_both xs (move.Add j e ∷ ys) l m n (number_of j) to to k b alike (dead_before l k b r.0) a.1 c.2 r.1 p (omega arith, d.1, d.2) q less)
-  | inr more ↦ elim (cases_lt (number_of j) (number_of k)) [
-    | inl less ↦ absurd (comes_in_both ys (move.Add k b ∷ xs) l n m (number_of k) to to j e (alike_back m n alike) (dead_before l j e q.0) p.1 d.2 q.1 a (omega arith, c.1, c.2) r less)
-    | inr most ↦
-        (let number : number_of k ≡ number_of j = omega (arith, more, most) in
-        let same = one_key xs ys l m n to to k j b e alike (dead_before l k b r.0) a.1 c.2 r.1 p.1 d.2 q.1 number in
-        let climbs : Climbs (number_of k + 1) to (numbers_made ys) = subst (λ (x : ℕ). Climbs (x + 1) to (numbers_made ys)) (sym number) d.2 in
-        let as_k : Replays ys (after_add l k e) n = subst (λ (x : Key). Replays ys (after_add l x e) n) (sym same) q.1 in
-        let block = one_made l m n k b e alike (made_stands xs l m to k b a.1 c.2 r.1) (made_stands ys l n to k e p.1 climbs as_k) in
-        let rest = makes_one xs ys (after_add l k b) m n (number_of k + 1) to alike a.1 c.2 r.1 p.1 climbs (subst (λ (x : Option Block). Replays ys (after_add l k x) n) block as_k) in
-        (λ i. move.Add (sym same i) (block i) ∷ rest i))
+-- pages come to be in rising order of what their numbers are ranked by
+module _ (rank : ℕ → ℕ) where
+  abbrev ranks : List Move → List ℕ
+  ranks ms = map rank (numbers_made ms)
+
+  other_number : (k q : Key) (b : Bool) → same_key q k ≡ b → rank (number_of q) < rank (number_of k) → b ≡ false
+  other_number k q true e h = let same : rank (number_of q) ≡ rank (number_of k) = ap (λ (x : Key). rank (number_of x)) (same_key-true q k e) in absurd (omega (arith, same, h))
+  other_number k q false e h = refl
+
+  -- pages of greater numbers leave a key where it stands
+  untouched : (ms : List Move) (l m : FrameLife) (from to : ℕ) (q : Key) → AllTurn Makes ms → Climbs from to (ranks ms) → Replays ms l m → rank (number_of q) < from → m.stands q ≡ l.stands q
+  untouched [] l m from to q a c r h = ap (λ (x : FrameLife). x.stands q) r
+  untouched (move.Add k b ∷ ms) l m from to q a c r h =
+      let less : rank (number_of q) < rank (number_of k) = omega (arith, c.0, h) in
+      untouched ms (after_add l k b) m (rank (number_of k) + 1) to q a.1 c.2 r.1 (omega (arith, less))
+      ∙ stands_add l k q b ∙ ap (λ (x : Bool). cond x (made_at b) (l.stands q)) (other_number k q (same_key q k) refl less)
+  untouched (_ ∷ ms) l m from to q a c r h = let bad = a.0 in cc
+
+  -- the first of them lives at the end, where it came to be
+  made_stands : (ms : List Move) (l m : FrameLife) (to : ℕ) (k : Key) (b : Option Block) → AllTurn Makes ms → Climbs (rank (number_of k) + 1) to (ranks ms) → Replays ms (after_add l k b) m → m.stands k ≡ made_at b
+  made_stands ms l m to k b a c r = untouched ms (after_add l k b) m (rank (number_of k) + 1) to k a c r (omega arith) ∙ stands_add l k k b ∙ ap (λ (x : Bool). cond x (made_at b) (l.stands k)) (same_again k)
+
+  -- a key that did not live, and comes to be in one run, does in the other
+  comes_in_both : (xs ys : List Move) (l m n : FrameLife) (from to high : ℕ) (k : Key) (b : Option Block) → Alike m n → is_live l k ≡ false → AllTurn Makes xs → Climbs (rank (number_of k) + 1) high (ranks xs) → Replays xs (after_add l k b) m
+      → AllTurn Makes ys → Climbs from to (ranks ys) → Replays ys l n → rank (number_of k) < from → ⊥
+  comes_in_both xs ys l m n from to high k b alike dead a c r p d q less =
+      let lives : is_live m k ≡ true = lives_at m k b (made_stands xs l m high k b a c r) in
+      let still : is_live n k ≡ is_live l k = ap (λ (h : Held). not (is_dead h)) (untouched ys l n from to k p d q less) in
+      let bad : true ≡ false = sym lives ∙ alike.live k ∙ still ∙ dead in cc
+
+  -- of two first keys of one number, each is the other
+  one_key : (xs ys : List Move) (l m n : FrameLife) (to high : ℕ) (k j : Key) (b e : Option Block) → Alike m n → is_live l k ≡ false → AllTurn Makes xs → Climbs (rank (number_of k) + 1) to (ranks xs) → Replays xs (after_add l k b) m
+      → AllTurn Makes ys → Climbs (rank (number_of j) + 1) high (ranks ys) → Replays ys (after_add l j e) n → rank (number_of k) ≡ rank (number_of j) → k ≡ j
+  one_key xs ys l m n to high k j b e alike dead a c r p d q same = at (same_key k j) refl
+    where
+      at : (t : Bool) → same_key k j ≡ t → k ≡ j
+      at true h = same_key-true k j h
+      at false h =
+          let lives : is_live m k ≡ true = lives_at m k b (made_stands xs l m to k b a c r) in
+          let still : n.stands k ≡ l.stands k = untouched ys (after_add l j e) n (rank (number_of j) + 1) high k p d q (omega (arith, same)) ∙ stands_add l j k e ∙ ap (λ (x : Bool). cond x (made_at e) (l.stands k)) h in
+          let bad : true ≡ false = sym lives ∙ alike.live k ∙ ap (λ (h : Held). not (is_dead h)) still ∙ dead in
+          cc
+
+  makes_one : (xs ys : List Move) (l m n : FrameLife) (from to : ℕ) → Alike m n → AllTurn Makes xs → Climbs from to (ranks xs) → Replays xs l m → AllTurn Makes ys → Climbs from to (ranks ys) → Replays ys l n → ys ≡ xs
+  makes_one [] [] l m n from to alike a c r p d q = refl
+  makes_one [] (move.Add k b ∷ ys) l m n from to alike a c r p d q =
+      absurd (comes_in_both ys [] l n m (rank (number_of k) + 1) to to k b (alike_back m n alike) (dead_before l k b q.0) p.1 d.2 q.1 tt tt r (omega arith))
+  makes_one (move.Add k b ∷ xs) [] l m n from to alike a c r p d q =
+      absurd (comes_in_both xs [] l m n (rank (number_of k) + 1) to to k b alike (dead_before l k b r.0) a.1 c.2 r.1 tt tt q (omega arith))
+  makes_one (move.Add k b ∷ xs) (move.Add j e ∷ ys) l m n from to alike a c r p d q = elim (cases_lt (rank (number_of k)) (rank (number_of j))) [
+    | inl less ↦ absurd (comes_in_both xs (move.Add j e ∷ ys) l m n (rank (number_of j)) to to k b alike (dead_before l k b r.0) a.1 c.2 r.1 p (omega arith, d.1, d.2) q less)
+    | inr more ↦ elim (cases_lt (rank (number_of j)) (rank (number_of k))) [
+      | inl less ↦ absurd (comes_in_both ys (move.Add k b ∷ xs) l n m (rank (number_of k)) to to j e (alike_back m n alike) (dead_before l j e q.0) p.1 d.2 q.1 a (omega arith, c.1, c.2) r less)
+      | inr most ↦
+          (let number : rank (number_of k) ≡ rank (number_of j) = omega (arith, more, most) in
+          let same = one_key xs ys l m n to to k j b e alike (dead_before l k b r.0) a.1 c.2 r.1 p.1 d.2 q.1 number in
+          let climbs : Climbs (rank (number_of k) + 1) to (ranks ys) = subst (λ (x : ℕ). Climbs (x + 1) to (ranks ys)) (sym number) d.2 in
+          let as_k : Replays ys (after_add l k e) n = subst (λ (x : Key). Replays ys (after_add l x e) n) (sym same) q.1 in
+          let block = one_made l m n k b e alike (made_stands xs l m to k b a.1 c.2 r.1) (made_stands ys l n to k e p.1 climbs as_k) in
+          let rest = makes_one xs ys (after_add l k b) m n (rank (number_of k) + 1) to alike a.1 c.2 r.1 p.1 climbs (subst (λ (x : Option Block). Replays ys (after_add l k x) n) block as_k) in
+          (λ i. move.Add (sym same i) (block i) ∷ rest i))
+    ]
   ]
-]
-makes_one (move.Add k b ∷ xs) (_ ∷ ys) l m n from to alike a c r p d q = let bad = p.0 in cc
-makes_one [] (_ ∷ ys) l m n from to alike a c r p d q = let bad = p.0 in cc
-makes_one (_ ∷ xs) ys l m n from to alike a c r p d q = let bad = a.0 in cc
+  makes_one (move.Add k b ∷ xs) (_ ∷ ys) l m n from to alike a c r p d q = let bad = p.0 in cc
+  makes_one [] (_ ∷ ys) l m n from to alike a c r p d q = let bad = p.0 in cc
+  makes_one (_ ∷ xs) ys l m n from to alike a c r p d q = let bad = a.0 in cc
+
+climbs_so : (from to : ℕ) (ns : List ℕ) → Climbs from to ns → Climbs from to (map (λ n. n) ns)
+climbs_so from to [] c = tt
+climbs_so from to (n ∷ ns) c = (c.0, c.1, climbs_so (n + 1) to ns c.2)
 
 made : (b c d : Behind) (xs ys : List Move) → Alike c.life d.life → Turned Makes b.life xs → Turned Makes b.life ys → Replays xs b.life c.life → Replays ys b.life d.life → ys ≡ xs
-made b c d xs ys alike p q r t = makes_one xs ys b.life c.life d.life 0 (2 ^ 32) alike p.all p.order r q.all q.order t
+made b c d xs ys alike p q r t =
+    makes_one (λ n. n) xs ys b.life c.life d.life 0 (2 ^ 32) alike
+    p.all (climbs_so 0 (2 ^ 32) (numbers_made xs) p.order) r q.all (climbs_so 0 (2 ^ 32) (numbers_made ys) q.order) t
+
+-- ---- the pages of a stack: the guard page is the last
+
+abbrev last_of : ℕ → ℕ → ℕ → ℕ
+last_of guard top n = cond (n == guard) top n
+
+itself : (n : ℕ) → (n == n) ≡ true
+itself n = grind arith
+
+above_it : (guard n : ℕ) → guard < n → (n == guard) ≡ false
+above_it guard n less = at (n == guard) refl
+  where
+    at : (t : Bool) → (n == guard) ≡ t → t ≡ false
+    at true e = let same = eqb-true n guard e in absurd (omega (arith, same, less))
+    at false e = refl
+
+no_more : (guard : ℕ) (ns : List ℕ) → Climbs (guard + 1) (guard + 1) ns → ns ≡ []
+no_more guard [] c = refl
+no_more guard (n ∷ ns) c = absurd (omega (arith, c.0, c.1))
+
+module _ (guard top : ℕ) where
+  guard_behind : (low : ℕ) (last : List ℕ) → low ≤ top → Climbs guard (guard + 1) last → Climbs low (top + 1) (map (last_of guard top) last)
+  guard_behind low [] h c = tt
+  guard_behind low (n ∷ ns) h c =
+      let same : n ≡ guard = omega (arith, c.0, c.1) in
+      let is : last_of guard top n ≡ top = ap (λ (k : ℕ). cond (k == guard) top k) same ∙ ap (λ (t : Bool). cond t top guard) (itself guard) in
+      let none = no_more guard ns (subst (λ (k : ℕ). Climbs (k + 1) (guard + 1) ns) same c.2) in
+      (omega (arith, h, is), omega (arith, is), subst (λ (ks : List ℕ). Climbs (last_of guard top n + 1) (top + 1) (map (last_of guard top) ks)) (sym none) tt)
+
+  ranked : (low from : ℕ) (pages last : List ℕ) → low ≤ from → low ≤ top → guard < from → Climbs from top pages → Climbs guard (guard + 1) last → Climbs low (top + 1) (map (last_of guard top) (pages ++ last))
+  ranked low from [] last h g less c d = guard_behind low last g d
+  ranked low from (n ∷ ns) last h g less c d =
+      let is : last_of guard top n ≡ n = ap (λ (t : Bool). cond t top n) (above_it guard n (omega (arith, less, c.0))) in
+      let rest = ranked (last_of guard top n + 1) (n + 1) ns last (omega (arith, is)) (omega (arith, is, c.1)) (omega (arith, less, c.0)) c.2 d in
+      (omega (arith, h, is, c.0), omega (arith, is, c.1), rest)
+
+all_add : (guard : ℕ) (ms : List Move) → AllTurn (MakesStack guard) ms → AllTurn Makes ms
+all_add guard [] a = tt
+all_add guard (m ∷ ms) a = (a.0, all_add guard ms a.1)
+
+stack_climbs : (guard : ℕ) (ns : List ℕ) → IsStack guard ns → Climbs 0 (2 ^ 32 + 1) (map (last_of guard (2 ^ 32)) ns)
+stack_climbs guard ns h =
+    subst (λ (ks : List ℕ). Climbs 0 (2 ^ 32 + 1) (map (last_of guard (2 ^ 32)) ks)) (sym h.whole)
+    (ranked guard (2 ^ 32) 0 (guard + 1) h.pages h.last (omega arith) (omega arith) (omega arith) h.above h.below)
+
+stacked : (guard : ℕ) (b c d : Behind) (xs ys : List Move) → Alike c.life d.life → Turned (MakesStack guard) b.life xs → Turned (MakesStack guard) b.life ys → Replays xs b.life c.life → Replays ys b.life d.life → ys ≡ xs
+stacked guard b c d xs ys alike p q r t =
+    makes_one (last_of guard (2 ^ 32)) xs ys b.life c.life d.life 0 (2 ^ 32 + 1) alike
+    (all_add guard xs p.all) (stack_climbs guard (numbers_made xs) p.order) r (all_add guard ys q.all) (stack_climbs guard (numbers_made ys) q.order) t
 
 -- ---- a line
 
@@ -215,22 +276,22 @@ module _ (w v : World) (a : Answer) (b c d : Behind) (xs ys : List Move) where
     blocks = λ k. p.agrees.blocks k ∙ sym (q.agrees.blocks k);
   }
 
-  pub one_log : (e : Event) → has_one_log e ≡ true → Did w e a v b xs c → Did w e a v b ys d → ys ≡ xs
-  one_log (line.Trim pid n) h p q = trimmed (lives w pid) pid n b c d xs ys p.does q.does
-  one_log (line.Io i) h p q = ended i a b c d xs ys p.does q.does
-  one_log (line.Alloc pid addr size type prot) h p q = made b c d xs ys (alike_by (line.Alloc pid addr size type prot) p q) p.does q.does p.replays q.replays
-  one_log (line.Create pid size flags name) h p q = made b c d xs ys (alike_by (line.Create pid size flags name) p q) p.does q.does p.replays q.replays
-  one_log (line.File name pages byte) h p q = made b c d xs ys (alike_by (line.File name pages byte) p q) p.does q.does p.replays q.replays
-  one_log (line.Probe tid addr) h p q = made b c d xs ys (alike_by (line.Probe tid addr) p q) p.does q.does p.replays q.replays
-  one_log (line.Read pid addr len) h p q = cc
-  one_log (line.Write pid addr bytes) h p q = cc
-  one_log (line.Exec pid addr) h p q = cc
-  one_log (line.Begin tid pid what) h p q = cc
-  one_log (line.Resume tid) h p q = cc
-  one_log (line.Flush pid addr size) h p q = cc
-  one_log (line.Exit pid) h p q = cc
-  one_log (line.Free pid addr size type) h p q = cc
-  one_log (line.Unmap pid addr) h p q = cc
-  one_log (line.Close pid handle) h p q = cc
-  one_log (line.Stack tid pid reserve commit) h p q = cc
-  one_log _ h p q = q.does ∙ sym p.does
+  pub one_log : (e : Event) → has_one_log e ≡ true → Did w e a v b xs c → Did w e a v b ys d → AnsweredAlike e xs ys → ys ≡ xs
+  one_log (line.Trim pid n) h p q k = trimmed (lives w pid) pid n b c d xs ys p.does q.does
+  one_log (line.Io i) h p q k = ended i a b c d xs ys p.does q.does
+  one_log (line.Alloc pid addr size type prot) h p q k = made b c d xs ys (alike_by (line.Alloc pid addr size type prot) p q) p.does q.does p.replays q.replays
+  one_log (line.Create pid size flags name) h p q k = made b c d xs ys (alike_by (line.Create pid size flags name) p q) p.does q.does p.replays q.replays
+  one_log (line.File name pages byte) h p q k = made b c d xs ys (alike_by (line.File name pages byte) p q) p.does q.does p.replays q.replays
+  one_log (line.Probe tid addr) h p q k = made b c d xs ys (alike_by (line.Probe tid addr) p q) p.does q.does p.replays q.replays
+  one_log (line.Read pid addr len) h p q k = cc
+  one_log (line.Write pid addr bytes) h p q k = cc
+  one_log (line.Exec pid addr) h p q k = cc
+  one_log (line.Begin tid pid what) h p q k = cc
+  one_log (line.Resume tid) h p q k = cc
+  one_log (line.Flush pid addr size) h p q k = flushed (flushed_keys w pid.0 addr size) b.life c.life d.life xs ys p.began p.does q.does p.replays q.replays k
+  one_log (line.Exit pid) h p q k = cc
+  one_log (line.Free pid addr size type) h p q k = cc
+  one_log (line.Unmap pid addr) h p q k = cc
+  one_log (line.Close pid handle) h p q k = cc
+  one_log (line.Stack tid pid reserve commit) h p q k = stacked (guard_told a) b c d xs ys (alike_by (line.Stack tid pid reserve commit) p q) p.does q.does p.replays q.replays
+  one_log _ h p q k = q.does ∙ sym p.does

@@ -42,7 +42,7 @@ use Rattle.mm_walks.specs.Searches.{is_valid, Starved}
 use Rattle.mm_pages.specs.Accesses.{Aim, AccessMoves, walk_from}
 use Rattle.mm_walks.specs.Chores.{all_aged, clearings, writes_begun}
 use Rattle.mm_pages.specs.Flushing.{Flushing}
-use Rattle.mm_pages.specs.Housekeeping.{Makes, MakesStack, Ends, Turned, pages_gone, Trims, Completes}
+use Rattle.mm_pages.specs.Housekeeping.{Makes, MakesStack, Ends, Turned, guard_told, pages_gone, Trims, Completes}
 use Rattle.mm_pages.specs.Standing.{where_of, block_at, backed_by}
 use Rattle.mm_paging.specs.Kinds.{row_key, file_block_of, kind_of_line, aim_of, lives}
 
@@ -161,7 +161,7 @@ Does w (line.Close pid handle) a v r b ms c = GivesUp (λ _. false) b.life ms ×
 Does w (line.Alloc pid addr size type prot) a v r b ms c = Turned Makes b.life ms
 Does w (line.Create pid size flags name) a v r b ms c = Turned Makes b.life ms
 Does w (line.File name pages byte) a v r b ms c = Turned Makes b.life ms
-Does w (line.Stack tid pid reserve commit) a v r b ms c = Turned MakesStack b.life ms
+Does w (line.Stack tid pid reserve commit) a v r b ms c = Turned (MakesStack (guard_told a)) b.life ms
 Does w (line.Probe tid addr) a v r b ms c = Turned Makes b.life ms
 Does w _ a v r b ms c = ms ≡ []
 

@@ -41,7 +41,7 @@ pub fn pages_given_up()
 pub fn pages_made()
     ensures rises { Turned Makes (life_after 8 section_log) (move.Add (shared 0 4) None ∷ move.Add (shared 0 5) None ∷ []) }
     ensures falls { Turned Makes (life_after 8 section_log) (move.Add (shared 0 5) None ∷ move.Add (shared 0 4) None ∷ []) → ⊥ }
-    ensures stack { Turned MakesStack (life_after 8 section_log) (move.Add (private 1 18) None ∷ move.Add (private 1 19) None ∷ move.Add (private 1 17) None ∷ []) }
+    ensures stack { Turned (MakesStack 17) (life_after 8 section_log) (move.Add (private 1 18) None ∷ move.Add (private 1 19) None ∷ move.Add (private 1 17) None ∷ []) }
 {}
 
 /// What a flush does with a page by its frame: a changed page is written, one that is being written is waited for first, and written again where it

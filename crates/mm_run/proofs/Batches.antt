@@ -12,7 +12,8 @@ use Rattle.mm_types.specs.declared.moves.Move.{Move}
 use Rattle.mm_paging.specs.Runs.{first_move}
 use Rattle.mm_run.specs.declared.endings.Ending.{Ending}
 use Rattle.mm_run.specs.declared.endings.Ending.TheVariants as ending
-use Rattle.mm_run.specs.Scenes.{Scene, Outset, Stage, NotBegun, Running, Follows, HasNoted, log_of}
+use Rattle.mm_core.specs.Promise.{Scene}
+use Rattle.mm_run.specs.Scenes.{Outset, Stage, NotBegun, Running, Follows, HasNoted, log_of}
 use Rattle.mm_run.specs.Steps.{IsMade, Moved, Breaks}
 use Rattle.mm_run.specs.Answered.{DecidedLine, last_stage, answers_of}
 use Rattle.mm_run.specs.Ends.{BreaksOff}

@@ -12,7 +12,7 @@ use Rattle.mm_script.specs.Printed.{IsInRange}
 use Rattle.mm_script.specs.Grammar.{fields_of, are_joined}
 use Rattle.mm_make.specs.Outputs.{outputs, seeded, behind}
 use Rattle.mm_make.specs.Generated.{Drawn, drawn, drawn_events, drawn_of_kind, write_drawn, read_drawn, address_drawn, script_of}
-use Rattle.mm_system.specs.Lines.{is_machine}
+use Rattle.mm_core.specs.Built.{is_machine}
 use Rattle.mm_run.specs.Batch.{IsLater, AreLater}
 
 abbrev small_machine : MachineOf

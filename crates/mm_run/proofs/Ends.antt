@@ -87,6 +87,18 @@ module _ (opening : Type 0) (c d : Counts) where
   blamed_opening ending.SetupFault q b = b.0
   blamed_opening (ending.TooLong l) q b = absurd (omega arith)
 
+  -- memory was refused
+  pub blamed_memory : (e : Ending) → status_of e ≡ 1 → IsBlamed e opening c d → (c.moves ≤ d.moves) × (d ≡ record c { moves = d.moves })
+  blamed_memory ending.Done q b = absurd (omega arith)
+  blamed_memory ending.NoMemory q b = b
+  blamed_memory ending.Usage q b = absurd (omega arith)
+  blamed_memory (ending.Script l k) q b = absurd (omega arith)
+  blamed_memory ending.ReadFault q b = absurd (omega arith)
+  blamed_memory ending.OutFault q b = absurd (omega arith)
+  blamed_memory ending.MovesFault q b = absurd (omega arith)
+  blamed_memory ending.SetupFault q b = absurd (omega arith)
+  blamed_memory (ending.TooLong l) q b = absurd (omega arith)
+
   -- the status blames nothing
   pub blamed_none : (e : Ending) → (IsFault (status_of e) → ⊥) → IsBlamed e opening c d → d ≡ c
   blamed_none ending.Done q b = b
@@ -117,6 +129,7 @@ accounted e opening c d status q b = record {
   out_fault = λ s. blamed_out opening c d e (sym q ∙ s) b;
   moves_fault = λ s. blamed_moves opening c d e (sym q ∙ s) b;
   setup_fault = λ s. blamed_opening opening c d e (sym q ∙ s) b;
+  no_memory = λ s. blamed_memory opening c d e (sym q ∙ s) b;
   no_fault = λ calm. blamed_none opening c d e (λ f. calm (subst IsFault (sym q) f)) b;
 }
 
@@ -130,6 +143,7 @@ accounted_out opening c d status q rose = record {
   out_fault = λ s. rose;
   moves_fault = λ s. absurd (omega (arith, q, s));
   setup_fault = λ s. absurd (omega (arith, q, s));
+  no_memory = λ s. absurd (omega (arith, q, s));
   no_fault = λ calm. absurd (calm (inr (inr (inl q))));
 }
 
@@ -139,6 +153,7 @@ accounted_moves opening c d status q rose = record {
   out_fault = λ s. absurd (omega (arith, q, s));
   moves_fault = λ s. rose;
   setup_fault = λ s. absurd (omega (arith, q, s));
+  no_memory = λ s. absurd (omega (arith, q, s));
   no_fault = λ calm. absurd (calm (inr (inr (inr (inl q)))));
 }
 

@@ -16,7 +16,8 @@ use Rattle.mm_walks.specs.Waits.{wait_of}
 use Rattle.mm_core.specs.Serving.{IsFailure, OneFailed, HasFailed, resumed_thread}
 use Rattle.mm_run.specs.declared.endings.Ending.{Ending}
 use Rattle.mm_run.specs.declared.endings.Ending.TheVariants as ending
-use Rattle.mm_run.specs.Scenes.{Scene, Outset, Stage, NotBegun, Running, Follows}
+use Rattle.mm_core.specs.Promise.{Scene}
+use Rattle.mm_run.specs.Scenes.{Outset, Stage, NotBegun, Running, Follows}
 use Rattle.mm_run.specs.Steps.{Begins, Decides, IsDecided}
 use Rattle.mm_run.specs.Answered.{DecidedLine, AreAnswered, last_stage, MadeNamed, AreFaultless}
 use Rattle.mm_run.specs.Ends.{Left, Leaves, Closes, BreaksAt}
@@ -124,7 +125,7 @@ module _ (o : Outset) (s z : Scene) (e : Event) (a : Answer) (ms : List Move) (d
         files_later = omega arith;
         sound = kept_along ms s.behind.life z.behind.life calm.sound replays;
         waits_are = (d.told.line refl).agrees.waits;
-        lost = λ t h. elim (lost_line s.system.world s.report s.behind s.paging s.files s.blocks e a ms z.system.world z.report z.behind z.paging z.files z.blocks (d.told.line refl) calm.sound replays t h) [
+        lost = λ t h. elim (lost_line s.world s.report s.behind s.paging s.files s.blocks e a ms z.world z.report z.behind z.paging z.files z.blocks (d.told.line refl) calm.sound replays t h) [
           | inl was ↦ rose_on o s z later (calm.lost t was)
           | inr failed ↦ rose_from o s z calm free failed
         ];
@@ -193,7 +194,7 @@ first_calm o e a ms s b r =
 breaks_later : (s : Scene) (before end : Stage) → Follows (Running s) before → BreaksAt before end → LaterAt s end
 breaks_later s (NotBegun f) end h b = absurd b
 breaks_later s (Running m) (NotBegun f) h b = absurd b
-breaks_later s (Running m) (Running z) h b = later_on s m z (follows_later s (Running m) h) (later_same m z b.broke.paging b.broke.files)
+breaks_later s (Running m) (Running z) h b = later_on s m z (follows_later s (Running m) h) (later_same m z b.paging b.files)
 
 closes_later : (s : Scene) (e : Ending) (end : Stage) → ClosesEvents e (Running s) end → LaterAt s end
 closes_later s ending.NoMemory end (inl h) = follows_later s end h

@@ -14,13 +14,15 @@ use Rattle.mm_types.specs.declared.answers.Answer.TheVariants as answer
 use Rattle.mm_types.specs.declared.events.Event.TheVariants as line
 use Rattle.mm_types.specs.Machine.{MachineOf, limit_of}
 use Rattle.mm_world.specs.Charge.{charge, limit}
-use Rattle.mm_world.specs.System.{System, first_system}
+use Rattle.mm_world.specs.World.{World}
+use Rattle.mm_world.specs.Step.{first_world}
 use Rattle.mm_paging.specs.Runs.{first_move}
 use Rattle.mm_types.specs.declared.moves.Move.{Move}
 use Rattle.mm_run.specs.declared.endings.Ending.TheVariants as ending
-use Rattle.mm_system.specs.Lines.{is_machine}
+use Rattle.mm_core.specs.Built.{is_machine}
 use Rattle.mm_run.specs.Reading.{reading, read_first, read_later, is_machine_word}
-use Rattle.mm_run.specs.Scenes.{Scene, Outset, Stage, NotBegun, Running, HasNoted, log_of}
+use Rattle.mm_core.specs.Promise.{Scene}
+use Rattle.mm_run.specs.Scenes.{Outset, Stage, NotBegun, Running, HasNoted, log_of}
 use Rattle.mm_run.specs.Steps.{IsDecided, IsMade}
 use Rattle.mm_run.specs.Answered.{DecidedLine, IsNext}
 use Rattle.mm_run.specs.Story.{Went, Came, outside, stand}
@@ -50,14 +52,14 @@ pub first_machine : (text : Text) (e : Event) → reading 0 text ≡ Ok e → is
 first_machine text e q = first_is (is_machine_word (without_return text)) (parse text) e q
 
 -- nothing is charged before the first line
-within_first : (m : MachineOf) (s : Scene) → s.system ≡ first_system m → charge s.system.world ≤ limit s.system.world
-within_first m s e = subst (λ (y : System). charge y.world ≤ limit y.world) (sym e) (omega arith)
+within_first : (m : MachineOf) (s : Scene) → s.world ≡ first_world m → charge s.world ≤ limit s.world
+within_first m s e = subst (λ (y : World). charge y ≤ limit y) (sym e) (omega arith)
 
 -- the first line is decided
 pub first_answered : (m : MachineOf) (o : Outset) (s : Scene) → IsMade m o s → (n : ℕ) → n ≡ limit_of m → IsDecided (NotBegun o) (line.Machine m) (answer.Limit n) (first_move m ∷ []) (Running s)
 first_answered m o s made n e = record {
   step = record { machine = m; names = refl; answered = ap (λ k. answer.Limit k) e; one = refl; first = made.first };
-  within = within_first m s made.first.system;
+  within = within_first m s made.first.world;
   notes = made.notes;
   holds = made.holds;
 }

@@ -7,7 +7,7 @@ use Rattle.mm_types.specs.declared.events.Event.{Event}
 use Rattle.mm_script.specs.declared.faults.LineFault.{LineFault}
 use Rattle.mm_script.specs.Place.{without_return}
 use Rattle.mm_script.specs.Reading.{parse}
-use Rattle.mm_system.specs.Lines.{is_machine}
+use Rattle.mm_core.specs.Built.{is_machine}
 use Rattle.mm_run.specs.Reading.{reading, read_later, is_machine_word}
 use Rattle.mm_run.specs.Story.{IsMisplaced}
 

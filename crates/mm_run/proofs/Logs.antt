@@ -163,7 +163,7 @@ module _ (old last : Stage) (moves : List Move) (l : Logged old moves last) (sta
   break_notes e (NotBegun o) end q h b = absurd b
   break_notes e (Running s) (NotBegun o) q h b = absurd b
   break_notes e (Running s) (Running z) q h b =
-      let p = b.broke.broken refl in
+      let p = b.broken refl in
       log_more e (Running s) (Running z) p.piece h (record { in_range = p.in_range; grew = p.grew; replays = p.replays }) (λ n m. n q)
 
   pub log_closed : (e : Ending) (end : Stage) → ClosesEvents e last end → LogRan (log_of old).bytes (log_of end).bytes (log_of old).faults (log_of end).faults moves e last end
@@ -200,8 +200,8 @@ holds_follows a b f h = subst HoldsUnchanged (sym f.same) (holds_with (log_of b)
 ends_holding : (end : Stage) (x : Left) → Leaves end x → HoldsUnchanged end → EndsHolding end x.paging.blocks x.files.blocks
 ends_holding (NotBegun o) x l h = tt
 ends_holding (Running s) x l h =
-    subst (λ (b : List Page). DevicesHold s.system.world s.behind.life x.paging.blocks b) l.2.blocks_are
-    (subst (λ (b : List Page). DevicesHold s.system.world s.behind.life b s.blocks) l.1.blocks_are h)
+    subst (λ (b : List Page). DevicesHold s.world s.behind.life x.paging.blocks b) l.2.blocks_are
+    (subst (λ (b : List Page). DevicesHold s.world s.behind.life b s.blocks) l.1.blocks_are h)
 
 pub events_hold : (old : Stage) (lines : List DecidedLine) (end : Stage) (x : Left) → HoldsUnchanged old → AreDecided old lines → Follows (last_stage old lines) end → Leaves end x → EndsHolding end x.paging.blocks x.files.blocks
 events_hold old lines end x h u f l = ends_holding end x l (holds_follows (last_stage old lines) end f (holds_last old lines h u))

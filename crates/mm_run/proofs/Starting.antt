@@ -13,7 +13,8 @@ use Rattle.mm_blocks.specs.declared.device_calls.NamedCalls.{NamedCalls}
 use Rattle.mm_blocks.specs.Devices.{DeviceOf, device_with}
 use Rattle.mm_blocks.specs.Traffic.{NoneLogged, empty_block}
 use Rattle.mm_world.specs.World.{Page}
-use Rattle.mm_world.specs.System.{System, first_system}
+use Rattle.mm_world.specs.World.{World}
+use Rattle.mm_world.specs.Step.{first_world}
 use Rattle.mm_walks.specs.Waits.{Idle, wait_of}
 use Rattle.mm_flight.specs.declared.flights.Waiting.TheVariants as waiting
 use Rattle.mm_parts.specs.Reading.{walked_or}
@@ -27,7 +28,8 @@ use Rattle.mm_state.specs.Shown.{Starts, state_of}
 use Rattle.mm_paged.specs.Shown.{OwnOf, own_of, store_of, behind_of}
 use Rattle.mm_paging.specs.Lines.{Agrees}
 use Rattle.mm_paging.specs.Runs.{first_move}
-use Rattle.mm_run.specs.Scenes.{Scene, Outset}
+use Rattle.mm_core.specs.Promise.{Scene}
+use Rattle.mm_run.specs.Scenes.{Outset}
 use Rattle.mm_run.specs.Steps.{IsMade}
 
 nobody_waits : (n t : ℕ) → walked_or (slice_get (replicate n waiting.Nothing) t) ≡ Idle
@@ -84,14 +86,14 @@ module _ (m : MachineOf) (o : Outset) (paging files : DeviceOf) (slots blocks : 
       let here : IsNew m z.contents (store_of z own) = subst (λ (x : StateOf). IsNew m x.contents (store_of x own)) (sym h.shows) (new_at z.log) in
       subst (λ (x : StoreOf). IsNew m c x) (sym es) (subst (λ (x : Key → Option Page). IsNew m x (store_of z own)) (sym ec) here)
 
-  abbrev scene_of : System → StoreOf → Behind → Scene
-  scene_of y s b = record { system = y; report = s.report; paging = s.paging_device; files = s.file_device; blocks = s.file_blocks; behind = b }
+  abbrev scene_of : World → StoreOf → Behind → Scene
+  scene_of y s b = record { world = y; report = s.report; paging = s.paging_device; files = s.file_device; blocks = s.file_blocks; behind = b }
 
-  made_at : (l : Log) → AreMoves (first_move m ∷ []) → Grew o.log l (spelled_moves (first_move m ∷ [])) → IsLegal (first_move m) unstarted → Agrees (first_system m).world (store_of (begun l) own).report (behind_of (begun l))
-      → IsMade m o (scene_of (first_system m) (store_of (begun l) own) (behind_of (begun l)))
+  made_at : (l : Log) → AreMoves (first_move m ∷ []) → Grew o.log l (spelled_moves (first_move m ∷ [])) → IsLegal (first_move m) unstarted → Agrees (first_world m) (store_of (begun l) own).report (behind_of (begun l))
+      → IsMade m o (scene_of (first_world m) (store_of (begun l) own) (behind_of (begun l)))
   made_at l range grew legal agrees = record {
     first = record {
-      system = refl;
+      world = refl;
       slots = opened.slots_are;
       blocks = opened.blocks_are;
       paging = record { none_logged = opened.paging_logged; none_named = opened.paging_named; later = opened.paging_later };
@@ -105,21 +107,21 @@ module _ (m : MachineOf) (o : Outset) (paging files : DeviceOf) (slots blocks : 
     holds = λ k on. (let no_way : false ≡ true = on in cc);
   }
 
-  pub is_made : (log : Log) (z : StateOf) → log ≡ o.log → Starts m log paging files slots blocks z → IsLegal (first_move m) unstarted → (y : System) (s : StoreOf) (b : Behind) → y ≡ first_system m → s ≡ store_of z own → b ≡ behind_of z
-      → Agrees y.world s.report b → IsMade m o (scene_of y s b)
+  pub is_made : (log : Log) (z : StateOf) → log ≡ o.log → Starts m log paging files slots blocks z → IsLegal (first_move m) unstarted → (y : World) (s : StoreOf) (b : Behind) → y ≡ first_world m → s ≡ store_of z own → b ≡ behind_of z
+      → Agrees y s.report b → IsMade m o (scene_of y s b)
   is_made log z same h legal y s b ey es eb agrees =
-      let there : Agrees (first_system m).world (store_of z own).report (behind_of z) =
-      subst (λ (x : System). Agrees x.world (store_of z own).report (behind_of z)) ey
-      (subst (λ (x : StoreOf). Agrees y.world x.report (behind_of z)) es
-      (subst (λ (x : Behind). Agrees y.world s.report x) eb agrees)) in
-      let begins : Agrees (first_system m).world (store_of (begun z.log) own).report (behind_of (begun z.log)) =
-      subst (λ (x : StateOf). Agrees (first_system m).world (store_of x own).report (behind_of x)) h.shows there in
-      let here : IsMade m o (scene_of (first_system m) (store_of z own) (behind_of z)) =
-      subst (λ (x : StateOf). IsMade m o (scene_of (first_system m) (store_of x own) (behind_of x))) (sym h.shows)
+      let there : Agrees (first_world m) (store_of z own).report (behind_of z) =
+      subst (λ (x : World). Agrees x (store_of z own).report (behind_of z)) ey
+      (subst (λ (x : StoreOf). Agrees y x.report (behind_of z)) es
+      (subst (λ (x : Behind). Agrees y s.report x) eb agrees)) in
+      let begins : Agrees (first_world m) (store_of (begun z.log) own).report (behind_of (begun z.log)) =
+      subst (λ (x : StateOf). Agrees (first_world m) (store_of x own).report (behind_of x)) h.shows there in
+      let here : IsMade m o (scene_of (first_world m) (store_of z own) (behind_of z)) =
+      subst (λ (x : StateOf). IsMade m o (scene_of (first_world m) (store_of x own) (behind_of x))) (sym h.shows)
       (made_at z.log h.in_range (subst (λ (l : Log). Grew l z.log (spelled_moves (first_move m ∷ []))) same h.grew) legal begins) in
-      subst (λ (x : System). IsMade m o (scene_of x s b)) (sym ey)
-      (subst (λ (x : StoreOf). IsMade m o (scene_of (first_system m) x b)) (sym es)
-      (subst (λ (x : Behind). IsMade m o (scene_of (first_system m) (store_of z own) x)) (sym eb) here))
+      subst (λ (x : World). IsMade m o (scene_of x s b)) (sym ey)
+      (subst (λ (x : StoreOf). IsMade m o (scene_of (first_world m) x b)) (sym es)
+      (subst (λ (x : Behind). IsMade m o (scene_of (first_world m) (store_of z own) x)) (sym eb) here))
 
 -- two devices that were opened, under injections that name nothing
 pub opened_of : (m : MachineOf) (o : Outset) (pp fp : List NamedCalls) (pl fl : Option (List DeviceCall)) (pf ff : ℕ) (slots blocks : List Page)

@@ -12,10 +12,11 @@ use Rattle.mm_lines.specs.Looking.{HasLine, IsLong}
 use Rattle.mm_lines.specs.Filling.{Filled}
 use Rattle.mm_lines.proofs.Fillings.{filled_none}
 use Rattle.mm_types.specs.declared.events.Event.{Event}
-use Rattle.mm_run.specs.Scenes.{Scene, Stage, Running, HasNoted, Follows, log_of}
+use Rattle.mm_core.specs.Promise.{Scene}
+use Rattle.mm_run.specs.Scenes.{Stage, Running, HasNoted, Follows, log_of}
 use Rattle.mm_run.specs.declared.endings.Ending.{Ending}
 use Rattle.mm_run.specs.declared.endings.Ending.TheVariants as ending
-use Rattle.mm_system.specs.Lines.{is_machine}
+use Rattle.mm_core.specs.Built.{is_machine}
 use Rattle.mm_run.specs.Reading.{reading}
 use Rattle.mm_run.specs.Steps.{Breaks}
 use Rattle.mm_run.specs.Answered.{DecidedLine, HoldMovesOf, IsNext}
@@ -83,7 +84,7 @@ module _ (held : Text) (len n : ℕ) (h : HasLine held len) (small : n < 1000000
   pub came_broken : (a t : Option Text) (kept : Text) (s z : Scene) (event : Event) → reading n (take len held) ≡ Ok event → IsLineFor (take len held) event → TakesMemory (Running s) event → Breaks s z
       → Came (outside a t kept) (outside a t kept) (stand held n (Running s)) ending.NoMemory (Running z)
   came_broken a t kept s z event says grammar takes b =
-      let p = b.broke.broken refl in
+      let p = b.broken refl in
       came_memory a t kept (Running s) (Running z) event says grammar (inr (takes, record { before = Running s; follows = follows_here (Running s); breaks = b }))
       (grows_grew (Running s) (Running z) (spelled_moves p.piece) p.grew)
 

@@ -12,7 +12,8 @@ use Rattle.mm_types.specs.declared.answers.Answer.{Answer}
 use Rattle.mm_types.specs.declared.events.Event.{Event}
 use Rattle.mm_run.specs.declared.endings.Ending.{Ending}
 use Rattle.mm_run.specs.declared.endings.Ending.TheVariants as ending
-use Rattle.mm_run.specs.Scenes.{Scene, Outset, Stage, NotBegun, Running, Follows, with_flush, log_of, life_of}
+use Rattle.mm_core.specs.Promise.{Scene}
+use Rattle.mm_run.specs.Scenes.{Outset, Stage, NotBegun, Running, Follows, with_flush, log_of, life_of}
 use Rattle.mm_run.specs.Answered.{DecidedLine, IsNext, AreAnswered, HoldMovesOf, last_stage, texts_of, answers_of}
 use Rattle.mm_run.specs.Texts.{IsFront}
 use Rattle.mm_life.specs.Logs.{Log, IsFrontOf, Told, Grew, Flushed}
@@ -361,14 +362,14 @@ pub comes_here : (a b : Outside) (x : Stand) (e : Ending) (o : Outset) (left : L
     → Came a b x e (NotBegun o) → Comes a b x e left
 comes_here a b x e o left q g f h = record { end = NotBegun o; came = h; leaves = log_left_at o.log left q g f }
 
--- a system whose log was flushed
-pub scene_follows : {T E : Type 0} (s z : Scene) (r : Result T E) → z.system ≡ s.system → z.report ≡ s.report → z.paging ≡ s.paging → z.files ≡ s.files → z.blocks ≡ s.blocks
+-- a world whose log was flushed
+pub scene_follows : {T E : Type 0} (s z : Scene) (r : Result T E) → z.world ≡ s.world → z.report ≡ s.report → z.paging ≡ s.paging → z.files ≡ s.files → z.blocks ≡ s.blocks
     → z.behind ≡ record (s.behind) { log = z.behind.log } → Flushed s.behind.log z.behind.log r → Follows (Running s) (Running z)
 scene_follows s z r w p f g b h l =
     let log : z.behind ≡ record (s.behind) { log = record (s.behind.log) { given = z.behind.log.given; faults = z.behind.log.faults } } =
     h ∙ ap (λ (k : Log). record (s.behind) { log = k }) l.stays in
     record {
-      same = λ i. Running (record { system = w i; report = p i; paging = f i; files = g i; blocks = b i; behind = log i });
+      same = λ i. Running (record { world = w i; report = p i; paging = f i; files = g i; blocks = b i; behind = log i });
       later = l.later;
       gave = l.gave;
     }

@@ -1,4 +1,4 @@
--- Where an answer is that of unpaged address spaces, with what stands beside them.
+-- Where an answer is that of unpaged address spaces.
 use Rattle.std.proofs.Common.{◌≡◌, ℕ, zero, suc, ◌+◌, ◌<◌, Bool, true, false, Option, Some, None, refl, sym, ap, ◌∙◌, arith}
 use Rattle.std.specs.Prelude.{if◌then◌else◌, is_some, ◌&&◌, nat_le, nat_lt, option_map, unwrap_or}
 use Rattle.mm_types.specs.declared.answers.Answer.{Answer}
@@ -15,10 +15,9 @@ use Rattle.mm_world.specs.Views.{flush}
 use Rattle.mm_world.specs.Report.{Report}
 use Rattle.mm_world.specs.Failure.{Need, access_fails, wait_failed, pending}
 use Rattle.mm_world.specs.Step.{step, stepped, unpaged, told, is_told, is_ok, when, failing, waiting, resume_told, kept_by, need_at, is_failed_extension}
-use Rattle.mm_world.specs.System.{System, Done, beside, plain_line, outcome, system_step}
 use Rattle.mm_paging.proofs.Quiet.{no_failure}
 use Rattle.mm_core.specs.Stepping.{asks_frames}
-use Rattle.mm_run.specs.Steps.{tells_paging, NoneFailed, unpaged_outcome}
+use Rattle.mm_run.specs.Steps.{tells_paging, NoneFailed}
 
 -- ---- what a store tells is a failed access, a pending one, a fault, or asked for by the line
 
@@ -100,7 +99,7 @@ untold : (w v : World) (e : Event) (a : Answer) (o : Option Answer) → ((t : An
 untold w v e a None tells n h = h
 untold w v e a (Some t) tells n h = let clash : true ≡ false = sym (tells t refl) ∙ ap is_told (answer_was w v e t a h) ∙ n in cc
 
-unpaged_answer : (w v : World) (e : Event) (a : Answer) (before after : Report) → step w e before after ≡ record { answer = a; world = v } → asks_frames e ≡ false → is_told a ≡ false → unpaged w e ≡ record { answer = a; world = v }
+pub unpaged_answer : (w v : World) (e : Event) (a : Answer) (before after : Report) → step w e before after ≡ record { answer = a; world = v } → asks_frames e ≡ false → is_told a ≡ false → unpaged w e ≡ record { answer = a; world = v }
 unpaged_answer w v e a before after h q n = untold w v e a (told w e before after) (λ t. told_tells w before after t e q) n h
 
 -- ---- where no device call failed
@@ -161,34 +160,5 @@ module _ (w : World) (before after : Report) (none : NoneFailed after) (search :
   told_none (line.Stack v0 v1 v2 v3) q = refl
   told_none (line.Probe v0 v1) q = refl
 
-  plain_answer : (v : World) (e : Event) (a : Answer) → step w e before after ≡ record { answer = a; world = v } → tells_paging e ≡ false → unpaged w e ≡ record { answer = a; world = v }
+  pub plain_answer : (v : World) (e : Event) (a : Answer) → step w e before after ≡ record { answer = a; world = v } → tells_paging e ≡ false → unpaged w e ≡ record { answer = a; world = v }
   plain_answer v e a h q = sym (ap (stepped w e) (told_none e q)) ∙ h
-
--- ---- with what stands beside the world
-
-pub outcome_is : (s z : System) (e : Event) (a : Answer) (before after : Report) → system_step s e before after ≡ record { answer = a; system = z } → outcome s e before after ≡ done a z.world
-outcome_is s z e a before after h = ap (λ (d : Done). done d.answer d.system.world) h
-
-asks_plain : (e : Event) → asks_frames e ≡ false → asks_frames (plain_line e) ≡ false
-asks_plain (line.Alloc pid addr size type prot) q = refl
-asks_plain e q = q
-
-tells_plain : (e : Event) → tells_paging e ≡ false → tells_paging (plain_line e) ≡ false
-tells_plain (line.Alloc pid addr size type prot) q = refl
-tells_plain e q = q
-
--- what stands beside the world decides a line, or the world does
-by_either : (o : Option (OutcomeOf Page)) (x y r : OutcomeOf Page) → unwrap_or o x ≡ r → (x ≡ r → y ≡ r) → unwrap_or o y ≡ r
-by_either None x y r h f = f h
-by_either (Some p) x y r h f = h
-
-module _ (s z : System) (e : Event) (a : Answer) (before after : Report) (h : system_step s e before after ≡ record { answer = a; system = z }) where
-  pub unpaged_system : asks_frames e ≡ false → is_told a ≡ false → unpaged_outcome s e ≡ done a z.world
-  unpaged_system q n =
-      by_either (beside s e) (step s.world (plain_line e) before after) (unpaged s.world (plain_line e)) (done a z.world) (outcome_is s z e a before after h)
-      (λ g. unpaged_answer s.world z.world (plain_line e) a before after g (asks_plain e q) n)
-
-  pub plain_system : NoneFailed after → (0 < after.search_writes.failed → 0 < after.paging_writes.failed + after.file_writes.failed) → (is_some after.last_failed_read ≡ true → 0 < after.paging_reads.failed + after.file_reads.failed) → tells_paging e ≡ false → unpaged_outcome s e ≡ done a z.world
-  plain_system none search read q =
-      by_either (beside s e) (step s.world (plain_line e) before after) (unpaged s.world (plain_line e)) (done a z.world) (outcome_is s z e a before after h)
-      (λ g. plain_answer s.world before after none search read z.world (plain_line e) a g (tells_plain e q))

@@ -6,7 +6,7 @@ use Rattle.mm_types.specs.declared.events.Event.{Event}
 use Rattle.mm_script.specs.Printed.{IsWellFormed}
 use Rattle.mm_run.specs.declared.bulk.Tally.{Tally}
 use Rattle.mm_run.specs.declared.endings.Ending.{Ending}
-use Rattle.mm_system.specs.Lines.{is_machine}
+use Rattle.mm_core.specs.Built.{is_machine}
 use Rattle.mm_run.specs.Scenes.{Stage}
 use Rattle.mm_run.specs.Answered.{DecidedLine, last_stage, answers_of}
 use Rattle.mm_run.specs.Ends.{Left, Leaves}

@@ -91,11 +91,11 @@ is_none _ = false
 
 abbrev pub charge_at : Stage → ℕ
 charge_at (NotBegun o) = 0
-charge_at (Running s) = charge s.system.world
+charge_at (Running s) = charge s.world
 
 abbrev pub limit_at : Stage → ℕ
 limit_at (NotBegun o) = 0
-limit_at (Running s) = limit s.system.world
+limit_at (Running s) = limit s.world
 
 abbrev pub four_lines : ℕ → ℕ → ℕ → ℕ → ℕ → Text
 four_lines lines ok none charge limit =

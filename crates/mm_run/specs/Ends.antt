@@ -9,7 +9,7 @@ use Rattle.mm_world.specs.World.{Page, filled}
 use Rattle.mm_blocks.specs.declared.device_calls.DeviceCall.{DeviceCall}
 use Rattle.mm_blocks.specs.Devices.{DeviceOf}
 use Rattle.mm_core.specs.Built.{takes_memory}
-use Rattle.mm_system.specs.Lines.{is_machine}
+use Rattle.mm_core.specs.Built.{is_machine}
 use Rattle.mm_run.specs.declared.endings.Ending.{Ending}
 use Rattle.mm_run.specs.declared.endings.Ending.TheVariants as ending
 use Rattle.mm_run.specs.Scenes.{Stage, NotBegun, Running, Follows}
@@ -39,7 +39,7 @@ pub record BreaksOff (last end : Stage) : Type 0 where
 -- The line may take memory in the world that there is.
 abbrev pub TakesMemory : Stage → Event → Type 0
 TakesMemory (NotBegun o) event = ⊥
-TakesMemory (Running s) event = takes_memory filled s.system.world event ≡ true
+TakesMemory (Running s) event = takes_memory filled s.world event ≡ true
 
 -- The line after these ran out of memory: `machine`, whose machine was not made then, or a line that may take memory. Its feed is the
 -- last byte of `front`.

@@ -1,6 +1,6 @@
 -- Which counts of faults a status is to blame on.
 -- Profile, "A run".
-use Rattle.std.specs.Prelude.{◌≡◌, ◌⊎◌, ℕ}
+use Rattle.std.specs.Prelude.{◌≡◌, ◌⊎◌, ◌≤◌, ℕ}
 use Rattle.mm_types.specs.Outside.{Rose}
 use Rattle.mm_blocks.specs.Traffic.{NoneLogged}
 use Rattle.mm_run.specs.Ends.{DeviceLeft}
@@ -20,11 +20,14 @@ OpenFailed paging paging' files files' =
     ⊎ (NoneLogged paging'.log × IsUnopened files files')
 
 -- Status 4 comes only where the source failed, 5 where the sink of answers did, 6 where that of moves
--- did, 7 where a device could not be opened. No count of the source and of both sinks is another than
--- before, unless the status says that memory or the outside failed.
+-- did, 7 where a device could not be opened. Where memory was refused, with status 1, no count of the
+-- source and of the sink of answers is another than before, and that of moves did not fall: it may
+-- have risen, where the `at` of the line that ran out of memory was not written. With the other
+-- statuses no count of these three is another.
 pub record IsAccounted (status : ℕ) (opening : Type 0) (c d : Counts) : Type 0 where
   pub read_fault : status ≡ 4 → Rose c.source d.source
   pub out_fault : status ≡ 5 → Rose c.out d.out
   pub moves_fault : status ≡ 6 → Rose c.moves d.moves
   pub setup_fault : status ≡ 7 → opening
+  pub no_memory : status ≡ 1 → (c.moves ≤ d.moves) × (d ≡ record c { moves = d.moves })
   pub no_fault : (IsFault status → ⊥) → d ≡ c

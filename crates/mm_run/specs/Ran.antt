@@ -90,11 +90,11 @@ pub record LogRan (took took' : Option Text) (faults faults' : ℕ) (moves : Lis
 -- Each key that the replay shows unchanged, with a slot or a block, has its bytes there.
 abbrev pub EndsHolding : Stage → List Page → List Page → Type 0
 EndsHolding (NotBegun o) slots blocks = Unit {0}
-EndsHolding (Running s) slots blocks = DevicesHold s.system.world s.behind.life slots blocks
+EndsHolding (Running s) slots blocks = DevicesHold s.world s.behind.life slots blocks
 
 pub record Ran (a b : Around) (form : Type 0) (status : ℕ) : Type 0 where
   -- The lines that were decided and answered, one after another: each with its text, event, answer and moves, and what stands after it.
-  -- Each is in the grammar (`Says`), and decided from what the one before it left (`IsDecided`): its answer and the new system are the
+  -- Each is in the grammar (`Says`), and decided from what the one before it left (`IsDecided`): its answer and the new world are the
   -- definitions' step by the reports before and after it; its charge is within the limit; its moves are its piece of the log.
   pub lines : List DecidedLine
   pub answered : AreAnswered 0 (begun_at a.beside) lines

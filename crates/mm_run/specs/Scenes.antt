@@ -3,35 +3,7 @@
 use Rattle.std.specs.Prelude.{◌≡◌, ◌≤◌, ℕ, false, List, Option}
 use Rattle.mm_life.specs.Life.{FrameLife, unstarted}
 use Rattle.mm_life.specs.Logs.{Log, GaveOn}
-use Rattle.mm_world.specs.World.{Page}
-use Rattle.mm_world.specs.Report.{Report}
-use Rattle.mm_world.specs.System.{System}
-use Rattle.mm_blocks.specs.Devices.{DeviceOf}
-use Rattle.mm_pages.specs.Behind.{Behind}
-use Rattle.mm_pages.specs.declared.pages.Pages.{Ghosts as PagesGhosts}
-use Rattle.mm_core.specs.Promise.{Scene as WorldScene}
-use Rattle.mm_system.specs.declared.systems.System.{System as Kept}
-use Rattle.mm_system.specs.Shown.{system, report, behind, paging_device, file_device, file_blocks}
-
--- A system over a store that pages, with what stands behind it.
-pub record Scene : Type 0 where
-  pub system : System
-  pub report : Report
-  pub paging : DeviceOf
-  pub files : DeviceOf
-  pub blocks : List Page
-  pub behind : Behind
-
--- what its world shows
-abbrev pub shown : Scene → WorldScene
-shown s = record {
-  world = s.system.world;
-  report = s.report;
-  paging = s.paging;
-  files = s.files;
-  blocks = s.blocks;
-  behind = s.behind;
-}
+use Rattle.mm_core.specs.Promise.{Scene}
 
 -- Before its first line: the counts of faults of both devices, and how the sink of moves stands.
 pub record Outset : Type 0 where
@@ -46,7 +18,7 @@ outset paging files taken given faults = record {
   log = record { bytes = taken; given = given; failed = false; faults = faults };
 }
 
--- Before its first line a run has an outset; after it, a scene.
+-- Before its first line a run has an outset; after it, what its world over a store shows.
 pub data Stage : Type 0 where
   NotBegun : Outset → Stage
   Running : Scene → Stage
@@ -76,14 +48,3 @@ pub record Follows (old mid : Stage) : Type 0 where
   pub same : mid ≡ with_flush (log_of mid).given (log_of mid).faults old
   pub later : (log_of old).faults ≤ (log_of mid).faults
   pub gave : GaveOn (log_of old) (log_of mid)
-
-module _ {G : Type 0} {g : PagesGhosts G} where
-  abbrev pub scene : Kept G g → Scene
-  scene s = record {
-    system = system s;
-    report = report s;
-    paging = paging_device s;
-    files = file_device s;
-    blocks = file_blocks s;
-    behind = behind s;
-  }

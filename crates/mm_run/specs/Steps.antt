@@ -13,10 +13,8 @@ use Rattle.mm_life.specs.MoveText.{AreMoves, spelled_moves}
 use Rattle.mm_life.specs.Replay.{Replays}
 use Rattle.mm_world.specs.Charge.{charge, limit}
 use Rattle.mm_world.specs.Report.{Report, failed_calls}
-use Rattle.mm_world.specs.World.{Page}
-use Rattle.mm_world.specs.Outcome.{OutcomeOf, done}
-use Rattle.mm_world.specs.Step.{unpaged, is_told, is_failed_extension}
-use Rattle.mm_world.specs.System.{System, first_system, beside, plain_line, system_step}
+use Rattle.mm_world.specs.Outcome.{done}
+use Rattle.mm_world.specs.Step.{first_world, step, unpaged as unpaged_step, is_told, is_failed_extension}
 use Rattle.mm_blocks.specs.Traffic.{NoneLogged, empty_block}
 use Rattle.mm_blocks.specs.Devices.{DeviceOf}
 use Rattle.mm_walks.specs.Waits.{Idle}
@@ -24,12 +22,10 @@ use Rattle.mm_pages.specs.Told.{told_of, none_told}
 use Rattle.mm_paging.specs.Lines.{Agrees}
 use Rattle.mm_paging.specs.Runs.{DevicesHold, first_move}
 use Rattle.mm_core.specs.Stepping.{asks_frames}
-use Rattle.mm_core.specs.Promise.{Told, Breaks as WorldBreaks}
-use Rattle.mm_watch.specs.Watches.{AreApart}
-use Rattle.mm_system.specs.Live.{are_live}
-use Rattle.mm_system.specs.Writes.{writes_of, writes_after}
-use Rattle.mm_system.specs.Lines.{is_machine}
-use Rattle.mm_run.specs.Scenes.{Scene, Outset, Stage, NotBegun, Running, shown, life_of, log_of}
+use Rattle.mm_core.specs.Promise.{Scene, Told, Breaks as WorldBreaks}
+use Rattle.mm_core.specs.Built.{is_machine}
+use Rattle.mm_core.specs.Promise.{Scene}
+use Rattle.mm_run.specs.Scenes.{Outset, Stage, NotBegun, Running, life_of, log_of}
 
 -- ---- the first line
 
@@ -39,15 +35,15 @@ pub record IsUnused (faults : ℕ) (d : DeviceOf) : Type 0 where
   pub none_named : d.named ≡ []
   pub later : faults ≤ d.faults
 
--- A machine has begun: its system is the first, its devices hold zeros and were not asked for one yet, its report tells of the frames, of no call
+-- A machine has begun: its world is the first, its devices hold zeros and were not asked for one yet, its report tells of the frames, of no call
 -- and of no growing device, and no thread waits.
 pub record IsFirst (m : MachineOf) (o : Outset) (s : Scene) : Type 0 where
-  pub system : s.system ≡ first_system m
+  pub world : s.world ≡ first_world m
   pub slots : s.behind.slots ≡ replicate m.slots empty_block
   pub blocks : s.blocks ≡ replicate m.blocks empty_block
   pub paging : IsUnused o.paging s.paging
   pub files : IsUnused o.files s.files
-  pub agrees : Agrees s.system.world s.report s.behind
+  pub agrees : Agrees s.world s.report s.behind
   pub told : told_of s.report ≡ none_told
   pub extended : s.report.extended ≡ None
   pub idle : (tid : ℕ) → (s.behind.waits tid ≡ Idle) × (s.report.wait tid ≡ wait.None)
@@ -70,38 +66,25 @@ tells_paging (line.Io i) = true
 tells_paging line.Counts = true
 tells_paging _ = false
 
--- no two watched regions of a process share a page, and each is a private region of its process, which lives
-pub record AreWatched (s : System) : Type 0 where
-  pub apart : AreApart s.watches
-  pub live : are_live s.world s.watches ≡ true
-
 -- no device call of the line failed
 pub record NoneFailed (after : Report) : Type 0 where
   pub calls : failed_calls after ≡ 0
   pub extended : is_failed_extension after.extended ≡ false
 
--- the answer and the world of unpaged address spaces, beside which watched regions stand
-abbrev pub unpaged_outcome : System → Event → OutcomeOf Page
-unpaged_outcome s e = unwrap_or (beside s e) (unpaged s.world (plain_line e))
-
 pub record Decides (s : Scene) (e : Event) (a : Answer) (moves : List Move) (z : Scene) : Type 0 where
-  -- the answer and the new system are those of the definitions' step, by the reports before and after
-  pub answered : system_step s.system e s.report z.report ≡ record { answer = a; system = z.system }
+  -- the answer and the new world are those of the definitions' step, by the reports before and after
+  pub answered : step s.world e s.report z.report ≡ record { answer = a; world = z.world }
   -- answer and world are those of unpaged address spaces, of a call and a plain access, where no device call of the line failed
-  pub plain : tells_paging e ≡ false → NoneFailed z.report → unpaged_outcome s.system e ≡ done a z.system.world
+  pub plain : tells_paging e ≡ false → NoneFailed z.report → unpaged_step s.world e ≡ done a z.world
   -- and of any line but `io` and `counts`, where the answer is no failed access, no pending one and no `fault`
-  pub unpaged : asks_frames e ≡ false → is_told a ≡ false → unpaged_outcome s.system e ≡ done a z.system.world
-  -- each watched region is a private region of a process that lives, and no two of a process share a page
-  pub watched : AreWatched z.system
-  -- the writes that threads keep change as the line and its answer tell
-  pub kept : writes_of z.system.world ≡ writes_after (writes_of s.system.world) e a
+  pub unpaged : asks_frames e ≡ false → is_told a ≡ false → unpaged_step s.world e ≡ done a z.world
   -- what the promise of a world tells beside: of sections and names, of devices, of waits, and of the moves, which are one `at` with the
   -- line's number and kind, and what its form allows
-  pub told : Told false (shown s) e a moves (shown z)
+  pub told : Told false s e a moves z
 
 -- ---- any line
 
--- The first line makes the system; each later line is answered by it, and leaves the next.
+-- The first line makes the world; each later line is answered by it, and leaves the next.
 abbrev pub Stepped : Stage → Event → Answer → List Move → Stage → Type 0
 Stepped (NotBegun o) e a moves (NotBegun after) = ⊥
 Stepped (NotBegun o) e a moves (Running s) = Begins o e a moves s
@@ -111,12 +94,12 @@ Stepped (Running s) e a moves (Running z) = (is_machine e ≡ false) × Decides 
 -- The commit charge is at most the commit limit.
 abbrev pub IsWithinLimit : Stage → Type 0
 IsWithinLimit (NotBegun o) = Unit {0}
-IsWithinLimit (Running s) = charge s.system.world ≤ limit s.system.world
+IsWithinLimit (Running s) = charge s.world ≤ limit s.world
 
 -- Each key that the replay shows unchanged, with a slot or a block, has its bytes there.
 abbrev pub HoldsUnchanged : Stage → Type 0
 HoldsUnchanged (NotBegun o) = Unit {0}
-HoldsUnchanged (Running s) = DevicesHold s.system.world s.behind.life s.behind.slots s.blocks
+HoldsUnchanged (Running s) = DevicesHold s.world s.behind.life s.behind.slots s.blocks
 
 -- Moves that are legal one after another, and by whose text the log grew; where the sink fails in it, by a front of it.
 pub record Notes (old : Stage) (moves : List Move) (new : Stage) : Type 0 where
@@ -124,7 +107,7 @@ pub record Notes (old : Stage) (moves : List Move) (new : Stage) : Type 0 where
   pub grew : Grew (log_of old) (log_of new) (spelled_moves moves)
   pub replays : Replays moves (life_of old) (life_of new)
 
--- A line is decided: its answer and the new system are the definition's, the charge stays within the limit, and its moves are noted.
+-- A line is decided: its answer and the new world are the definition's, the charge stays within the limit, and its moves are noted.
 pub record IsDecided (old : Stage) (e : Event) (a : Answer) (moves : List Move) (new : Stage) : Type 0 where
   pub step : Stepped old e a moves new
   pub within : IsWithinLimit new
@@ -142,7 +125,6 @@ pub record Moved (old : Stage) (e : Event) (a : Answer) (new : Stage) : Type 0 w
   pub moves : List Move
   pub decided : IsDecided old e a moves new
 
--- A line ran out of memory: it noted its `at` alone or nothing, and system and devices are as before.
-pub record Breaks (s z : Scene) : Type 0 where
-  pub system : z.system ≡ s.system
-  pub broke : WorldBreaks false (shown s) (shown z)
+-- A line ran out of memory: it noted its `at` alone or nothing, and world and devices are as before.
+abbrev pub Breaks : Scene → Scene → Type 0
+Breaks s z = WorldBreaks false s z

@@ -11,7 +11,7 @@ use Rattle.mm_script.specs.Grammar.{IsLine as IsLineFor}
 use Rattle.mm_types.specs.declared.events.Event.{Event}
 use Rattle.mm_run.specs.declared.endings.Ending.{Ending}
 use Rattle.mm_run.specs.declared.endings.Ending.TheVariants as ending
-use Rattle.mm_system.specs.Lines.{is_machine}
+use Rattle.mm_core.specs.Built.{is_machine}
 use Rattle.mm_run.specs.Reading.{reading}
 use Rattle.mm_run.specs.Scenes.{Stage, Follows, log_of}
 use Rattle.mm_run.specs.Answered.{DecidedLine, AreAnswered, HoldMovesOf, last_stage, texts_of, answers_of}

@@ -7,9 +7,8 @@ use Rattle.mm_types.specs.declared.answers.Answer.TheVariants as answer
 use Rattle.mm_types.specs.declared.events.Event.{Event}
 use Rattle.mm_types.specs.declared.events.Event.TheVariants as line
 use Rattle.mm_types.specs.Address.{Range, address_of, range_of, holds_page}
-use Rattle.mm_world.specs.System.{is_watched_type, reserved_range}
-use Rattle.mm_watch.specs.Told.{is_this_page, access_writes, line_clears}
-use Rattle.mm_core.specs.Forgetting.{ends_none}
+use Rattle.mm_world.specs.Written.{access_writes, written_after}
+use Rattle.mm_world.specs.Writes.{ends_none}
 
 -- a line that was answered
 pub record AnsweredLine : Type 0 where
@@ -32,30 +31,10 @@ module _ (pid page : ℕ) where
   keeps_after thread was (line.Exit by) answer.Ok = if by.0 == pid then false else was
   keeps_after thread was _ _ = was
 
-  -- the line made a watched region with the page
-  abbrev pub line_begins : Event → Answer → Bool
-  line_begins (line.Alloc by addr size type prot) (answer.At base) = (by.0 == pid) && (is_watched_type type && holds_page (reserved_range addr size base) page)
-  line_begins _ _ = false
-
-  -- the line wrote to the page
-  abbrev pub line_wrote : (ℕ → Bool) → Event → Answer → Bool
-  line_wrote keeps (line.Write by addr bytes) answer.Ok = is_this_page pid page by.0 addr
-  line_wrote keeps (line.Begin tid by what) answer.Ok = access_writes pid page by.0 what
-  line_wrote keeps (line.Resume tid) answer.Ok = keeps tid.0
-  line_wrote keeps _ _ = false
-
-  -- the page is not written where the line made its region or made it unwritten, and is where the line wrote to it
-  abbrev pub written_after : (ℕ → Bool) → Bool → Event → Answer → Bool
-  written_after keeps was e a =
-      if line_begins e a then false
-      else if line_clears pid page e a then false
-      else if line_wrote keeps e a then true
-      else was
-
   abbrev pub marks_after : Marks → AnsweredLine → Marks
   marks_after m l = record {
     keeps = λ thread. keeps_after thread (m.keeps thread) l.event l.answer;
-    written = written_after m.keeps m.written l.event l.answer;
+    written = written_after pid page m.keeps m.written l.event l.answer;
   }
 
   -- what these lines tell of the page, after others that told this

@@ -4,8 +4,9 @@ ghost use Rattle.mm_io.specs.Io.{CountsFaults};
 ghost use Rattle.mm_types.specs.declared.events.Event.TheVariants as event;
 ghost use Rattle.mm_blocks.specs.Traffic.{NoneLogged, empty_block};
 ghost use Rattle.mm_make.specs.Generated.{script_of};
-ghost use Rattle.mm_system.specs.Shown.{line_of, loans, behind};
-ghost use Rattle.mm_run.specs.Scenes.{Outset, NotBegun, Running, outset, scene};
+ghost use Rattle.mm_core.specs.Shown.{line_of, loans, behind};
+ghost use Rattle.mm_core.specs.Promise.{scene};
+ghost use Rattle.mm_run.specs.Scenes.{Outset, NotBegun, Running, outset};
 ghost use Rattle.mm_run.specs.Steps.{IsMade, Moved, Breaks};
 ghost use Rattle.mm_run.specs.Texts.{TornText};
 ghost use Rattle.mm_run.specs.Ran.{around};
@@ -20,13 +21,13 @@ use crate::endings::Ending;
 use crate::machines::open_devices;
 use crate::top::put_number;
 use mm_blocks::{Blocks, Injected};
+use mm_core::World;
 use mm_flushing::FlushesMoves;
 use mm_io::{Sink, write_all};
 use mm_make::script;
 use mm_moves::Recorder;
 use mm_paged::Paged;
 use mm_state::State;
-use mm_system::System;
 use mm_text::LineBuf;
 use mm_types::{Answer, Event, Failed, Machine};
 use std::alloc::Global;
@@ -82,28 +83,28 @@ fn decide_event<G: FlushesMoves>(
     alloc: Global,
     n: u32,
     event: &Event,
-    system: &mut System<G>,
+    world: &mut World<G>,
 ) -> Result<Answer, Ending>
     requires later { IsLater event.now }
-    requires next { n ≡ line_of system.old + 1 }
+    requires next { n ≡ line_of world.old + 1 }
     requires few { n ≤ 1000000 }
-    requires ready { system.old.spent ≡ false }
+    requires ready { world.old.spent ≡ false }
     requires paged { G.unpaged ≡ false }
-    requires noted { (behind system.old).log.failed ≡ false }
-    ensures decided { IfOk result (λ a. Moved (Running (scene system.old)) event.now a (Running (scene system.new))) }
-    ensures ends { IfErr result (λ e. ((e ≡ Ending.NoMemory) × Breaks (scene system.old) (scene system.new))
-        ⊎ ((e ≡ Ending.MovesFault) × ((a : Answer) × Moved (Running (scene system.old)) event.now a (Running (scene system.new))) × ((behind system.new).log.failed ≡ true))) }
-    ensures noted { OnOk result ((behind system.new).log.failed ≡ false) }
+    requires noted { (behind world.old).log.failed ≡ false }
+    ensures decided { IfOk result (λ a. Moved (Running (scene world.old)) event.now a (Running (scene world.new))) }
+    ensures ends { IfErr result (λ e. ((e ≡ Ending.NoMemory) × Breaks (scene world.old) (scene world.new))
+        ⊎ ((e ≡ Ending.MovesFault) × ((a : Answer) × Moved (Running (scene world.old)) event.now a (Running (scene world.new))) × ((behind world.new).log.failed ≡ true))) }
+    ensures noted { OnOk result ((behind world.new).log.failed ≡ false) }
     ensures faults { (s o : ℕ) → MatchResult result
-        (λ _. counts_with s o (behind system.new).log.faults ≡ counts_with s o (behind system.old).log.faults)
-        (λ e. IsBlamed e ⊥ (counts_with s o (behind system.old).log.faults) (counts_with s o (behind system.new).log.faults)) }
-    ensures line { OnOk result (line_of system.new ≡ n) }
-    ensures ready { OnOk result (system.new.spent ≡ false) }
-    ensures loans { loans system.new ≡ loans system.old }
+        (λ _. counts_with s o (behind world.new).log.faults ≡ counts_with s o (behind world.old).log.faults)
+        (λ e. IsBlamed e ⊥ (counts_with s o (behind world.old).log.faults) (counts_with s o (behind world.new).log.faults)) }
+    ensures line { OnOk result (line_of world.new ≡ n) }
+    ensures ready { OnOk result (world.new.spent ≡ false) }
+    ensures loans { loans world.new ≡ loans world.old }
 {
-    match decide(alloc, n, event, system) {
+    match decide(alloc, n, event, world) {
         Ok(answer) => {
-            if system.world.pages.moves_failed() {
+            if world.pages.moves_failed() {
                 return Err(Ending::MovesFault);
             }
             Ok(answer)
@@ -116,29 +117,29 @@ fn decide_event<G: FlushesMoves>(
 fn decide_later<G: FlushesMoves>(
     alloc: Global,
     events: &[Event],
-    system: &mut System<G>,
+    world: &mut World<G>,
 ) -> Result<(u32, u32), Ending>
     requires later { AreLater events.now }
     requires few { length events.now < 1000000 }
-    requires count { line_of system.old ≡ 1 }
-    requires ready { system.old.spent ≡ false }
+    requires count { line_of world.old ≡ 1 }
+    requires ready { world.old.spent ≡ false }
     requires paged { G.unpaged ≡ false }
-    requires noted { (behind system.old).log.failed ≡ false }
+    requires noted { (behind world.old).log.failed ≡ false }
     ensures came { MatchResult result
-        (λ r. Handled (Running (scene system.old)) events.now r.0 r.1 (Running (scene system.new)))
-        (λ e. Stopped (Running (scene system.old)) events.now e (Running (scene system.new))) }
+        (λ r. Handled (Running (scene world.old)) events.now r.0 r.1 (Running (scene world.new)))
+        (λ e. Stopped (Running (scene world.old)) events.now e (Running (scene world.new))) }
     ensures few { IfOk result (λ r. (r.0 ≤ length events.now) × (r.1 ≤ length events.now)) }
     ensures faults { (s o : ℕ) → MatchResult result
-        (λ _. counts_with s o (behind system.new).log.faults ≡ counts_with s o (behind system.old).log.faults)
-        (λ e. IsBlamed e ⊥ (counts_with s o (behind system.old).log.faults) (counts_with s o (behind system.new).log.faults)) }
-    ensures loans { loans system.new ≡ loans system.old }
+        (λ _. counts_with s o (behind world.new).log.faults ≡ counts_with s o (behind world.old).log.faults)
+        (λ e. IsBlamed e ⊥ (counts_with s o (behind world.old).log.faults) (counts_with s o (behind world.new).log.faults)) }
+    ensures loans { loans world.new ≡ loans world.old }
 {
     let mut n = 1u32;
     let mut ok = 0u32;
     let mut none = 0u32;
     for event in events {
         n += 1;
-        match decide_event(alloc, n, event, system) {
+        match decide_event(alloc, n, event, world) {
             Ok(answer) => {
                 ok += one_if(begins_ok(&answer));
                 none += one_if(is_none(&answer));
@@ -149,30 +150,30 @@ fn decide_later<G: FlushesMoves>(
     Ok((ok, none))
 }
 
-/// Decides all events over the system that the first one made, once its move is written.
+/// Decides all events over the world that the first one made, once its move is written.
 fn decide_events<G: FlushesMoves>(
     alloc: Global,
     machine: Machine,
     events: &[Event],
-    system: &mut System<G>,
+    world: &mut World<G>,
 ) -> Result<Tally, Ending>
     requires later { AreLater events.now }
     requires few { length events.now < 1000000 }
-    requires count { line_of system.old ≡ 1 }
-    requires ready { system.old.spent ≡ false }
+    requires count { line_of world.old ≡ 1 }
+    requires ready { world.old.spent ≡ false }
     requires paged { G.unpaged ≡ false }
-    ensures came { (o : Outset) → IsMade machine o (scene system.old) → Finished (NotBegun o) (event.Machine machine ∷ events.now) result (Running (scene system.new)) }
-    ensures faults { (o : Outset) → IsMade machine o (scene system.old) → o.log.failed ≡ false → (s k : ℕ) → MatchResult result
-        (λ _. counts_with s k (behind system.new).log.faults ≡ counts_with s k o.log.faults)
-        (λ e. IsBlamed e ⊥ (counts_with s k o.log.faults) (counts_with s k (behind system.new).log.faults)) }
-    ensures loans { loans system.new ≡ loans system.old }
+    ensures came { (o : Outset) → IsMade machine o (scene world.old) → Finished (NotBegun o) (event.Machine machine ∷ events.now) result (Running (scene world.new)) }
+    ensures faults { (o : Outset) → IsMade machine o (scene world.old) → o.log.failed ≡ false → (s k : ℕ) → MatchResult result
+        (λ _. counts_with s k (behind world.new).log.faults ≡ counts_with s k o.log.faults)
+        (λ e. IsBlamed e ⊥ (counts_with s k o.log.faults) (counts_with s k (behind world.new).log.faults)) }
+    ensures loans { loans world.new ≡ loans world.old }
 {
-    if system.world.pages.moves_failed() {
+    if world.pages.moves_failed() {
         return Err(Ending::MovesFault);
     }
-    match decide_later(alloc, events, system) {
+    match decide_later(alloc, events, world) {
         Ok((ok, none)) => {
-            let (charge, limit) = system.charge();
+            let (charge, limit) = world.charge();
             Ok(Tally {
                 lines: events.len() as u32 + 1,
                 ok: ok + 1,
@@ -222,9 +223,9 @@ fn run_events<M: Sink, P: Blocks, F: Blocks>(
             return Err(Ending::NoMemory);
         }
     };
-    let mut system = System::new(alloc, machine, Paged::over(state));
-    let decided = decide_events(alloc, machine, events, &mut system);
-    let (paging, files, moves) = system.finish().finish().finish();
+    let mut world = World::new(alloc, machine, Paged::over(state));
+    let decided = decide_events(alloc, machine, events, &mut world);
+    let (paging, files, moves) = world.finish().finish().finish();
     let _ = paging.finish();
     let _ = files.finish();
     let _ = moves.finish();

@@ -5,10 +5,11 @@ ghost use Rattle.mm_life.specs.Logs.{Flushed};
 ghost use Rattle.mm_lines.specs.Looking.{HasLine};
 ghost use Rattle.mm_script.specs.Grammar.{IsLine as IsLineFor};
 ghost use Rattle.mm_script.specs.Printed.{IsWellFormed};
-ghost use Rattle.mm_system.specs.Shown.{line_of, loans, behind};
-ghost use Rattle.mm_system.specs.Lines.{is_machine};
+ghost use Rattle.mm_core.specs.Shown.{line_of, loans, behind};
+ghost use Rattle.mm_core.specs.Built.{is_machine};
 ghost use Rattle.mm_run.specs.Reading.{reading};
-ghost use Rattle.mm_run.specs.Scenes.{Scene, Stage, Running, Follows, scene};
+ghost use Rattle.mm_core.specs.Promise.{Scene, scene};
+ghost use Rattle.mm_run.specs.Scenes.{Stage, Running, Follows};
 ghost use Rattle.mm_run.specs.Steps.{Moved, Breaks};
 ghost use Rattle.mm_run.specs.Story.{Went, Came, IsBlamed, EndsAt, outside, stand, counts_with};
 ghost use Rattle.mm_run.specs.Seen.{outside_seen};
@@ -17,11 +18,11 @@ ghost use Rattle.mm_run.specs.Ends.{TakesMemory};
 use crate::answers::Kept;
 use crate::endings::Ending;
 use crate::readings::later_event;
+use mm_core::World;
 use mm_flushing::FlushesMoves;
 use mm_io::{Sink, Source};
 use mm_lines::{Found, Held, Look};
 use mm_script::parse_line;
-use mm_system::System;
 use mm_types::{Answer, Event, Failed, NoMemory};
 use std::alloc::Global;
 
@@ -39,32 +40,31 @@ pub(crate) fn tell(held: &mut Held, len: usize, answer: &Answer, kept: &mut Kept
     kept.keep(answer);
 }
 
-/// Decides a line of a system over a store that pages, which is not the first: it is told whole.
+/// Decides a line of a world over a store that pages, which is not the first: it is told whole.
 pub(crate) fn decide<G: FlushesMoves>(
     alloc: Global,
     n: u32,
     event: &Event,
-    system: &mut System<G>,
+    world: &mut World<G>,
 ) -> Result<Answer, NoMemory>
     requires well_formed { IsWellFormed event.now }
     requires not_first { is_machine event.now ≡ false }
-    requires next { n ≡ line_of system.old + 1 }
+    requires next { n ≡ line_of world.old + 1 }
     requires few { n ≤ 1000000 }
-    requires ready { system.old.spent ≡ false }
+    requires ready { world.old.spent ≡ false }
     requires paged { G.unpaged ≡ false }
-    requires noted { (behind system.old).log.failed ≡ false }
-    ensures decided { IfOk result (λ a. Moved (Running (scene system.old)) event.now a (Running (scene system.new))) }
-    ensures breaks { OnErr result (Breaks (scene system.old) (scene system.new)) }
-    ensures takes { OnErr result (TakesMemory (Running (scene system.old)) event.now) }
-    ensures blame { OnOk result ((behind system.new).log.failed ≡ true → Rose (behind system.old).log.faults (behind system.new).log.faults) }
-    ensures same { OnOk result ((behind system.new).log.failed ≡ false → (behind system.new).log.faults ≡ (behind system.old).log.faults) }
-    ensures line { OnOk result (line_of system.new ≡ n) }
-    ensures ready { OnOk result (system.new.spent ≡ false) }
-    ensures loans { loans system.new ≡ loans system.old }
+    requires noted { (behind world.old).log.failed ≡ false }
+    ensures decided { IfOk result (λ a. Moved (Running (scene world.old)) event.now a (Running (scene world.new))) }
+    ensures breaks { OnErr result (Breaks (scene world.old) (scene world.new)) }
+    ensures takes { OnErr result (TakesMemory (Running (scene world.old)) event.now) }
+    ensures blame { OnOk result ((behind world.new).log.failed ≡ true → Rose (behind world.old).log.faults (behind world.new).log.faults) }
+    ensures same { OnOk result ((behind world.new).log.failed ≡ false → (behind world.new).log.faults ≡ (behind world.old).log.faults) }
+    ensures line { OnOk result (line_of world.new ≡ n) }
+    ensures ready { OnOk result (world.new.spent ≡ false) }
+    ensures loans { loans world.new ≡ loans world.old }
 {
-    let decided = system.step(alloc, n, event);
-    system.world.pages.sound();
-    system.sound();
+    let decided = world.step(alloc, n, event);
+    world.pages.sound();
     decided
 }
 
@@ -75,7 +75,7 @@ fn answer_event<G: FlushesMoves>(
     len: usize,
     n: u32,
     event: &Event,
-    system: &mut System<G>,
+    world: &mut World<G>,
     kept: &mut Kept,
 ) -> Option<Ending>
     requires some { 0 < n }
@@ -86,27 +86,27 @@ fn answer_event<G: FlushesMoves>(
     requires says { reading n (take len held.old) ≡ Ok event.now }
     requires grammar { IsLineFor (take len held.old) event.now }
     requires well_formed { IsWellFormed event.now }
-    requires count { line_of system.old ≡ n }
-    requires ready { system.old.spent ≡ false }
+    requires count { line_of world.old ≡ n }
+    requires ready { world.old.spent ≡ false }
     requires paged { G.unpaged ≡ false }
-    requires noted { (behind system.old).log.failed ≡ false }
+    requires noted { (behind world.old).log.failed ≡ false }
     ensures went { (left took : Option (List ℕ)) → MatchOption result
-        (Went (outside left took kept.old) (outside left took kept.new) (stand held.old n (Running (scene system.old))) (stand held.new (n + 1) (Running (scene system.new))))
-        (λ e. Came (outside left took kept.old) (outside left took kept.new) (stand held.old n (Running (scene system.old))) e (Running (scene system.new))) }
+        (Went (outside left took kept.old) (outside left took kept.new) (stand held.old n (Running (scene world.old))) (stand held.new (n + 1) (Running (scene world.new))))
+        (λ e. Came (outside left took kept.old) (outside left took kept.new) (stand held.old n (Running (scene world.old))) e (Running (scene world.new))) }
     ensures few { IfNone result (length held.new < 4096) }
-    ensures count { IfNone result (line_of system.new ≡ n + 1) }
-    ensures ready { IfNone result (system.new.spent ≡ false) }
-    ensures noted { IfNone result ((behind system.new).log.failed ≡ false) }
+    ensures count { IfNone result (line_of world.new ≡ n + 1) }
+    ensures ready { IfNone result (world.new.spent ≡ false) }
+    ensures noted { IfNone result ((behind world.new).log.failed ≡ false) }
     ensures faults { (s o : ℕ) → MatchOption result
-        (counts_with s o (behind system.new).log.faults ≡ counts_with s o (behind system.old).log.faults)
-        (λ e. IsBlamed e ⊥ (counts_with s o (behind system.old).log.faults) (counts_with s o (behind system.new).log.faults)) }
+        (counts_with s o (behind world.new).log.faults ≡ counts_with s o (behind world.old).log.faults)
+        (λ e. IsBlamed e ⊥ (counts_with s o (behind world.old).log.faults) (counts_with s o (behind world.new).log.faults)) }
     ensures form { result ≢ Some Ending.Usage }
-    ensures loans { loans system.new ≡ loans system.old }
+    ensures loans { loans world.new ≡ loans world.old }
 {
-    let decided = decide(alloc, n + 1, event, system);
+    let decided = decide(alloc, n + 1, event, world);
     match &decided {
         Ok(answer) => {
-            if system.world.pages.moves_failed() {
+            if world.pages.moves_failed() {
                 return Some(Ending::MovesFault);
             }
             tell(held, len, answer, kept);
@@ -122,7 +122,7 @@ fn answer_line<G: FlushesMoves>(
     held: &mut Held,
     len: usize,
     n: u32,
-    system: &mut System<G>,
+    world: &mut World<G>,
     kept: &mut Kept,
 ) -> Option<Ending>
     requires some { 0 < n }
@@ -130,27 +130,27 @@ fn answer_line<G: FlushesMoves>(
     requires line { HasLine held.old len }
     requires room { length kept.old + 256 ≤ 65536 }
     requires behind { length held.old < len + 1 + 4096 }
-    requires count { line_of system.old ≡ n }
-    requires ready { system.old.spent ≡ false }
+    requires count { line_of world.old ≡ n }
+    requires ready { world.old.spent ≡ false }
     requires paged { G.unpaged ≡ false }
-    requires noted { (behind system.old).log.failed ≡ false }
+    requires noted { (behind world.old).log.failed ≡ false }
     ensures went { (left took : Option (List ℕ)) → MatchOption result
-        (Went (outside left took kept.old) (outside left took kept.new) (stand held.old n (Running (scene system.old))) (stand held.new (n + 1) (Running (scene system.new))))
-        (λ e. Came (outside left took kept.old) (outside left took kept.new) (stand held.old n (Running (scene system.old))) e (Running (scene system.new))) }
+        (Went (outside left took kept.old) (outside left took kept.new) (stand held.old n (Running (scene world.old))) (stand held.new (n + 1) (Running (scene world.new))))
+        (λ e. Came (outside left took kept.old) (outside left took kept.new) (stand held.old n (Running (scene world.old))) e (Running (scene world.new))) }
     ensures few { IfNone result (length held.new < 4096) }
-    ensures count { IfNone result (line_of system.new ≡ n + 1) }
-    ensures ready { IfNone result (system.new.spent ≡ false) }
-    ensures noted { IfNone result ((behind system.new).log.failed ≡ false) }
+    ensures count { IfNone result (line_of world.new ≡ n + 1) }
+    ensures ready { IfNone result (world.new.spent ≡ false) }
+    ensures noted { IfNone result ((behind world.new).log.failed ≡ false) }
     ensures faults { (s o : ℕ) → MatchOption result
-        (counts_with s o (behind system.new).log.faults ≡ counts_with s o (behind system.old).log.faults)
-        (λ e. IsBlamed e ⊥ (counts_with s o (behind system.old).log.faults) (counts_with s o (behind system.new).log.faults)) }
+        (counts_with s o (behind world.new).log.faults ≡ counts_with s o (behind world.old).log.faults)
+        (λ e. IsBlamed e ⊥ (counts_with s o (behind world.old).log.faults) (counts_with s o (behind world.new).log.faults)) }
     ensures form { result ≢ Some Ending.Usage }
-    ensures loans { loans system.new ≡ loans system.old }
+    ensures loans { loans world.new ≡ loans world.old }
 {
     let line = &held.bytes()[..len];
     let parsed = parse_line(line);
     match later_event(line, &parsed) {
-        Ok(event) => answer_event(alloc, held, len, n, event, system, kept),
+        Ok(event) => answer_event(alloc, held, len, n, event, world, kept),
         Err(column) => Some(Ending::Script(n + 1, column)),
     }
 }
@@ -192,37 +192,37 @@ fn next_line<S: Source>(held: &mut Held, n: u32, source: &mut S) -> Result<usize
 }
 
 /// Gives on the moves that were noted.
-fn flush_moves<G: FlushesMoves>(system: &mut System<G>) -> Result<(), Failed>
-    ensures follows { Follows (Running (scene system.old)) (Running (scene system.new)) }
-    ensures flushed { Flushed (behind system.old).log (behind system.new).log result }
-    ensures noted { (behind system.new).log.failed ≡ (behind system.old).log.failed }
-    ensures count { line_of system.new ≡ line_of system.old }
-    ensures ready { system.new.spent ≡ system.old.spent }
-    ensures loans { loans system.new ≡ loans system.old }
+fn flush_moves<G: FlushesMoves>(world: &mut World<G>) -> Result<(), Failed>
+    ensures follows { Follows (Running (scene world.old)) (Running (scene world.new)) }
+    ensures flushed { Flushed (behind world.old).log (behind world.new).log result }
+    ensures noted { (behind world.new).log.failed ≡ (behind world.old).log.failed }
+    ensures count { line_of world.new ≡ line_of world.old }
+    ensures ready { world.new.spent ≡ world.old.spent }
+    ensures loans { loans world.new ≡ loans world.old }
 {
-    system.flush_moves()
+    world.flush_moves()
 }
 
 /// Gives on the moves that were noted, and then the answers that are kept.
 fn flush<G: FlushesMoves, O: Sink>(
-    system: &mut System<G>,
+    world: &mut World<G>,
     kept: &mut Kept,
     out: &mut O,
 ) -> Option<Ending>
     ensures went { (left : Option (List ℕ)) (held : List ℕ) (n : ℕ) → n ≤ 1000000 → length held < 4096 → MatchOption result
-        (Went (outside left (O.taken out.old) kept.old) (outside left (O.taken out.new) kept.new) (stand held n (Running (scene system.old))) (stand held n (Running (scene system.new))))
-        (λ e. Came (outside left (O.taken out.old) kept.old) (outside left (O.taken out.new) kept.new) (stand held n (Running (scene system.old))) e (Running (scene system.new))) }
+        (Went (outside left (O.taken out.old) kept.old) (outside left (O.taken out.new) kept.new) (stand held n (Running (scene world.old))) (stand held n (Running (scene world.new))))
+        (λ e. Came (outside left (O.taken out.old) kept.old) (outside left (O.taken out.new) kept.new) (stand held n (Running (scene world.old))) e (Running (scene world.new))) }
     ensures faults { (s : ℕ) → MatchOption result
-        (counts_with s (O.faults out.new) (behind system.new).log.faults ≡ counts_with s (O.faults out.old) (behind system.old).log.faults)
-        (λ e. IsBlamed e ⊥ (counts_with s (O.faults out.old) (behind system.old).log.faults) (counts_with s (O.faults out.new) (behind system.new).log.faults)) }
+        (counts_with s (O.faults out.new) (behind world.new).log.faults ≡ counts_with s (O.faults out.old) (behind world.old).log.faults)
+        (λ e. IsBlamed e ⊥ (counts_with s (O.faults out.old) (behind world.old).log.faults) (counts_with s (O.faults out.new) (behind world.new).log.faults)) }
     ensures form { result ≢ Some Ending.Usage }
     ensures none { IfNone result (kept.new ≡ []) }
-    ensures noted { (behind system.new).log.failed ≡ (behind system.old).log.failed }
-    ensures count { line_of system.new ≡ line_of system.old }
-    ensures ready { system.new.spent ≡ system.old.spent }
-    ensures loans { loans system.new ≡ loans system.old }
+    ensures noted { (behind world.new).log.failed ≡ (behind world.old).log.failed }
+    ensures count { line_of world.new ≡ line_of world.old }
+    ensures ready { world.new.spent ≡ world.old.spent }
+    ensures loans { loans world.new ≡ loans world.old }
 {
-    match flush_moves(system) {
+    match flush_moves(world) {
         Ok(()) => {}
         Err(_) => return Some(Ending::MovesFault),
     }
@@ -234,52 +234,52 @@ fn flush<G: FlushesMoves, O: Sink>(
 
 /// Gives on moves and answers where there is no room for one answer more.
 fn make_room<G: FlushesMoves, O: Sink>(
-    system: &mut System<G>,
+    world: &mut World<G>,
     kept: &mut Kept,
     out: &mut O,
 ) -> Option<Ending>
     ensures went { (left : Option (List ℕ)) (held : List ℕ) (n : ℕ) → n ≤ 1000000 → length held < 4096 → MatchOption result
-        (Went (outside left (O.taken out.old) kept.old) (outside left (O.taken out.new) kept.new) (stand held n (Running (scene system.old))) (stand held n (Running (scene system.new))))
-        (λ e. Came (outside left (O.taken out.old) kept.old) (outside left (O.taken out.new) kept.new) (stand held n (Running (scene system.old))) e (Running (scene system.new))) }
+        (Went (outside left (O.taken out.old) kept.old) (outside left (O.taken out.new) kept.new) (stand held n (Running (scene world.old))) (stand held n (Running (scene world.new))))
+        (λ e. Came (outside left (O.taken out.old) kept.old) (outside left (O.taken out.new) kept.new) (stand held n (Running (scene world.old))) e (Running (scene world.new))) }
     ensures faults { (s : ℕ) → MatchOption result
-        (counts_with s (O.faults out.new) (behind system.new).log.faults ≡ counts_with s (O.faults out.old) (behind system.old).log.faults)
-        (λ e. IsBlamed e ⊥ (counts_with s (O.faults out.old) (behind system.old).log.faults) (counts_with s (O.faults out.new) (behind system.new).log.faults)) }
+        (counts_with s (O.faults out.new) (behind world.new).log.faults ≡ counts_with s (O.faults out.old) (behind world.old).log.faults)
+        (λ e. IsBlamed e ⊥ (counts_with s (O.faults out.old) (behind world.old).log.faults) (counts_with s (O.faults out.new) (behind world.new).log.faults)) }
     ensures form { result ≢ Some Ending.Usage }
     ensures room { IfNone result (length kept.new + 256 ≤ 65536) }
-    ensures noted { (behind system.new).log.failed ≡ (behind system.old).log.failed }
-    ensures count { line_of system.new ≡ line_of system.old }
-    ensures ready { system.new.spent ≡ system.old.spent }
-    ensures loans { loans system.new ≡ loans system.old }
+    ensures noted { (behind world.new).log.failed ≡ (behind world.old).log.failed }
+    ensures count { line_of world.new ≡ line_of world.old }
+    ensures ready { world.new.spent ≡ world.old.spent }
+    ensures loans { loans world.new ≡ loans world.old }
 {
     if kept.has_room() {
         return None;
     }
-    flush(system, kept, out)
+    flush(world, kept, out)
 }
 
 /// Gives on moves and answers where more has to be read.
 fn flush_before_read<G: FlushesMoves, O: Sink>(
     held: &Held,
-    system: &mut System<G>,
+    world: &mut World<G>,
     kept: &mut Kept,
     out: &mut O,
 ) -> Option<Ending>
     ensures went { (left : Option (List ℕ)) (held : List ℕ) (n : ℕ) → n ≤ 1000000 → length held < 4096 → MatchOption result
-        (Went (outside left (O.taken out.old) kept.old) (outside left (O.taken out.new) kept.new) (stand held n (Running (scene system.old))) (stand held n (Running (scene system.new))))
-        (λ e. Came (outside left (O.taken out.old) kept.old) (outside left (O.taken out.new) kept.new) (stand held n (Running (scene system.old))) e (Running (scene system.new))) }
+        (Went (outside left (O.taken out.old) kept.old) (outside left (O.taken out.new) kept.new) (stand held n (Running (scene world.old))) (stand held n (Running (scene world.new))))
+        (λ e. Came (outside left (O.taken out.old) kept.old) (outside left (O.taken out.new) kept.new) (stand held n (Running (scene world.old))) e (Running (scene world.new))) }
     ensures faults { (s : ℕ) → MatchOption result
-        (counts_with s (O.faults out.new) (behind system.new).log.faults ≡ counts_with s (O.faults out.old) (behind system.old).log.faults)
-        (λ e. IsBlamed e ⊥ (counts_with s (O.faults out.old) (behind system.old).log.faults) (counts_with s (O.faults out.new) (behind system.new).log.faults)) }
+        (counts_with s (O.faults out.new) (behind world.new).log.faults ≡ counts_with s (O.faults out.old) (behind world.old).log.faults)
+        (λ e. IsBlamed e ⊥ (counts_with s (O.faults out.old) (behind world.old).log.faults) (counts_with s (O.faults out.new) (behind world.new).log.faults)) }
     ensures form { result ≢ Some Ending.Usage }
-    ensures noted { (behind system.new).log.failed ≡ (behind system.old).log.failed }
-    ensures count { line_of system.new ≡ line_of system.old }
-    ensures ready { system.new.spent ≡ system.old.spent }
-    ensures loans { loans system.new ≡ loans system.old }
+    ensures noted { (behind world.new).log.failed ≡ (behind world.old).log.failed }
+    ensures count { line_of world.new ≡ line_of world.old }
+    ensures ready { world.new.spent ≡ world.old.spent }
+    ensures loans { loans world.new ≡ loans world.old }
 {
     match held.look() {
         Look::Line(_) => None,
         Look::Long => None,
-        Look::Open => flush(system, kept, out),
+        Look::Open => flush(world, kept, out),
     }
 }
 
@@ -287,7 +287,7 @@ fn flush_before_read<G: FlushesMoves, O: Sink>(
 fn read_line<G: FlushesMoves, S: Source, O: Sink>(
     held: &mut Held,
     n: u32,
-    system: &mut System<G>,
+    world: &mut World<G>,
     kept: &mut Kept,
     source: &mut S,
     out: &mut O,
@@ -298,19 +298,19 @@ fn read_line<G: FlushesMoves, S: Source, O: Sink>(
     ensures behind { IfOk result (λ len. length held.new < len + 1 + 4096) }
     ensures room { OnOk result (kept.new ≡ []) }
     ensures went { MatchResult result
-        (λ _. Went (outside_seen S.Source O.Sink source.old out.old kept.old) (outside_seen S.Source O.Sink source.new out.new kept.new) (stand held.old n (Running (scene system.old))) (stand held.new n (Running (scene system.new))))
-        (λ e. Came (outside_seen S.Source O.Sink source.old out.old kept.old) (outside_seen S.Source O.Sink source.new out.new kept.new) (stand held.old n (Running (scene system.old))) e (Running (scene system.new))) }
+        (λ _. Went (outside_seen S.Source O.Sink source.old out.old kept.old) (outside_seen S.Source O.Sink source.new out.new kept.new) (stand held.old n (Running (scene world.old))) (stand held.new n (Running (scene world.new))))
+        (λ e. Came (outside_seen S.Source O.Sink source.old out.old kept.old) (outside_seen S.Source O.Sink source.new out.new kept.new) (stand held.old n (Running (scene world.old))) e (Running (scene world.new))) }
     ensures faults { MatchResult result
-        (λ _. counts_with (S.faults source.new) (O.faults out.new) (behind system.new).log.faults ≡ counts_with (S.faults source.old) (O.faults out.old) (behind system.old).log.faults)
-        (λ e. IsBlamed e ⊥ (counts_with (S.faults source.old) (O.faults out.old) (behind system.old).log.faults) (counts_with (S.faults source.new) (O.faults out.new) (behind system.new).log.faults)) }
+        (λ _. counts_with (S.faults source.new) (O.faults out.new) (behind world.new).log.faults ≡ counts_with (S.faults source.old) (O.faults out.old) (behind world.old).log.faults)
+        (λ e. IsBlamed e ⊥ (counts_with (S.faults source.old) (O.faults out.old) (behind world.old).log.faults) (counts_with (S.faults source.new) (O.faults out.new) (behind world.new).log.faults)) }
     ensures idle { MatchResult result (λ _. S.idle source.new ≤ S.idle source.old) (λ _. S.idle source.new ≤ S.idle source.old + S.last_idle source.new) }
     ensures form { result ≢ Err Ending.Usage }
-    ensures noted { (behind system.new).log.failed ≡ (behind system.old).log.failed }
-    ensures count { line_of system.new ≡ line_of system.old }
-    ensures ready { system.new.spent ≡ system.old.spent }
-    ensures loans { loans system.new ≡ loans system.old }
+    ensures noted { (behind world.new).log.failed ≡ (behind world.old).log.failed }
+    ensures count { line_of world.new ≡ line_of world.old }
+    ensures ready { world.new.spent ≡ world.old.spent }
+    ensures loans { loans world.new ≡ loans world.old }
 {
-    match flush(system, kept, out) {
+    match flush(world, kept, out) {
         Some(ending) => Err(ending),
         None => next_line(held, n, source),
     }
@@ -320,7 +320,7 @@ fn read_line<G: FlushesMoves, S: Source, O: Sink>(
 fn find_line<G: FlushesMoves, S: Source, O: Sink>(
     held: &mut Held,
     n: u32,
-    system: &mut System<G>,
+    world: &mut World<G>,
     kept: &mut Kept,
     source: &mut S,
     out: &mut O,
@@ -332,22 +332,22 @@ fn find_line<G: FlushesMoves, S: Source, O: Sink>(
     ensures behind { IfOk result (λ len. length held.new < len + 1 + 4096) }
     ensures room { OnOk result (length kept.new + 256 ≤ 65536) }
     ensures went { MatchResult result
-        (λ _. Went (outside_seen S.Source O.Sink source.old out.old kept.old) (outside_seen S.Source O.Sink source.new out.new kept.new) (stand held.old n (Running (scene system.old))) (stand held.new n (Running (scene system.new))))
-        (λ e. Came (outside_seen S.Source O.Sink source.old out.old kept.old) (outside_seen S.Source O.Sink source.new out.new kept.new) (stand held.old n (Running (scene system.old))) e (Running (scene system.new))) }
+        (λ _. Went (outside_seen S.Source O.Sink source.old out.old kept.old) (outside_seen S.Source O.Sink source.new out.new kept.new) (stand held.old n (Running (scene world.old))) (stand held.new n (Running (scene world.new))))
+        (λ e. Came (outside_seen S.Source O.Sink source.old out.old kept.old) (outside_seen S.Source O.Sink source.new out.new kept.new) (stand held.old n (Running (scene world.old))) e (Running (scene world.new))) }
     ensures faults { MatchResult result
-        (λ _. counts_with (S.faults source.new) (O.faults out.new) (behind system.new).log.faults ≡ counts_with (S.faults source.old) (O.faults out.old) (behind system.old).log.faults)
-        (λ e. IsBlamed e ⊥ (counts_with (S.faults source.old) (O.faults out.old) (behind system.old).log.faults) (counts_with (S.faults source.new) (O.faults out.new) (behind system.new).log.faults)) }
+        (λ _. counts_with (S.faults source.new) (O.faults out.new) (behind world.new).log.faults ≡ counts_with (S.faults source.old) (O.faults out.old) (behind world.old).log.faults)
+        (λ e. IsBlamed e ⊥ (counts_with (S.faults source.old) (O.faults out.old) (behind world.old).log.faults) (counts_with (S.faults source.new) (O.faults out.new) (behind world.new).log.faults)) }
     ensures idle { MatchResult result (λ _. S.idle source.new ≤ S.idle source.old) (λ _. S.idle source.new ≤ S.idle source.old + S.last_idle source.new) }
     ensures form { result ≢ Err Ending.Usage }
-    ensures noted { (behind system.new).log.failed ≡ (behind system.old).log.failed }
-    ensures count { line_of system.new ≡ line_of system.old }
-    ensures ready { system.new.spent ≡ system.old.spent }
-    ensures loans { loans system.new ≡ loans system.old }
+    ensures noted { (behind world.new).log.failed ≡ (behind world.old).log.failed }
+    ensures count { line_of world.new ≡ line_of world.old }
+    ensures ready { world.new.spent ≡ world.old.spent }
+    ensures loans { loans world.new ≡ loans world.old }
 {
     match held.look() {
         Look::Line(len) => Ok(len),
         Look::Long => Err(Ending::TooLong(n + 1)),
-        Look::Open => read_line(held, n, system, kept, source, out),
+        Look::Open => read_line(held, n, world, kept, source, out),
     }
 }
 
@@ -356,7 +356,7 @@ fn take_line<G: FlushesMoves, S: Source, O: Sink>(
     alloc: Global,
     held: &mut Held,
     n: u32,
-    system: &mut System<G>,
+    world: &mut World<G>,
     kept: &mut Kept,
     source: &mut S,
     out: &mut O,
@@ -365,26 +365,26 @@ fn take_line<G: FlushesMoves, S: Source, O: Sink>(
     requires some { 0 < n }
     requires few { n < 1000000 }
     requires held { length held.old < 4096 }
-    requires count { line_of system.old ≡ n }
-    requires ready { system.old.spent ≡ false }
+    requires count { line_of world.old ≡ n }
+    requires ready { world.old.spent ≡ false }
     requires paged { G.unpaged ≡ false }
-    requires noted { (behind system.old).log.failed ≡ false }
+    requires noted { (behind world.old).log.failed ≡ false }
     ensures went { MatchOption result
-        (Went (outside_seen S.Source O.Sink source.old out.old kept.old) (outside_seen S.Source O.Sink source.new out.new kept.new) (stand held.old n (Running (scene system.old))) (stand held.new (n + 1) (Running (scene system.new))))
-        (λ e. Came (outside_seen S.Source O.Sink source.old out.old kept.old) (outside_seen S.Source O.Sink source.new out.new kept.new) (stand held.old n (Running (scene system.old))) e (Running (scene system.new))) }
+        (Went (outside_seen S.Source O.Sink source.old out.old kept.old) (outside_seen S.Source O.Sink source.new out.new kept.new) (stand held.old n (Running (scene world.old))) (stand held.new (n + 1) (Running (scene world.new))))
+        (λ e. Came (outside_seen S.Source O.Sink source.old out.old kept.old) (outside_seen S.Source O.Sink source.new out.new kept.new) (stand held.old n (Running (scene world.old))) e (Running (scene world.new))) }
     ensures few { IfNone result (length held.new < 4096) }
-    ensures count { IfNone result (line_of system.new ≡ n + 1) }
-    ensures ready { IfNone result (system.new.spent ≡ false) }
-    ensures noted { IfNone result ((behind system.new).log.failed ≡ false) }
+    ensures count { IfNone result (line_of world.new ≡ n + 1) }
+    ensures ready { IfNone result (world.new.spent ≡ false) }
+    ensures noted { IfNone result ((behind world.new).log.failed ≡ false) }
     ensures faults { MatchOption result
-        (counts_with (S.faults source.new) (O.faults out.new) (behind system.new).log.faults ≡ counts_with (S.faults source.old) (O.faults out.old) (behind system.old).log.faults)
-        (λ e. IsBlamed e ⊥ (counts_with (S.faults source.old) (O.faults out.old) (behind system.old).log.faults) (counts_with (S.faults source.new) (O.faults out.new) (behind system.new).log.faults)) }
+        (counts_with (S.faults source.new) (O.faults out.new) (behind world.new).log.faults ≡ counts_with (S.faults source.old) (O.faults out.old) (behind world.old).log.faults)
+        (λ e. IsBlamed e ⊥ (counts_with (S.faults source.old) (O.faults out.old) (behind world.old).log.faults) (counts_with (S.faults source.new) (O.faults out.new) (behind world.new).log.faults)) }
     ensures idle { MatchOption result (S.idle source.new ≤ S.idle source.old) (λ _. S.idle source.new ≤ S.idle source.old + S.last_idle source.new) }
     ensures form { result ≢ Some Ending.Usage }
-    ensures loans { loans system.new ≡ loans system.old }
+    ensures loans { loans world.new ≡ loans world.old }
 {
-    match find_line(held, n, system, kept, source, out) {
-        Ok(len) => answer_line(alloc, held, len, n, system, kept),
+    match find_line(held, n, world, kept, source, out) {
+        Ok(len) => answer_line(alloc, held, len, n, world, kept),
         Err(ending) => Some(ending),
     }
 }
@@ -394,7 +394,7 @@ fn decide_line<G: FlushesMoves, S: Source, O: Sink>(
     alloc: Global,
     held: &mut Held,
     n: u32,
-    system: &mut System<G>,
+    world: &mut World<G>,
     kept: &mut Kept,
     source: &mut S,
     out: &mut O,
@@ -402,27 +402,27 @@ fn decide_line<G: FlushesMoves, S: Source, O: Sink>(
     requires some { 0 < n }
     requires few { n < 1000000 }
     requires held { length held.old < 4096 }
-    requires count { line_of system.old ≡ n }
-    requires ready { system.old.spent ≡ false }
+    requires count { line_of world.old ≡ n }
+    requires ready { world.old.spent ≡ false }
     requires paged { G.unpaged ≡ false }
-    requires noted { (behind system.old).log.failed ≡ false }
+    requires noted { (behind world.old).log.failed ≡ false }
     ensures went { MatchOption result
-        (Went (outside_seen S.Source O.Sink source.old out.old kept.old) (outside_seen S.Source O.Sink source.new out.new kept.new) (stand held.old n (Running (scene system.old))) (stand held.new (n + 1) (Running (scene system.new))))
-        (λ e. Came (outside_seen S.Source O.Sink source.old out.old kept.old) (outside_seen S.Source O.Sink source.new out.new kept.new) (stand held.old n (Running (scene system.old))) e (Running (scene system.new))) }
+        (Went (outside_seen S.Source O.Sink source.old out.old kept.old) (outside_seen S.Source O.Sink source.new out.new kept.new) (stand held.old n (Running (scene world.old))) (stand held.new (n + 1) (Running (scene world.new))))
+        (λ e. Came (outside_seen S.Source O.Sink source.old out.old kept.old) (outside_seen S.Source O.Sink source.new out.new kept.new) (stand held.old n (Running (scene world.old))) e (Running (scene world.new))) }
     ensures few { IfNone result (length held.new < 4096) }
-    ensures count { IfNone result (line_of system.new ≡ n + 1) }
-    ensures ready { IfNone result (system.new.spent ≡ false) }
-    ensures noted { IfNone result ((behind system.new).log.failed ≡ false) }
+    ensures count { IfNone result (line_of world.new ≡ n + 1) }
+    ensures ready { IfNone result (world.new.spent ≡ false) }
+    ensures noted { IfNone result ((behind world.new).log.failed ≡ false) }
     ensures faults { MatchOption result
-        (counts_with (S.faults source.new) (O.faults out.new) (behind system.new).log.faults ≡ counts_with (S.faults source.old) (O.faults out.old) (behind system.old).log.faults)
-        (λ e. IsBlamed e ⊥ (counts_with (S.faults source.old) (O.faults out.old) (behind system.old).log.faults) (counts_with (S.faults source.new) (O.faults out.new) (behind system.new).log.faults)) }
+        (counts_with (S.faults source.new) (O.faults out.new) (behind world.new).log.faults ≡ counts_with (S.faults source.old) (O.faults out.old) (behind world.old).log.faults)
+        (λ e. IsBlamed e ⊥ (counts_with (S.faults source.old) (O.faults out.old) (behind world.old).log.faults) (counts_with (S.faults source.new) (O.faults out.new) (behind world.new).log.faults)) }
     ensures idle { MatchOption result (S.idle source.new ≤ S.idle source.old) (λ _. S.idle source.new ≤ S.idle source.old + S.last_idle source.new) }
     ensures form { result ≢ Some Ending.Usage }
-    ensures loans { loans system.new ≡ loans system.old }
+    ensures loans { loans world.new ≡ loans world.old }
 {
-    match make_room(system, kept, out) {
+    match make_room(world, kept, out) {
         Some(ending) => Some(ending),
-        None => take_line(alloc, held, n, system, kept, source, out),
+        None => take_line(alloc, held, n, world, kept, source, out),
     }
 }
 
@@ -445,29 +445,29 @@ fn behind_last<S: Source>(held: &mut Held, source: &mut S) -> Ending
 pub(crate) fn decide_rest<G: FlushesMoves, S: Source, O: Sink>(
     alloc: Global,
     held: &mut Held,
-    system: &mut System<G>,
+    world: &mut World<G>,
     kept: &mut Kept,
     source: &mut S,
     out: &mut O,
 ) -> Ending
     requires held { length held.old < 4096 }
-    requires count { line_of system.old ≡ 1 }
-    requires ready { system.old.spent ≡ false }
+    requires count { line_of world.old ≡ 1 }
+    requires ready { world.old.spent ≡ false }
     requires paged { G.unpaged ≡ false }
-    requires noted { (behind system.old).log.failed ≡ false }
-    ensures came { Came (outside_seen S.Source O.Sink source.old out.old kept.old) (outside_seen S.Source O.Sink source.new out.new kept.new) (stand held.old 1 (Running (scene system.old))) result (Running (scene system.new)) }
-    ensures faults { IsBlamed result ⊥ (counts_with (S.faults source.old) (O.faults out.old) (behind system.old).log.faults) (counts_with (S.faults source.new) (O.faults out.new) (behind system.new).log.faults) }
+    requires noted { (behind world.old).log.failed ≡ false }
+    ensures came { Came (outside_seen S.Source O.Sink source.old out.old kept.old) (outside_seen S.Source O.Sink source.new out.new kept.new) (stand held.old 1 (Running (scene world.old))) result (Running (scene world.new)) }
+    ensures faults { IsBlamed result ⊥ (counts_with (S.faults source.old) (O.faults out.old) (behind world.old).log.faults) (counts_with (S.faults source.new) (O.faults out.new) (behind world.new).log.faults) }
     ensures idle { S.idle source.new ≤ S.idle source.old + S.last_idle source.new }
     ensures form { result ≢ Ending.Usage }
-    ensures loans { loans system.new ≡ loans system.old }
+    ensures loans { loans world.new ≡ loans world.old }
 {
     for n in 1..LINES {
-        match decide_line(alloc, held, n, system, kept, source, out) {
+        match decide_line(alloc, held, n, world, kept, source, out) {
             Some(ending) => return ending,
             None => {}
         }
     }
-    match flush_before_read(held, system, kept, out) {
+    match flush_before_read(held, world, kept, out) {
         Some(ending) => ending,
         None => behind_last(held, source),
     }

@@ -4,9 +4,10 @@ ghost use Rattle.mm_lines.specs.Looking.{HasLine};
 ghost use Rattle.mm_blocks.specs.Traffic.{NoneLogged, empty_block};
 ghost use Rattle.mm_types.specs.declared.events.Event.TheVariants as event;
 ghost use Rattle.mm_script.specs.Grammar.{IsLine as IsLineFor};
-ghost use Rattle.mm_system.specs.Shown.{line_of, loans, behind};
+ghost use Rattle.mm_core.specs.Shown.{line_of, loans, behind};
 ghost use Rattle.mm_run.specs.Reading.{reading};
-ghost use Rattle.mm_run.specs.Scenes.{Outset, NotBegun, Running, outset, scene};
+ghost use Rattle.mm_core.specs.Promise.{scene};
+ghost use Rattle.mm_run.specs.Scenes.{Outset, NotBegun, Running, outset};
 ghost use Rattle.mm_run.specs.Steps.{IsMade};
 ghost use Rattle.mm_run.specs.Story.{Came, Comes, IsBlamed, stand, counts_with};
 ghost use Rattle.mm_run.specs.Seen.{counts_seen, left_seen, open_failed, outset_seen, outside_seen};
@@ -16,13 +17,13 @@ use crate::decisions::{at_end, decide_rest, tell};
 use crate::endings::Ending;
 use crate::readings::read_first;
 use mm_blocks::{Blocks, Injected};
+use mm_core::World;
 use mm_flushing::FlushesMoves;
 use mm_io::{Sink, Source};
 use mm_lines::{Found, Held};
 use mm_moves::Recorder;
 use mm_paged::Paged;
 use mm_state::State;
-use mm_system::System;
 use mm_types::{Answer, Event, Machine, OpenFault};
 use std::alloc::Global;
 
@@ -68,7 +69,7 @@ fn answer_all<G: FlushesMoves, S: Source, O: Sink>(
     held: &mut Held,
     len: usize,
     machine: Machine,
-    system: &mut System<G>,
+    world: &mut World<G>,
     kept: &mut Kept,
     source: &mut S,
     out: &mut O,
@@ -78,20 +79,20 @@ fn answer_all<G: FlushesMoves, S: Source, O: Sink>(
     requires behind { length held.old < len + 1 + 4096 }
     requires says { reading 0 (take len held.old) ≡ Ok (event.Machine machine) }
     requires grammar { IsLineFor (take len held.old) (event.Machine machine) }
-    requires count { line_of system.old ≡ 1 }
-    requires ready { system.old.spent ≡ false }
+    requires count { line_of world.old ≡ 1 }
+    requires ready { world.old.spent ≡ false }
     requires paged { G.unpaged ≡ false }
-    ensures came { (o : Outset) → IsMade machine o (scene system.old) → Came (outside_seen S.Source O.Sink source.old out.old kept.old) (outside_seen S.Source O.Sink source.new out.new kept.new) (stand held.old 0 (NotBegun o)) result (Running (scene system.new)) }
-    ensures faults { (o : Outset) → IsMade machine o (scene system.old) → o.log.failed ≡ false → IsBlamed result ⊥ (counts_with (S.faults source.old) (O.faults out.old) o.log.faults) (counts_with (S.faults source.new) (O.faults out.new) (behind system.new).log.faults) }
+    ensures came { (o : Outset) → IsMade machine o (scene world.old) → Came (outside_seen S.Source O.Sink source.old out.old kept.old) (outside_seen S.Source O.Sink source.new out.new kept.new) (stand held.old 0 (NotBegun o)) result (Running (scene world.new)) }
+    ensures faults { (o : Outset) → IsMade machine o (scene world.old) → o.log.failed ≡ false → IsBlamed result ⊥ (counts_with (S.faults source.old) (O.faults out.old) o.log.faults) (counts_with (S.faults source.new) (O.faults out.new) (behind world.new).log.faults) }
     ensures idle { S.idle source.new ≤ S.idle source.old + S.last_idle source.new }
     ensures form { result ≢ Ending.Usage }
-    ensures loans { loans system.new ≡ loans system.old }
+    ensures loans { loans world.new ≡ loans world.old }
 {
-    if system.world.pages.moves_failed() {
+    if world.pages.moves_failed() {
         return Ending::MovesFault;
     }
     tell(held, len, &Answer::Limit(machine.limit()), kept);
-    decide_rest(alloc, held, system, kept, source, out)
+    decide_rest(alloc, held, world, kept, source, out)
 }
 
 /// Runs a machine over devices that were opened for it.
@@ -138,9 +139,9 @@ fn run_machine<S: Source, O: Sink, M: Sink, P: Blocks, F: Blocks>(
             return Ending::NoMemory;
         }
     };
-    let mut system = System::new(alloc, machine, Paged::over(state));
-    let ending = answer_all(alloc, held, len, machine, &mut system, kept, source, out);
-    let (paging, files, moves) = system.finish().finish().finish();
+    let mut world = World::new(alloc, machine, Paged::over(state));
+    let ending = answer_all(alloc, held, len, machine, &mut world, kept, source, out);
+    let (paging, files, moves) = world.finish().finish().finish();
     let _ = paging.finish();
     let _ = files.finish();
     let _ = moves.finish();

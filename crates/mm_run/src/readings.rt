@@ -4,9 +4,10 @@ ghost use Rattle.mm_script.specs.Grammar.{IsLine};
 ghost use Rattle.mm_run.specs.Story.{IsMisplaced};
 ghost use Rattle.mm_script.specs.Printed.{IsWellFormed};
 ghost use Rattle.mm_script.specs.Reading.{parse};
-ghost use Rattle.mm_system.specs.Lines.{is_machine};
+ghost use Rattle.mm_core.specs.Built.{is_machine};
 ghost use Rattle.mm_run.specs.Reading.{reading, is_machine_word};
 
+use mm_core::is_machine;
 use mm_script::{LineFault, parse_line, without_return};
 use mm_types::Event;
 
@@ -19,13 +20,6 @@ fn is_machine_word(line: &[u8]) -> bool
         [b'm', b'a', b'c', b'h', b'i', b'n', b'e', b' ', ..] => true,
         _ => false,
     }
-}
-
-/// Whether a line is a `machine` line.
-fn is_machine(event: &Event) -> bool
-    ensures { result ≡ is_machine event.now }
-{
-    matches!(event, Event::Machine(_))
 }
 
 /// The event of the first line, or the column of its fault.

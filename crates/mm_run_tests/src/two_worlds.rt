@@ -1,13 +1,13 @@
 ghost use Rattle.std.specs.Prelude.{◌≡◌, ◌≤◌, ◌+◌, false, true, OnOk, IfOk, replicate};
 ghost use Rattle.mm_blocks.specs.Traffic.{empty_block};
 ghost use Rattle.mm_script.specs.Printed.{IsWellFormed};
-ghost use Rattle.mm_core.specs.Built.{is_built};
+ghost use Rattle.mm_core.specs.Built.{is_machine};
 ghost use Rattle.mm_core.specs.Shown.{line_of};
 
 use crate::rows::{COPY_ON_WRITE, EXECUTION, MARKED_PAGE, SHARED_SECTION_TRIMMED};
 use mm_answer::spell;
 use mm_blocks::{Blocks, Injected, MemBlocks};
-use mm_core::{World, is_built};
+use mm_core::{World, is_machine};
 use mm_io::MemSink;
 use mm_moves::Recorder;
 use mm_paged::Paged;
@@ -50,7 +50,7 @@ fn decide<G: Pages>(
     event: &Event,
 ) -> Result<Answer, NoMemory>
     requires well_formed { IsWellFormed event.now }
-    requires built { is_built event.now ≡ true }
+    requires later { is_machine event.now ≡ false }
     requires next { line ≡ line_of world.old + 1 }
     requires few { line ≤ 1000000 }
     requires ready { world.old.spent ≡ false }
@@ -88,7 +88,7 @@ fn decide_both<G: Pages, H: Pages>(
     wanted: &[u8],
 ) -> Result<bool, Stopped>
     requires well_formed { IsWellFormed event.now }
-    requires built { is_built event.now ≡ true }
+    requires later { is_machine event.now ≡ false }
     requires next { n ≡ line_of unpaged.old + 1 }
     requires next_paged { n ≡ line_of paged.old + 1 }
     requires few { n ≤ 1000000 }
@@ -140,7 +140,7 @@ fn read_both<G: Pages, H: Pages>(
     let Ok(event) = parse_line(line) else {
         return Err(Stopped::Form);
     };
-    if !is_built(&event) {
+    if is_machine(&event) {
         return Err(Stopped::Form);
     }
     decide_both(alloc, unpaged, paged, n, &event, wanted)

@@ -56,6 +56,7 @@ is_at vs page r k e =
       there = there;
       is_shown = refl;
       rows = (found_has (λ (x : Region). length x.rows ≡ x.pages) (vad.holds page) vs r k.whole.whole e).1;
+      flags = (found_has (λ (x : Region). vad.HasFlags x.pages x) (vad.holds page) vs r k.whole.flags e).1;
       low = row.0;
       high = row.1;
       within = (found_has (λ x. FollowsFrom first_user_page (vad.pages_of x)) (vad.holds page) vs r (each_region vs k.whole) e).1.within;

@@ -10,4 +10,7 @@ pub mod Gaps
 pub mod Told
 pub mod Made
 pub mod Written
+pub mod WrittenPages
+pub mod Flagged
 pub mod Viewed
+pub mod EqualRows

@@ -4,7 +4,8 @@ use Rattle.std.specs.Prelude.{find, remove, ◌==◌}
 use Rattle.std.specs.List.{position_or_len}
 use Rattle.std.specs.Cmp.{unsigned_Decides}
 use Rattle.std.proofs.lemmas.Bool.{eqb-true, ne_eqb, eqb-false, le-leb}
-use Rattle.std.proofs.lemmas.Option.{slice_get-map}
+use Rattle.std.proofs.lemmas.List.{length-map, length-replicate}
+use Rattle.std.proofs.lemmas.Option.{slice_get-map, IfSome_then}
 use Rattle.mm_types.specs.declared.views.View.{View}
 use Rattle.mm_types.specs.declared.views.ViewAccess.{ViewAccess}
 use Rattle.mm_types.specs.declared.views.Kind.TheVariants as kind
@@ -14,19 +15,19 @@ use Rattle.mm_vad.specs.declared.pages.Row.{Row}
 use Rattle.mm_vad.specs.declared.regions.Region.{Region}
 use Rattle.mm_vad.specs.Regions as vad
 use Rattle.mm_world.specs.World.{RegionOf, RowOf, SectionOf, pages_of}
-use Rattle.mm_world.specs.Find.{Found, first_where, region_with, add_region, ranges_of}
+use Rattle.mm_world.specs.Find.{Found, first_where, region_with, add_region, ranges_of, is_private}
 use Rattle.mm_types.specs.Allocation.{reserve_type}
 use Rattle.mm_world.specs.Alloc.{new_row, private_region}
 use Rattle.mm_world.specs.Contents.{blank}
 use Rattle.mm_world.specs.Rows.{is_one_of, is_protection_among, private_protections, reserved_row, commit}
 use Rattle.mm_world.specs.Views.{view_region, first_protection, is_copy}
-use Rattle.mm_world.specs.WellFormed.{Each, IsSpace, RowsFit, RowFits, PrivateRowFits, ViewRowFits}
+use Rattle.mm_world.specs.WellFormed.{Each, IsSpace, FlagsFit, RowsFit, RowFits, PrivateRowFits, ViewRowFits}
 use Rattle.mm_world.proofs.Natural.{map-replicate}
 use Rattle.mm_world.proofs.Each.{each-remove, each-replicate}
 use Rattle.mm_world.proofs.LaidOut.{and-true, laid_remove, free_of}
 use Rattle.mm_world.proofs.RowsFit.{reserved_fits, commit_fits, new_view_fits}
-use Rattle.mm_world.proofs.Spaces.{space_add}
-use Rattle.mm_spaces.specs.Shown.{row_of, region_of, shown}
+use Rattle.mm_world.proofs.Spaces.{space_add, private_flags}
+use Rattle.mm_spaces.specs.Shown.{row_of, region_of, new_flags, shown}
 use Rattle.mm_spaces.specs.Finds.{IsKept, IsWhole}
 use Rattle.mm_spaces.specs.Kept.{both_where, is_based}
 use Rattle.mm_spaces.proofs.Shows.{shown_pages}
@@ -43,20 +44,26 @@ new_row_fits alloc_type prot e = by_type (alloc_type == reserve_type)
     by_type true = reserved_fits
     by_type false = commit_fits (blank 0) prot reserved_row e
 
-abbrev region_by : ℕ → ℕ → ℕ → List Row → Region
-region_by first count prot rows = record { base = record { 0 = first }; pages = count; alloc_prot = record { 0 = prot }; kind = kind.Private; rows = rows }
+abbrev region_by : ℕ → ℕ → ℕ → List Row → Option (List Bool) → Region
+region_by first count prot rows flags = record { base = record { 0 = first }; pages = count; alloc_prot = record { 0 = prot }; kind = kind.Private; rows = rows; watched = flags }
 
-module _ (alloc_type prot : ℕ) (range : Range) (rows : List Row) (row : Row) (same : row_of kind.Private row ≡ new_row blank alloc_type prot) (all : rows ≡ replicate range.count row) where
+module _ (watched : Bool) (alloc_type prot : ℕ) (range : Range) (rows : List Row) (flags : Option (List Bool)) (row : Row) (same : row_of kind.Private row ≡ new_row blank alloc_type prot) (all : rows ≡ replicate range.count row) (unwritten : flags ≡ new_flags watched range.count) where
   rows_made : map (row_of kind.Private) rows ≡ replicate range.count (new_row blank alloc_type prot)
   rows_made =
       ap (map (row_of kind.Private)) all
       ∙ map-replicate (row_of kind.Private) range.count row
       ∙ ap (replicate range.count) same
 
-  pub region_made : region_of (region_by range.first range.count prot rows) ≡ private_region blank alloc_type prot range
-  region_made = ap (λ (xs : List (RowOf (Unit {0}))). let made : RegionOf (Unit {0}) = record { base = range.first; alloc_prot = prot; kind = kind.Private; rows = xs } in made) rows_made
+  pub region_made : region_of (region_by range.first range.count prot rows flags) ≡ private_region blank watched alloc_type prot range
+  region_made = λ i. record { base = range.first; alloc_prot = prot; kind = kind.Private; rows = rows_made i; watched = unwritten i }
 
-  pub made_fits : is_protection_among private_protections prot ≡ true → RowsFit (region_of (region_by range.first range.count prot rows))
+  pub made_whole : IsWhole (region_by range.first range.count prot rows flags)
+  made_whole = record {
+    rows = ap length all ∙ length-replicate range.count row;
+    flags = subst FlagsFit (sym region_made) (private_flags blank watched alloc_type prot range);
+  }
+
+  pub made_fits : is_protection_among private_protections prot ≡ true → RowsFit (region_of (region_by range.first range.count prot rows flags))
   made_fits e =
       subst (λ (r : RegionOf (Unit {0})). RowsFit r) (sym region_made)
       (each-replicate (RowFits kind.Private) range.count _ (new_row_fits alloc_type prot (base_allowed prot e)))
@@ -73,17 +80,23 @@ pub record CanAdd (new : RegionOf (Unit {0})) (rs : List (RegionOf (Unit {0}))) 
   pub some : 1 ≤ length new.rows
   pub fit : RowsFit new
 
+-- a flag for each page, where the region is watched
+pub has_flags : (r : Region) → IsWhole r → vad.HasFlags r.pages r
+has_flags r w =
+    IfSome_then r.watched {P = λ fs. (length fs ≡ length (map (row_of r.kind) r.rows)) × (is_private r.kind ≡ true)} {Q = λ fs. length fs ≡ r.pages} w.flags
+    (λ fs h. h.0 ∙ length-map r.rows (row_of r.kind) ∙ w.rows)
+
 pub can_add : (vs : List Region) (r : Region) (rs : List (RegionOf (Unit {0}))) (new : RegionOf (Unit {0})) → shown vs ≡ rs → region_of r ≡ new → CanAdd new rs → CanAdd (region_of r) (shown vs)
 can_add vs r rs new same is can =
     subst (λ (g : RegionOf (Unit {0})). CanAdd g (shown vs)) (sym is) (subst (λ (gs : List (RegionOf (Unit {0}))). CanAdd new gs) (sym same) can)
 
-pub kept_add : (vs after : List Region) (r : Region) → IsKept vs → CanAdd (region_of r) (shown vs) → after ≡ vad.add_region vs r → vad.IsSpace after → IsKept after
-kept_add vs after r k can e whole =
+pub kept_add : (vs after : List Region) (r : Region) → IsKept vs → IsWhole r → CanAdd (region_of r) (shown vs) → after ≡ vad.add_region vs r → vad.IsSpace after → IsKept after
+kept_add vs after r k w can e whole =
     let new = region_of r in
     let rs = shown vs in
     let is : shown after ≡ add_region new rs = ap shown e ∙ add_shown vs r in
     record {
-      sound = subst IsSpace (sym is) (space_add new rs (pages_of new) (free_of (ranges_of rs) (pages_of new) can.granule can.free) refl refl can.some can.fit k.sound);
+      sound = subst IsSpace (sym is) (space_add new rs (pages_of new) (free_of (ranges_of rs) (pages_of new) can.granule can.free) refl refl can.some w.flags can.fit k.sound);
       whole = whole;
     }
 
@@ -115,7 +128,7 @@ place_is t vs (Some g) r e =
     ap (λ (f : Found (RegionOf (Unit {0}))). f.place) same
 
 -- what passes one more test was found
-was_found : (t : RegionOf (Unit {0}) → Bool) (o : Option (Found (RegionOf (Unit {0})))) (r : Found (RegionOf (Unit {0}))) → kept_if t o ≡ Some r → (o ≡ Some r) × (t r.thing ≡ true)
+pub was_found : (t : RegionOf (Unit {0}) → Bool) (o : Option (Found (RegionOf (Unit {0})))) (r : Found (RegionOf (Unit {0}))) → kept_if t o ≡ Some r → (o ≡ Some r) × (t r.thing ≡ true)
 was_found t None r e = cc
 was_found t (Some f) r e =
     elim (t f.thing) as (λ b. t f.thing ≡ b → cond b (Some f) None ≡ Some r → (Some f ≡ Some r) × (t r.thing ≡ true)) [
@@ -164,7 +177,7 @@ removed_lowest vs after r first e = ap shown e ∙ remove_shown vs r.base.0 ∙ 
 -- ---- a new view
 
 abbrev view_by : ℕ → ℕ → ℕ → View → List Row → Region
-view_by first count prot v rows = record { base = record { 0 = first }; pages = count; alloc_prot = record { 0 = prot }; kind = kind.View v; rows = rows }
+view_by first count prot v rows = record { base = record { 0 = first }; pages = count; alloc_prot = record { 0 = prot }; kind = kind.View v; rows = rows; watched = None }
 
 abbrev pub new_view_row : ViewAccess → RowOf (Unit {0})
 new_view_row access = record { prot = first_protection access; guard = false; marked = is_copy access; own = None }
@@ -187,7 +200,7 @@ module _ (v : View) (prot : ℕ) (range : Range) (rows : List Row) (row : Row) (
       ∙ ap (replicate range.count) same_row
 
   abbrev with_view : ℕ → View → List (RowOf (Unit {0})) → RegionOf (Unit {0})
-  with_view p x xs = record { base = range.first; alloc_prot = p; kind = kind.View x; rows = xs }
+  with_view p x xs = record { base = range.first; alloc_prot = p; kind = kind.View x; rows = xs; watched = None }
 
   pub view_made : (s : Found SectionOf) → s.place ≡ v.section.0 → s.thing.area ≡ v.area.0 → region_of (view_by range.first range.count prot v rows) ≡ view_region s v.access v.first range
   view_made s place area = λ i. with_view (first i) (record { section = record { 0 = sym place i }; area = record { 0 = sym area i }; first = v.first; access = v.access }) (view_rows i)

@@ -1,5 +1,5 @@
 -- The rows of a range, changed one page after the other.
-use Rattle.std.proofs.Common.{◌≡◌, ℕ, zero, suc, ◌+◌, ◌-◌, ◌<◌, Bool, true, false, cond, List, [], ◌∷◌, ◌++◌, length, get_or, map, take, drop, Option, Some, None, refl, sym, ap, ◌∙◌, subst, arith, slice_get, slice_set, is_some, option_map}
+use Rattle.std.proofs.Common.{◌≡◌, ℕ, zero, suc, ◌+◌, ◌-◌, ◌<◌, ◌≤◌, Bool, true, false, cond, List, [], ◌∷◌, ◌++◌, length, get_or, map, take, drop, Option, Some, None, refl, sym, ap, ◌∙◌, subst, arith, slice_get, slice_set, is_some, option_map}
 use Rattle.std.specs.Prelude.{All}
 use Rattle.std.proofs.lemmas.List.Elements.{All-head, All-tail}
 use Rattle.std.proofs.lemmas.Option.{slice_get-get_or}
@@ -15,7 +15,7 @@ use Rattle.mm_world.proofs.Finding.{found_stands}
 use Rattle.mm_world.proofs.RowsFit.{length-change_range}
 use Rattle.mm_spaces.specs.declared.rows.RowChange.{RowChange}
 use Rattle.mm_spaces.specs.Shown.{region_of, shown}
-use Rattle.mm_spaces.specs.RowChanges.{changed, RowChanged, IsInRegion, range_at}
+use Rattle.mm_spaces.specs.RowChanges.{changed, RunChanged, IsInRegion, range_at}
 use Rattle.mm_spaces.proofs.Shows.{shown_pages}
 use Rattle.mm_spaces.proofs.Around.{is_around, some_with, with_around, around_set, rising_shown}
 use Rattle.mm_world.proofs.Ranges.{within}
@@ -49,6 +49,25 @@ change_more change (suc first) (suc count) [] k x is e = cc
 change_more change (suc first) count (y ∷ xs) zero x is e = absurd (omega (arith, is))
 change_more change (suc first) count (y ∷ xs) (suc k) x is e = ap (λ rest. y ∷ rest) (change_more change first count xs k x (omega (arith, is)) e)
 
+none_within : {A : Type 0} (xs : List A) (k : ℕ) → slice_get xs k ≡ None → length xs ≤ k
+none_within [] k e = omega arith
+none_within (x ∷ xs) zero e = cc
+none_within (x ∷ xs) (suc k) e = omega (arith, none_within xs k e)
+
+join_more : {A : Type 0} (change : A → A) (first done n : ℕ) (xs : List A) (o : Option A) → first + done + n < length xs → slice_get (change_range change first (done + n) xs) (first + done + n) ≡ o → change_range change (first + done) n (change_range change first done xs) ≡ change_range change first (done + n) xs → change_range change (first + done) (suc n) (change_range change first done xs) ≡ change_range change first (done + suc n) xs
+join_more change first done n xs None h e before = absurd (omega (arith, h, none_within (change_range change first (done + n) xs) (first + done + n) e, length-change_range change first (done + n) xs))
+join_more {A} change first done n xs (Some x) h e before =
+    let k = first + done + n in
+    change_more change (first + done) n (change_range change first done xs) k x refl (ap (λ (ys : List A). slice_get ys k) before ∙ e)
+    ∙ ap (λ (ys : List A). slice_set ys k (change x)) before
+    ∙ sym (change_more change first (done + n) xs k x (omega arith) e)
+    ∙ ap (λ (q : ℕ). change_range change first q xs) (let q : suc (done + n) ≡ done + suc n = omega arith in q)
+
+-- a range in two parts
+pub change_join : {A : Type 0} (change : A → A) (first done n : ℕ) (xs : List A) → first + done + n ≤ length xs → change_range change (first + done) n (change_range change first done xs) ≡ change_range change first (done + n) xs
+change_join change first done zero xs h = change_none change (first + done) (change_range change first done xs) ∙ ap (λ (q : ℕ). change_range change first q xs) (let q : done ≡ done + 0 = omega arith in q)
+change_join change first done (suc n) xs h = join_more change first done n xs _ (omega (arith, h)) refl (change_join change first done n xs (omega (arith, h)))
+
 pub set_none : {A : Type 0} (xs : List A) (i : ℕ) (x : A) → slice_get xs i ≡ Some x → slice_set xs i x ≡ xs
 set_none [] i x e = cc
 set_none (y ∷ xs) zero x e = ap (λ z. z ∷ xs) (let same : x ≡ y = cc in same)
@@ -63,7 +82,7 @@ pub record Changing (change : RowChange) (range : Range) (done : ℕ) (old new :
   pub kept : IsVad old.regions → IsVad new.regions
 
 with_rows : RegionOf (Unit {0}) → List (RowOf (Unit {0})) → RegionOf (Unit {0})
-with_rows r rows = record { base = r.base; alloc_prot = r.alloc_prot; kind = r.kind; rows = rows }
+with_rows r rows = record { base = r.base; alloc_prot = r.alloc_prot; kind = r.kind; rows = rows; watched = r.watched }
 
 pub changing_none : (change : RowChange) (range : Range) (s : SpaceOf) → Changing change range 0 s s
 unfolding with_rows
@@ -85,17 +104,18 @@ module _ (change : RowChange) (range : Range) (done : ℕ) (old now : SpaceOf) (
       ap (λ rs. region_around rs range) (h.after r e)
       ∙ around_set (shown old.regions) range r so_far e refl (length-change_range (changed change r.thing.kind) (range.first - r.thing.base) done r.thing.rows)
 
-pub some_now : (change : RowChange) (range : Range) (done : ℕ) (old now : SpaceOf) → IsInRegion (shown old.regions) range → Changing change range done old now → done < range.count → is_some (region_with (shown now.regions) (range.first + done)) ≡ true
-some_now change range done old now inside h more =
+pub some_now : (change : RowChange) (range : Range) (done k : ℕ) (old now : SpaceOf) → IsInRegion (shown old.regions) range → Changing change range done old now → k < range.count → is_some (region_with (shown now.regions) (range.first + k)) ≡ true
+some_now change range done k old now inside h more =
     by_around (region_around (shown old.regions) range) refl inside
   where
-    by_around : (o : Option (Found (RegionOf (Unit {0})))) → region_around (shown old.regions) range ≡ o → is_some o ≡ true → is_some (region_with (shown now.regions) (range.first + done)) ≡ true
+    by_around : (o : Option (Found (RegionOf (Unit {0})))) → region_around (shown old.regions) range ≡ o → is_some o ≡ true → is_some (region_with (shown now.regions) (range.first + k)) ≡ true
     by_around None e p = cc
-    by_around (Some r) e p = some_with (shown now.regions) range (range.first + done) _ (around_now change range done old now h r e) (record { low = omega arith; high = omega (arith, more) })
+    by_around (Some r) e p = some_with (shown now.regions) range (range.first + k) _ (around_now change range done old now h r e) (record { low = omega arith; high = omega (arith, more) })
 
-pub changing_more : (change : RowChange) (range : Range) (done : ℕ) (old now new : SpaceOf) → Changing change range done old now → done < range.count → IsVad now.regions → RowChanged change (range.first + done) (shown now.regions) (shown new.regions) → new.spare ≡ now.spare → IsVad new.regions → Changing change range (done + 1) old new
+-- so many rows more were changed
+pub changing_more : (change : RowChange) (range : Range) (done n : ℕ) (old now new : SpaceOf) → Changing change range done old now → 0 < n → done + n ≤ range.count → IsVad now.regions → RunChanged change (range_at (range.first + done) n) (shown now.regions) (shown new.regions) → new.spare ≡ now.spare → IsVad new.regions → Changing change range (done + n) old new
 unfolding with_rows
-changing_more change range done old now new h more sound step spare kept = record {
+changing_more change range done n old now new h some more sound step spare kept = record {
   after = λ r e.
       let f = changed change r.thing.kind in
       let rs = shown old.regions in
@@ -103,17 +123,15 @@ changing_more change range done old now new h more sound step spare kept = recor
       let part = change_rows f (range_at range.first done) r.thing in
       let first = range.first - r.thing.base in
       let i = is_around rs range r e in
-      let size = length-change_range f first done r.thing.rows in
       let rising = rising_shown first_user_page now.regions sound.whole sound.apart in
-      let with_page = with_around first_user_page (shown now.regions) range page (record { place = r.place; thing = part }) rising (around_now change range done old now h r e) (record { low = omega arith; high = omega (arith, more) }) in
+      let with_page = with_around first_user_page (shown now.regions) range page (record { place = r.place; thing = part }) rising (around_now change range done old now h r e) (record { low = omega arith; high = omega (arith, some, more) }) in
       let k = page - r.thing.base in
-      let row = get_or part.rows k reserved_row in
-      let at : slice_get part.rows k ≡ Some row = slice_get-get_or part.rows k reserved_row (omega (arith, i.low, i.high, size, more)) in
-      let made : change_range f first (done + 1) r.thing.rows ≡ slice_set part.rows k (f row) = ap (λ (n : ℕ). change_range f first n r.thing.rows) (let n : done + 1 ≡ suc done = omega arith in n) ∙ change_more f first done r.thing.rows k row (omega (arith, i.low)) at in
-      step (record { place = r.place; thing = part }) row with_page at
-      ∙ ap (λ (xs : List (RegionOf (Unit {0}))). slice_set xs r.place (with_rows r.thing (slice_set part.rows k (f row)))) (h.after r e)
-      ∙ set_set rs r.place part (with_rows r.thing (slice_set part.rows k (f row)))
-      ∙ ap (λ rows. slice_set rs r.place (with_rows r.thing rows)) (sym made);
+      let made : change_range f k n part.rows ≡ change_range f first (done + n) r.thing.rows =
+      ap (λ (q : ℕ). change_range f q n part.rows) (let q : k ≡ first + done = omega (arith, i.low) in q) ∙ change_join f first done n r.thing.rows (omega (arith, i.low, i.high, more)) in
+      step (record { place = r.place; thing = part }) with_page
+      ∙ ap (λ (xs : List (RegionOf (Unit {0}))). slice_set xs r.place (with_rows r.thing (change_range f k n part.rows))) (h.after r e)
+      ∙ set_set rs r.place part (with_rows r.thing (change_range f k n part.rows))
+      ∙ ap (λ rows. slice_set rs r.place (with_rows r.thing rows)) made;
   spare = spare ∙ h.spare;
   kept = λ v. kept;
 }

@@ -1,5 +1,5 @@
 -- Regions stay well formed when rows of them are changed.
-use Rattle.std.proofs.Common.{◌≡◌, ℕ, zero, suc, ◌+◌, ◌-◌, ◌≤◌, ◌<◌, Bool, true, false, List, [], ◌∷◌, take, drop, Some, refl, sym, ap, ◌∙◌, arith, slice_get, slice_set, is_some, nat_lt, not, ◌&&◌, option_map, unwrap_or}
+use Rattle.std.proofs.Common.{◌≡◌, ℕ, zero, suc, ◌+◌, ◌-◌, ◌≤◌, ◌<◌, Bool, true, false, List, [], ◌∷◌, take, drop, Some, None, refl, sym, ap, ◌∙◌, arith, slice_get, slice_set, is_some, nat_lt, not, ◌&&◌, option_map, unwrap_or}
 use Rattle.std.specs.Prelude.{◌==◌}
 use Rattle.std.specs.List.{list_all}
 use Rattle.std.proofs.lemmas.Bool.{and_parts}
@@ -16,6 +16,7 @@ use Rattle.mm_world.specs.WellFormed.{IsSpace, PrivateRowFits, ViewRowFits, RowF
 use Rattle.mm_world.proofs.Each.{each-set, each-at, every_page-at}
 use Rattle.mm_world.proofs.Finding.{found_stands}
 use Rattle.mm_world.proofs.RowsFit.{length-change_range, reserved_fits, commit_fits, rows_change, view_rows_protected}
+use Rattle.mm_world.proofs.LaidOut.{flags_stay}
 use Rattle.mm_world.proofs.Spaces.{space_set}
 use Rattle.mm_spaces.specs.Tables.{rows_in, rows_of}
 use Rattle.mm_spaces.specs.declared.rows.RowChange.{RowChange}
@@ -49,7 +50,7 @@ private_protected prot row e there h =
 
 -- a region of one row
 one_row : View → RowOf (Unit {0}) → RegionOf (Unit {0})
-one_row v row = record { base = 0; alloc_prot = 0; kind = kind.View v; rows = row ∷ [] }
+one_row v row = record { base = 0; alloc_prot = 0; kind = kind.View v; rows = row ∷ []; watched = None }
 
 and_true : (a : Bool) → a ≡ true → (a && true) ≡ true
 and_true true e = refl
@@ -84,6 +85,7 @@ sound_rows c rs range r e can h =
     let f = changed c r.thing.kind in
     space_set rs r.place r.thing (change_rows f range r.thing) (found_stands _ rs r e).there refl
     (length-change_range f (range.first - r.thing.base) range.count r.thing.rows)
+    (flags_stay r.thing (change_rows f range r.thing) refl (length-change_range f (range.first - r.thing.base) range.count r.thing.rows) refl)
     (λ fit. rows_change f range r.thing fit (is_around rs range r e).low (λ page row low high at fits. fits_after c r.thing.kind row (can page row low high at) fits))
     h
 
@@ -92,6 +94,7 @@ sound_row c rs page r row e at can h =
     let new = changed c r.thing.kind row in
     space_set rs r.place r.thing (record r.thing { rows = slice_set r.thing.rows (page - r.thing.base) new }) (found_stands _ rs r e).there refl
     (length-set r.thing.rows (page - r.thing.base) new)
+    (flags_stay r.thing (record r.thing { rows = slice_set r.thing.rows (page - r.thing.base) new }) refl (length-set r.thing.rows (page - r.thing.base) new) refl)
     (λ fit. each-set (RowFits r.thing.kind) r.thing.rows (page - r.thing.base) new fit
     (fits_after c r.thing.kind row can (each-at (RowFits r.thing.kind) r.thing.rows (page - r.thing.base) row fit at)))
     h

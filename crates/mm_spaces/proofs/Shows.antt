@@ -7,9 +7,9 @@ use Rattle.std.proofs.lemmas.Option.{slice_get-map}
 use Rattle.mm_types.specs.Address.{Range, holds_page}
 use Rattle.mm_vad.specs.declared.pages.Row.{Row}
 use Rattle.mm_vad.specs.declared.regions.Region.{Region}
-use Rattle.mm_vad.specs.Regions.{holds, region_at, set_row, with_row}
+use Rattle.mm_vad.specs.Regions.{holds, region_at, change_region, set_row, with_row}
 use Rattle.mm_vad.specs.Regions.{pages_of as kept_pages}
-use Rattle.mm_vad.proofs.Held.{set_here, set_later}
+use Rattle.mm_vad.proofs.Held.{change_here, change_later}
 use Rattle.mm_world.specs.World.{RowOf, RegionOf, pages_of}
 use Rattle.mm_world.specs.Find.{Found, one_later, region_with}
 use Rattle.mm_world.specs.Rows.{row_at}
@@ -43,14 +43,14 @@ pub record Here (gs : List Region) (page : ℕ) (r : Found (RegionOf (Unit {0}))
   pub region : Region
   pub found : region_at gs page ≡ Some region
   pub is : region_of region ≡ r.thing
-  pub written : (row : Row) → shown (set_row gs page row) ≡ slice_set (shown gs) r.place (region_of (with_row page row region))
+  pub changed : (change : Region → Region) → shown (change_region change gs page) ≡ slice_set (shown gs) r.place (region_of (change region))
 
 here_first : (x : Region) (xs : List Region) (page : ℕ) → holds page x ≡ true → Here (x ∷ xs) page (record { place = 0; thing = region_of x })
 here_first x xs page t = record {
   region = x;
   found = ap (λ (b : Bool). cond b (Some x) (find (holds page) xs)) t;
   is = refl;
-  written = λ row. ap shown (set_here page row x xs t);
+  changed = λ change. ap shown (change_here change page x xs t);
 }
 
 here_later : (x : Region) (xs : List Region) (page : ℕ) (r : Found (RegionOf (Unit {0}))) → holds page x ≡ false → Here xs page r → Here (x ∷ xs) page (one_later r)
@@ -58,7 +58,7 @@ here_later x xs page r f h = record {
   region = h.region;
   found = ap (λ (b : Bool). cond b (Some x) (find (holds page) xs)) f ∙ h.found;
   is = h.is;
-  written = λ row. ap shown (set_later page row x xs f) ∙ ap (λ rs. region_of x ∷ rs) (h.written row);
+  changed = λ change. ap shown (change_later change page x xs f) ∙ ap (λ rs. region_of x ∷ rs) (h.changed change);
 }
 
 pub here : (gs : List Region) (page : ℕ) (r : Found (RegionOf (Unit {0}))) → All (λ g. length g.rows ≡ g.pages) gs → region_with (shown gs) page ≡ Some r → Here gs page r
@@ -82,7 +82,7 @@ abbrev pub with_changed : RowChange → ℕ → RowOf (Unit {0}) → RegionOf (U
 with_changed change page row r = record r { rows = slice_set r.rows (page - r.base) (changed change r.kind row) }
 
 with_rows : Region → List (RowOf (Unit {0})) → RegionOf (Unit {0})
-with_rows g rows = record { base = g.base.0; alloc_prot = g.alloc_prot.0; kind = g.kind; rows = rows }
+with_rows g rows = record { base = g.base.0; alloc_prot = g.alloc_prot.0; kind = g.kind; rows = rows; watched = g.watched }
 
 region_changed : (g : Region) (page : ℕ) (change : RowChange) (old new : Row) (row : RowOf (Unit {0})) → slice_get g.rows (page - g.base.0) ≡ Some old → row_at (region_of g) page ≡ Some row → row_of g.kind new ≡ changed change g.kind (row_of g.kind old) → region_of (with_row page new g) ≡ with_changed change page row (region_of g)
 unfolding with_rows
@@ -96,7 +96,7 @@ region_changed g page change old new row at there is =
 
 pub row_changed : (gs : List Region) (page : ℕ) (r : Found (RegionOf (Unit {0}))) (h : Here gs page r) (change : RowChange) (old new : Row) (row : RowOf (Unit {0})) → slice_get h.region.rows (page - h.region.base.0) ≡ Some old → row_at r.thing page ≡ Some row → row_of h.region.kind new ≡ changed change h.region.kind (row_of h.region.kind old) → shown (set_row gs page new) ≡ slice_set (shown gs) r.place (with_changed change page row r.thing)
 row_changed gs page r h change old new row at there is =
-    h.written new
+    h.changed (with_row page new)
     ∙ ap (slice_set (shown gs) r.place)
     (subst (λ (t : RegionOf (Unit {0})). row_at t page ≡ Some row → region_of (with_row page new h.region) ≡ with_changed change page row t) h.is
     (λ q. region_changed h.region page change old new row at q is) there)

@@ -3,6 +3,7 @@
 use Rattle.std.specs.Prelude.{◌≡◌, ◌<◌, ◌≤◌, ℕ, ◌+◌, ◌-◌, Bool, ◌&&◌, ◌==◌, if◌then◌else◌, List, Option, Some, None, length}
 use Rattle.mm_types.specs.Address.{Range, lies_within, address_of, page_of, end_of_user_pages}
 use Rattle.mm_vad.specs.declared.regions.Region.{Region}
+use Rattle.mm_vad.specs.Regions.{HasFlags}
 use Rattle.mm_world.specs.World.{RegionOf, pages_of}
 use Rattle.mm_world.specs.Find.{Found, first_where, region_with, region_around}
 use Rattle.mm_world.specs.WellFormed.{RowsFit}
@@ -14,6 +15,7 @@ pub record IsAt (regions : List (RegionOf (Unit {0}))) (page : ℕ) (r : Region)
   pub there : region_with regions page ≡ Some found
   pub is_shown : found.thing ≡ region_of r
   pub rows : length r.rows ≡ r.pages
+  pub flags : HasFlags r.pages r
   pub low : r.base.0 ≤ page
   pub high : page - r.base.0 < length r.rows
   pub within : r.base.0 + r.pages ≤ end_of_user_pages

@@ -35,6 +35,11 @@ RowChanged change page old new =
     (r : Found (RegionOf (Unit {0}))) (row : RowOf (Unit {0})) → region_with old page ≡ Some r → row_at r.thing page ≡ Some row →
     new ≡ slice_set old r.place (record r.thing { rows = slice_set r.thing.rows (page - r.thing.base) (changed change r.thing.kind row) })
 
+-- the rows of the range, which begins in a region and lies in it, were changed, and nothing else
+abbrev pub RunChanged : RowChange → Range → List (RegionOf (Unit {0})) → List (RegionOf (Unit {0})) → Type 0
+RunChanged change range old new =
+    (r : Found (RegionOf (Unit {0}))) → region_with old range.first ≡ Some r → new ≡ slice_set old r.place (change_rows (changed change r.thing.kind) range r.thing)
+
 -- the rows of the range, which lies in one region, were changed, and nothing else
 abbrev pub RowsChanged : RowChange → Range → List (RegionOf (Unit {0})) → List (RegionOf (Unit {0})) → Type 0
 RowsChanged change range old new =

@@ -1,6 +1,6 @@
 -- The regions of an address space as the definitions of worlds have them, read off those that `mm_vad` keeps.
 -- Profile, "Regions, rows, sections".
-use Rattle.std.specs.Prelude.{Bool, if◌then◌else◌, List, map, Some, None}
+use Rattle.std.specs.Prelude.{ℕ, Bool, false, if◌then◌else◌, List, map, replicate, Option, Some, None}
 use Rattle.mm_types.specs.declared.views.Kind.{Kind}
 use Rattle.mm_types.specs.declared.views.Kind.TheVariants as kind
 use Rattle.mm_vad.specs.declared.pages.Row.{Row}
@@ -22,7 +22,11 @@ row_of kind row =
     }
 
 abbrev pub region_of : Region → RegionOf (Unit {0})
-region_of r = record { base = r.base.0; alloc_prot = r.alloc_prot.0; kind = r.kind; rows = map (row_of r.kind) r.rows }
+region_of r = record { base = r.base.0; alloc_prot = r.alloc_prot.0; kind = r.kind; rows = map (row_of r.kind) r.rows; watched = r.watched }
+
+-- the flags of a region of so many pages, none of them written, where it is watched
+abbrev pub new_flags : Bool → ℕ → Option (List Bool)
+new_flags watched n = if watched then Some (replicate n false) else None
 
 abbrev pub shown : List Region → List (RegionOf (Unit {0}))
 shown regions = map region_of regions

@@ -22,7 +22,15 @@ found_info r = info_of r.thing
 
 abbrev pub told_row : RegionOf (Unit {0}) → ℕ → RowOf (Unit {0}) → PageRow
 told_row r page row =
-    record { kind = r.kind; index = page - r.base; prot = record { 0 = row.prot }; guard = row.guard; marked = row.marked; owned = is_some row.own }
+    record {
+      kind = r.kind;
+      index = page - r.base;
+      prot = record { 0 = row.prot };
+      guard = row.guard;
+      marked = row.marked;
+      owned = is_some row.own;
+      watched = is_some r.watched;
+    }
 
 abbrev pub page_row : List (RegionOf (Unit {0})) → ℕ → Option PageRow
 page_row regions page = option_and_then (λ r. option_map (told_row r.thing page) (row_at r.thing page)) (region_with regions page)

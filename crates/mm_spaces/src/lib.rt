@@ -10,6 +10,7 @@ mod row_tests;
 mod rows;
 mod spaces;
 mod view_states;
+mod watched;
 
 pub use new_regions::NewRegion;
 pub use ranges::{PageRange, pages_for};

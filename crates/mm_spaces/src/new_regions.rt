@@ -6,12 +6,13 @@ ghost use Rattle.mm_world.specs.WellFormed.{RowsFit};
 ghost use Rattle.mm_world.specs.World.{SectionOf, pages_of};
 ghost use Rattle.mm_world.specs.Find.{Found};
 ghost use Rattle.mm_world.specs.Views.{view_region, first_protection, is_copy};
-ghost use Rattle.mm_spaces.specs.Shown.{row_of};
+ghost use Rattle.mm_spaces.specs.Shown.{row_of, new_flags};
 ghost use Rattle.mm_types.specs.declared.views.Kind.TheVariants as kind;
 
 use crate::PageRange;
 use mm_types::{AllocFlags, Kind, NoMemory, Prot, View, ViewAccess, Vpn};
 use mm_vad::{Region, Row, Rows};
+use mm_watch::Bits;
 use std::alloc::Global;
 use std::marker::Model;
 
@@ -83,21 +84,35 @@ fn view_row(access: ViewAccess) -> Row
     }
 }
 
+// The flags of a region of `n` pages, none of them written, where it is watched.
+fn new_flags(alloc: Global, watched: bool, n: u32) -> Result<Option<Bits>, NoMemory>
+    ensures { IfOk result (λ flags. flags ≡ new_flags watched n) }
+{
+    if watched {
+        Ok(Some(Bits::new(alloc, n)?))
+    } else {
+        Ok(None)
+    }
+}
+
 impl NewRegion {
     /// A private region: its pages are reserved where `alloc_type` is MEM_RESERVE (0x2000) alone, and committed
-    /// otherwise, with the protection `prot`, guard (0x100) included. `NoMemory` where a request for memory was refused.
+    /// otherwise, with the protection `prot`, guard (0x100) included. Where it is watched, none of its pages is written.
+    /// `NoMemory` where a request for memory was refused.
     pub fn private(
         alloc: Global,
+        watched: bool,
         alloc_type: u32,
         prot: u32,
         range: PageRange,
     ) -> Result<NewRegion, NoMemory>
         requires prot { is_protection_among private_protections prot ≡ true }
-        ensures ok { IfOk result (λ r. r ≡ private_region blank alloc_type prot range) }
+        ensures ok { IfOk result (λ r. r ≡ private_region blank watched alloc_type prot range) }
         ensures pages { IfOk result (λ r. pages_of r ≡ range) }
         ensures fit { IfOk result (λ r. RowsFit r) }
     {
         let rows = Rows::new(alloc, range.count, new_row(alloc_type, prot))?;
+        let flags = new_flags(alloc, watched, range.count)?;
         Ok(NewRegion {
             region: Region {
                 base: Vpn(range.first),
@@ -105,6 +120,7 @@ impl NewRegion {
                 alloc_prot: Prot(prot),
                 kind: Kind::Private,
                 rows,
+                watched: flags,
             },
         })
     }
@@ -125,6 +141,7 @@ impl NewRegion {
                 alloc_prot: Prot(first_prot(view.access)),
                 kind: Kind::View(view),
                 rows,
+                watched: None,
             },
         })
     }

@@ -87,10 +87,14 @@ pub(crate) fn count_rows(
     ensures { result ≡ count_by (passes test region_kind) (take count (drop first (map (row_of region_kind) rows.now))) }
 {
     let mut passing = 0;
-    for i in 0..count {
-        if test.holds(region_kind, rows.get(first + i)) {
-            passing += 1;
+    let mut done = 0;
+    while done < count {
+        let (row, equal) = rows.equal_from(first + done);
+        let n = equal.min(count - done);
+        if test.holds(region_kind, row) {
+            passing += n;
         }
+        done += n;
     }
     passing
 }
@@ -107,10 +111,13 @@ pub(crate) fn do_rows_pass(
     requires fits { first + count < 2 ^ 32 }
     ensures { result ≡ list_all (passes test region_kind) (take count (drop first (map (row_of region_kind) rows.now))) }
 {
-    for i in 0..count {
-        if !test.holds(region_kind, rows.get(first + i)) {
+    let mut done = 0;
+    while done < count {
+        let (row, equal) = rows.equal_from(first + done);
+        if !test.holds(region_kind, row) {
             return false;
         }
+        done += equal.min(count - done);
     }
     true
 }

@@ -1,4 +1,4 @@
-ghost use Rattle.std.specs.Prelude.{◌≡◌, IsSome, true, is_some, Some};
+ghost use Rattle.std.specs.Prelude.{◌≡◌, ◌<◌, ◌≤◌, IsSome, true, is_some, Some};
 ghost use Rattle.mm_types.specs.Protection.{base_of};
 ghost use Rattle.mm_vad.specs.Regions.{IsSpace as IsVad};
 ghost use Rattle.mm_world.specs.World.{RowOf};
@@ -6,7 +6,7 @@ ghost use Rattle.mm_world.specs.Find.{region_with};
 ghost use Rattle.mm_types.specs.declared.views.Kind.TheVariants as kind;
 ghost use Rattle.mm_world.specs.Rows.{has_guard, marked_prot, protected};
 ghost use Rattle.mm_spaces.specs.Shown.{row_of, shown};
-ghost use Rattle.mm_spaces.specs.RowChanges.{changed, RowChanged, RowsChanged, IsInRegion, range_at};
+ghost use Rattle.mm_spaces.specs.RowChanges.{changed, RowChanged, RunChanged, RowsChanged, IsInRegion, range_at};
 
 use mm_types::{Kind, Prot, View, Vpn};
 use mm_vad::{Row, Space};
@@ -156,6 +156,28 @@ pub(crate) fn change_row(space: &mut Space, page: u32, change: RowChange)
     space.set_row(Vpn(page), row);
 }
 
+// Changes the rows of pages from `page` on, which lies in a region: those that are known to be equal, at least one and
+// at most `count`. How many.
+fn change_some(space: &mut Space, page: u32, count: u32, change: RowChange) -> u32
+    requires there { IsSome (region_with (shown space.old.regions) page) }
+    requires some { 0 < count }
+    ensures some { 0 < result }
+    ensures within { result ≤ count }
+    ensures after { RunChanged change (range_at page result) (shown space.old.regions) (shown space.new.regions) }
+    ensures spare { space.new.spare ≡ space.old.spare }
+    ensures sound { IsVad space.old.regions }
+    ensures kept { IsVad space.new.regions }
+{
+    let Some(region) = space.find(Vpn(page)) else {
+        unreachable!()
+    };
+    let (row, equal) = region.rows.equal_from(page - region.base.0);
+    let n = equal.min(count);
+    let row = change.of(region.kind, row);
+    space.fill_rows(Vpn(page), n, row);
+    n
+}
+
 /// Changes the rows of `count` pages from `first` on, all of them in one region.
 pub(crate) fn change_rows(space: &mut Space, first: u32, count: u32, change: RowChange)
     requires { IsInRegion (shown space.old.regions) (range_at first count) }
@@ -163,7 +185,8 @@ pub(crate) fn change_rows(space: &mut Space, first: u32, count: u32, change: Row
     ensures spare { space.new.spare ≡ space.old.spare }
     ensures kept { IsVad space.old.regions → IsVad space.new.regions }
 {
-    for i in 0..count {
-        change_row(space, first + i, change);
+    let mut done = 0;
+    while done < count {
+        done += change_some(space, first + done, count - done, change);
     }
 }

@@ -52,6 +52,8 @@ pub struct PageRow {
     pub marked: bool,
     /// It has bytes of its own: a private page where it is committed, one of a view where it was copied.
     pub owned: bool,
+    /// Its region is watched (MEM_WRITE_WATCH).
+    pub watched: bool,
 }
 
 /// The regions of one process: no page lies in two, and each begins on a granule.
@@ -200,6 +202,7 @@ impl AddressSpace {
             guard: row.guard,
             marked: row.marked,
             owned: has_own(region.kind, row),
+            watched: region.watched.is_some(),
         })
     }
 

@@ -12,8 +12,8 @@ use Rattle.mm_world.specs.Find.{process_of, stack_by}
 use Rattle.mm_world.specs.Contents.{Tables, world_with, no_bytes, blank}
 use Rattle.mm_world.specs.Keys.{Committed, committed_at, guard_off}
 use Rattle.mm_world.specs.Outcome.{OutcomeOf}
-use Rattle.mm_world.specs.Stack.{probe, grown, is_overflow}
-use Rattle.mm_world.proofs.NaturalSections.{in_probe}
+use Rattle.mm_world.specs.Stack.{stack, probe, grown, is_overflow}
+use Rattle.mm_world.proofs.NaturalSections.{in_stack, in_probe}
 use Rattle.mm_world.proofs.Reconstruct.{tables_back}
 use Rattle.mm_stack.specs.Growth.{has_grown, grows, lowered, Grows}
 use Rattle.mm_stack.proofs.Growths.{same_number, is_same, put_here}
@@ -42,6 +42,12 @@ pub grows_with : (t : Tables) (bytes : Key → Page) (tid addr : ℕ) → grows 
 grows_with t bytes tid addr =
     ap (λ (o : OutcomeOf (Unit {0})). has_grown (stack_by t tid) (stack_by o.world tid))
     (sym (ap (λ (t : Tables). probe blank t tid addr) (sym (tables_back bytes t)) ∙ (in_probe no_bytes filled (world_with t bytes) tid addr).same))
+
+-- it answers the same
+pub stack_with : (t : Tables) (bytes : Key → Page) (tid pid reserve commit : ℕ) → (stack filled (world_with t bytes) tid pid reserve commit).answer ≡ (stack blank t tid pid reserve commit).answer
+stack_with t bytes tid pid reserve commit =
+    ap (λ (o : OutcomeOf (Unit {0})). o.answer)
+    (sym (ap (λ (t : Tables). stack blank t tid pid reserve commit) (sym (tables_back bytes t)) ∙ (in_stack no_bytes filled (world_with t bytes) tid pid reserve commit).same))
 
 -- ---- exactly where a stack grows
 

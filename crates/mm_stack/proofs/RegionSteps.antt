@@ -189,12 +189,12 @@ module _ (t : Tables) (pid : ℕ) (p : ProcessOf (Unit {0})) (range : Range) (li
       }
 
   pub same_charge : (t' : Tables) → t' ≡ set_regions t pid p regions' → charge t' ≡ charge t
-  same_charge t' is = omega (arith, ap (λ (t : Tables). charge t) is, regional.reserve_charge t pid p reserve_type 0x04 range lives free)
+  same_charge t' is = omega (arith, ap (λ (t : Tables). charge t) is, regional.reserve_charge t pid p false reserve_type 0x04 range lives free)
 
   pub lasts_reserve : (t' : Tables) → t' ≡ set_regions t pid p regions' → Lasts t t'
   lasts_reserve t' is =
       lasts_regions t t' pid p regions' lives is (λ at own.
-      (regional.reserve_moves t pid p reserve_type 0x04 range lives free (record { 0 = pid }) refl).owned at ∙ own)
+      (regional.reserve_moves t pid p false reserve_type 0x04 range lives free (record { 0 = pid }) refl).owned at ∙ own)
 
   -- the region has become the stack
   pub stack_made : (top : ℕ) (t' u : Tables) → t' ≡ set_regions t pid p regions' → u ≡ set_region t' pid (record p { regions = regions' }) place (stack_region blank range.first range.count top) → u ≡ set_regions t pid p (add_region (stack_region blank range.first range.count top) p.regions)

@@ -1,5 +1,5 @@
 -- `alloc` leaves the stacks of all threads.
-use Rattle.std.proofs.Common.{◌≡◌, ℕ, List, refl}
+use Rattle.std.proofs.Common.{◌≡◌, ℕ, Bool, List, refl}
 use Rattle.mm_types.specs.declared.answers.Answer.{Answer}
 use Rattle.mm_types.specs.declared.codes.Code.{Code}
 use Rattle.mm_types.specs.declared.views.Kind.{Kind}
@@ -24,8 +24,8 @@ module _ {B : Type 0} where
   by_shared : (w : WorldOf B) (pid : ℕ) (p : ProcessOf B) (regions : List (RegionOf B)) (at : ℕ) (area : AreaOf B) (a : Answer) → Holds (LeavesStacks w) (done a (set_area (set_regions w pid p regions) at area))
   by_shared w pid p regions at area a = record { it = record { same = refl } }
 
-  in_reserve : (fill : ℕ → B) (w : WorldOf B) (pid : ℕ) (p : ProcessOf B) (addr size type prot : ℕ) → Holds (LeavesStacks w) (reserve fill w pid p addr size type prot)
-  in_reserve fill w pid p addr size type prot = search (tables, by_refusal, by_regions) depth 12
+  in_reserve : (fill : ℕ → B) (w : WorldOf B) (pid : ℕ) (p : ProcessOf B) (addr size : ℕ) (watched : Bool) (type prot : ℕ) → Holds (LeavesStacks w) (reserve fill w pid p addr size watched type prot)
+  in_reserve fill w pid p addr size watched type prot = search (tables, by_refusal, by_regions) depth 12
 
   in_commit : (fill : ℕ → B) (w : WorldOf B) (pid : ℕ) (p : ProcessOf B) (r : Found (RegionOf B)) (k : Kind) (range : Range) (prot : ℕ) → Holds (LeavesStacks w) (commit_in fill w pid p r k range prot)
   in_commit fill w pid p r kind.Private range prot = search (tables, by_refusal, by_regions) depth 12

@@ -123,7 +123,7 @@ after_room v c d e s y z more h =
 -- a page is committed by `alloc` as by a commit
 pub alloc_commits : {B : Type 0} (fill : ℕ → B) (w : WorldOf B) (pid page : ℕ) (p : ProcessOf B) → process_of w pid ≡ Some p → 1 ≤ page → alloc fill w pid (address_of page) 1 commit_type 0x104 ≡ commit_pages fill w pid p (range_of (address_of page) 1) 0x104
 alloc_commits fill w pid page p lives some =
-    at_alive w pid p _ lives ∙ ap (λ b. cond (b || false) (reserve fill w pid p (address_of page) 1 commit_type 0x104) (commit_pages fill w pid p (range_of (address_of page) 1) 0x104)) (not_zero (address_of page == 0) refl)
+    at_alive w pid p _ lives ∙ ap (λ b. cond (b || false) (reserve fill w pid p (address_of page) 1 false commit_type 0x104) (commit_pages fill w pid p (range_of (address_of page) 1) 0x104)) (not_zero (address_of page == 0) refl)
   where
     not_zero : (b : Bool) → (address_of page == 0) ≡ b → (address_of page == 0) ≡ false
     not_zero true e = let none : page * 4096 ≡ 0 = (unsigned_Decides (address_of page) 0).0 e in absurd (omega (arith, none, some))

@@ -1,6 +1,6 @@
 -- What the steps of a new stack begin with.
 -- Profile, "Watched regions and stacks".
-use Rattle.std.specs.Prelude.{◌≡◌, ℕ, Some, slice_get}
+use Rattle.std.specs.Prelude.{◌≡◌, ℕ, false, Some, slice_get}
 use Rattle.mm_types.specs.declared.views.Kind.TheVariants as kind
 use Rattle.mm_types.specs.Address.{Range}
 use Rattle.mm_world.specs.World.{RegionOf, ProcessOf}
@@ -13,7 +13,7 @@ use Rattle.mm_types.specs.Protection.{readwrite}
 
 -- a region of which no page is committed
 abbrev pub reserved_region : Range → RegionOf (Unit {0})
-reserved_region range = private_region blank reserve_type readwrite range
+reserved_region range = private_region blank false reserve_type readwrite range
 
 -- these are the pages of such a region of a living process
 pub record IsReserved (t : Tables) (pid : ℕ) (range : Range) : Type 0 where

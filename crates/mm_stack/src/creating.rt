@@ -1,4 +1,4 @@
-ghost use Rattle.std.specs.Prelude.{◌≡◌, ℕ, ◌≤◌, ◌+◌, ◌-◌, Option, IfOk, OnErr};
+ghost use Rattle.std.specs.Prelude.{◌≡◌, ℕ, ◌≤◌, ◌+◌, ◌-◌, false, Option, IfOk, IsOk, OnErr};
 ghost use Rattle.mm_types.specs.Address.{address_of, end_of, end_of_user_pages};
 ghost use Rattle.mm_types.specs.declared.answers.Answer.TheVariants as answer;
 ghost use Rattle.mm_types.specs.declared.moves.LineKind.TheVariants as line_kind;
@@ -7,7 +7,8 @@ ghost use Rattle.mm_world.specs.World.{Page};
 ghost use Rattle.mm_world.specs.Find.{set_stack};
 ghost use Rattle.mm_world.specs.Contents.{blank};
 ghost use Rattle.mm_world.specs.Stack.{stack};
-ghost use Rattle.mm_pages.specs.Housekeeping.{Turn, Turns, MakesStack};
+ghost use Rattle.mm_world.specs.Laws.{is_success};
+ghost use Rattle.mm_pages.specs.Housekeeping.{Turn, Turns, MakesStack, guard_told};
 ghost use Rattle.mm_pages.specs.Passing.{PassesIn};
 ghost use Rattle.mm_pages.specs.Store.{StoreOf};
 ghost use Rattle.mm_tables.specs.Fits.{Fits, Called, beside};
@@ -52,7 +53,8 @@ fn begin(t: &mut Tables, tid: Tid, pid: Pid, range: PageRange, top: u32) -> Answ
 ///
 /// In this order: `InvalidHandle` for a process that does not live; `Busy` where the thread has a stack; `InvalidParameter` for
 /// no bytes, or where the committed pages, the guard page and one page more do not fit; `InvalidAddress` where there is no gap;
-/// `CommitmentLimit` where the charge would pass the limit. After each of these, and after `NoMemory`, nothing has changed.
+/// `CommitmentLimit` where the charge would pass the limit. After each of these, and after `NoMemory`, which none of them
+/// comes to, nothing has changed.
 #[tactic(auto, using(mm_pages::proofs::Passed::turns_same))]
 pub fn stack<G: Pages>(
     alloc: Global,
@@ -67,9 +69,10 @@ pub fn stack<G: Pages>(
     requires kind { (G.store g.old).kind ≡ line_kind.Call }
     ensures ok { IfOk result (λ a. Called (stack blank t.old tid.0 pid.0 reserve commit) t.old (G.contents g.old) a t.new (G.contents g.new)) }
     ensures err { OnErr result ((t.new ≡ t.old) × (G.contents g.new ≡ G.contents g.old)) }
+    ensures no_memory { is_success (stack blank t.old tid.0 pid.0 reserve commit).answer ≡ false → IsOk result }
     ensures fits { Fits t.new (G.contents g.new) (G.store g.new) }
     ensures beside { G.store g.new ≡ beside (G.store g.old) (G.store g.new) }
-    ensures passes { PassesIn G.unpaged (Turns MakesStack) (G.store g.old) (G.store g.new) (G.behind g.old) (G.behind g.new) }
+    ensures passes { IfOk result (λ a. PassesIn G.unpaged (Turns (MakesStack (guard_told a))) (G.store g.old) (G.store g.new) (G.behind g.old) (G.behind g.new)) }
     ensures idle { OnErr result ((turn : Turn) → PassesIn G.unpaged (Turns turn) (G.store g.old) (G.store g.new) (G.behind g.old) (G.behind g.new)) }
     ensures loans { G.loans g.new ≡ G.loans g.old }
 {

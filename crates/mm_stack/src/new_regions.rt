@@ -53,7 +53,7 @@ fn commit_ends<G: Pages>(t: &mut Tables, g: &mut G, pid: Pid, range: PageRange, 
     requires room { charge t.old + (top + 1) ≤ (G.store g.old).room }
     ensures changed { (h : IsReserved t.old pid.0 range) → t.new ≡ set_region t.old pid.0 h.process h.place (stack_region blank range.first range.count top) }
     ensures settled { Settled t.new (G.contents g.old) (G.contents g.new) (G.store g.old) (G.store g.new) }
-    ensures passes { PassesIn G.unpaged (Turns MakesStack) (G.store g.old) (G.store g.new) (G.behind g.old) (G.behind g.new) }
+    ensures passes { PassesIn G.unpaged (Turns (MakesStack (range.first + range.count - (top + 1)))) (G.store g.old) (G.store g.new) (G.behind g.old) (G.behind g.new) }
     ensures loans { G.loans g.new ≡ G.loans g.old }
 {
     t.sound();
@@ -101,6 +101,7 @@ fn reserve_region<G: Pages>(
         g,
         pid,
         range,
+        false,
         AllocFlags::RESERVE.0,
         Prot::READWRITE.0,
     )?;
@@ -129,7 +130,7 @@ pub(crate) fn make_region<G: Pages>(
     ensures ok { OnOk result ((p : ProcessOf (Unit {0})) → process_of t.old pid.0 ≡ Some p → t.new ≡ set_regions t.old pid.0 p (add_region (stack_region blank range.first range.count top) p.regions)) }
     ensures err { OnErr result ((t.new ≡ t.old) × (G.contents g.new ≡ G.contents g.old)) }
     ensures settled { Settled t.new (G.contents g.old) (G.contents g.new) (G.store g.old) (G.store g.new) }
-    ensures passes { PassesIn G.unpaged (Turns MakesStack) (G.store g.old) (G.store g.new) (G.behind g.old) (G.behind g.new) }
+    ensures passes { PassesIn G.unpaged (Turns (MakesStack (range.first + range.count - (top + 1)))) (G.store g.old) (G.store g.new) (G.behind g.old) (G.behind g.new) }
     ensures idle { OnErr result ((turn : Turn) → PassesIn G.unpaged (Turns turn) (G.store g.old) (G.store g.new) (G.behind g.old) (G.behind g.new)) }
     ensures loans { G.loans g.new ≡ G.loans g.old }
 {

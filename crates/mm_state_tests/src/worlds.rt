@@ -2,7 +2,7 @@ ghost use Rattle.std.specs.Prelude.{◌≡◌, ◌≤◌, ◌+◌, true, false, 
 ghost use Rattle.mm_blocks.specs.Traffic.{empty_block};
 ghost use Rattle.mm_pages.specs.Conditions.{IsNew};
 ghost use Rattle.mm_script.specs.Printed.{IsWellFormed};
-ghost use Rattle.mm_core.specs.Built.{is_built};
+ghost use Rattle.mm_core.specs.Built.{is_machine};
 ghost use Rattle.mm_core.specs.Shown.{line_of};
 ghost use Rattle.mm_state_tests.specs.Stored.{small_machine};
 
@@ -31,7 +31,7 @@ fn decide<G: Pages>(
     event: &Event,
 ) -> Result<Answer, NoMemory>
     requires well_formed { IsWellFormed event.now }
-    requires built { is_built event.now ≡ true }
+    requires later { is_machine event.now ≡ false }
     requires next { line ≡ line_of world.old + 1 }
     requires few { line ≤ 1000000 }
     requires ready { world.old.spent ≡ false }

@@ -9,6 +9,7 @@ pub mod Carried
 pub mod Keeping
 pub mod Regional
 pub mod OneRow
+pub mod Flagged
 pub mod Standing
 pub mod Uncommitted
 pub mod Settled

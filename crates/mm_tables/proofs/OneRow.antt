@@ -24,6 +24,7 @@ use Rattle.mm_world.proofs.AccessCharge.{charge-set_row, charge-guard_off}
 use Rattle.mm_world.proofs.Charges.{sum_by-put}
 use Rattle.mm_world.proofs.Each.{each-at, each-set}
 use Rattle.mm_world.proofs.Finding.{Stands, found_stands, committed_is, IsCommitted}
+use Rattle.mm_world.proofs.LaidOut.{flags_stay}
 use Rattle.mm_world.proofs.Ranges.{Inside as Within}
 use Rattle.mm_pages.specs.Store.{StoreOf, changed, changed_in, same_place, own_key}
 use Rattle.mm_pages.specs.Conditions.{place_at}
@@ -107,7 +108,7 @@ module _ (t : Tables) (q : Pid) (p : ProcessOf (Unit {0})) (page : ℕ) (c : Com
   pages row = record { base = refl; rows = length-set r.rows i row }
 
   row_stands : (row : RowOf (Unit {0})) → RowFits r.kind row → StandIn t p.regions (regions_with row)
-  row_stands row fit = set_stands t p c.region.place r (with_row row) stands.there (pages row) refl (λ rows. each-set (RowFits r.kind) r.rows i row rows fit)
+  row_stands row fit = set_stands t p c.region.place r (with_row row) stands.there (pages row) refl (flags_stay r (with_row row) refl (pages row).rows refl) (λ rows. each-set (RowFits r.kind) r.rows i row rows fit)
 
   -- a row that is changed is the range of one page changed
   row_moves : (change : RowOf (Unit {0}) → RowOf (Unit {0})) (keys : Effect) (clears : Bool) → ((row : RowOf (Unit {0})) → is_some (change row).own ≡ after keys true (is_some row.own)) → ((v : ℕ) (k : Key) → (clears ≡ true → holds_page (only page) v ≡ false) → holds_page (only page) v ≡ true → KeepsKey t q.0 p c.region.place r (only page) lives h stands.there inner change q.0 v k) → Moves t q (only page) keys Leaves clears p.regions (regions_with (change c.row))

@@ -23,14 +23,14 @@ use Rattle.mm_world.specs.Alloc.{private_region, new_row}
 use Rattle.mm_world.specs.Contents.{Tables, blank}
 use Rattle.mm_world.specs.Rows.{is_one_of, is_protection_among, private_protections, reserved_row, commit, protected, change_rows}
 use Rattle.mm_world.specs.Sections.{is_view_of}
-use Rattle.mm_world.specs.WellFormed.{LaidOut, RowsFit, RowFits, RegionRefers, ViewFits, WellFormed}
+use Rattle.mm_world.specs.WellFormed.{LaidOut, FlagsFit, RowsFit, RowFits, RegionRefers, ViewFits, WellFormed}
 use Rattle.mm_world.proofs.Charges.{charge-set_region, charge-set_regions, charge-remove_region, count_by-none, sum_by-put}
 use Rattle.mm_world.proofs.Each.{each-at, each-insert, each-remove, each-replicate, each-set}
 use Rattle.mm_world.proofs.KeptPages.{own_in, own_free}
 use Rattle.mm_world.proofs.KindsAndKeys.{private_kind}
-use Rattle.mm_world.proofs.LaidOut.{and-true, laid_remove, free_of}
+use Rattle.mm_world.proofs.LaidOut.{flags_stay, and-true, laid_remove, free_of}
 use Rattle.mm_world.proofs.RowsFit.{reserved_fits, commit_fits}
-use Rattle.mm_world.proofs.Spaces.{space_add, space_set}
+use Rattle.mm_world.proofs.Spaces.{private_flags, space_add, space_set}
 use Rattle.mm_spaces.specs.Tables.{rows_of}
 use Rattle.mm_tables.specs.Fits.{paging_count, new_pages, marks_in, new_marks}
 use Rattle.mm_tables.specs.Effects.{Effect, Makes, Ends, Leaves, after, Moves, keys_of, key_in}
@@ -50,10 +50,10 @@ one_or_other false = refl
 -- ---- a region is another with the same pages
 
 module _ (t : Tables) (p : ProcessOf (Unit {0})) (i : ℕ) (r new : RegionOf (Unit {0})) (at : slice_get p.regions i ≡ Some r) (same : SamePages r new) (kinds : new.kind ≡ r.kind) where
-  pub set_stands : (RowsFit r → RowsFit new) → StandIn t p.regions (set p.regions i new)
-  set_stands fit =
+  pub set_stands : (FlagsFit r → FlagsFit new) → (RowsFit r → RowsFit new) → StandIn t p.regions (set p.regions i new)
+  set_stands flags fit =
       record {
-        space = space_set p.regions i r new at same.base same.rows fit;
+        space = space_set p.regions i r new at same.base same.rows flags fit;
         refers = λ k.
             each-set (RegionRefers t) p.regions i new k (λ v is.
             subst (λ (n : ℕ). ViewFits t v n) (sym same.rows) (each-at (RegionRefers t) p.regions i r k at v (sym kinds ∙ is)));
@@ -115,7 +115,7 @@ protect_count rs range r prot found =
 
 module _ (t : Tables) (pid : ℕ) (p : ProcessOf (Unit {0})) (i : ℕ) (r : RegionOf (Unit {0})) (range : Range) (lives : process_of t pid ≡ Some p) (h : WellFormed t) (at : slice_get p.regions i ≡ Some r) (inside : Inside range (pages_of r)) where
   pub change_stands : (change : RowOf (Unit {0}) → RowOf (Unit {0})) → (RowsFit r → RowsFit (change_rows change range r)) → StandIn t p.regions (set p.regions i (change_rows change range r))
-  change_stands change fit = set_stands t p i r (change_rows change range r) at (same_pages change range r) refl fit
+  change_stands change fit = set_stands t p i r (change_rows change range r) at (same_pages change range r) refl (flags_stay r (change_rows change range r) refl (same_pages change range r).rows refl) fit
 
   -- a row that is changed keeps its key, of the process with this number
   abbrev pub KeepsKey : (RowOf (Unit {0}) → RowOf (Unit {0})) → ℕ → ℕ → Key → Type 0
@@ -234,15 +234,15 @@ get-replicate : {A : Type 0} (n : ℕ) (x : A) (k : ℕ) → k < n → slice_get
 get-replicate n x k h = slice_get-get_or (replicate n x) k x (omega (arith, length-replicate n x)) ∙ ap (λ y. Some y) (get_or-replicate n k x x h)
 
 -- the rows of a new region fit
-pub new_rows_fit : (type prot : ℕ) (range : Range) → is_protection_among private_protections prot ≡ true → RowsFit (private_region blank type prot range)
-new_rows_fit type prot range e =
+pub new_rows_fit : (watched : Bool) (type prot : ℕ) (range : Range) → is_protection_among private_protections prot ≡ true → RowsFit (private_region blank watched type prot range)
+new_rows_fit watched type prot range e =
     each-replicate (RowFits kind.Private) range.count (new_row blank type prot)
     (elim (type == reserve_type) as (λ b. RowFits kind.Private (cond b reserved_row (commit (blank 0) prot reserved_row)))
     [ true ↦ reserved_fits | false ↦ commit_fits (blank 0) prot reserved_row (allowed prot e) ])
 
-module _ (t : Tables) (pid : ℕ) (p : ProcessOf (Unit {0})) (type prot : ℕ) (range : Range) (lives : process_of t pid ≡ Some p) (free : is_free (ranges_of p.regions) range ≡ true) where
+module _ (t : Tables) (pid : ℕ) (p : ProcessOf (Unit {0})) (watched : Bool) (type prot : ℕ) (range : Range) (lives : process_of t pid ≡ Some p) (free : is_free (ranges_of p.regions) range ≡ true) where
   abbrev new : RegionOf (Unit {0})
-  new = private_region blank type prot range
+  new = private_region blank watched type prot range
 
   abbrev place : ℕ
   place = count_by (λ (r : RegionOf (Unit {0})). nat_lt r.base range.first) p.regions
@@ -303,7 +303,7 @@ module _ (t : Tables) (pid : ℕ) (p : ProcessOf (Unit {0})) (type prot : ℕ) (
   pub reserve_stands : range.first % 16 ≡ 0 → 1 ≤ range.count → is_protection_among private_protections prot ≡ true → StandIn t p.regions (add_region new p.regions)
   reserve_stands granule some e =
       record {
-        space = space_add new p.regions range (free_of (ranges_of p.regions) range granule free) refl (length-replicate range.count (new_row blank type prot)) some (new_rows_fit type prot range e);
+        space = space_add new p.regions range (free_of (ranges_of p.regions) range granule free) refl (length-replicate range.count (new_row blank type prot)) some (private_flags blank watched type prot range) (new_rows_fit watched type prot range e);
         refers = λ k. each-insert (RegionRefers t) p.regions place new k (λ v is. cc);
         views = λ n. omega (arith, sum_by-insert (λ (r : RegionOf (Unit {0})). one_if (is_view_of n r.kind)) p.regions place new);
       }

@@ -364,8 +364,8 @@ module _ (t : Tables) (pid : Pid) (p : ProcessOf (Unit {0})) (range : Range) (c 
       (omega (arith, release_charge t pid.0 p i r lives h at, private_charge r private))
       (omega (arith, paging-remove_region t pid.0 p i r lives at, used, f.counted, live)) (omega (arith, room, f.room))
 
-  pub reserve_done : (type prot : ℕ) → is_free (ranges_of p.regions) range ≡ true → range.first % 16 ≡ 0 → 1 ≤ range.count → is_protection_among private_protections prot ≡ true → Stored pid range (keys_of type) Makes true c d s z → z.paging_keys ≡ s.paging_keys + new_pages type range → charge t + new_pages type range ≤ z.room → Done t pid p (add_region (private_region blank type prot range) p.regions) (charge t + new_pages type range) c d s z
-  reserve_done type prot free granule some e stored used more =
-      done (keys_of type) Makes true (add_region (private_region blank type prot range) p.regions) (charge t + new_pages type range)
-      (reserve_stands t pid.0 p type prot range lives free granule some e) (reserve_moves t pid.0 p type prot range lives free pid refl) stored
-      (reserve_charge t pid.0 p type prot range lives free) (omega (arith, reserve_paging t pid.0 p type prot range lives free, used, f.counted)) more
+  pub reserve_done : (watched : Bool) (type prot : ℕ) → is_free (ranges_of p.regions) range ≡ true → range.first % 16 ≡ 0 → 1 ≤ range.count → is_protection_among private_protections prot ≡ true → Stored pid range (keys_of type) Makes true c d s z → z.paging_keys ≡ s.paging_keys + new_pages type range → charge t + new_pages type range ≤ z.room → Done t pid p (add_region (private_region blank watched type prot range) p.regions) (charge t + new_pages type range) c d s z
+  reserve_done watched type prot free granule some e stored used more =
+      done (keys_of type) Makes true (add_region (private_region blank watched type prot range) p.regions) (charge t + new_pages type range)
+      (reserve_stands t pid.0 p watched type prot range lives free granule some e) (reserve_moves t pid.0 p watched type prot range lives free pid refl) stored
+      (reserve_charge t pid.0 p watched type prot range lives free) (omega (arith, reserve_paging t pid.0 p watched type prot range lives free, used, f.counted)) more

@@ -26,7 +26,7 @@ use Rattle.mm_world.proofs.Charges.{charge-set_regions, sum_by-put}
 use Rattle.mm_world.proofs.Each.{each-insert, each-replicate}
 use Rattle.mm_world.proofs.Finding.{numbered_there, found_stands}
 use Rattle.mm_world.proofs.KeptPages.{own_in, own_free}
-use Rattle.mm_world.proofs.LaidOut.{and-true, IsPlaced}
+use Rattle.mm_world.proofs.LaidOut.{no_flags, and-true, IsPlaced}
 use Rattle.mm_world.proofs.RowsFit.{new_view_fits}
 use Rattle.mm_world.proofs.Spaces.{space_add, begins_before}
 use Rattle.mm_pages.specs.Conditions.{AllBound}
@@ -163,7 +163,7 @@ module _ (t : Tables) (pid : Pid) (p : ProcessOf (Unit {0})) (range : Range) (v 
       let user = (and-true (are_user_pages range) (not (list_any (meets range) (ranges_of p.regions))) free).0 in
       let placed : IsPlaced (ranges_of p.regions) range = record { on_granule = granule; user = user; free = clear } in
       put_well t pid.0 p (record p { regions = add_region (region_of_view v range) p.regions }) lives
-      (space_add (region_of_view v range) p.regions range placed refl (length-replicate range.count (view_row v)) some
+      (space_add (region_of_view v range) p.regions range placed refl (length-replicate range.count (view_row v)) some (no_flags (region_of_view v range) refl)
       (each-replicate (RowFits (kind.View v)) range.count (view_row v) (new_view_fits v.access)))
       (λ k. record {
         views = each-insert (RegionRefers t) p.regions (place_in p.regions range) (region_of_view v range) k.views (λ x is.

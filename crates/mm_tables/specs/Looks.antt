@@ -1,5 +1,5 @@
 -- What the tables tell of a page, of a handle, and of an access.
-use Rattle.std.specs.Prelude.{ℕ, Bool, ◌&&◌, not, Option, option_map, option_and_then}
+use Rattle.std.specs.Prelude.{ℕ, Bool, ◌&&◌, not, is_some, Option, option_map, option_and_then}
 use Rattle.mm_world.specs.World.{SectionOf}
 use Rattle.mm_world.specs.Find.{Found, process_of}
 use Rattle.mm_world.specs.Keys.{Home, Own, InSection, Committed, committed_at, key_of}
@@ -21,6 +21,7 @@ told_row pid page c =
       guard = c.row.guard;
       key = key_of pid page c.home;
       copies = c.row.marked && not (is_own c.home);
+      watched = is_some c.region.thing.watched && is_own c.home;
     }
 
 abbrev pub committed_row : Tables → ℕ → ℕ → Option CommittedRow

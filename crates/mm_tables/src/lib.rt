@@ -6,6 +6,7 @@ mod closings;
 mod endings;
 mod exits;
 mod files;
+mod flags;
 mod halves;
 mod kept_accesses;
 mod keys;
@@ -19,6 +20,7 @@ mod tables;
 mod thread_stacks;
 mod views;
 mod waiting;
+mod watching;
 
 pub use looks::{CommittedRow, HandleSection};
 pub use tables::Tables;

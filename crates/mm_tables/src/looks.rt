@@ -27,6 +27,8 @@ pub struct CommittedRow {
     pub key: Key,
     /// A write makes a private copy.
     pub copies: bool,
+    /// A write marks it: it has bytes of its own in a watched region (MEM_WRITE_WATCH).
+    pub watched: bool,
 }
 
 /// The section of a handle: its number, the protection that it was made with, and its control area.
@@ -129,6 +131,7 @@ impl Tables {
             guard: row.guard,
             key,
             copies: row.marked && !row.owned,
+            watched: row.watched && row.owned,
         })
     }
 

@@ -67,7 +67,7 @@ impl Tables {
         Ok(())
     }
 
-    /// Makes a private region of free pages, committed where the type says so; the limit allows them. After `NoMemory` tables and
+    /// Makes a private region of free pages, committed where the type says so, watched or not; the limit allows them. After `NoMemory` tables and
     /// bytes are as before.
     pub fn reserve<G: Pages>(
         &mut self,
@@ -75,6 +75,7 @@ impl Tables {
         g: &mut G,
         pid: Pid,
         range: PageRange,
+        watched: bool,
         kind: u32,
         prot: u32,
     ) -> Result<(), NoMemory>
@@ -86,7 +87,7 @@ impl Tables {
         requires some { 1 ≤ range.count }
         requires prot { is_protection_among private_protections prot ≡ true }
         requires room { charge self.old + new_pages kind range ≤ limit self.old }
-        ensures ok { OnOk result ((p : ProcessOf (Unit {0})) → process_of self.old pid.0 ≡ Some p → self.new ≡ set_regions self.old pid.0 p (add_region (private_region blank kind prot range) p.regions)) }
+        ensures ok { OnOk result ((p : ProcessOf (Unit {0})) → process_of self.old pid.0 ≡ Some p → self.new ≡ set_regions self.old pid.0 p (add_region (private_region blank watched kind prot range) p.regions)) }
         ensures later { (G.store g.old).room ≤ (G.store g.new).room }
         ensures err { OnErr result ((self.new ≡ self.old) × (G.contents g.new ≡ G.contents g.old)) }
         ensures settled { Settled self.new (G.contents g.old) (G.contents g.new) (G.store g.old) (G.store g.new) }
@@ -99,7 +100,7 @@ impl Tables {
         let pages = new_pages(kind, range);
         let total = self.commit.now() + pages;
         let process = &mut self.processes[pid.0 as usize - 1];
-        make_region(alloc, process, g, pid, range, kind, prot, total)?;
+        make_region(alloc, process, g, pid, range, watched, kind, prot, total)?;
         take(&mut self.commit, pages);
         Ok(())
     }

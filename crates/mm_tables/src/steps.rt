@@ -222,6 +222,7 @@ pub(crate) fn make_region<G: Pages>(
     g: &mut G,
     pid: Pid,
     range: PageRange,
+    watched: bool,
     kind: u32,
     prot: u32,
     total: u32,
@@ -232,7 +233,7 @@ pub(crate) fn make_region<G: Pages>(
     requires some { 1 ≤ range.count }
     requires prot { is_protection_among private_protections prot ≡ true }
     requires can { CanMake pid range kind total (regions_of process.old) (G.contents g.old) (G.store g.old) }
-    ensures changed { OnOk result (Became process.old process.new (add_region (private_region blank kind prot range) (regions_of process.old))) }
+    ensures changed { OnOk result (Became process.old process.new (add_region (private_region blank watched kind prot range) (regions_of process.old))) }
     ensures stored { OnOk result (Stored pid range (keys_of kind) Makes true (G.contents g.old) (G.contents g.new) (G.store g.old) (G.store g.new)) }
     ensures counted { OnOk result ((G.store g.new).paging_keys ≡ (G.store g.old).paging_keys + new_pages kind range) }
     ensures room { OnOk result (total ≤ (G.store g.new).room) }
@@ -247,7 +248,7 @@ pub(crate) fn make_region<G: Pages>(
     let Some(process) = process else {
         unreachable!()
     };
-    let region = NewRegion::private(alloc, kind, prot, range)?;
+    let region = NewRegion::private(alloc, watched, kind, prot, range)?;
     grow_for_region(&mut process.space, g, pid, range, total)?;
     fill_region(&process.space, g, pid, range, kind);
     process.space.add(region);

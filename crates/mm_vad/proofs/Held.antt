@@ -3,14 +3,12 @@ use Rattle.std.proofs.Common.{◌≡◌, ◌≢◌, ℕ, suc, ◌+◌, ◌-◌, 
 use Rattle.std.specs.Prelude.{find, insert, remove, count_by, nat_lt, ◌==◌, not, option_and_then, IsSomeAnd, All}
 use Rattle.std.specs.List.{cons_option, position_or_len, list_any}
 use Rattle.std.proofs.lemmas.Bool.{eqb-true, eqb-false, ltb-true, ltb-false, lt-ltb, le-ltb, and_from, or_parts}
-use Rattle.std.proofs.lemmas.List.{length-set}
 use Rattle.std.proofs.lemmas.List.Elements.{All-nil, All-cons}
 use Rattle.std.proofs.lemmas.List.Sums.{sum_by-cons}
 use Rattle.mm_types.specs.Address.{Range, end_of, meets, holds_page, first_user_page}
 use Rattle.mm_gaps.specs.Ranges.{LieApart, add_range, remove_range}
-use Rattle.mm_vad.specs.declared.pages.Row.{Row}
 use Rattle.mm_vad.specs.declared.regions.Region.{Region}
-use Rattle.mm_vad.specs.Regions.{IsSpace, pages_of, ranges_of, holds, begins_at, with_row, add_region, remove_region, set_row}
+use Rattle.mm_vad.specs.Regions.{IsSpace, HasFlags, pages_of, ranges_of, holds, begins_at, add_region, remove_region, change_region}
 use Rattle.mm_vad.specs.Index.{regions_of, IsHeld, AllHeld, IsIndex}
 
 -- a range and the region of just its pages
@@ -19,17 +17,18 @@ pub record Pair (found : ℕ → Option Region) (r : Range) : Type 0 where
   pub there : found r.first ≡ Some region
   pub pages : pages_of region ≡ r
   pub whole : length region.rows ≡ r.count
+  pub flags : HasFlags r.count region
 
 pub pair_of : (found : ℕ → Option Region) (r : Range) → IsHeld found r → Pair found r
 pair_of found r h =
-    elim (found r.first) as (λ o. found r.first ≡ o → IsSomeAnd o (λ region. (pages_of region ≡ r) × (length region.rows ≡ r.count)) → Pair found r) [
+    elim (found r.first) as (λ o. found r.first ≡ o → IsSomeAnd o (λ region. (pages_of region ≡ r) × (length region.rows ≡ r.count) × HasFlags r.count region) → Pair found r) [
       | None ↦ λ e k. absurd k
-      | Some region ↦ λ e k. record { region = region; there = e; pages = k.0; whole = k.1 }
+      | Some region ↦ λ e k. record { region = region; there = e; pages = k.0; whole = k.1; flags = k.2 }
     ] refl h
 
-held_from : (found : ℕ → Option Region) (r : Range) (region : Region) → found r.first ≡ Some region → pages_of region ≡ r → length region.rows ≡ r.count → IsHeld found r
-held_from found r region e p w =
-    subst (λ (o : Option Region). IsSomeAnd o (λ g. (pages_of g ≡ r) × (length g.rows ≡ r.count))) (sym e) (p, w)
+held_from : (found : ℕ → Option Region) (r : Range) (region : Region) → found r.first ≡ Some region → pages_of region ≡ r → length region.rows ≡ r.count → HasFlags r.count region → IsHeld found r
+held_from found r region e p w flags =
+    subst (λ (o : Option Region). IsSomeAnd o (λ g. (pages_of g ≡ r) × (length g.rows ≡ r.count) × HasFlags r.count g)) (sym e) (p, w, flags)
 
 regions_cons : (found : ℕ → Option Region) (r : Range) (rs : List Range) (region : Region) → found r.first ≡ Some region → regions_of found (r ∷ rs) ≡ region ∷ regions_of found rs
 regions_cons found r rs region e = ap (λ (o : Option Region). cons_option o (regions_of found rs)) e
@@ -50,11 +49,20 @@ all_whole found (r ∷ rs) h =
     (All-cons (λ (g : Region). length g.rows ≡ g.pages) p.region (regions_of found rs)
     (p.whole ∙ sym (ap (λ (x : Range). x.count) p.pages)) (all_whole found rs h.1))
 
+all_flags : (found : ℕ → Option Region) (rs : List Range) → AllHeld found rs → All (λ g. HasFlags g.pages g) (regions_of found rs)
+all_flags found [] h = All-nil (λ (g : Region). HasFlags g.pages g)
+all_flags found (r ∷ rs) h =
+    let p = pair_of found r h.0 in
+    subst (λ (gs : List Region). All (λ g. HasFlags g.pages g) gs) (sym (regions_cons found r rs p.region p.there))
+    (All-cons (λ (g : Region). HasFlags g.pages g) p.region (regions_of found rs)
+    (subst (λ (n : ℕ). HasFlags n p.region) (sym (ap (λ (x : Range). x.count) p.pages)) p.flags) (all_flags found rs h.1))
+
 -- what callers are told
 pub is_space : (found : ℕ → Option Region) (rs : List Range) → IsIndex found rs → IsSpace (regions_of found rs)
 is_space found rs i = record {
   apart = subst (LieApart first_user_page) (sym (ranges_of-regions_of found rs i.held)) i.apart;
   whole = all_whole found rs i.held;
+  flags = all_flags found rs i.held;
 }
 
 -- ---- finding
@@ -99,7 +107,7 @@ same_regions found other (r ∷ rs) s =
     ∙ ap (cons_option (found r.first)) (same_regions found other rs s.1)
 
 same_held_one : (found other : ℕ → Option Region) (r : Range) → other r.first ≡ found r.first → IsHeld found r → IsHeld other r
-same_held_one found other r e h = let p = pair_of found r h in held_from other r p.region (e ∙ p.there) p.pages p.whole
+same_held_one found other r e h = let p = pair_of found r h in held_from other r p.region (e ∙ p.there) p.pages p.whole p.flags
 
 same_held : (found other : ℕ → Option Region) (rs : List Range) → Same found other rs → AllHeld found rs → AllHeld other rs
 same_held found other [] s h = tt
@@ -117,6 +125,7 @@ pub record Adds (found other : ℕ → Option Region) (new : Range) (region : Re
   pub there : other new.first ≡ Some region
   pub pages : pages_of region ≡ new
   pub whole : length region.rows ≡ new.count
+  pub flags : HasFlags new.count region
   pub some : 0 < new.count
   pub kept : (q : ℕ) → q ≢ new.first → other q ≡ found q
 
@@ -146,7 +155,7 @@ add_after g gs region h =
 pub add_held : (low : ℕ) (found other : ℕ → Option Region) (new : Range) (region : Region) (rs : List Range) → Adds found other new region → LieApart low rs → AllHeld found rs → list_any (meets new) rs ≡ false → Becomes other (add_range new rs) (add_region (regions_of found rs) region)
 add_held low found other new region [] w a h free = record {
   shown = ap (λ (o : Option Region). cons_option o []) w.there;
-  held = (held_from other new region w.there w.pages w.whole, tt);
+  held = (held_from other new region w.there w.pages w.whole w.flags, tt);
 }
 add_held low found other new region (x ∷ xs) w a h free =
     elim (nat_lt new.first x.first) as (λ b. nat_lt new.first x.first ≡ b → Becomes other (cond b (new ∷ x ∷ xs) (x ∷ add_range new xs)) (add_region (regions_of found (x ∷ xs)) region)) [
@@ -161,7 +170,7 @@ add_held low found other new region (x ∷ xs) w a h free =
             shown = regions_cons other new (x ∷ xs) region w.there
                 ∙ ap (λ (gs : List Region). region ∷ gs) (same_regions found other (x ∷ xs) same)
                 ∙ sym (ap (λ (n : ℕ). insert olds n region) first);
-            held = (held_from other new region w.there w.pages w.whole, same_held found other (x ∷ xs) same h);
+            held = (held_from other new region w.there w.pages w.whole w.flags, same_held found other (x ∷ xs) same h);
           })
       | false ↦ λ e. (
           let apart = or_parts (meets new x) (list_any (meets new) xs) free in
@@ -230,51 +239,59 @@ remove_held low base found other (x ∷ xs) a h kept =
           })
     ] refl
 
--- ---- one row changed
+-- ---- one region changed
 
--- the region found at one base has the row of a page changed, and elsewhere is found what was found before
-pub record Rewrites (found other : ℕ → Option Region) (page base : ℕ) (row : Row) (region : Region) : Type 0 where
+-- the change leaves the region its pages, with a row for each and, where it is watched, a flag
+pub record Keeps (change : Region → Region) (g : Region) : Type 0 where
+  pub pages : pages_of (change g) ≡ pages_of g
+  pub rows : length (change g).rows ≡ length g.rows
+  pub flags : (n : ℕ) → HasFlags n g → HasFlags n (change g)
+
+-- the region found at one base is changed, and elsewhere is found what was found before
+pub record Rewrites (found other : ℕ → Option Region) (change : Region → Region) (base : ℕ) (region : Region) : Type 0 where
   pub there : found base ≡ Some region
-  pub after : other base ≡ Some (with_row page row region)
+  pub after : other base ≡ Some (change region)
+  pub keeps : Keeps change region
   pub kept : (q : ℕ) → q ≢ base → other q ≡ found q
 
-pub set_here : (page : ℕ) (row : Row) (g : Region) (gs : List Region) → holds page g ≡ true → set_row (g ∷ gs) page row ≡ with_row page row g ∷ gs
-set_here page row g gs e = ap (λ (b : Bool). cond b (with_row page row g ∷ gs) (g ∷ set_row gs page row)) e
+pub change_here : (change : Region → Region) (page : ℕ) (g : Region) (gs : List Region) → holds page g ≡ true → change_region change (g ∷ gs) page ≡ change g ∷ gs
+change_here change page g gs e = ap (λ (b : Bool). cond b (change g ∷ gs) (g ∷ change_region change gs page)) e
 
-pub set_later : (page : ℕ) (row : Row) (g : Region) (gs : List Region) → holds page g ≡ false → set_row (g ∷ gs) page row ≡ g ∷ set_row gs page row
-set_later page row g gs e = ap (λ (b : Bool). cond b (with_row page row g ∷ gs) (g ∷ set_row gs page row)) e
+pub change_later : (change : Region → Region) (page : ℕ) (g : Region) (gs : List Region) → holds page g ≡ false → change_region change (g ∷ gs) page ≡ g ∷ change_region change gs page
+change_later change page g gs e = ap (λ (b : Bool). cond b (change g ∷ gs) (g ∷ change_region change gs page)) e
 
-pub set_held : (low page : ℕ) (found other : ℕ → Option Region) (row : Row) (region : Region) (at : Range) (rs : List Range) → Rewrites found other page at.first row region → LieApart low rs → AllHeld found rs → find (λ r. holds_page r page) rs ≡ Some at → Becomes other rs (set_row (regions_of found rs) page row)
-set_held low page found other row region at [] w a h e = cc
-set_held low page found other row region at (x ∷ xs) w a h e =
+pub change_held : (low page : ℕ) (found other : ℕ → Option Region) (change : Region → Region) (region : Region) (at : Range) (rs : List Range) → Rewrites found other change at.first region → LieApart low rs → AllHeld found rs → find (λ r. holds_page r page) rs ≡ Some at → Becomes other rs (change_region change (regions_of found rs) page)
+change_held low page found other change region at [] w a h e = cc
+change_held low page found other change region at (x ∷ xs) w a h e =
     let p = pair_of found x h.0 in
     let held : holds page p.region ≡ holds_page x page = ap (λ (r : Range). holds_page r page) p.pages in
-    let cons = ap (λ (gs : List Region). set_row gs page row) (regions_cons found x xs p.region p.there) in
-    elim (holds_page x page) as (λ b. holds_page x page ≡ b → cond b (Some x) (find (λ r. holds_page r page) xs) ≡ Some at → Becomes other (x ∷ xs) (set_row (regions_of found (x ∷ xs)) page row)) [
+    let cons = ap (λ (gs : List Region). change_region change gs page) (regions_cons found x xs p.region p.there) in
+    elim (holds_page x page) as (λ b. holds_page x page ≡ b → cond b (Some x) (find (λ r. holds_page r page) xs) ≡ Some at → Becomes other (x ∷ xs) (change_region change (regions_of found (x ∷ xs)) page)) [
       | true ↦ λ t k. (
           let same_range : x ≡ at = cc in
           let same_first : at.first ≡ x.first = ap (λ (r : Range). r.first) (sym same_range) in
           let there : found x.first ≡ Some region = ap found (sym same_first) ∙ w.there in
           let both : Some p.region ≡ Some region = sym p.there ∙ there in
           let same_region : p.region ≡ region = cc in
-          let after : other x.first ≡ Some (with_row page row p.region) =
-          ap other (sym same_first) ∙ w.after ∙ ap (λ (g : Region). Some (with_row page row g)) (sym same_region) in
+          let after : other x.first ≡ Some (change p.region) =
+          ap other (sym same_first) ∙ w.after ∙ ap (λ (g : Region). Some (change g)) (sym same_region) in
+          let keeps = subst (Keeps change) (sym same_region) w.keeps in
           let same = same_above found other (end_of x) x.first xs a.1 (omega (arith, a.0.some)) (λ q ne. w.kept q (λ i. ne (i ∙ same_first))) in
           record {
-            shown = regions_cons other x xs (with_row page row p.region) after
-                ∙ ap (λ (gs : List Region). with_row page row p.region ∷ gs) (same_regions found other xs same)
-                ∙ sym (set_here page row p.region (regions_of found xs) (held ∙ t))
+            shown = regions_cons other x xs (change p.region) after
+                ∙ ap (λ (gs : List Region). change p.region ∷ gs) (same_regions found other xs same)
+                ∙ sym (change_here change page p.region (regions_of found xs) (held ∙ t))
                 ∙ sym cons;
-            held = (held_from other x (with_row page row p.region) after p.pages (length-set p.region.rows (page - p.region.base.0) row ∙ p.whole), same_held found other xs same h.1);
+            held = (held_from other x (change p.region) after (keeps.pages ∙ p.pages) (keeps.rows ∙ p.whole) (keeps.flags x.count p.flags), same_held found other xs same h.1);
           })
       | false ↦ λ f k. (
           let beyond = find_low (end_of x) (λ r. holds_page r page) xs at a.1 k in
           let differ : x.first ≢ at.first = λ i. omega (arith, a.0.some) in
-          let rest = set_held (end_of x) page found other row region at xs w a.1 h.1 k in
+          let rest = change_held (end_of x) page found other change region at xs w a.1 h.1 k in
           record {
             shown = regions_cons other x xs p.region (w.kept x.first differ ∙ p.there)
                 ∙ ap (λ (gs : List Region). p.region ∷ gs) rest.shown
-                ∙ sym (set_later page row p.region (regions_of found xs) (held ∙ f))
+                ∙ sym (change_later change page p.region (regions_of found xs) (held ∙ f))
                 ∙ sym cons;
             held = (same_held_one found other x (w.kept x.first differ) h.0, rest.held);
           })

@@ -4,3 +4,6 @@ pub mod Lookups
 pub mod Nothing
 pub mod Places
 pub mod Runs
+pub mod Unwritten
+pub mod Chunked
+pub mod Joined

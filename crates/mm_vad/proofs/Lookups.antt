@@ -1,7 +1,7 @@
 -- What a look-up by a range tells of the list of regions.
-use Rattle.std.proofs.Common.{◌≡◌, ℕ, ◌-◌, ◌<◌, ◌≤◌, Bool, true, false, cond, List, [], ◌∷◌, length, Option, Some, None, refl, sym, ap, ◌∙◌, subst, arith}
+use Rattle.std.proofs.Common.{◌≡◌, ℕ, ◌+◌, ◌-◌, ◌<◌, ◌≤◌, Bool, true, false, cond, List, [], ◌∷◌, length, Option, Some, None, refl, sym, ap, ◌∙◌, subst, arith}
 use Rattle.std.specs.List.{list_any}
-use Rattle.std.specs.Prelude.{◌||◌, find, option_map, option_and_then, ◌==◌, nat_le, nat_lt, All}
+use Rattle.std.specs.Prelude.{◌||◌, find, option_map, option_and_then, ◌==◌, nat_le, nat_lt, All, IsSomeAnd}
 use Rattle.std.proofs.lemmas.Bool.{eqb-true, leb-true, ltb-true, and_parts, or_parts}
 use Rattle.std.proofs.lemmas.List.Elements.{All-head, All-tail}
 use Rattle.std.proofs.lemmas.Option.{some_pair_parts}
@@ -10,7 +10,7 @@ use Rattle.mm_types.specs.Address.{Range, end_of, holds_page}
 use Rattle.mm_gaps.specs.Ranges.{page_number, is_begun_at}
 use Rattle.mm_gaps.specs.Ranges.{pages_of as told_of}
 use Rattle.mm_vad.specs.declared.regions.Region.{Region}
-use Rattle.mm_vad.specs.Regions.{pages_of, holds, region_at, region_with_base}
+use Rattle.mm_vad.specs.Regions.{HasFlags, LieInRegion, LieAmong, LieWithPage, pages_of, holds, region_at, region_with_base}
 use Rattle.mm_vad.specs.Index.{regions_of, IsHeld, AllHeld, IsIndex}
 use Rattle.mm_vad.proofs.Held.{pair_of, find_held}
 
@@ -28,6 +28,14 @@ told_some (Some r) base n e =
 pub told_none : (o : Option Range) → None ≡ option_map told_of o → o ≡ None
 told_none None e = refl
 told_none (Some r) e = cc
+
+-- the page is one of the region's
+pub record HasPage (g : Region) (page : ℕ) : Type 0 where
+  pub low : g.base.0 ≤ page
+  pub high : page - g.base.0 < g.pages
+  pub row : page - g.base.0 < length g.rows
+  pub whole : length g.rows ≡ g.pages
+  pub flags : HasFlags g.pages g
 
 -- what a search among regions finds passes its test, and has as many rows as pages
 found_region : (t : Region → Bool) (gs : List Region) (g : Region) → All (λ r. length r.rows ≡ r.pages) gs → find t gs ≡ Some g → (t g ≡ true) × (length g.rows ≡ g.pages)
@@ -48,6 +56,10 @@ row_there gs page g a e =
     let low = leb-true g.base.0 page both.0 in
     let high = ltb-true page (end_of (pages_of g)) both.1 in
     (low, omega (arith, f.1))
+
+-- the region in which a page lies has a row for each of its pages
+pub rows_whole : (gs : List Region) (page : ℕ) (g : Region) → All (λ r. length r.rows ≡ r.pages) gs → region_at gs page ≡ Some g → length g.rows ≡ g.pages
+rows_whole gs page g a e = (found_region (holds page) gs g a e).1
 
 -- what a search among ranges finds passes its test, and a region is held at it
 pub found_range : (found : ℕ → Option Region) (t : Range → Bool) (rs : List Range) (r : Range) → AllHeld found rs → find t rs ≡ Some r → (t r ≡ true) × IsHeld found r
@@ -95,15 +107,27 @@ module _ (found : ℕ → Option Region) (ranges : List Range) (index : IsIndex 
       ∙ ap found (eqb-true one.0.first base one.2)
 
   -- the region that is found at the first page of the range of the page
-  pub region_there : (page base : ℕ) (region : Region) → Told (find (λ r. holds_page r page) ranges) base → found base ≡ Some region → (region.base.0 ≡ base) × (base ≤ page) × (page - base < length region.rows)
+  pub region_there : (page base : ℕ) (region : Region) → Told (find (λ r. holds_page r page) ranges) base → found base ≡ Some region → HasPage region page
   region_there page base region told e =
       let f = found_range found (λ r. holds_page r page) ranges told.range index.held told.is in
       let p = pair_of found told.range f.1 in
       let both : Some p.region ≡ Some region = sym p.there ∙ ap found told.first ∙ e in
       let same : p.region ≡ region = cc in
-      let at : p.region.base.0 ≡ told.range.first = ap (λ (r : Range). r.first) p.pages in
       let sides = and_parts (nat_le told.range.first page) (nat_lt page (end_of told.range)) f.0 in
       let low = leb-true told.range.first page sides.0 in
       let high = ltb-true page (end_of told.range) sides.1 in
-      let rows : length p.region.rows ≡ length region.rows = ap (λ (g : Region). length g.rows) same in
-      (sym (ap (λ (g : Region). g.base.0) same) ∙ at ∙ told.first, omega (arith, told.first), omega (arith, told.first, p.whole, rows))
+      subst (λ (g : Region). HasPage g page) same
+      (record {
+        low = omega (arith, low, ap (λ (r : Range). r.first) p.pages);
+        high = omega (arith, high, ap (λ (r : Range). r.first) p.pages, ap (λ (r : Range). r.count) p.pages);
+        row = omega (arith, high, ap (λ (r : Range). r.first) p.pages, p.whole);
+        whole = p.whole ∙ sym (ap (λ (r : Range). r.count) p.pages);
+        flags = subst (λ (n : ℕ). HasFlags n p.region) (sym (ap (λ (r : Range). r.count) p.pages)) p.flags;
+      })
+
+-- pages that lie in one region lie in the one that is found at the first of them
+pub lie_in : (gs : List Region) (page n : ℕ) (o : Option Region) → region_at gs page ≡ o → LieInRegion gs page n → IsSomeAnd o (λ r. page - r.base.0 + n ≤ r.pages)
+lie_in gs page n o e lie = subst (λ (x : Option Region). IsSomeAnd x (λ r. page - r.base.0 + n ≤ r.pages)) e lie
+
+pub lie_with : (gs : List Region) (page : ℕ) (addresses : List ℕ) (o : Option Region) → region_at gs page ≡ o → LieWithPage gs page addresses → IsSomeAnd o (λ r. LieAmong r.base.0 r.pages addresses)
+lie_with gs page addresses o e lie = subst (λ (x : Option Region). IsSomeAnd x (λ r. LieAmong r.base.0 r.pages addresses)) e lie

@@ -5,25 +5,24 @@ use Rattle.std.specs.List.{position_or_len}
 use Rattle.std.proofs.lemmas.List.Elements.{All-nil, All-cons}
 use Rattle.mm_types.specs.Address.{end_of, first_user_page}
 use Rattle.mm_gaps.specs.Ranges.{LieApart, FollowsFrom}
-use Rattle.mm_vad.specs.declared.pages.Row.{Row}
 use Rattle.mm_vad.specs.declared.regions.Region.{Region}
-use Rattle.mm_vad.specs.Regions.{IsSpace, pages_of, ranges_of, holds, region_at, with_row, set_row}
-use Rattle.mm_vad.proofs.Held.{set_here, set_later}
+use Rattle.mm_vad.specs.Regions.{IsSpace, pages_of, ranges_of, holds, region_at, change_region}
+use Rattle.mm_vad.proofs.Held.{change_here, change_later}
 
--- a row is written in the first region that holds the page
-pub set_row_at : (gs : List Region) (page : ℕ) (row : Row) (g : Region) → region_at gs page ≡ Some g → set_row gs page row ≡ slice_set gs (position_or_len (holds page) gs) (with_row page row g)
-set_row_at [] page row g e = cc
-set_row_at (x ∷ xs) page row g e =
+-- the region that is changed is the first that holds the page
+pub change_region_at : (change : Region → Region) (gs : List Region) (page : ℕ) (g : Region) → region_at gs page ≡ Some g → change_region change gs page ≡ slice_set gs (position_or_len (holds page) gs) (change g)
+change_region_at change [] page g e = cc
+change_region_at change (x ∷ xs) page g e =
     let later = position_or_len (holds page) xs in
     let next : 1 + later ≡ suc later = omega arith in
-    elim (holds page x) as (λ b. holds page x ≡ b → cond b (Some x) (find (holds page) xs) ≡ Some g → set_row (x ∷ xs) page row ≡ slice_set (x ∷ xs) (cond (not b) (1 + later) 0) (with_row page row g)) [
+    elim (holds page x) as (λ b. holds page x ≡ b → cond b (Some x) (find (holds page) xs) ≡ Some g → change_region change (x ∷ xs) page ≡ slice_set (x ∷ xs) (cond (not b) (1 + later) 0) (change g)) [
       | true ↦ λ t k. (
           let same : x ≡ g = cc in
-          set_here page row x xs t ∙ ap (λ (r : Region). with_row page row r ∷ xs) same)
+          change_here change page x xs t ∙ ap (λ (r : Region). change r ∷ xs) same)
       | false ↦ λ f k.
-          set_later page row x xs f
-          ∙ ap (λ (rs : List Region). x ∷ rs) (set_row_at xs page row g k)
-          ∙ sym (ap (λ (n : ℕ). slice_set (x ∷ xs) n (with_row page row g)) next)
+          change_later change page x xs f
+          ∙ ap (λ (rs : List Region). x ∷ rs) (change_region_at change xs page g k)
+          ∙ sym (ap (λ (n : ℕ). slice_set (x ∷ xs) n (change g)) next)
     ] refl e
 
 -- each region has a page, and all of them are user pages

@@ -1,3 +1,4 @@
 pub mod Looks
 pub mod Regions
 pub mod Index
+pub mod Chunks

@@ -2,6 +2,7 @@
 //! Internals), without any page's contents.
 #![tactic(auto)]
 
+mod chunks;
 mod pages;
 mod regions;
 mod spaces;

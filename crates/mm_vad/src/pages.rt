@@ -1,5 +1,6 @@
-ghost use Rattle.std.specs.Prelude.{◌≡◌, ◌+◌, ◌-◌, ◌<◌, ◌≤◌, ◌^◌, length, replicate, slice_get, slice_set, Some, IfOk, IsTrue, ◌↔◌};
+ghost use Rattle.std.specs.Prelude.{◌≡◌, ◌+◌, ◌-◌, ◌<◌, ◌≤◌, ◌^◌, length, replicate, slice_get, slice_set, Some, IfOk, IsTrue, ◌↔◌, take, drop};
 
+use crate::chunks::{CHUNK, Chunks};
 use mm_types::{NoMemory, Prot};
 use std::alloc::Global;
 use std::marker::Model;
@@ -41,49 +42,61 @@ const BLOCK: usize = 64;
 /// The rows of a region, one for each page, in the order of its pages.
 #[derive(Drop)]
 pub struct Rows {
-    rows: Vec<Row>,
+    chunks: Chunks,
+    // The rows behind the last whole chunk.
+    rest: Vec<Row>,
 }
 
 impl Model for Rows {
-    ghost use Rattle.std.specs.Prelude.{ℕ, List, length, ◌<◌, ◌^◌};
+    ghost use Rattle.std.specs.Prelude.{List};
     ghost use Rattle.mm_vad.specs.declared.pages.Row.{Row};
+    ghost use Rattle.mm_vad.specs.Chunks.{joined, AreRows};
 
     ghost Value = { List Row };
 
-    ghost view = { λ r. r.rows.items };
+    ghost view = { λ r. joined r.chunks r.rest.items };
 
-    ghost invariant = { λ r. length r.rows.items < 2 ^ 32 };
+    ghost invariant = { λ r. AreRows r.chunks r.rest.items };
+}
+
+// `n` rows, each equal to `row`.
+fn equal_rows(alloc: Global, n: usize, row: Row) -> Result<Vec<Row>, NoMemory>
+    ensures { IfOk result (λ rows. rows.items ≡ replicate n row) }
+{
+    let mut rows = Vec::with_capacity(alloc, n)?;
+    let block = [row; BLOCK];
+    for _ in 0..n / BLOCK {
+        rows.extend_from_slice(&block)?;
+    }
+    rows.extend_from_slice(&block[..n % BLOCK])?;
+    Ok(rows)
 }
 
 impl Rows {
     ghost use Rattle.mm_vad.specs.Looks.{run_from};
+    ghost use Rattle.mm_vad.specs.Chunks.{filled};
 
     /// `n` rows, each equal to `row`. `NoMemory` where a request for memory was refused.
     pub fn new(alloc: Global, n: u32, row: Row) -> Result<Rows, NoMemory>
         ensures { IfOk result (λ rows. rows ≡ replicate n row) }
     {
-        let whole = n as usize;
-        let mut rows = Vec::with_capacity(alloc, whole)?;
-        let block = [row; BLOCK];
-        for _ in 0..whole / BLOCK {
-            rows.extend_from_slice(&block)?;
-        }
-        rows.extend_from_slice(&block[..whole % BLOCK])?;
-        Ok(Rows { rows })
+        let chunks = Chunks::new(alloc, n as usize / CHUNK, row)?;
+        let rest = equal_rows(alloc, n as usize % CHUNK, row)?;
+        Ok(Rows { chunks, rest })
     }
 
     /// How many rows there are.
     pub fn len(&self) -> u32
         ensures { result ≡ length self.now }
     {
-        self.rows.len() as u32
+        (self.chunks.count() * CHUNK + self.rest.len()) as u32
     }
 
     /// Whether there is no row.
     pub fn is_empty(&self) -> bool
         ensures { IsTrue result ↔ (length self.now ≡ 0) }
     {
-        self.rows.is_empty()
+        self.len() == 0
     }
 
     /// Row `i`, counted from 0.
@@ -91,7 +104,13 @@ impl Rows {
         requires { i < length self.now }
         ensures { slice_get self.now i ≡ Some result }
     {
-        self.rows[i as usize]
+        let (index, at) = (i as usize / CHUNK, i as usize % CHUNK);
+        let whole = self.chunks.count();
+        if index < whole {
+            self.chunks.get(index, at)
+        } else {
+            self.rest[i as usize - whole * CHUNK]
+        }
     }
 
     /// Writes `row` over row `i`.
@@ -99,7 +118,64 @@ impl Rows {
         requires { i < length self.old }
         ensures { self.new ≡ slice_set self.old i row }
     {
-        self.rows[i as usize] = row;
+        let (index, at) = (i as usize / CHUNK, i as usize % CHUNK);
+        let whole = self.chunks.count();
+        if index < whole {
+            self.chunks.set(index, at, row);
+        } else {
+            self.rest[i as usize - whole * CHUNK] = row;
+        }
+    }
+
+    /// Row `i`, and how many rows from it on are known to be equal to it: at least one, and those up to the end of a
+    /// chunk that was not written out.
+    pub fn equal_from(&self, i: u32) -> (Row, u32)
+        requires { i < length self.now }
+        ensures some { 0 < result.1 }
+        ensures within { i + result.1 ≤ length self.now }
+        ensures equal { take result.1 (drop i self.now) ≡ replicate result.1 result.0 }
+    {
+        let (index, at) = (i as usize / CHUNK, i as usize % CHUNK);
+        if index < self.chunks.count()
+            && let Some(row) = self.chunks.equal_row(index)
+        {
+            return (row, (CHUNK - at) as u32);
+        }
+        (self.get(i), 1)
+    }
+
+    /// The `n` rows from row `first` on become `row`.
+    pub fn fill(&mut self, first: u32, n: u32, row: Row)
+        requires { first + n ≤ length self.old }
+        ensures { self.new ≡ filled self.old first n row }
+    {
+        // that their number is a `u32`
+        let _ = &self.chunks;
+        let mut done = 0;
+        while done < n {
+            done += self.fill_some(first + done, n - done, row);
+        }
+    }
+
+    // Some of the `n` rows from row `first` on, at least one, become `row`; how many.
+    fn fill_some(&mut self, first: u32, n: u32, row: Row) -> u32
+        requires inside { first + n ≤ length self.old }
+        requires some { 0 < n }
+        ensures some { 0 < result }
+        ensures within { result ≤ n }
+        ensures after { self.new ≡ filled self.old first result row }
+    {
+        let index = first as usize / CHUNK;
+        if first as usize % CHUNK == 0 && n as usize >= CHUNK && index < self.chunks.count() {
+            self.chunks.fill(index, row);
+            return CHUNK as u32;
+        }
+        let (before, equal) = self.equal_from(first);
+        if before == row {
+            return equal.min(n);
+        }
+        self.set(first, row);
+        1
     }
 
     /// How many rows from row `i` on are alike in state, protection and guard; at least one.
@@ -109,10 +185,14 @@ impl Rows {
         ensures within { i + result ≤ length self.now }
     {
         let len = self.len();
-        let first = self.get(i);
-        let mut end = i + 1;
-        while end < len && first.is_like(self.get(end)) {
-            end += 1;
+        let (first, equal) = self.equal_from(i);
+        let mut end = i + equal;
+        while end < len {
+            let (row, equal) = self.equal_from(end);
+            if !first.is_like(row) {
+                return end - i;
+            }
+            end += equal;
         }
         end - i
     }

@@ -1,11 +1,11 @@
-ghost use Rattle.std.specs.Prelude.{◌≡◌, ◌+◌, ◌-◌, ◌<◌, ◌≤◌, [], length, IsTrue, IsSome, OnOk, OnErr, option_map};
+ghost use Rattle.std.specs.Prelude.{◌≡◌, ◌+◌, ◌-◌, ◌<◌, ◌≤◌, true, false, [], length, IsTrue, IsSome, OnOk, OnErr, option_map};
 ghost use Rattle.std.specs.Option.{option_copied};
 ghost use Rattle.mm_types.specs.Address.{is_free, lowest_gap};
 ghost use Rattle.mm_gaps.specs.Ranges.{page_number};
 
 use crate::{Region, Row};
 use mm_gaps::{Gaps, Steps, Uncounted};
-use mm_types::{FIRST_USER_PAGE, NoMemory, Vpn};
+use mm_types::{FIRST_USER_PAGE, NoMemory, PageList, Vpn};
 use std::alloc::Global;
 use std::collections::HashMap;
 use std::marker::Model;
@@ -33,7 +33,7 @@ impl Model for Space {
 }
 
 impl Space {
-    ghost use Rattle.mm_vad.specs.Regions.{IsSpace, ranges_of, pages_of, region_at, region_from, region_with_base, add_region, remove_region, set_row, run_of_equal};
+    ghost use Rattle.mm_vad.specs.Regions.{IsSpace, ranges_of, pages_of, region_at, region_from, region_with_base, HasFlags, LieInRegion, LieWithPage, add_region, remove_region, change_region, set_row, fill_rows, set_marks, with_unwritten, run_of_equal};
 
     /// No region, and no spare room.
     pub fn new(alloc: Global) -> Space
@@ -75,7 +75,71 @@ impl Space {
         let Some(region) = self.regions.get_mut(&base.0) else {
             unreachable!()
         };
-        region.rows.set(v.0 - base.0, row);
+        region.set_row(v, row);
+    }
+
+    /// Writes `row` over the rows of the `n` pages from `first` on, which lie in one region.
+    pub fn fill_rows(&mut self, first: Vpn, n: u32, row: Row)
+        requires { LieInRegion self.old.regions first.0 n }
+        ensures after { self.new ≡ record self.old { regions = fill_rows self.old.regions first.0 n row } }
+        ensures sound { IsSpace self.new.regions }
+    {
+        let Some((base, _)) = self.taken.at(first) else {
+            unreachable!()
+        };
+        let Some(region) = self.regions.get_mut(&base.0) else {
+            unreachable!()
+        };
+        region.fill_rows(first, n, row);
+    }
+
+    /// A write to page `v`, which lies in a region, was done: the page is written from now on, where the region is
+    /// watched.
+    pub fn mark(&mut self, v: Vpn)
+        requires { IsSome (region_at self.old.regions v.0) }
+        ensures after { self.new ≡ record self.old { regions = set_marks true self.old.regions v.0 1 } }
+        ensures sound { IsSpace self.new.regions }
+    {
+        let Some((base, _)) = self.taken.at(v) else {
+            unreachable!()
+        };
+        let Some(region) = self.regions.get_mut(&base.0) else {
+            unreachable!()
+        };
+        region.mark(v);
+    }
+
+    /// The `n` pages from `first` on, which lie in one region, are unwritten from now on, where the region is watched.
+    pub fn clear_marks(&mut self, first: Vpn, n: u32)
+        requires { LieInRegion self.old.regions first.0 n }
+        ensures after { self.new ≡ record self.old { regions = set_marks false self.old.regions first.0 n } }
+        ensures sound { IsSpace self.new.regions }
+    {
+        let Some((base, _)) = self.taken.at(first) else {
+            unreachable!()
+        };
+        let Some(region) = self.regions.get_mut(&base.0) else {
+            unreachable!()
+        };
+        region.clear_marks(first, n);
+    }
+
+    /// The pages at these addresses, all of them in the region of page `first`, are unwritten from now on, where that
+    /// region is watched.
+    pub fn unwrite(&mut self, first: Vpn, pages: &PageList)
+        requires { LieWithPage self.old.regions first.0 pages.now }
+        ensures after { self.new ≡ record self.old {
+          regions = change_region (with_unwritten pages.now) self.old.regions first.0;
+        } }
+        ensures sound { IsSpace self.new.regions }
+    {
+        let Some((base, _)) = self.taken.at(first) else {
+            unreachable!()
+        };
+        let Some(region) = self.regions.get_mut(&base.0) else {
+            unreachable!()
+        };
+        region.unwrite(pages);
     }
 
     /// The lowest granule from which `n` user pages are free, as its first page. None exactly where there is none.
@@ -117,6 +181,7 @@ impl Space {
         requires some { 0 < region.pages }
         requires free { IsTrue (is_free (ranges_of self.old.regions) (pages_of region)) }
         requires whole { length region.rows ≡ region.pages }
+        requires flags { HasFlags region.pages region }
         requires room { 1 ≤ self.old.spare }
         ensures after { self.new.regions ≡ add_region self.old.regions region }
         ensures room { self.old.spare ≤ self.new.spare + 1 }

@@ -16,10 +16,6 @@ pub get_or-flags : (words : List ℕ) (n i : ℕ) → i < n → get_or (flags wo
 unfolding flags
 get_or-flags words n i h = get_or-map-range_with_len (have_bit words) 0 n i i false h (omega arith)
 
-pub flags_none : (words : List ℕ) → flags words 0 ≡ []
-unfolding flags
-flags_none words = refl
-
 zero_word : (k j : ℕ) → ◌≡◌ {A = ℕ} (get_or (replicate k 0) j 0) 0
 zero_word zero j = refl
 zero_word (suc k) zero = refl

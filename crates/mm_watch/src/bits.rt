@@ -1,4 +1,4 @@
-ghost use Rattle.std.specs.Prelude.{◌≡◌, ℕ, ◌+◌, ◌*◌, ◌^◌, ◌<◌, ◌≤◌, Bool, true, false, length, replicate, [], IfOk, IfSome, IfNone};
+ghost use Rattle.std.specs.Prelude.{◌≡◌, ℕ, ◌+◌, ◌*◌, ◌^◌, ◌<◌, ◌≤◌, Bool, true, false, length, replicate, IfOk, IfSome, IfNone};
 ghost use Rattle.std.specs.Int.{bit_at};
 ghost use Rattle.mm_world.specs.Find.{change_range};
 ghost use Rattle.mm_watch.specs.Bits.{have_bit, flags, Becomes, NoneSet, IsNextSet, flag_at};
@@ -86,17 +86,7 @@ impl Model for Bits {
 }
 
 impl Bits {
-    /// No bit; takes no memory.
-    pub fn none(alloc: Global) -> Bits
-        ensures { result ≡ [] }
-    {
-        Bits {
-            words: Vec::new(alloc),
-            len: 0,
-        }
-    }
-
-    /// `n` bits, none of them set.
+    /// `n` bits, none of them set. `NoMemory` where a request for memory was refused.
     pub fn new(alloc: Global, n: u32) -> Result<Bits, NoMemory>
         ensures { IfOk result (λ bits. bits ≡ replicate n false) }
     {

@@ -1,15 +1,8 @@
-//! Write watch (GetWriteWatch, ResetWriteWatch): which pages of watched regions were written.
+//! A row of bits, one for each page of a watched region (MEM_WRITE_WATCH): which of them were written.
 #![tactic(auto)]
 
 mod bits;
-mod laws;
-mod regions;
 #[cfg(test)]
 mod tests;
-mod watches;
 
-pub use laws::{
-    lines_tell_written_pages, new_regions_are_not_written, pages_are_written_as_lines_tell,
-    ranges_tell_their_written_pages, resets_had_a_region,
-};
-pub use watches::Watch;
+pub use bits::Bits;

@@ -6,10 +6,11 @@ use Rattle.mm_types.specs.declared.views.Kind.{Kind}
 use Rattle.mm_types.specs.declared.views.Kind.TheVariants as kind
 use Rattle.mm_types.specs.declared.views.View.{View}
 use Rattle.mm_world.specs.World.{World, WorldOf, ProcessOf, RegionOf, RowOf, AreaOf, Page}
-use Rattle.mm_world.specs.Find.{process_of, area_at, no_area, shared_page}
+use Rattle.mm_world.specs.Rows.{one_page, mark_written}
+use Rattle.mm_world.specs.Find.{set_region, process_of, area_at, no_area, shared_page}
 use Rattle.mm_world.specs.Charge.{charge, limit, is_charged, region_charge, area_charge}
 use Rattle.mm_world.specs.Outcome.{OutcomeOf, done, refused}
-use Rattle.mm_world.specs.Keys.{Home, Own, InSection, Committed, committed_at, set_row, set_shared, guard_off}
+use Rattle.mm_world.specs.Keys.{Home, Own, InSection, Committed, committed_at, with_row, set_row, set_shared, guard_off}
 use Rattle.mm_world.specs.Access.{Attempt, ReadOf, WriteOf, Execute, access, access_at, perform, write_to, written, bytes_of}
 use Rattle.mm_world.proofs.Tables.{Holds, tables}
 use Rattle.mm_world.proofs.Finding.{found_stands, numbered_there, IsCommitted, committed_is, HomeCases, IsOwn, IsShared, home_cases}
@@ -31,6 +32,15 @@ module _ {B : Type 0} where
   charge-set_row w pid p c page new lives h e =
       let r = c.region.thing in
       let changed : RegionOf B = record r { rows = set r.rows (page - r.base) new } in
+      let rows : region_charge changed + counts_one r.kind c.row ≡ region_charge r + counts_one r.kind new =
+      sum_by-put (counts_one r.kind) r.rows (page - r.base) c.row new h.row_there in
+      let regions = charge-set_region w pid p c.region.place r changed lives (found_stands _ p.regions c.region h.region).there in
+      omega (arith, rows, regions, ap one_if e)
+
+  charge-set_marked : (w : WorldOf B) (pid : ℕ) (p : ProcessOf B) (c : Committed B) (page : ℕ) (new : RowOf B) (b : Bool) → process_of w pid ≡ Some p → IsCommitted w p.regions page c → is_charged c.region.thing.kind new ≡ is_charged c.region.thing.kind c.row → charge (set_region w pid p c.region.place (mark_written b (one_page page) (with_row page new c.region.thing))) ≡ charge w
+  charge-set_marked w pid p c page new b lives h e =
+      let r = c.region.thing in
+      let changed : RegionOf B = mark_written b (one_page page) (with_row page new r) in
       let rows : region_charge changed + counts_one r.kind c.row ≡ region_charge r + counts_one r.kind new =
       sum_by-put (counts_one r.kind) r.rows (page - r.base) c.row new h.row_there in
       let regions = charge-set_region w pid p c.region.place r changed lives (found_stands _ p.regions c.region h.region).there in
@@ -67,7 +77,7 @@ module _ {B : Type 0} where
 in_own : (w : World) (pid : ℕ) (p : ProcessOf Page) (c : Committed Page) (page offset : ℕ) (bytes old : List ℕ) → process_of w pid ≡ Some p → IsCommitted w p.regions page c → c.row.own ≡ Some old → charge (write_to w pid p c page offset bytes (Own old)) ≡ charge w
 in_own w pid p c page offset bytes old lives h own =
     let new : RowOf Page = record c.row { own = Some (written old offset bytes) } in
-    charge-set_row w pid p c page new lives h (own_charged c.region.thing.kind c.row new old own refl refl)
+    charge-set_marked w pid p c page new true lives h (own_charged c.region.thing.kind c.row new old own refl refl)
 
 view_charged : (k : Kind) (v : View) (row new : RowOf Page) → k ≡ kind.View v → new.marked ≡ row.marked → is_charged k new ≡ is_charged k row
 view_charged k v row new is marked = subst (λ k. is_charged k new ≡ is_charged k row) (sym is) marked

@@ -11,8 +11,9 @@ use Rattle.mm_types.specs.declared.views.Kind.TheVariants as kind
 use Rattle.mm_types.specs.declared.views.ViewAccess.{ViewAccess}
 use Rattle.mm_types.specs.Address.{end_of, holds_page, first_user_page}
 use Rattle.mm_types.specs.Spelling.{Text}
+use Rattle.mm_world.specs.Watch.{watch, reset_watch}
 use Rattle.mm_world.specs.World.{Page, WorldOf, RowOf, RegionOf, ProcessOf, AreaOf, Numbered, numbered, filled, pages_of}
-use Rattle.mm_world.specs.Find.{Found, process_of, shared_page, region_with, no_area}
+use Rattle.mm_world.specs.Find.{is_private, Found, process_of, shared_page, region_with, no_area}
 use Rattle.mm_world.specs.Keys.{content_of, own_page, private_key, shared_key}
 use Rattle.mm_world.specs.Outcome.{OutcomeOf}
 use Rattle.mm_world.specs.Rows.{is_one_of, row_at}
@@ -29,7 +30,7 @@ use Rattle.mm_world.specs.WellFormed.{Each, LaidOut, RowFits, RowsFit, Spaces, h
 use Rattle.mm_world.proofs.Tables.{Holds}
 use Rattle.mm_world.proofs.Natural as natural
 use Rattle.mm_world.proofs.NaturalSections as sections
-use Rattle.mm_world.proofs.Natural.{some-map, at_process, map-shared_page, map-row_at, map_found, Agrees}
+use Rattle.mm_world.proofs.Natural.{some-map, at_process, map-shared_page, map-row_at, map_found}
 use Rattle.mm_world.proofs.NaturalSections.{with}
 use Rattle.mm_world.proofs.KeptPages.{own_in, own_page-cons, own_of}
 use Rattle.mm_world.proofs.LaidOut.{and-true}
@@ -39,6 +40,7 @@ use Rattle.mm_world.proofs.KeptCalls as kept
 use Rattle.mm_world.proofs.WellFormed as lines
 use Rattle.mm_world.proofs.KeptCalls.{KeepsPages, key_kept}
 use Rattle.mm_world.proofs.Reconstruct.{tables_back, full_world}
+use Rattle.std.proofs.lemmas.Option.{IfSome_then}
 
 -- ---- what the tables show of a world
 
@@ -47,7 +49,7 @@ module _ {A B : Type 0} (f : A → B) where
   laid_back from [] h = h
   laid_back from (r ∷ rs) h =
       let rows : length (map (map_row f) r.rows) ≡ length r.rows = length-map r.rows (map_row f) in (
-        record { later = h.0.later; on_granule = h.0.on_granule; some = subst (λ (n : ℕ). 1 ≤ n) rows h.0.some },
+        record { later = h.0.later; on_granule = h.0.on_granule; some = subst (λ (n : ℕ). 1 ≤ n) rows h.0.some; flags = IfSome_then r.watched {P = λ ws. (length ws ≡ length (map (map_row f) r.rows)) × (is_private r.kind ≡ true)} {Q = λ ws. (length ws ≡ length r.rows) × (is_private r.kind ≡ true)} h.0.flags (λ ws e. (e.0 ∙ rows, e.1)) },
         laid_back (end_of (pages_of r)) rs (subst (λ (n : ℕ). LaidOut (r.base + n) (map (map_region f) rs)) rows h.1),
       )
 
@@ -233,6 +235,16 @@ module _ (t : Tables) (c : Key → Page) (fits : Spaces t) where
   query_across pid addr =
       across_by t c (query t pid addr) (query (world_with t c) pid addr) fits (ap (λ t. query t pid addr) (sym (tables_back c t)) ∙ (sections.in_query no_bytes (world_with t c) pid addr).same)
       (kept.in_query (filled 0) (world_with t c) pid addr) (spaces.in_query (world_with t c) pid addr)
+
+  pub watch_across : (pid : ℕ) (unwrites : Bool) (addr size count : ℕ) → AcrossBytes t c (watch t pid unwrites addr size count) (watch (world_with t c) pid unwrites addr size count)
+  watch_across pid unwrites addr size count =
+      across_by t c (watch t pid unwrites addr size count) (watch (world_with t c) pid unwrites addr size count) fits (ap (λ t. watch t pid unwrites addr size count) (sym (tables_back c t)) ∙ (sections.in_watch no_bytes (world_with t c) pid unwrites addr size count).same)
+      (kept.in_watch (filled 0) (world_with t c) pid unwrites addr size count) (spaces.in_watch (world_with t c) pid unwrites addr size count)
+
+  pub reset_watch_across : (pid addr size : ℕ) → AcrossBytes t c (reset_watch t pid addr size) (reset_watch (world_with t c) pid addr size)
+  reset_watch_across pid addr size =
+      across_by t c (reset_watch t pid addr size) (reset_watch (world_with t c) pid addr size) fits (ap (λ t. reset_watch t pid addr size) (sym (tables_back c t)) ∙ (sections.in_reset_watch no_bytes (world_with t c) pid addr size).same)
+      (kept.in_reset_watch (filled 0) (world_with t c) pid addr size) (spaces.in_reset_watch (world_with t c) pid addr size)
 
   pub close_across : (pid handle : ℕ) → AcrossBytes t c (close t pid handle) (close (world_with t c) pid handle)
   close_across pid handle =

@@ -16,7 +16,8 @@ use Rattle.mm_world.specs.World.{StackOf, WorldOf, ProcessOf, RegionOf, RowOf, A
 use Rattle.mm_world.specs.Find.{end_stacks, Found, first_where, change_range, process_of, set_process, set_regions, set_region, no_area}
 use Rattle.mm_world.specs.Charge.{charge, limit, is_charged, region_charge, process_charge, area_charge}
 use Rattle.mm_world.specs.Outcome.{OutcomeOf, done, refused, with_process}
-use Rattle.mm_world.specs.Rows.{reserved_row, change_rows}
+use Rattle.mm_world.specs.Watch.{watch, reset_watch}
+use Rattle.mm_world.specs.Rows.{change_flags, reserved_row, change_rows}
 use Rattle.mm_world.specs.Alloc.{alloc, commit_in}
 use Rattle.mm_world.specs.Free.{free, decommit}
 use Rattle.mm_world.specs.Protect.{protect}
@@ -154,10 +155,21 @@ module _ {B : Type 0} where
   by_release w pid p r ends a test lives found =
       no_rise w _ a (omega (arith, charge-remove_region w pid p r.place r.thing lives (found_stands test p.regions r found).there)) (omega arith)
 
+  -- the flags of a watched region are charged nothing
+  pub by_flags : (w : WorldOf B) (pid : ℕ) (p : ProcessOf B) (r : Found (RegionOf B)) (flags : List Bool → List Bool) (a : Answer) (test : RegionOf B → Bool) → process_of w pid ≡ Some p → first_where test p.regions ≡ Some r → Holds (NoRise w) (done a (set_region w pid p r.place (change_flags flags r.thing)))
+  by_flags w pid p r flags a test lives found =
+      no_rise w _ a (omega (arith, charge-set_region w pid p r.place r.thing (change_flags flags r.thing) lives (found_stands test p.regions r found).there)) (omega arith)
+
   ruleset rising = (tables, by_refusal, by_same)
 
   pub in_free : (w : WorldOf B) (pid addr size type : ℕ) → Holds (NoRise w) (free w pid addr size type)
   in_free w pid addr size type = search (rising, by_decommit, by_release) depth 14
+
+  pub in_watch : (w : WorldOf B) (pid : ℕ) (unwrites : Bool) (addr size count : ℕ) → Holds (NoRise w) (watch w pid unwrites addr size count)
+  in_watch w pid unwrites addr size count = search (rising, by_flags) depth 12
+
+  pub in_reset_watch : (w : WorldOf B) (pid addr size : ℕ) → Holds (NoRise w) (reset_watch w pid addr size)
+  in_reset_watch w pid addr size = search (rising, by_flags) depth 12
 
   pub in_query : (w : WorldOf B) (pid addr : ℕ) → Holds (NoRise w) (query w pid addr)
   in_query w pid addr = search rising depth 12

@@ -1,5 +1,5 @@
 -- Unpaged address spaces answer nothing that only the store can tell, so an answer shows who gave it.
-use Rattle.std.proofs.Common.{◌≡◌, ℕ, Bool, true, false, Option, Some, None, refl, sym, ◌∙◌, ap, cond, ltb, leb, ◌&&◌, ◌+◌, is_some, option_map, unwrap_or}
+use Rattle.std.proofs.Common.{◌≡◌, ℕ, Bool, true, false, Option, Some, None, refl, sym, ◌∙◌, ap, cond, ltb, leb, ◌&&◌, ◌+◌, is_some, option_map}
 use Rattle.mm_types.specs.declared.codes.Code.{Code}
 use Rattle.mm_types.specs.declared.answers.Answer.{Answer}
 use Rattle.mm_types.specs.declared.answers.Answer.TheVariants as answer
@@ -15,6 +15,7 @@ use Rattle.mm_types.specs.Spelling.{Text}
 use Rattle.mm_world.specs.World.{StackOf, World, ProcessOf, RegionOf, KeptOf, Page, filled}
 use Rattle.mm_world.specs.Find.{Found, process_of, stack_by}
 use Rattle.mm_world.specs.Keys.{Committed, committed_at}
+use Rattle.mm_world.specs.Watch.{watch, reset_watch}
 use Rattle.mm_world.specs.Stack.{stack, probe_at, probe_in, probe_of}
 use Rattle.mm_world.specs.Outcome.{OutcomeOf, done, refused}
 use Rattle.mm_world.specs.Alloc.{alloc, commit_in}
@@ -29,7 +30,6 @@ use Rattle.mm_world.specs.Report.{Report, failed_calls}
 use Rattle.mm_world.specs.Failure.{Need, access_fails, wait_failed, pending}
 use Rattle.mm_world.specs.Step.{unpaged, told, step, stepped, world_after, world_told, is_told, is_ok, begin, resume, store_line, kept_by, failing, waiting, when, resume_told, need_at, is_failed_extension}
 use Rattle.mm_world.specs.Laws.{is_alarm, is_limit_refusal}
-use Rattle.mm_world.specs.System.{System, beside, plain_line, outcome, system_with, system_step, system_after}
 use Rattle.mm_world.proofs.Tables.{Holds, tables}
 
 abbrev Plain : OutcomeOf Page → Type 0
@@ -121,6 +121,12 @@ in_resume : (w : World) (tid : ℕ) (kept : Option KeptOf) → Holds Plain (resu
 in_resume w tid None = record { it = refl }
 in_resume w tid (Some k) = record { it = (in_access w k.pid (address_in k.access) (attempt_in k.access)).it }
 
+in_watch : (w : World) (pid : ℕ) (unwrites : Bool) (addr size count : ℕ) → Holds Plain (watch w pid unwrites addr size count)
+in_watch w pid unwrites addr size count = search plain depth 12
+
+in_reset_watch : (w : World) (pid addr size : ℕ) → Holds Plain (reset_watch w pid addr size)
+in_reset_watch w pid addr size = search plain depth 12
+
 in_stack : (w : World) (tid pid reserve commit : ℕ) → Holds Plain (stack filled w tid pid reserve commit)
 in_stack w tid pid reserve commit = search plain depth 16
 
@@ -166,8 +172,8 @@ in_unpaged w (line.Fail device direction k n) = in_take_fail w
 in_unpaged w line.Charge = record { it = refl }
 in_unpaged w line.Counts = record { it = refl }
 in_unpaged w (line.Grow n) = in_grow w n
-in_unpaged w (line.Watch pid unwrites addr size count) = record { it = refl }
-in_unpaged w (line.ResetWatch pid addr size) = record { it = refl }
+in_unpaged w (line.Watch pid unwrites addr size count) = in_watch w pid.0 unwrites addr size count
+in_unpaged w (line.ResetWatch pid addr size) = in_reset_watch w pid.0 addr size
 in_unpaged w (line.Stack tid pid reserve commit) = in_stack w tid.0 pid.0 reserve commit
 in_unpaged w (line.Probe tid addr) = in_probe_of w tid.0 _ (stack_by w tid.0)
 
@@ -244,11 +250,3 @@ by_stepped w e (Some a) h = sym (h a refl).same
 -- the answer and the old world determine the new one
 pub determined : (w : World) (e : Event) (before after : Report) → (step w e before after).world ≡ world_after w e (step w e before after).answer
 determined w e before after = by_stepped w e (told w e before after) (follows w e before after)
-
-in_beside : (s : System) (e : Event) (before after : Report) (o : Option (OutcomeOf Page)) → (unwrap_or o (step s.world (plain_line e) before after)).world ≡ unwrap_or (option_map (λ o. o.world) o) (world_after s.world (plain_line e) (unwrap_or o (step s.world (plain_line e) before after)).answer)
-in_beside s e before after None = determined s.world (plain_line e) before after
-in_beside s e before after (Some o) = refl
-
-pub system_determined : (s : System) (e : Event) (before after : Report) → (system_step s e before after).system ≡ system_after s e (system_step s e before after).answer
-system_determined s e before after =
-    ap (λ w. system_with s w e (outcome s e before after).answer) (in_beside s e before after (beside s e))

@@ -1,11 +1,14 @@
 -- Each call and each line keeps a well-formed world well formed.
-use Rattle.std.proofs.Common.{◌≡◌, ℕ, zero, suc, Option, Some, refl, arith}
+use Rattle.std.proofs.Common.{◌≡◌, ℕ, zero, suc, Bool, List, length, Option, Some, refl, arith}
 use Rattle.mm_types.specs.declared.events.Event.{Event}
 use Rattle.mm_types.specs.Machine.{MachineOf, IsMachine}
 use Rattle.mm_types.specs.Spelling.{Text}
-use Rattle.mm_world.specs.World.{WorldOf, ProcessOf, Page}
-use Rattle.mm_world.specs.Find.{process_of}
-use Rattle.mm_world.specs.Outcome.{OutcomeOf}
+use Rattle.mm_world.specs.World.{World, WorldOf, ProcessOf, RegionOf, Page}
+use Rattle.mm_types.specs.declared.answers.Answer.TheVariants as answer
+use Rattle.mm_world.specs.Find.{Found, first_where, process_of, set_region}
+use Rattle.mm_world.specs.Rows.{change_flags}
+use Rattle.mm_world.specs.Watch.{watch, reset_watch}
+use Rattle.mm_world.specs.Outcome.{OutcomeOf, done}
 use Rattle.mm_world.specs.Alloc.{alloc}
 use Rattle.mm_world.specs.Free.{free}
 use Rattle.mm_world.specs.Protect.{protect}
@@ -13,9 +16,8 @@ use Rattle.mm_world.specs.Sections.{create, create_file, open_section, close}
 use Rattle.mm_world.specs.Views.{map_view, unmap}
 use Rattle.mm_world.specs.Processes.{new_process, exit, new_file, take_fail, grow}
 use Rattle.mm_world.specs.Report.{Report}
-use Rattle.mm_world.specs.Step.{first_world}
-use Rattle.mm_world.specs.System.{System, outcome, system_step}
-use Rattle.mm_world.specs.WellFormed.{WellFormed, ProcessRefers, IsSpace}
+use Rattle.mm_world.specs.Step.{step, first_world}
+use Rattle.mm_world.specs.WellFormed.{WellFormed, Spaces, ProcessRefers, IsSpace}
 use Rattle.mm_world.specs.Laws.{KeepsLimit, Reached, First, Next}
 use Rattle.mm_world.proofs.Tables.{Holds}
 use Rattle.mm_world.proofs.Charges as charges
@@ -75,28 +77,41 @@ module _ {B : Type 0} where
   pub grow_keeps : (w : WorldOf B) (n : ℕ) → WellFormed w → WellFormed (grow w n).world
   grow_keeps w n = together w _ (numbers.in_grow w n) (spaces.in_grow w n) (references.in_grow w n) (from_no_rise w _ (charges.in_grow w n))
 
+  pub watch_keeps : (w : WorldOf B) (pid : ℕ) (unwrites : Bool) (addr size count : ℕ) → WellFormed w → WellFormed (watch w pid unwrites addr size count).world
+  watch_keeps w pid unwrites addr size count = together w _ (numbers.in_watch w pid unwrites addr size count) (spaces.in_watch w pid unwrites addr size count) (references.in_watch w pid unwrites addr size count) (from_no_rise w _ (charges.in_watch w pid unwrites addr size count))
+
+  pub reset_watch_keeps : (w : WorldOf B) (pid addr size : ℕ) → WellFormed w → WellFormed (reset_watch w pid addr size).world
+  reset_watch_keeps w pid addr size = together w _ (numbers.in_reset_watch w pid addr size) (spaces.in_reset_watch w pid addr size) (references.in_reset_watch w pid addr size) (from_no_rise w _ (charges.in_reset_watch w pid addr size))
+
+  -- the flags of a region change, but not how many
+  pub flags_keep : (w : WorldOf B) (pid : ℕ) (p : ProcessOf B) (r : Found (RegionOf B)) (flags : List Bool → List Bool) (test : RegionOf B → Bool) → process_of w pid ≡ Some p → first_where test p.regions ≡ Some r → ((ws : List Bool) → length (flags ws) ≡ length ws) → WellFormed w → WellFormed (set_region w pid p r.place (change_flags flags r.thing))
+  flags_keep w pid p r flags test lives found long = together w (done answer.Ok (set_region w pid p r.place (change_flags flags r.thing))) (numbers.by_put w pid p _ answer.Ok lives) (spaces.by_flags w pid p r flags answer.Ok test lives found long) (references.by_flags w pid p r flags answer.Ok test lives found) (from_no_rise w _ (charges.by_flags w pid p r flags answer.Ok test lives found))
+
 -- ---- lines
 
-pub line_keeps : (s : System) (e : Event) (before after : Report) → WellFormed s.world → WellFormed (system_step s e before after).system.world
-line_keeps s e before after = together s.world (outcome s e before after) (numbers.in_outcome s e before after) (lines.in_outcome s e before after) (references.in_outcome s e before after) (limits.in_system s e before after)
+pub line_keeps : (w : World) (e : Event) (before after : Report) → WellFormed w → WellFormed (step w e before after).world
+line_keeps w e before after = together w (step w e before after) (numbers.in_step w e before after) (lines.in_step w e before after) (references.in_step w e before after) (limits.in_step w e before after)
 
-no_spaces : (m : MachineOf) (pid : ℕ) (p : ProcessOf Page) → process_of (first_world m) pid ≡ Some p → IsSpace p.regions
-no_spaces m zero p e = cc
-no_spaces m (suc pid) p e = cc
+pub first_spaces : (m : MachineOf) (pid : ℕ) (p : ProcessOf Page) → process_of (first_world m) pid ≡ Some p → IsSpace p.regions
+first_spaces m zero p e = cc
+first_spaces m (suc pid) p e = cc
 
 no_processes : (m : MachineOf) (pid : ℕ) (p : ProcessOf Page) → process_of (first_world m) pid ≡ Some p → ProcessRefers (first_world m) p
 no_processes m zero p e = cc
 no_processes m (suc pid) p e = cc
 
+pub spaces_keep : (w : World) (e : Event) (before after : Report) → Spaces w → Spaces (step w e before after).world
+spaces_keep w e before after = (lines.in_step w e before after).it.kept
+
 pub first_is : (m : MachineOf) → IsMachine m → WellFormed {B = Page} (first_world m)
 first_is m h =
     record {
       numbers = record { processes = omega arith; no_process = refl; kept = refl; fails = omega arith; blocks = omega arith; slots = h.most_slots };
-      spaces = no_spaces m;
+      spaces = first_spaces m;
       references = record { processes = no_processes m; sections = λ n s e. cc; files = tt };
       charged = omega arith;
     }
 
-pub reached_is : (m : MachineOf) (s : System) → IsMachine m → Reached m s → WellFormed s.world
-reached_is m s h First = first_is m h
-reached_is m s h (Next t e before after r) = line_keeps t e before after (reached_is m t h r)
+pub reached_is : (m : MachineOf) (w : World) → IsMachine m → Reached m w → WellFormed w
+reached_is m w h First = first_is m h
+reached_is m w h (Next t e before after r) = line_keeps t e before after (reached_is m t h r)

@@ -14,10 +14,11 @@ use Rattle.mm_types.specs.declared.views.Kind.TheVariants as kind
 use Rattle.mm_types.specs.declared.views.ViewAccess.{ViewAccess}
 use Rattle.mm_types.specs.Address.{Range, meets, granule_range_of, pages_for, page_of, is_granule_address, lowest_gap, first_user_page}
 use Rattle.mm_types.specs.Spelling.{Text}
+use Rattle.mm_world.specs.Watch.{watch, reset_watch}
 use Rattle.mm_world.specs.World.{StackOf, WorldOf, ProcessOf, RegionOf, RowOf, AreaOf, SectionOf, Numbered, numbered, pages_of}
 use Rattle.mm_world.specs.Find.{end_stacks, set_stack, Found, first_where, process_of, set_process, set_regions, set_region, set_area, area_at, add_region, ranges_of, placed, shared_page}
 use Rattle.mm_world.specs.Outcome.{OutcomeOf, done, refused}
-use Rattle.mm_world.specs.Rows.{row_at, reserved_row, commit, protected, change_rows}
+use Rattle.mm_world.specs.Rows.{change_flags, row_at, reserved_row, commit, protected, change_rows}
 use Rattle.mm_types.specs.Allocation.{reserve_type}
 use Rattle.mm_world.specs.Alloc.{alloc, reserve, commit_in, commit_shared, private_region, new_row}
 use Rattle.mm_world.specs.Free.{free, decommit}
@@ -35,7 +36,7 @@ use Rattle.mm_world.proofs.LaidOut.{placed_is, IsPlaced}
 use Rattle.mm_world.proofs.RowsFit.{length-change_range}
 use Rattle.mm_world.proofs.Spaces.{wanted_granule}
 use Rattle.mm_world.proofs.WellFormed.{stack_length}
-use Rattle.mm_world.proofs.KeptPages.{Kept, PagesKept, kept_same, own_put, own_pushed, own_of, own_removed, own_added, own_free, own_set, rows_kept, RowKept, commit_kept, cleared_kept, protected_kept, shared_settled, shared_pushed, shared_put, committed_page, all_fresh}
+use Rattle.mm_world.proofs.KeptPages.{own_in, Kept, PagesKept, kept_same, own_put, own_pushed, own_of, own_removed, own_added, own_free, own_set, rows_kept, RowKept, commit_kept, cleared_kept, protected_kept, shared_settled, shared_pushed, shared_put, committed_page, all_fresh}
 
 replicated : {A : Type 0} (n k : ℕ) (x y : A) → slice_get (replicate n x) k ≡ Some y → y ≡ x
 replicated zero k x y e = cc
@@ -121,6 +122,11 @@ module _ {B : Type 0} (fresh : B) where
   by_release : (w : WorldOf B) (pid : ℕ) (p : ProcessOf B) (i : ℕ) (ends : StackOf → Bool) (a : Answer) → process_of w pid ≡ Some p → Holds (KeepsPages w) (done a (end_stacks (set_regions w pid p (remove p.regions i)) ends))
   by_release w pid p i ends a lives = by_beside w (set_regions w pid p (remove p.regions i)) _ a (by_removed w pid p i a lives)
 
+  pub by_flags : (w : WorldOf B) (pid : ℕ) (p : ProcessOf B) (r : Found (RegionOf B)) (flags : List Bool → List Bool) (a : Answer) (test : RegionOf B → Bool) → process_of w pid ≡ Some p → first_where test p.regions ≡ Some r → Holds (KeepsPages w) (done a (set_region w pid p r.place (change_flags flags r.thing)))
+  by_flags w pid p r flags a test lives found =
+      by_put w pid p (Some (record p { regions = set p.regions r.place (change_flags flags r.thing) })) a lives (λ h page.
+      own_set fresh page r.place p.regions r.thing (change_flags flags r.thing) (found_stands test p.regions r found).there refl refl (kept_same fresh (own_in r.thing page)))
+
   by_handles : (w : WorldOf B) (pid : ℕ) (p : ProcessOf B) (handles : Numbered ℕ) (a : Answer) → process_of w pid ≡ Some p → Holds (KeepsPages w) (done a (set_process w pid (Some (record p { handles = handles }))))
   by_handles w pid p handles a lives = by_put w pid p (Some (record p { handles = handles })) a lives (λ h page. kept_same fresh (own_page p.regions page))
 
@@ -134,14 +140,14 @@ module _ {B : Type 0} (fill : ℕ → B) where
       by_type true e = cc
       by_type false e = let same : fill 0 ≡ x = cc in sym same
 
-  by_reserve : (w : WorldOf B) (pid : ℕ) (p : ProcessOf B) (addr size type prot : ℕ) (range : Range) (a : Answer) → process_of w pid ≡ Some p → placed (ranges_of p.regions) addr (granule_range_of addr size) (pages_for size) ≡ Some range → Holds (KeepsPages (fill 0) w) (done a (set_regions w pid p (add_region (private_region fill type prot range) p.regions)))
-  by_reserve w pid p addr size type prot range a lives found =
+  by_reserve : (w : WorldOf B) (pid : ℕ) (p : ProcessOf B) (addr size : ℕ) (watched : Bool) (type prot : ℕ) (range : Range) (a : Answer) → process_of w pid ≡ Some p → placed (ranges_of p.regions) addr (granule_range_of addr size) (pages_for size) ≡ Some range → Holds (KeepsPages (fill 0) w) (done a (set_regions w pid p (add_region (private_region fill watched type prot range) p.regions)))
+  by_reserve w pid p addr size watched type prot range a lives found =
       let at = placed_is (ranges_of p.regions) addr (granule_range_of addr size) (pages_for size) range (omega arith) found in
-      by_added (fill 0) w pid p (private_region fill type prot range) range a lives at.placed (λ i. record { first = range.first; count = length-replicate range.count (new_row fill type prot) i })
+      by_added (fill 0) w pid p (private_region fill watched type prot range) range a lives at.placed (λ i. record { first = range.first; count = length-replicate range.count (new_row fill type prot) i })
       (λ page x row at_row own. new_row_fresh type prot row x (replicated range.count (page - range.first) (new_row fill type prot) row at_row) own)
 
-  in_reserve : (w : WorldOf B) (pid : ℕ) (p : ProcessOf B) (addr size type prot : ℕ) → process_of w pid ≡ Some p → Holds (KeepsPages (fill 0) w) (reserve fill w pid p addr size type prot)
-  in_reserve w pid p addr size type prot lives = search (tables, by_refusal, by_reserve) depth 12
+  in_reserve : (w : WorldOf B) (pid : ℕ) (p : ProcessOf B) (addr size : ℕ) (watched : Bool) (type prot : ℕ) → process_of w pid ≡ Some p → Holds (KeepsPages (fill 0) w) (reserve fill w pid p addr size watched type prot)
+  in_reserve w pid p addr size watched type prot lives = search (tables, by_refusal, by_reserve) depth 12
 
   in_commit : (w : WorldOf B) (pid : ℕ) (p : ProcessOf B) (r : Found (RegionOf B)) (test : RegionOf B → Bool) (k : Kind) (range : Range) (prot : ℕ) → process_of w pid ≡ Some p → first_where test p.regions ≡ Some r → Holds (KeepsPages (fill 0) w) (commit_in fill w pid p r k range prot)
   in_commit w pid p r test kind.Private range prot lives found = search (tables, by_refusal, by_committed) depth 12
@@ -197,6 +203,12 @@ module _ {B : Type 0} (fill : ℕ → B) where
 module _ {B : Type 0} (fresh : B) where
   pub in_free : (w : WorldOf B) (pid addr size type : ℕ) → Holds (KeepsPages fresh w) (free w pid addr size type)
   in_free w pid addr size type = search (tables, by_refusal, by_release, by_cleared) depth 14
+
+  pub in_watch : (w : WorldOf B) (pid : ℕ) (unwrites : Bool) (addr size count : ℕ) → Holds (KeepsPages fresh w) (watch w pid unwrites addr size count)
+  in_watch w pid unwrites addr size count = search (tables, by_refusal, by_same, by_flags) depth 12
+
+  pub in_reset_watch : (w : WorldOf B) (pid addr size : ℕ) → Holds (KeepsPages fresh w) (reset_watch w pid addr size)
+  in_reset_watch w pid addr size = search (tables, by_refusal, by_flags) depth 12
 
   pub in_protect : (w : WorldOf B) (pid addr size prot : ℕ) → Holds (KeepsPages fresh w) (protect w pid addr size prot)
   in_protect w pid addr size prot = search (tables, by_refusal, by_protected) depth 16

@@ -20,7 +20,7 @@ use Rattle.mm_world.proofs.Finding.{found_stands, numbered_inside, committed_is}
 use Rattle.mm_world.proofs.NaturalSections as sections
 use Rattle.mm_world.proofs.KeptPages.{Kept, kept_same, own_in, own_of, own_page-cons}
 use Rattle.mm_world.proofs.KeptCalls as kept
-use Rattle.mm_world.proofs.KeptCalls.{KeepsPages, pages_same, by_same}
+use Rattle.mm_world.proofs.KeptCalls.{KeepsPages, by_same}
 use Rattle.mm_world.proofs.WellFormed as lines
 use Rattle.mm_world.proofs.Reconstruct.{tables_back}
 use Rattle.mm_world.proofs.Across.{across_by}

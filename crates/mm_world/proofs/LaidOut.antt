@@ -2,12 +2,15 @@
 use Rattle.std.proofs.Common.{◌≡◌, ℕ, zero, suc, ◌+◌, ◌*◌, ◌%◌, ◌≤◌, ◌<◌, Bool, true, false, Option, Some, None, List, [], ◌∷◌, refl, sym, ◌∙◌, ap, subst, cond, arith, length, set, slice_get, ◌&&◌, ◌||◌, not, count_by, option_map, nat_lt, ◌⊎◌, inl, inr}
 use Rattle.std.specs.Prelude.{insert, remove, ◌==◌}
 use Rattle.std.specs.List.{list_any}
+use Rattle.std.specs.Option.{IfSome}
+use Rattle.std.proofs.lemmas.Option.{IfSome_then}
 use Rattle.std.proofs.lemmas.Bool.{leb-true, leb-false}
 use Rattle.std.proofs.lemmas.List.Sums.{sum_by-cons}
 use Rattle.mm_types.specs.Address.{Range, end_of, meets, is_free, are_user_pages, end_of_user_pages, granule_pages, granule_range, lowest_gap, least_from}
 use Rattle.mm_world.specs.World.{RegionOf, pages_of}
-use Rattle.mm_world.specs.Find.{add_region, ranges_of, placed}
-use Rattle.mm_world.specs.WellFormed.{RegionFits, LaidOut}
+use Rattle.mm_world.specs.Find.{is_private, add_region, ranges_of, placed}
+use Rattle.mm_world.specs.Rows.{change_flags}
+use Rattle.mm_world.specs.WellFormed.{FlagsFit, RegionFits, LaidOut}
 
 pub less : (a b : ℕ) → nat_lt a b ≡ true → a < b
 less a b e = leb-true (suc a) b e
@@ -43,7 +46,7 @@ apart_of a b e some_a some_b = apart_by a b _ _ refl refl e some_a some_b
 module _ {B : Type 0} where
   pub laid_lower : (from from' : ℕ) (rs : List (RegionOf B)) → from' ≤ from → LaidOut from rs → LaidOut from' rs
   laid_lower from from' [] low h = omega (arith, low, h)
-  laid_lower from from' (r ∷ rs) low h = (record { later = omega (arith, low, h.0.later); on_granule = h.0.on_granule; some = h.0.some }, h.1)
+  laid_lower from from' (r ∷ rs) low h = (record { later = omega (arith, low, h.0.later); on_granule = h.0.on_granule; some = h.0.some; flags = h.0.flags }, h.1)
 
   abbrev is_below : ℕ → RegionOf B → Bool
   is_below bound r = nat_lt r.base bound
@@ -81,7 +84,7 @@ module _ {B : Type 0} where
       by_test : (RegionFits (end_of (pages_of r)) new → LaidOut (end_of (pages_of r)) (insert rs k new)) → (b : Bool) → is_below new.base r ≡ b → LaidOut from (insert (r ∷ rs) (count_by (is_below new.base) (r ∷ rs)) new)
       by_test later true e =
           let behind : end_of (pages_of r) ≤ new.base = apart.before (less r.base new.base e) in
-          let fits' : RegionFits (end_of (pages_of r)) new = record { later = behind; on_granule = fits.on_granule; some = fits.some } in
+          let fits' : RegionFits (end_of (pages_of r)) new = record { later = behind; on_granule = fits.on_granule; some = fits.some; flags = fits.flags } in
           let rest : LaidOut (end_of (pages_of r)) (insert rs k new) = later fits' in
           let whole : LaidOut from (insert (r ∷ rs) (suc k) new) = (h.0, rest) in
           subst (λ n. LaidOut from (insert (r ∷ rs) n new)) (let same : suc k ≡ count_by (is_below new.base) (r ∷ rs) = omega (arith, count_more new.base r rs true e) in same) whole
@@ -89,7 +92,7 @@ module _ {B : Type 0} where
           let above : new.base ≤ r.base = not_less r.base new.base e in
           let ahead : end_of (pages_of new) ≤ r.base = apart.behind above in
           let none : k ≡ 0 = none_below new.base (end_of (pages_of r)) rs (omega (arith, above)) h.1 in
-          let next : RegionFits (end_of (pages_of new)) r = record { later = ahead; on_granule = h.0.on_granule; some = h.0.some } in
+          let next : RegionFits (end_of (pages_of new)) r = record { later = ahead; on_granule = h.0.on_granule; some = h.0.some; flags = h.0.flags } in
           let whole : LaidOut from (insert (r ∷ rs) 0 new) = (fits, (next, h.1)) in
           subst (λ n. LaidOut from (insert (r ∷ rs) n new)) (let same : 0 ≡ count_by (is_below new.base) (r ∷ rs) = omega (arith, count_more new.base r rs false e, none) in same) whole
 
@@ -99,17 +102,35 @@ module _ {B : Type 0} where
   laid_remove from (r ∷ rs) zero h = laid_lower (end_of (pages_of r)) from rs (omega (arith, h.0.later)) h.1
   laid_remove from (r ∷ rs) (suc i) h = (h.0, laid_remove (end_of (pages_of r)) rs i h.1)
 
+  -- ---- the flags of a region that is changed
+
+  pub flags_stay : (r new : RegionOf B) → new.watched ≡ r.watched → length new.rows ≡ length r.rows → new.kind ≡ r.kind → FlagsFit r → FlagsFit new
+  flags_stay r new watched rows same fit =
+      subst (λ (o : Option (List Bool)). IfSome o (λ ws. (length ws ≡ length new.rows) × (is_private new.kind ≡ true))) (sym watched)
+      (IfSome_then r.watched {P = λ ws. (length ws ≡ length r.rows) × (is_private r.kind ≡ true)} {Q = λ ws. (length ws ≡ length new.rows) × (is_private new.kind ≡ true)} fit
+      (λ ws h. (h.0 ∙ sym rows, ap is_private same ∙ h.1)))
+
+  pub no_flags : (r : RegionOf B) → r.watched ≡ None → FlagsFit r
+  no_flags r none = subst (λ (o : Option (List Bool)). IfSome o (λ ws. (length ws ≡ length r.rows) × (is_private r.kind ≡ true))) (sym none) tt
+
+  pub flags_changed : (change : List Bool → List Bool) (r : RegionOf B) → ((flags : List Bool) → length (change flags) ≡ length flags) → FlagsFit r → FlagsFit (change_flags change r)
+  flags_changed change r long fit = by_watched r.watched fit
+    where
+      by_watched : (o : Option (List Bool)) → IfSome o (λ ws. (length ws ≡ length r.rows) × (is_private r.kind ≡ true)) → IfSome (option_map change o) (λ ws. (length ws ≡ length r.rows) × (is_private r.kind ≡ true))
+      by_watched None had = tt
+      by_watched (Some old) had = (long old ∙ had.0, had.1)
+
   -- a region with the same pages in the place of one
-  pub laid_set : (from : ℕ) (rs : List (RegionOf B)) (i : ℕ) (r new : RegionOf B) → slice_get rs i ≡ Some r → new.base ≡ r.base → length new.rows ≡ length r.rows → LaidOut from rs → LaidOut from (set rs i new)
-  laid_set from [] i r new there base rows h = cc
-  laid_set from (x ∷ rs) zero r new there base rows h =
+  pub laid_set : (from : ℕ) (rs : List (RegionOf B)) (i : ℕ) (r new : RegionOf B) → slice_get rs i ≡ Some r → new.base ≡ r.base → length new.rows ≡ length r.rows → (FlagsFit r → FlagsFit new) → LaidOut from rs → LaidOut from (set rs i new)
+  laid_set from [] i r new there base rows flags h = cc
+  laid_set from (x ∷ rs) zero r new there base rows flags h =
       let same : x ≡ r = cc in
       let base' : new.base ≡ x.base = base ∙ ap (λ (r : RegionOf B). r.base) (sym same) in
       let rows' : length new.rows ≡ length x.rows = rows ∙ ap (λ (r : RegionOf B). length r.rows) (sym same) in (
-        record { later = omega (arith, base', h.0.later); on_granule = ap (λ (n : ℕ). n % granule_pages) base' ∙ h.0.on_granule; some = omega (arith, rows', h.0.some) },
+        record { later = omega (arith, base', h.0.later); on_granule = ap (λ (n : ℕ). n % granule_pages) base' ∙ h.0.on_granule; some = omega (arith, rows', h.0.some); flags = flags (subst FlagsFit same h.0.flags) },
         laid_lower (end_of (pages_of x)) (end_of (pages_of new)) rs (omega (arith, base', rows')) h.1,
       )
-  laid_set from (x ∷ rs) (suc i) r new there base rows h = (h.0, laid_set (end_of (pages_of x)) rs i r new there base rows h.1)
+  laid_set from (x ∷ rs) (suc i) r new there base rows flags h = (h.0, laid_set (end_of (pages_of x)) rs i r new there base rows flags h.1)
 
   -- a region among them
   pub laid_at : (from : ℕ) (rs : List (RegionOf B)) (i : ℕ) (r : RegionOf B) → LaidOut from rs → slice_get rs i ≡ Some r → RegionFits from r
@@ -117,7 +138,7 @@ module _ {B : Type 0} where
   laid_at from (x ∷ rs) zero r h e = subst (λ r. RegionFits from r) (let same : x ≡ r = cc in same) h.0
   laid_at from (x ∷ rs) (suc i) r h e =
       let k = laid_at (end_of (pages_of x)) rs i r h.1 e in
-      record { later = omega (arith, h.0.later, k.later); on_granule = k.on_granule; some = k.some }
+      record { later = omega (arith, h.0.later, k.later); on_granule = k.on_granule; some = k.some; flags = k.flags }
 
 -- ---- where a new region is placed
 

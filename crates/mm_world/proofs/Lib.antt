@@ -28,3 +28,17 @@ pub mod KeptProbe
 pub mod Ranges
 pub mod Outcomes
 pub mod KindsAndKeys
+pub mod FlagsKept
+pub mod FlagRanges
+pub mod FlagsChanged
+pub mod FlagsWritten
+pub mod FlagsWatched
+pub mod FlagsBegun
+pub mod FlagsTold
+pub mod WatchGives
+pub mod KeptWrites
+pub mod PrivateLists
+pub mod PrivateCalls
+pub mod PrivateStacks
+pub mod PrivateLines
+pub mod StacksStay

@@ -1,5 +1,5 @@
 -- The charge is within the limit in each world that lines reach.
-use Rattle.std.proofs.Common.{◌≡◌, ℕ, ◌-◌, ◌≤◌, Option, Some, None, refl, arith, List}
+use Rattle.std.proofs.Common.{◌≡◌, ℕ, ◌-◌, ◌≤◌, Option, Some, None, refl, arith}
 use Rattle.mm_types.specs.declared.answers.Answer.{Answer}
 use Rattle.mm_types.specs.declared.answers.Answer.TheVariants as answer
 use Rattle.mm_types.specs.declared.events.AccessSpec.{AccessSpec}
@@ -18,10 +18,8 @@ use Rattle.mm_world.specs.Report.{Report}
 use Rattle.mm_world.specs.Step.{unpaged, told, step, stepped, world_told, begin, resume, kept_by, keep}
 use Rattle.mm_world.specs.Stack.{stack, probe_at, probe_in, probe_of, grown, made}
 use Rattle.mm_world.specs.Laws.{KeepsLimit, Reached, First, Next}
-use Rattle.mm_world.specs.Watch.{WatchOf, watch, reset_watch}
-use Rattle.mm_world.specs.System.{System, plain_line, outcome}
 use Rattle.mm_world.proofs.Tables.{Holds, tables}
-use Rattle.mm_world.proofs.Charges.{from_no_rise, keeping, kept_same, in_free, in_query, in_create_file, in_open, in_close, in_unmap, in_flush, in_exit, in_new_process, in_take_fail, in_grow, in_new_file, in_store_line, keeps_alloc, keeps_protect, keeps_map, keeps_create}
+use Rattle.mm_world.proofs.Charges.{from_no_rise, keeping, kept_same, in_watch, in_reset_watch, in_free, in_query, in_create_file, in_open, in_close, in_unmap, in_flush, in_exit, in_new_process, in_take_fail, in_grow, in_new_file, in_store_line, keeps_alloc, keeps_protect, keeps_map, keeps_create}
 use Rattle.mm_world.proofs.AccessCharge.{in_access, charge-guard_off}
 
 in_plain_access : (w : World) (pid addr : ℕ) (what : Attempt) → Holds (KeepsLimit w) (access w pid addr what)
@@ -36,7 +34,7 @@ in_resume : (w : World) (tid : ℕ) (kept : Option KeptOf) → Holds (KeepsLimit
 in_resume w tid None = kept_same w _
 in_resume w tid (Some k) = record { it = record { kept = (in_plain_access w k.pid (address_in k.access) (attempt_in k.access)).it.kept } }
 
--- ---- stacks
+-- ---- watched regions and stacks
 
 in_made : (w : World) (tid pid : ℕ) (p : ProcessOf Page) (r c : ℕ) → Holds (KeepsLimit w) (made filled w tid pid p r c)
 in_made w tid pid p r c = search keeping depth 12
@@ -95,8 +93,8 @@ in_unpaged w (line.Fail device direction k n) = from_no_rise w _ (in_take_fail w
 in_unpaged w line.Charge = kept_same w _
 in_unpaged w line.Counts = kept_same w _
 in_unpaged w (line.Grow n) = from_no_rise w _ (in_grow w n)
-in_unpaged w (line.Watch pid unwrites addr size count) = kept_same w _
-in_unpaged w (line.ResetWatch pid addr size) = kept_same w _
+in_unpaged w (line.Watch pid unwrites addr size count) = from_no_rise w _ (in_watch w pid.0 unwrites addr size count)
+in_unpaged w (line.ResetWatch pid addr size) = from_no_rise w _ (in_reset_watch w pid.0 addr size)
 in_unpaged w (line.Stack tid pid reserve commit) = in_stack w tid.0 pid.0 reserve commit
 in_unpaged w (line.Probe tid addr) = in_probe_of w tid.0 _ (stack_by w tid.0)
 
@@ -115,20 +113,7 @@ in_stepped w e (Some a) = in_told w e a
 pub in_step : (w : World) (e : Event) (before after : Report) → Holds (KeepsLimit w) (step w e before after)
 in_step w e before after = in_stepped w e (told w e before after)
 
--- ---- watched regions beside the world
-
-in_watch : (w : World) (watches : List WatchOf) (pid addr size count : ℕ) → Holds (KeepsLimit w) (watch w watches pid addr size count)
-in_watch w watches pid addr size count = search (keeping, kept_same) depth 12
-
-in_reset_watch : (w : World) (watches : List WatchOf) (pid addr size : ℕ) → Holds (KeepsLimit w) (reset_watch w watches pid addr size)
-in_reset_watch w watches pid addr size = search (keeping, kept_same) depth 12
-
-pub in_system : (s : System) (e : Event) (before after : Report) → Holds (KeepsLimit s.world) (outcome s e before after)
-in_system s (line.Watch pid unwrites addr size count) before after = in_watch s.world s.watches pid.0 addr size count
-in_system s (line.ResetWatch pid addr size) before after = in_reset_watch s.world s.watches pid.0 addr size
-in_system s e before after = in_step s.world (plain_line e) before after
-
 -- the charge is within the limit in each world that lines reach
-pub reached_within : (m : MachineOf) (s : System) → Reached m s → charge s.world ≤ limit s.world
-reached_within m s First = omega arith
-reached_within m s (Next t e before after h) = (in_system t e before after).it.kept (reached_within m t h)
+pub reached_within : (m : MachineOf) (w : World) → Reached m w → charge w ≤ limit w
+reached_within m w First = omega arith
+reached_within m w (Next v e before after h) = (in_step v e before after).it.kept (reached_within m v h)

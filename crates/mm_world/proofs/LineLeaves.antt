@@ -1,5 +1,5 @@
 -- The same of a line: but for an alarm's guard and for what a thread keeps, an answer other than `ok` changes nothing.
-use Rattle.std.proofs.Common.{◌≡◌, ℕ, Bool, true, false, Option, Some, None, refl, sym, ◌∙◌, List, ◌&&◌}
+use Rattle.std.proofs.Common.{◌≡◌, ℕ, Bool, true, false, Option, Some, None, refl, sym, ◌∙◌, ◌&&◌}
 use Rattle.mm_types.specs.declared.answers.Answer.{Answer}
 use Rattle.mm_types.specs.declared.answers.Answer.TheVariants as answer
 use Rattle.mm_types.specs.declared.events.AccessSpec.{AccessSpec}
@@ -13,9 +13,8 @@ use Rattle.mm_world.specs.Access.{ReadOf, WriteOf, Execute, access, address_in, 
 use Rattle.mm_world.specs.Report.{Report}
 use Rattle.mm_world.specs.Step.{unpaged, told, step, stepped, world_told, begin, resume, kept_by, keep}
 use Rattle.mm_world.specs.Stack.{stack, probe_at, probe_in, probe_of, made}
-use Rattle.mm_world.specs.Watch.{WatchOf, watch, reset_watch}
-use Rattle.mm_world.specs.Laws.{Leaves, LineLeaves, SystemLeaves, is_success, is_alarm, is_thread_line}
-use Rattle.mm_world.specs.System.{System, plain_line, outcome, system_step, watches_after}
+use Rattle.mm_world.specs.Watch.{watch, reset_watch}
+use Rattle.mm_world.specs.Laws.{Leaves, LineLeaves, is_alarm, is_thread_line}
 use Rattle.mm_world.proofs.Tables.{Holds}
 use Rattle.mm_world.proofs.Determined.{follows}
 use Rattle.mm_world.proofs.Leaving.{left, by_same, by_guard, in_alloc, in_free, in_protect, in_query, in_create, in_create_file, in_open, in_close, in_map, in_unmap, in_flush, in_exit, in_new_process, in_new_file, in_take_fail, in_grow, in_store_line, in_access}
@@ -36,7 +35,13 @@ in_resume w e tid (Some k) is =
       other_lines = λ n. let bad : true ≡ false = sym is ∙ n in cc;
     }
 
--- ---- stacks
+-- ---- watched regions and stacks
+
+in_watch : (w : World) (pid : ℕ) (unwrites : Bool) (addr size count : ℕ) → Holds (Leaves w) (watch w pid unwrites addr size count)
+in_watch w pid unwrites addr size count = search left depth 12
+
+in_reset_watch : (w : World) (pid addr size : ℕ) → Holds (Leaves w) (reset_watch w pid addr size)
+in_reset_watch w pid addr size = search left depth 12
 
 in_made : (w : World) (tid pid : ℕ) (p : ProcessOf Page) (r c : ℕ) → Holds (Leaves w) (made filled w tid pid p r c)
 in_made w tid pid p r c = search left depth 12
@@ -90,8 +95,8 @@ in_unpaged w (line.Fail device direction k n) = line_leaves w _ _ (in_take_fail 
 in_unpaged w line.Charge = line_leaves w _ _ (by_same w _ refl)
 in_unpaged w line.Counts = line_leaves w _ _ (by_same w answer.Ok refl)
 in_unpaged w (line.Grow n) = line_leaves w _ _ (in_grow w n)
-in_unpaged w (line.Watch pid unwrites addr size count) = line_leaves w _ _ (by_same w answer.Nothing refl)
-in_unpaged w (line.ResetWatch pid addr size) = line_leaves w _ _ (by_same w answer.Nothing refl)
+in_unpaged w (line.Watch pid unwrites addr size count) = line_leaves w _ _ (in_watch w pid.0 unwrites addr size count)
+in_unpaged w (line.ResetWatch pid addr size) = line_leaves w _ _ (in_reset_watch w pid.0 addr size)
 in_unpaged w (line.Stack tid pid reserve commit) = line_leaves w _ _ (in_stack w tid.0 pid.0 reserve commit)
 in_unpaged w (line.Probe tid addr) = line_leaves w _ _ (in_probe_of w tid.0 _ (stack_by w tid.0))
 
@@ -111,37 +116,4 @@ in_stepped w e (Some a) h = in_told w e a (h a refl)
 pub in_step : (w : World) (e : Event) (before after : Report) → LineLeaves w e (step w e before after)
 in_step w e before after = in_stepped w e (told w e before after) (λ a is. (follows w e before after a is).calm)
 
--- ---- watched regions beside the world
-
-in_watch : (w : World) (watches : List WatchOf) (pid addr size count : ℕ) → Holds (Leaves w) (watch w watches pid addr size count)
-in_watch w watches pid addr size count = search left depth 12
-
-in_reset_watch : (w : World) (watches : List WatchOf) (pid addr size : ℕ) → Holds (Leaves w) (reset_watch w watches pid addr size)
-in_reset_watch w watches pid addr size = search left depth 12
-
 -- a line that what stands beside the world decides, or else one of the world alone
-in_beside : (s : System) (e : Event) (before after : Report) → LineLeaves s.world e (outcome s e before after)
-in_beside s (line.Watch pid unwrites addr size count) before after = line_leaves s.world _ _ (in_watch s.world s.watches pid.0 addr size count)
-in_beside s (line.ResetWatch pid addr size) before after = line_leaves s.world _ _ (in_reset_watch s.world s.watches pid.0 addr size)
-in_beside s (line.Alloc pid addr size type prot) before after =
-    let h = in_step s.world (plain_line (line.Alloc pid addr size type prot)) before after in
-    record { but_kept = h.but_kept; leaves = h.leaves; all_else = h.all_else; other_lines = λ e. h.other_lines refl }
-in_beside s e before after = in_step s.world e before after
-
-same_watches : (w : World) (watches : List WatchOf) (e : Event) (a : Answer) → is_success a ≡ false → watches_after w watches e a ≡ watches
-same_watches w watches (line.Alloc pid addr size type prot) (answer.At base) n = cc
-same_watches w watches (line.Free pid addr size type) answer.Ok n = cc
-same_watches w watches (line.Exit pid) answer.Ok n = cc
-same_watches w watches (line.Write pid addr bytes) answer.Ok n = cc
-same_watches w watches (line.Begin tid pid what) answer.Ok n = cc
-same_watches w watches (line.Resume tid) answer.Ok n = cc
-same_watches w watches (line.Watch pid true addr size count) (answer.Watched pages) n = cc
-same_watches w watches (line.ResetWatch pid addr size) answer.Ok n = cc
-same_watches w watches _ _ n = refl
-
-pub in_system : (s : System) (e : Event) (before after : Report) → SystemLeaves s e (system_step s e before after)
-in_system s e before after =
-    record {
-      world = in_beside s e before after;
-      watches = same_watches s.world s.watches e (outcome s e before after).answer;
-    }

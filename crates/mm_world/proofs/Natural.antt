@@ -21,7 +21,7 @@ use Rattle.mm_world.specs.Charge.{charge, limit, is_charged, region_charge, proc
 use Rattle.mm_world.specs.Outcome.{OutcomeOf, done, need, find_or, with_process, within_limit}
 use Rattle.mm_world.specs.Rows.{is_one_of, protections_of, row_at, accepts, is_committed, is_committed_at, reserved_row, commit, protected, change_rows, every_page}
 use Rattle.mm_types.specs.Allocation.{reserve_type}
-use Rattle.mm_world.specs.Alloc.{alloc, reserve, commit_in, commit_shared, private_region, new_row, are_alloc_parameters, is_reserving}
+use Rattle.mm_world.specs.Alloc.{is_watched_type, plain_type, alloc, reserve, commit_in, commit_shared, private_region, new_row, are_alloc_parameters, is_reserving}
 use Rattle.mm_types.specs.Allocation.{release_type}
 use Rattle.mm_world.specs.Free.{is_stack_at, free, decommit, private_at, private_around, are_free_parameters}
 use Rattle.mm_world.specs.Protect.{protect, protection_at, protection_of, are_protect_parameters}
@@ -288,9 +288,9 @@ module _ {A B : Type 0} (f : A → B) where
         by_type true = refl
         by_type false = refl
 
-    map-private_region : (type prot : ℕ) (range : Range) → map_region f (private_region fill type prot range) ≡ private_region there type prot range
-    map-private_region type prot range =
-        ap (λ rows. let r : RegionOf B = record { base = range.first; alloc_prot = prot; kind = kind.Private; rows = rows } in r)
+    map-private_region : (watched : Bool) (type prot : ℕ) (range : Range) → map_region f (private_region fill watched type prot range) ≡ private_region there watched type prot range
+    map-private_region watched type prot range =
+        ap (λ rows. record (private_region there watched type prot range) { rows = rows })
         (map-replicate (map_row f) range.count (new_row fill type prot) ∙ ap (λ row. replicate range.count row) (map-new_row type prot))
 
     pub map-commit : (prot : ℕ) (row : RowOf A) → map_row f (commit (fill 0) prot row) ≡ commit (there 0) prot (map_row f row)
@@ -300,18 +300,18 @@ module _ {A B : Type 0} (f : A → B) where
         by_own None = refl
         by_own (Some x) = refl
 
-    in_reserve : (w : WorldOf A) (pid : ℕ) (p : ProcessOf A) (addr size type prot : ℕ) → Agrees f (reserve fill w pid p addr size type prot) (reserve there (map_world f w) pid (map_process f p) addr size type prot)
-    in_reserve w pid p addr size type prot =
+    in_reserve : (w : WorldOf A) (pid : ℕ) (p : ProcessOf A) (addr size : ℕ) (watched : Bool) (type prot : ℕ) → Agrees f (reserve fill w pid p addr size watched type prot) (reserve there (map_world f w) pid (map_process f p) addr size watched type prot)
+    in_reserve w pid p addr size watched type prot =
         let wanted = granule_range_of addr size in
         at_found w code.InvalidAddress (placed (ranges_of p.regions) addr wanted (pages_for size)) (placed (ranges_of (map (map_region f) p.regions)) addr wanted (pages_for size)) _ _
         (same_place p.regions addr wanted (pages_for size))
         (λ range found. at_limit w
-        (done (answer.At (address_of range.first)) (set_regions w pid p (add_region (private_region fill type prot range) p.regions)))
-        (done (answer.At (address_of range.first)) (set_regions (map_world f w) pid (map_process f p) (add_region (private_region there type prot range) (map (map_region f) p.regions))))
+        (done (answer.At (address_of range.first)) (set_regions w pid p (add_region (private_region fill watched type prot range) p.regions)))
+        (done (answer.At (address_of range.first)) (set_regions (map_world f w) pid (map_process f p) (add_region (private_region there watched type prot range) (map (map_region f) p.regions))))
         (at_done _ _ _ (
-        ap (λ r. set_regions (map_world f w) pid (map_process f p) (add_region r (map (map_region f) p.regions))) (sym (map-private_region type prot range))
-        ∙ ap (λ rs. set_regions (map_world f w) pid (map_process f p) rs) (sym (map-add_region (private_region fill type prot range) p.regions))
-        ∙ sym (to_regions w pid p (add_region (private_region fill type prot range) p.regions)))))
+        ap (λ r. set_regions (map_world f w) pid (map_process f p) (add_region r (map (map_region f) p.regions))) (sym (map-private_region watched type prot range))
+        ∙ ap (λ rs. set_regions (map_world f w) pid (map_process f p) rs) (sym (map-add_region (private_region fill watched type prot range) p.regions))
+        ∙ sym (to_regions w pid p (add_region (private_region fill watched type prot range) p.regions)))))
 
     map-commit_shared : (first count : ℕ) (a : AreaOf A) → map_area f (commit_shared fill first count a) ≡ commit_shared there first count (map_area f a)
     map-commit_shared first count a =
@@ -349,9 +349,9 @@ module _ {A B : Type 0} (f : A → B) where
     pub in_alloc : (w : WorldOf A) (pid addr size type prot : ℕ) → Agrees f (alloc fill w pid addr size type prot) (alloc there (map_world f w) pid addr size type prot)
     in_alloc w pid addr size type prot =
         at_lives w pid _ _ (λ p lives.
-        at_need w code.InvalidParameter (are_alloc_parameters size type prot) (are_alloc_parameters size type prot) _ _ refl (
-        at_if (is_reserving addr type) _ _ _ _
-        (in_reserve w pid p addr size type prot)
+        at_need w code.InvalidParameter (are_alloc_parameters size (plain_type type) prot) (are_alloc_parameters size (plain_type type) prot) _ _ refl (
+        at_if (is_reserving addr (plain_type type)) _ _ _ _
+        (in_reserve w pid p addr size (is_watched_type type) (plain_type type) prot)
         (at_find w code.InvalidAddress (map_found f) (region_around p.regions (range_of addr size)) (region_around (map (map_region f) p.regions) (range_of addr size)) _ _
         (around p.regions (range_of addr size))
         (λ r found. in_commit w pid p r r.thing.kind (range_of addr size) prot))))

@@ -15,11 +15,12 @@ use Rattle.mm_types.specs.declared.views.ViewAccess.{ViewAccess}
 use Rattle.mm_types.specs.Address.{Range, lies_within, holds_page, address_of, page_of, range_of, pages_for, end_of_user_pages, is_granule_address, is_user_page, lowest_gap}
 use Rattle.mm_types.specs.Protection.{permits}
 use Rattle.mm_types.specs.Spelling.{Text}
+use Rattle.mm_world.specs.Watch.{watch, reset_watch, watched_around, written_in, unwritten}
 use Rattle.mm_world.specs.World.{StackOf, RowOf, RegionOf, ProcessOf, AreaOf, SectionOf, WorldOf, Numbered, pages_of}
-use Rattle.mm_world.specs.Find.{end_stacks, set_stack, stack_by, Found, first_where, ranges_of, region_with, add_region, process_of, set_process, set_regions, set_region, area_at, no_area, shared_page, section_named, placed, is_private}
+use Rattle.mm_world.specs.Find.{end_stacks, set_stack, stack_by, change_range, Found, first_where, ranges_of, region_with, add_region, process_of, set_process, set_regions, set_region, area_at, no_area, shared_page, section_named, placed, is_private}
 use Rattle.mm_world.specs.Charge.{limit}
 use Rattle.mm_world.specs.Outcome.{OutcomeOf, done, need, find_or, within_limit}
-use Rattle.mm_world.specs.Rows.{row_at, is_committed, reserved_row, commit}
+use Rattle.mm_world.specs.Rows.{change_flags, row_at, is_committed, reserved_row, commit}
 use Rattle.mm_world.specs.Query.{query, page_info, next_base, page_states, row_state, first_run, PageState, type_of}
 use Rattle.mm_world.specs.Sections.{create, create_file, open_section, close, handle_or, new_section, settle, settled_area, settled_areas, settled_section, settled_sections, holds, views, is_view_of, uses, handle_section, paging_area, is_reserve, are_section_flags, section_prot, file_named, largest_section}
 use Rattle.mm_world.specs.Views.{map_view, unmap, flush, view_access, may_view, view_region, view_at, view_around}
@@ -233,6 +234,36 @@ module _ {A B : Type 0} (f : A → B) where
       at_lives f w pid _ _ (λ p lives.
       at_find f w code.InvalidAddress (map_found f) (view_around p.regions range) (view_around (map (map_region f) p.regions) range) _ _ (around_view p.regions range) (λ r found.
       at_done f answer.Ok _ _ refl))
+
+  -- ---- watched regions
+
+  around_watched : (rs : List (RegionOf A)) (range : Range) → watched_around (map (map_region f) rs) range ≡ option_map (map_found f) (watched_around rs range)
+  around_watched rs range =
+      first-map (λ r. is_some r.watched && lies_within range (pages_of r)) (map_region f) rs
+      ∙ ap (λ t. option_map (map_found f) (first_where t rs)) (fun_ext (λ r. ap (λ range'. is_some r.watched && lies_within range range') (pages_of-map f r)))
+
+  to_flags : (w : WorldOf A) (pid : ℕ) (p : ProcessOf A) (r : Found (RegionOf A)) (flags : List Bool → List Bool) → set_region (map_world f w) pid (map_process f p) r.place (change_flags flags (map_region f r.thing)) ≡ map_world f (set_region w pid p r.place (change_flags flags r.thing))
+  to_flags w pid p r flags = sym (to_region f w pid p r.place (change_flags flags r.thing))
+
+  pub in_watch : (w : WorldOf A) (pid : ℕ) (unwrites : Bool) (addr size count : ℕ) → Agrees f (watch w pid unwrites addr size count) (watch (map_world f w) pid unwrites addr size count)
+  in_watch w pid unwrites addr size count =
+      let range = range_of addr size in
+      at_lives f w pid _ _ (λ p lives.
+      at_need f w code.InvalidParameter (not (size == 0)) (not (size == 0)) _ _ refl (
+      at_find f w code.InvalidParameter (map_found f) (watched_around p.regions range) (watched_around (map (map_region f) p.regions) range) _ _ (around_watched p.regions range) (λ r found.
+      at_done f _ _ _ (by_flag w pid p r (unwritten r.thing.base (written_in r.thing range count)) unwrites))))
+    where
+      by_flag : (w : WorldOf A) (pid : ℕ) (p : ProcessOf A) (r : Found (RegionOf A)) (flags : List Bool → List Bool) (b : Bool) → cond b (set_region (map_world f w) pid (map_process f p) r.place (change_flags flags (map_region f r.thing))) (map_world f w) ≡ map_world f (cond b (set_region w pid p r.place (change_flags flags r.thing)) w)
+      by_flag w pid p r flags true = to_flags w pid p r flags
+      by_flag w pid p r flags false = refl
+
+  pub in_reset_watch : (w : WorldOf A) (pid addr size : ℕ) → Agrees f (reset_watch w pid addr size) (reset_watch (map_world f w) pid addr size)
+  in_reset_watch w pid addr size =
+      let range = range_of addr size in
+      at_lives f w pid _ _ (λ p lives.
+      at_need f w code.InvalidParameter (not (size == 0)) (not (size == 0)) _ _ refl (
+      at_find f w code.InvalidParameter (map_found f) (watched_around p.regions range) (watched_around (map (map_region f) p.regions) range) _ _ (around_watched p.regions range) (λ r found.
+      at_done f _ _ _ (to_flags w pid p r (change_range (λ was. false) (range.first - r.thing.base) range.count)))))
 
   -- ---- processes
 

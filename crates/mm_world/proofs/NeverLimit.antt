@@ -1,5 +1,5 @@
 -- No line but five can be refused because the charge would pass the limit.
-use Rattle.std.proofs.Common.{◌≡◌, ℕ, false, Option, Some, None, refl, List}
+use Rattle.std.proofs.Common.{Bool, ◌≡◌, ℕ, false, Option, Some, None, refl}
 use Rattle.mm_types.specs.declared.codes.Code.{Code}
 use Rattle.mm_types.specs.declared.answers.Answer.{Answer}
 use Rattle.mm_types.specs.declared.events.AccessSpec.{AccessSpec}
@@ -20,8 +20,7 @@ use Rattle.mm_world.specs.Report.{Report}
 use Rattle.mm_world.specs.Step.{unpaged, told, stepped, step, begin, resume, store_line, kept_by}
 use Rattle.mm_world.specs.Laws.{is_limit_code, is_limit_refusal, is_charging_line}
 use Rattle.mm_world.specs.Stack.{probe_at, probe_in, probe_of}
-use Rattle.mm_world.specs.Watch.{WatchOf, watch, reset_watch}
-use Rattle.mm_world.specs.System.{System, outcome, system_step}
+use Rattle.mm_world.specs.Watch.{watch, reset_watch}
 use Rattle.mm_world.proofs.Tables.{Holds, tables}
 use Rattle.mm_world.proofs.Determined.{follows}
 
@@ -98,7 +97,13 @@ in_resume : (w : World) (tid : ℕ) (kept : Option KeptOf) → Holds Granted (re
 in_resume w tid None = record { it = refl }
 in_resume w tid (Some k) = record { it = (in_access w k.pid (address_in k.access) (attempt_in k.access)).it }
 
--- ---- stacks
+-- ---- watched regions and stacks
+
+in_watch : (w : World) (pid : ℕ) (unwrites : Bool) (addr size count : ℕ) → Holds Granted (watch w pid unwrites addr size count)
+in_watch w pid unwrites addr size count = search granted depth 12
+
+in_reset_watch : (w : World) (pid addr size : ℕ) → Holds Granted (reset_watch w pid addr size)
+in_reset_watch w pid addr size = search granted depth 12
 
 in_probe_at : (w : World) (tid : ℕ) (p : ProcessOf Page) (s : StackOf) (page : ℕ) (c : Option (Committed Page)) → Holds Granted (probe_at filled w tid p s page c)
 in_probe_at w tid p s page None = record { it = refl }
@@ -142,8 +147,8 @@ in_unpaged w (line.Fail device direction k n) free = in_take_fail w
 in_unpaged w line.Charge free = record { it = refl }
 in_unpaged w line.Counts free = record { it = refl }
 in_unpaged w (line.Grow n) free = in_grow w n
-in_unpaged w (line.Watch pid unwrites addr size count) free = record { it = refl }
-in_unpaged w (line.ResetWatch pid addr size) free = record { it = refl }
+in_unpaged w (line.Watch pid unwrites addr size count) free = in_watch w pid.0 unwrites addr size count
+in_unpaged w (line.ResetWatch pid addr size) free = in_reset_watch w pid.0 addr size
 in_unpaged w (line.Stack tid pid reserve commit) free = cc
 in_unpaged w (line.Probe tid addr) free = in_probe_of w tid.0 _ (stack_by w tid.0)
 
@@ -154,19 +159,5 @@ in_stepped w e (Some a) n h = by_done a _ (h a refl)
 in_step : (w : World) (e : Event) (before after : Report) → is_charging_line e ≡ false → Holds Granted (step w e before after)
 in_step w e before after n = in_stepped w e (told w e before after) n (λ a is. (follows w e before after a is).granted)
 
--- ---- watched regions beside the world
-
-in_watch : (w : World) (watches : List WatchOf) (pid addr size count : ℕ) → Holds Granted (watch w watches pid addr size count)
-in_watch w watches pid addr size count = search granted depth 12
-
-in_reset_watch : (w : World) (watches : List WatchOf) (pid addr size : ℕ) → Holds Granted (reset_watch w watches pid addr size)
-in_reset_watch w watches pid addr size = search granted depth 12
-
-in_outcome : (s : System) (e : Event) (before after : Report) → is_charging_line e ≡ false → Holds Granted (outcome s e before after)
-in_outcome s (line.Watch pid unwrites addr size count) before after n = in_watch s.world s.watches pid.0 addr size count
-in_outcome s (line.ResetWatch pid addr size) before after n = in_reset_watch s.world s.watches pid.0 addr size
-in_outcome s (line.Alloc pid addr size type prot) before after n = cc
-in_outcome s e before after n = in_step s.world e before after n
-
-pub never_refused : (s : System) (e : Event) (before after : Report) → is_charging_line e ≡ false → is_limit_refusal (system_step s e before after).answer ≡ false
-never_refused s e before after n = (in_outcome s e before after n).it
+pub never_refused : (w : World) (e : Event) (before after : Report) → is_charging_line e ≡ false → is_limit_refusal (step w e before after).answer ≡ false
+never_refused w e before after n = (in_step w e before after n).it

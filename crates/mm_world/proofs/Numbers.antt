@@ -29,9 +29,8 @@ use Rattle.mm_world.specs.Access.{Attempt, ReadOf, WriteOf, Execute, access, acc
 use Rattle.mm_world.specs.Report.{Report}
 use Rattle.mm_world.specs.Step.{unpaged, told, step, stepped, world_told, begin, resume, store_line, kept_by, keep}
 use Rattle.mm_world.specs.Stack.{stack, probe_at, probe_in, probe_of, grown, made}
-use Rattle.mm_world.specs.Watch.{WatchOf, watch, reset_watch}
+use Rattle.mm_world.specs.Watch.{watch, reset_watch}
 use Rattle.mm_world.specs.WellFormed.{NumbersFit}
-use Rattle.mm_world.specs.System.{System, plain_line, outcome}
 use Rattle.mm_world.proofs.Tables.{Holds, tables}
 use Rattle.mm_world.proofs.LaidOut.{less}
 
@@ -72,7 +71,7 @@ module _ {B : Type 0} where
         };
       }
 
-  by_put : (w : WorldOf B) (pid : ℕ) (p : ProcessOf B) (q : Option (ProcessOf B)) (a : Answer) → process_of w pid ≡ Some p → Holds (KeepsNumbers w) (done a (set_process w pid q))
+  pub by_put : (w : WorldOf B) (pid : ℕ) (p : ProcessOf B) (q : Option (ProcessOf B)) (a : Answer) → process_of w pid ≡ Some p → Holds (KeepsNumbers w) (done a (set_process w pid q))
   by_put w pid p q a lives = by_set w (set_process w pid q) pid p q a lives refl refl refl refl refl
 
   by_put_area : (w : WorldOf B) (pid : ℕ) (p : ProcessOf B) (q : Option (ProcessOf B)) (area : ℕ) (pages : AreaOf B) (a : Answer) → process_of w pid ≡ Some p → Holds (KeepsNumbers w) (done a (set_area (set_process w pid q) area pages))
@@ -137,6 +136,14 @@ module _ {B : Type 0} where
 
   pub in_flush : (w : WorldOf B) (pid addr size : ℕ) → Holds (KeepsNumbers w) (flush w pid addr size)
   in_flush w pid addr size = search (tables, by_refusal, unchanged) depth 12
+
+  -- ---- watched regions
+
+  pub in_watch : (w : WorldOf B) (pid : ℕ) (unwrites : Bool) (addr size count : ℕ) → Holds (KeepsNumbers w) (watch w pid unwrites addr size count)
+  in_watch w pid unwrites addr size count = search (tables, by_refusal, unchanged, by_put) depth 12
+
+  pub in_reset_watch : (w : WorldOf B) (pid addr size : ℕ) → Holds (KeepsNumbers w) (reset_watch w pid addr size)
+  in_reset_watch w pid addr size = search (tables, by_refusal, by_put) depth 12
 
   pub in_exit : (w : WorldOf B) (pid : ℕ) → Holds (KeepsNumbers w) (exit w pid)
   in_exit w pid = search (tables, by_refusal, by_exit) depth 12
@@ -302,8 +309,8 @@ in_unpaged w (line.Fail device direction k n) = in_take_fail w
 in_unpaged w line.Charge = unchanged w _
 in_unpaged w line.Counts = unchanged w _
 in_unpaged w (line.Grow n) = in_grow w n
-in_unpaged w (line.Watch pid unwrites addr size count) = unchanged w _
-in_unpaged w (line.ResetWatch pid addr size) = unchanged w _
+in_unpaged w (line.Watch pid unwrites addr size count) = in_watch w pid.0 unwrites addr size count
+in_unpaged w (line.ResetWatch pid addr size) = in_reset_watch w pid.0 addr size
 in_unpaged w (line.Stack tid pid reserve commit) = in_stack w tid.0 pid.0 reserve commit
 in_unpaged w (line.Probe tid addr) = in_probe_of w tid.0 _ (stack_by w tid.0)
 
@@ -318,16 +325,3 @@ in_stepped w e (Some a) = in_told w e a
 
 pub in_step : (w : World) (e : Event) (before after : Report) → Holds (KeepsNumbers w) (step w e before after)
 in_step w e before after = in_stepped w e (told w e before after)
-
--- ---- watched regions beside the world
-
-in_watch : (w : World) (watches : List WatchOf) (pid addr size count : ℕ) → Holds (KeepsNumbers w) (watch w watches pid addr size count)
-in_watch w watches pid addr size count = search (tables, by_refusal, unchanged) depth 12
-
-in_reset_watch : (w : World) (watches : List WatchOf) (pid addr size : ℕ) → Holds (KeepsNumbers w) (reset_watch w watches pid addr size)
-in_reset_watch w watches pid addr size = search (tables, by_refusal, unchanged) depth 12
-
-pub in_outcome : (s : System) (e : Event) (before after : Report) → Holds (KeepsNumbers s.world) (outcome s e before after)
-in_outcome s (line.Watch pid unwrites addr size count) before after = in_watch s.world s.watches pid.0 addr size count
-in_outcome s (line.ResetWatch pid addr size) before after = in_reset_watch s.world s.watches pid.0 addr size
-in_outcome s e before after = in_step s.world (plain_line e) before after

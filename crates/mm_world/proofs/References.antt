@@ -18,7 +18,7 @@ use Rattle.mm_types.specs.Spelling.{Text}
 use Rattle.mm_world.specs.World.{StackOf, World, WorldOf, ProcessOf, RegionOf, RowOf, AreaOf, SectionOf, FileOf, KeptOf, Page, Numbered, numbered, filled}
 use Rattle.mm_world.specs.Find.{set_region, end_stacks, set_stack, stack_by, Found, first_where, process_of, set_process, set_regions, set_region, set_area, area_at, no_area, section_of, section_named, is_named, add_region, ranges_of, placed}
 use Rattle.mm_world.specs.Outcome.{OutcomeOf, done, refused}
-use Rattle.mm_world.specs.Rows.{change_rows}
+use Rattle.mm_world.specs.Rows.{one_page, mark_written, change_flags, change_rows}
 use Rattle.mm_world.specs.Alloc.{alloc, commit_in, commit_shared, private_region}
 use Rattle.mm_world.specs.Free.{free}
 use Rattle.mm_world.specs.Protect.{protect}
@@ -30,14 +30,13 @@ use Rattle.mm_types.specs.declared.events.AccessSpec.{AccessSpec}
 use Rattle.mm_types.specs.declared.events.Event.{Event}
 use Rattle.mm_types.specs.declared.events.Event.TheVariants as line
 use Rattle.mm_types.specs.Allocation.{commit_type}
-use Rattle.mm_world.specs.Keys.{Home, Own, InSection, Committed, committed_at, guard_off, set_row, set_shared}
+use Rattle.mm_world.specs.Keys.{with_row, Home, Own, InSection, Committed, committed_at, guard_off, set_row, set_shared}
 use Rattle.mm_world.specs.Access.{Attempt, ReadOf, WriteOf, Execute, access, access_at, perform, write_to, written, bytes_of, address_in, attempt_in}
 use Rattle.mm_world.specs.Report.{Report}
 use Rattle.mm_world.specs.Step.{unpaged, told, step, stepped, world_told, begin, resume, store_line, kept_by, keep}
 use Rattle.mm_world.specs.Stack.{stack, stack_region, probe_at, probe_in, probe_of, grown, made}
-use Rattle.mm_world.specs.Watch.{WatchOf, watch, reset_watch}
+use Rattle.mm_world.specs.Watch.{watch, reset_watch}
 use Rattle.mm_world.specs.WellFormed.{Each, ViewFits, RegionRefers, ProcessRefers, References}
-use Rattle.mm_world.specs.System.{System, plain_line, outcome}
 use Rattle.mm_world.proofs.Tables.{Holds, tables}
 use Rattle.mm_world.proofs.Finding.{found_stands, numbered_inside, committed_is}
 use Rattle.mm_world.proofs.Each.{each-append, each-insert, each-remove, each-set, each-at}
@@ -172,9 +171,9 @@ module _ {B : Type 0} where
   by_regions : (w : WorldOf B) (pid : ℕ) (p : ProcessOf B) (rs : List (RegionOf B)) (a : Answer) → process_of w pid ≡ Some p → (Each (RegionRefers w) p.regions → Each (RegionRefers w) rs) → Holds (KeepsReferences w) (done a (set_regions w pid p rs))
   by_regions w pid p rs a lives keeps = by_process w pid p (record p { regions = rs }) a lives (λ k. record { views = keeps k.views; handles = k.handles })
 
-  by_private : (w : WorldOf B) (pid : ℕ) (p : ProcessOf B) (fill : ℕ → B) (type prot : ℕ) (range : Range) (a : Answer) → process_of w pid ≡ Some p → Holds (KeepsReferences w) (done a (set_regions w pid p (add_region (private_region fill type prot range) p.regions)))
-  by_private w pid p fill type prot range a lives =
-      by_regions w pid p (add_region (private_region fill type prot range) p.regions) a lives (λ k. each-insert (RegionRefers w) p.regions _ (private_region fill type prot range) k (λ v is. cc))
+  by_private : (w : WorldOf B) (pid : ℕ) (p : ProcessOf B) (fill : ℕ → B) (watched : Bool) (type prot : ℕ) (range : Range) (a : Answer) → process_of w pid ≡ Some p → Holds (KeepsReferences w) (done a (set_regions w pid p (add_region (private_region fill watched type prot range) p.regions)))
+  by_private w pid p fill watched type prot range a lives =
+      by_regions w pid p (add_region (private_region fill watched type prot range) p.regions) a lives (λ k. each-insert (RegionRefers w) p.regions _ (private_region fill watched type prot range) k (λ v is. cc))
 
   by_removed : (w : WorldOf B) (pid : ℕ) (p : ProcessOf B) (i : ℕ) (a : Answer) → process_of w pid ≡ Some p → Holds (KeepsReferences w) (done a (set_regions w pid p (remove p.regions i)))
   by_removed w pid p i a lives = by_regions w pid p (remove p.regions i) a lives (λ k. each-remove (RegionRefers w) p.regions i k)
@@ -196,6 +195,13 @@ module _ {B : Type 0} where
       each-set (RegionRefers w) p.regions r.place new k
       (same_refers w r.thing new refl (length-change_range change (range.first - r.thing.base) range.count r.thing.rows)
       (each-at (RegionRefers w) p.regions r.place r.thing k (found_stands test p.regions r found).there)))
+
+  pub by_flags : (w : WorldOf B) (pid : ℕ) (p : ProcessOf B) (r : Found (RegionOf B)) (flags : List Bool → List Bool) (a : Answer) (test : RegionOf B → Bool) → process_of w pid ≡ Some p → first_where test p.regions ≡ Some r → Holds (KeepsReferences w) (done a (set_region w pid p r.place (change_flags flags r.thing)))
+  by_flags w pid p r flags a test lives found =
+      let new = change_flags flags r.thing in
+      by_regions w pid p (set p.regions r.place new) a lives (λ k.
+      each-set (RegionRefers w) p.regions r.place new k
+      (same_refers w r.thing new refl refl (each-at (RegionRefers w) p.regions r.place r.thing k (found_stands test p.regions r found).there)))
 
   -- ---- areas are changed, not shortened
 
@@ -323,6 +329,14 @@ module _ {B : Type 0} where
             sections = λ n s e. omega (arith, h.sections n s e, length-append w.areas (a ∷ []));
             files = each-more (length w.areas) (length (w.areas ++ a ∷ [])) w.files (omega (arith, length-append w.areas (a ∷ []))) h.files;
           }
+
+  -- ---- watched regions
+
+  pub in_watch : (w : WorldOf B) (pid : ℕ) (unwrites : Bool) (addr size count : ℕ) → Holds (KeepsReferences w) (watch w pid unwrites addr size count)
+  in_watch w pid unwrites addr size count = search (tables, by_refusal, unchanged, by_flags) depth 12
+
+  pub in_reset_watch : (w : WorldOf B) (pid addr size : ℕ) → Holds (KeepsReferences w) (reset_watch w pid addr size)
+  in_reset_watch w pid addr size = search (tables, by_refusal, by_flags) depth 12
 
   pub in_create : (fill : ℕ → B) (w : WorldOf B) (pid size flags : ℕ) (name : Option Text) → Holds (KeepsReferences w) (create fill w pid size flags name)
   in_create fill w pid size flags name = search (tables, by_refusal, in_handle_or, by_paging_section) depth 14
@@ -591,11 +605,19 @@ module _ {B : Type 0} where
       by_regions w pid p (set p.regions c.region.place changed) a lives (λ k.
       each-set (RegionRefers w) p.regions c.region.place changed k (same_refers w r changed refl (length-set r.rows (page - r.base) new) (each-at (RegionRefers w) p.regions c.region.place r k there)))
 
+  by_marked : (w : WorldOf B) (pid : ℕ) (p : ProcessOf B) (c : Committed B) (page : ℕ) (new : RowOf B) (b : Bool) (a : Answer) → process_of w pid ≡ Some p → committed_at w p.regions page ≡ Some c → Holds (KeepsReferences w) (done a (set_region w pid p c.region.place (mark_written b (one_page page) (with_row page new c.region.thing))))
+  by_marked w pid p c page new b a lives committed =
+      let r = c.region.thing in
+      let there = (found_stands _ p.regions c.region (committed_is w p.regions page c committed).region).there in
+      let changed : RegionOf B = mark_written b (one_page page) (with_row page new r) in
+      by_regions w pid p (set p.regions c.region.place changed) a lives (λ k.
+      each-set (RegionRefers w) p.regions c.region.place changed k (same_refers w r changed refl (length-set r.rows (page - r.base) new) (each-at (RegionRefers w) p.regions c.region.place r k there)))
+
   pub by_guard : (w : WorldOf B) (pid : ℕ) (p : ProcessOf B) (c : Committed B) (page : ℕ) (a : Answer) → process_of w pid ≡ Some p → committed_at w p.regions page ≡ Some c → Holds (KeepsReferences w) (done a (guard_off w pid p c page))
   by_guard w pid p c page a lives committed = by_row w pid p c page (record c.row { guard = false }) a lives committed
 
 in_written : (w : World) (pid : ℕ) (p : ProcessOf Page) (c : Committed Page) (page offset : ℕ) (bytes : List ℕ) (home : Home Page) (a : Answer) → process_of w pid ≡ Some p → committed_at w p.regions page ≡ Some c → Holds (KeepsReferences w) (done a (write_to w pid p c page offset bytes home))
-in_written w pid p c page offset bytes (Own old) a lives committed = by_row w pid p c page (record c.row { own = Some (written old offset bytes) }) a lives committed
+in_written w pid p c page offset bytes (Own old) a lives committed = by_marked w pid p c page (record c.row { own = Some (written old offset bytes) }) true a lives committed
 in_written w pid p c page offset bytes (InSection area i) a lives committed = copied c.row.marked
   where
     new : Page
@@ -694,8 +716,8 @@ in_unpaged w (line.Fail device direction k n) = in_take_fail w
 in_unpaged w line.Charge = unchanged w _
 in_unpaged w line.Counts = unchanged w _
 in_unpaged w (line.Grow n) = in_grow w n
-in_unpaged w (line.Watch pid unwrites addr size count) = unchanged w _
-in_unpaged w (line.ResetWatch pid addr size) = unchanged w _
+in_unpaged w (line.Watch pid unwrites addr size count) = in_watch w pid.0 unwrites addr size count
+in_unpaged w (line.ResetWatch pid addr size) = in_reset_watch w pid.0 addr size
 in_unpaged w (line.Stack tid pid reserve commit) = in_stack w tid.0 pid.0 reserve commit
 in_unpaged w (line.Probe tid addr) = in_probe_of w tid.0 _ (stack_by w tid.0)
 
@@ -710,16 +732,3 @@ in_stepped w e (Some a) = in_told w e a
 
 pub in_step : (w : World) (e : Event) (before after : Report) → Holds (KeepsReferences w) (step w e before after)
 in_step w e before after = in_stepped w e (told w e before after)
-
--- ---- watched regions beside the world
-
-in_watch : (w : World) (watches : List WatchOf) (pid addr size count : ℕ) → Holds (KeepsReferences w) (watch w watches pid addr size count)
-in_watch w watches pid addr size count = search (tables, by_refusal, unchanged) depth 12
-
-in_reset_watch : (w : World) (watches : List WatchOf) (pid addr size : ℕ) → Holds (KeepsReferences w) (reset_watch w watches pid addr size)
-in_reset_watch w watches pid addr size = search (tables, by_refusal, unchanged) depth 12
-
-pub in_outcome : (s : System) (e : Event) (before after : Report) → Holds (KeepsReferences s.world) (outcome s e before after)
-in_outcome s (line.Watch pid unwrites addr size count) before after = in_watch s.world s.watches pid.0 addr size count
-in_outcome s (line.ResetWatch pid addr size) before after = in_reset_watch s.world s.watches pid.0 addr size
-in_outcome s e before after = in_step s.world (plain_line e) before after

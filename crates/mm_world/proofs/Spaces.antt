@@ -15,10 +15,11 @@ use Rattle.mm_types.specs.declared.views.ViewAccess.{ViewAccess}
 use Rattle.mm_types.specs.Address.{Range, end_of, granule_range_of, pages_for, page_of, lies_within, meets, first_user_page, end_of_user_pages, granule_pages, granule_size, is_granule_address, address_of}
 use Rattle.mm_types.specs.Protection.{base_of}
 use Rattle.mm_types.specs.Spelling.{Text}
+use Rattle.mm_world.specs.Watch.{unwritten, watch, reset_watch}
 use Rattle.mm_world.specs.World.{StackOf, WorldOf, ProcessOf, RegionOf, RowOf, AreaOf, SectionOf, Numbered, numbered, pages_of}
-use Rattle.mm_world.specs.Find.{end_stacks, Found, first_where, process_of, set_process, set_regions, set_region, set_area, add_region, ranges_of, placed, region_around, is_private}
+use Rattle.mm_world.specs.Find.{change_range, end_stacks, Found, first_where, process_of, set_process, set_regions, set_region, set_area, add_region, ranges_of, placed, region_around, is_private}
 use Rattle.mm_world.specs.Outcome.{OutcomeOf, done, refused, within_limit}
-use Rattle.mm_world.specs.Rows.{is_one_of, is_protection_among, private_protections, reserved_row, commit, protected, change_rows, every_page, accepts, is_committed_at}
+use Rattle.mm_world.specs.Rows.{mark_written, change_flags, is_one_of, is_protection_among, private_protections, reserved_row, commit, protected, change_rows, every_page, accepts, is_committed_at}
 use Rattle.mm_types.specs.Allocation.{reserve_type}
 use Rattle.mm_world.specs.Alloc.{alloc, reserve, commit_in, commit_pages, private_region, new_row, are_alloc_parameters, alloc_types}
 use Rattle.mm_world.specs.Free.{free, decommit, private_at, private_around}
@@ -27,11 +28,11 @@ use Rattle.mm_world.specs.Query.{query}
 use Rattle.mm_world.specs.Sections.{create, create_file, open_section, close, handle_or, new_section, settle}
 use Rattle.mm_world.specs.Views.{map_view, unmap, flush, view_region}
 use Rattle.mm_world.specs.Processes.{new_process, exit, new_file, take_fail, grow, no_regions}
-use Rattle.mm_world.specs.WellFormed.{RowFits, RowsFit, IsSpace, Spaces}
+use Rattle.mm_world.specs.WellFormed.{FlagsFit, RowFits, RowsFit, IsSpace, Spaces}
 use Rattle.mm_world.proofs.Tables.{Holds, tables}
 use Rattle.mm_world.proofs.Finding.{found_stands, numbered_inside}
 use Rattle.mm_world.proofs.Each.{each-insert, each-remove, each-set, each-replicate, each-at}
-use Rattle.mm_world.proofs.LaidOut.{laid_add, laid_remove, laid_set, and-true, less, IsPlaced, PlacedAt, placed_is}
+use Rattle.mm_world.proofs.LaidOut.{flags_stay, flags_changed, no_flags, laid_add, laid_remove, laid_set, and-true, less, IsPlaced, PlacedAt, placed_is}
 use Rattle.mm_world.proofs.RowsFit.{reserved_fits, commit_fits, new_view_fits, rows_protected, view_rows_protected, rows_committed, rows_cleared, length-change_range}
 
 -- what stands in a place after a write
@@ -82,6 +83,11 @@ count_some len total first inside = by_len (len == 0) refl
     by_len true e = omega (arith, less first total inside)
     by_len false e = let some = not_zero len (ap not e) in omega (arith, some)
 
+pub length-unwritten : (base : ℕ) (pages : List ℕ) (ws : List Bool) → length (unwritten base pages ws) ≡ length ws
+length-unwritten base [] ws = refl
+length-unwritten base (page ∷ pages) ws =
+    length-unwritten base pages (change_range (λ was. false) (page - base) 1 ws) ∙ length-change_range (λ was. false) (page - base) 1 ws
+
 module _ {B : Type 0} where
   -- the processes' regions stay well formed
   pub record KeepsSpaces (w : WorldOf B) (o : OutcomeOf B) : Type 0 where
@@ -114,8 +120,8 @@ module _ {B : Type 0} where
 
   -- ---- new regions
 
-  pub space_add : (new : RegionOf B) (rs : List (RegionOf B)) (range : Range) → IsPlaced (ranges_of rs) range → new.base ≡ range.first → length new.rows ≡ range.count → 1 ≤ range.count → RowsFit new → IsSpace rs → IsSpace (add_region new rs)
-  space_add new rs range free base rows some fit h =
+  pub space_add : (new : RegionOf B) (rs : List (RegionOf B)) (range : Range) → IsPlaced (ranges_of rs) range → new.base ≡ range.first → length new.rows ≡ range.count → 1 ≤ range.count → FlagsFit new → RowsFit new → IsSpace rs → IsSpace (add_region new rs)
+  space_add new rs range free base rows some flags fit h =
       let same : range ≡ pages_of new = λ i. record { first = sym base i; count = sym rows i } in
       let user = and-true (nat_le first_user_page range.first) (nat_le (end_of range) end_of_user_pages) free.user in
       record {
@@ -124,6 +130,7 @@ module _ {B : Type 0} where
               later = omega (arith, leb-true _ _ user.0, base);
               on_granule = ap (λ (n : ℕ). n % granule_pages) base ∙ free.on_granule;
               some = omega (arith, some, rows);
+              flags = flags;
             })
             (omega (arith, leb-true _ _ user.1, base, rows))
             h.laid_out
@@ -138,23 +145,28 @@ module _ {B : Type 0} where
       by_type true = reserved_fits
       by_type false = commit_fits (fill 0) prot reserved_row e
 
-  by_reserve : (fill : ℕ → B) (w : WorldOf B) (pid : ℕ) (p : ProcessOf B) (addr size type prot : ℕ) (range : Range) (a : Answer) → process_of w pid ≡ Some p → are_alloc_parameters size type prot ≡ true → placed (ranges_of p.regions) addr (granule_range_of addr size) (pages_for size) ≡ Some range → Holds (KeepsSpaces w) (done a (set_regions w pid p (add_region (private_region fill type prot range) p.regions)))
-  by_reserve fill w pid p addr size type prot range a lives params found =
+  pub private_flags : (fill : ℕ → B) (watched : Bool) (type prot : ℕ) (range : Range) → FlagsFit (private_region fill watched type prot range)
+  private_flags fill true type prot range = (length-replicate range.count false ∙ sym (length-replicate range.count (new_row fill type prot)), refl)
+  private_flags fill false type prot range = tt
+
+  by_reserve : (fill : ℕ → B) (w : WorldOf B) (pid : ℕ) (p : ProcessOf B) (addr size : ℕ) (watched : Bool) (type prot : ℕ) (range : Range) (a : Answer) → process_of w pid ≡ Some p → are_alloc_parameters size type prot ≡ true → placed (ranges_of p.regions) addr (granule_range_of addr size) (pages_for size) ≡ Some range → Holds (KeepsSpaces w) (done a (set_regions w pid p (add_region (private_region fill watched type prot range) p.regions)))
+  by_reserve fill w pid p addr size watched type prot range a lives params found =
       let at = placed_is (ranges_of p.regions) addr (granule_range_of addr size) (pages_for size) range (omega arith) found in
-      let new = private_region fill type prot range in
+      let new = private_region fill watched type prot range in
       by_regions w pid p (add_region new p.regions) a lives (space_add new p.regions range at.placed refl (length-replicate range.count _)
       (some_pages addr size (ranges_of p.regions) range (some_bytes size type prot params) at)
+      (private_flags fill watched type prot range)
       (each-replicate (RowFits kind.Private) range.count _ (new_row_fits fill type prot (base_allowed size type prot params))))
 
-  in_reserve : (fill : ℕ → B) (w : WorldOf B) (pid : ℕ) (p : ProcessOf B) (addr size type prot : ℕ) → process_of w pid ≡ Some p → are_alloc_parameters size type prot ≡ true → Holds (KeepsSpaces w) (reserve fill w pid p addr size type prot)
-  in_reserve fill w pid p addr size type prot lives params = search (tables, by_refusal, by_reserve) depth 12
+  in_reserve : (fill : ℕ → B) (w : WorldOf B) (pid : ℕ) (p : ProcessOf B) (addr size : ℕ) (watched : Bool) (type prot : ℕ) → process_of w pid ≡ Some p → are_alloc_parameters size type prot ≡ true → Holds (KeepsSpaces w) (reserve fill w pid p addr size watched type prot)
+  in_reserve fill w pid p addr size watched type prot lives params = search (tables, by_refusal, by_reserve) depth 12
 
   -- ---- changed rows
 
-  pub space_set : (rs : List (RegionOf B)) (place : ℕ) (r new : RegionOf B) → slice_get rs place ≡ Some r → new.base ≡ r.base → length new.rows ≡ length r.rows → (RowsFit r → RowsFit new) → IsSpace rs → IsSpace (set rs place new)
-  space_set rs place r new there base rows fit h =
+  pub space_set : (rs : List (RegionOf B)) (place : ℕ) (r new : RegionOf B) → slice_get rs place ≡ Some r → new.base ≡ r.base → length new.rows ≡ length r.rows → (FlagsFit r → FlagsFit new) → (RowsFit r → RowsFit new) → IsSpace rs → IsSpace (set rs place new)
+  space_set rs place r new there base rows flags fit h =
       record {
-        laid_out = laid_set first_user_page rs place r new there base rows h.laid_out;
+        laid_out = laid_set first_user_page rs place r new there base rows flags h.laid_out;
         rows = each-set RowsFit rs place new h.rows (fit (each-at RowsFit rs place r h.rows there));
       }
 
@@ -162,7 +174,8 @@ module _ {B : Type 0} where
   by_change w pid p r test change range a lives found fit =
       by_regions w pid p (set p.regions r.place (change_rows change range r.thing)) a lives
       (space_set p.regions r.place r.thing (change_rows change range r.thing) (found_stands test p.regions r found).there refl
-      (length-change_range change (range.first - r.thing.base) range.count r.thing.rows) fit)
+      (length-change_range change (range.first - r.thing.base) range.count r.thing.rows)
+      (flags_stay r.thing (change_rows change range r.thing) refl (length-change_range change (range.first - r.thing.base) range.count r.thing.rows) refl) fit)
 
   pub begins_before : (range : Range) (r : RegionOf B) → lies_within range (pages_of r) ≡ true → r.base ≤ range.first
   begins_before range r e = leb-true _ _ (and-true (nat_le r.base range.first) (nat_le (end_of range) (end_of (pages_of r))) e).0
@@ -219,6 +232,29 @@ module _ {B : Type 0} where
   pub in_free : (w : WorldOf B) (pid addr size type : ℕ) → Holds (KeepsSpaces w) (free w pid addr size type)
   in_free w pid addr size type = search (tables, by_refusal, by_release, by_whole, by_part) depth 14
 
+  -- ---- watched regions
+
+  pub by_flags : (w : WorldOf B) (pid : ℕ) (p : ProcessOf B) (r : Found (RegionOf B)) (flags : List Bool → List Bool) (a : Answer) (test : RegionOf B → Bool) → process_of w pid ≡ Some p → first_where test p.regions ≡ Some r → ((ws : List Bool) → length (flags ws) ≡ length ws) → Holds (KeepsSpaces w) (done a (set_region w pid p r.place (change_flags flags r.thing)))
+  by_flags w pid p r flags a test lives found long =
+      by_regions w pid p (set p.regions r.place (change_flags flags r.thing)) a lives
+      (space_set p.regions r.place r.thing (change_flags flags r.thing) (found_stands test p.regions r found).there refl refl (flags_changed flags r.thing long) (λ rows. rows))
+
+  by_unwritten : (w : WorldOf B) (pid : ℕ) (p : ProcessOf B) (r : Found (RegionOf B)) (base : ℕ) (pages : List ℕ) (a : Answer) (test : RegionOf B → Bool) → process_of w pid ≡ Some p → first_where test p.regions ≡ Some r → Holds (KeepsSpaces w) (done a (set_region w pid p r.place (change_flags (unwritten base pages) r.thing)))
+  by_unwritten w pid p r base pages a test lives found = by_flags w pid p r (unwritten base pages) a test lives found (length-unwritten base pages)
+
+  by_reset : (w : WorldOf B) (pid : ℕ) (p : ProcessOf B) (r : Found (RegionOf B)) (b : Bool) (range : Range) (a : Answer) (test : RegionOf B → Bool) → process_of w pid ≡ Some p → first_where test p.regions ≡ Some r → Holds (KeepsSpaces w) (done a (set_region w pid p r.place (mark_written b range r.thing)))
+  by_reset w pid p r b range a test lives found =
+      by_flags w pid p r (change_range (λ was. b) (range.first - r.thing.base) range.count) a test lives found (length-change_range (λ was. b) (range.first - r.thing.base) range.count)
+
+  unwatched : (w : WorldOf B) (a : Answer) → Holds (KeepsSpaces w) (done a w)
+  unwatched w a = record { it = record { kept = λ h. h } }
+
+  pub in_watch : (w : WorldOf B) (pid : ℕ) (unwrites : Bool) (addr size count : ℕ) → Holds (KeepsSpaces w) (watch w pid unwrites addr size count)
+  in_watch w pid unwrites addr size count = search (tables, by_refusal, by_unwritten, unwatched) depth 12
+
+  pub in_reset_watch : (w : WorldOf B) (pid addr size : ℕ) → Holds (KeepsSpaces w) (reset_watch w pid addr size)
+  in_reset_watch w pid addr size = search (tables, by_refusal, by_reset) depth 12
+
   -- ---- protect and query
 
   by_protect : (w : WorldOf B) (pid : ℕ) (p : ProcessOf B) (r : Found (RegionOf B)) (range : Range) (prot : ℕ) (a : Answer) → process_of w pid ≡ Some p → region_around p.regions range ≡ Some r → every_page (is_committed_at w r.thing) range ≡ true → every_page (accepts r.thing prot) range ≡ true → Holds (KeepsSpaces w) (done a (set_region w pid p r.place (change_rows (protected r.thing.kind prot) range r.thing)))
@@ -270,6 +306,7 @@ module _ {B : Type 0} where
       let new = view_region s access first range in
       by_regions w pid p (add_region new p.regions) a lives (space_add new p.regions range at.placed refl (length-replicate range.count _)
       (elim at.size [ inl e ↦ omega (arith, e, some) | inr e ↦ omega (arith, e, some) ])
+      (no_flags new refl)
       (each-replicate (RowFits new.kind) range.count _ (new_view_fits access)))
 
   pub in_map : (w : WorldOf B) (pid handle access offset len addr : ℕ) → Holds (KeepsSpaces w) (map_view w pid handle access offset len addr)

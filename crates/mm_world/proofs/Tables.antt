@@ -5,7 +5,8 @@ use Rattle.mm_types.specs.declared.codes.Code.{Code}
 use Rattle.mm_types.specs.declared.codes.Code.TheVariants as code
 use Rattle.mm_world.specs.World.{WorldOf}
 use Rattle.mm_world.specs.Charge.{charge, limit}
-use Rattle.mm_world.specs.Outcome.{OutcomeOf, refused, need, find_or, within_limit}
+use Rattle.mm_types.specs.declared.answers.Answer.{Answer}
+use Rattle.mm_world.specs.Outcome.{OutcomeOf, done, refused, need, find_or, within_limit}
 
 -- a property of an outcome, under a name that a search can see
 pub record Holds {B : Type 0} (P : OutcomeOf B → Type 0) (o : OutcomeOf B) : Type 0 where
@@ -31,4 +32,8 @@ module _ {B : Type 0} {P : OutcomeOf B → Type 0} where
   pub at_limit : (w : WorldOf B) (o : OutcomeOf B) → Holds P (refused w code.CommitmentLimit) → (charge o.world ≤ limit o.world → Holds P o) → Holds P (within_limit w o)
   at_limit w o refuse go = at_test w o _ refl refuse go
 
-pub ruleset tables = (at_need, at_find, at_if, at_limit)
+  pub at_world : (b : Bool) (a : Answer) (v w : WorldOf B) → Holds P (done a v) → Holds P (done a w) → Holds P (done a (cond b v w))
+  at_world true a v w h k = h
+  at_world false a v w h k = k
+
+pub ruleset tables = (at_need, at_find, at_if, at_limit, at_world)

@@ -12,8 +12,8 @@ use Rattle.mm_types.specs.declared.views.Kind.TheVariants as kind
 use Rattle.mm_types.specs.declared.views.View.{View}
 use Rattle.mm_types.specs.Address.{Range, address_of, page_of, lowest_gap}
 use Rattle.mm_world.specs.World.{StackOf, World, WorldOf, ProcessOf, RegionOf, RowOf, KeptOf, Page, filled}
-use Rattle.mm_world.specs.Find.{set_stack, stack_by, process_of, set_regions, add_region, ranges_of}
-use Rattle.mm_world.specs.Keys.{Home, Own, InSection, Committed, committed_at, set_row, set_shared, guard_off}
+use Rattle.mm_world.specs.Find.{change_range, set_region, set_stack, stack_by, process_of, set_regions, add_region, ranges_of}
+use Rattle.mm_world.specs.Keys.{with_row, Home, Own, InSection, Committed, committed_at, set_row, set_shared, guard_off}
 use Rattle.mm_world.specs.Outcome.{done}
 use Rattle.mm_types.specs.Allocation.{commit_type}
 use Rattle.mm_world.specs.Access.{Attempt, ReadOf, WriteOf, Execute, access, access_at, perform, write_to, written, bytes_of, address_in, attempt_in}
@@ -21,15 +21,13 @@ use Rattle.mm_world.specs.Report.{Report}
 use Rattle.mm_world.specs.Step.{unpaged, told, step, stepped, world_told, begin, resume, store_line, kept_by, keep}
 use Rattle.mm_world.specs.Stack.{stack, probe, probe_at, probe_in, probe_of, grown, made, stack_region}
 use Rattle.mm_world.specs.WellFormed.{RowFits, RowsFit, PrivateRowFits, held_protections}
-use Rattle.mm_world.specs.Rows.{is_one_of, reserved_row, commit}
-use Rattle.mm_world.specs.Watch.{WatchOf, watch, reset_watch}
-use Rattle.mm_world.specs.System.{System, plain_line, outcome}
+use Rattle.mm_world.specs.Rows.{one_page, mark_written, is_one_of, reserved_row, commit}
 use Rattle.mm_world.proofs.Tables.{Holds, tables}
 use Rattle.mm_world.proofs.Finding.{found_stands, IsCommitted, committed_is, HomeCases, IsOwn, IsShared, home_cases}
 use Rattle.mm_world.proofs.Each.{each-set, each-at, each-append, each-replicate}
-use Rattle.mm_world.proofs.LaidOut.{placed_is}
-use Rattle.mm_world.proofs.RowsFit.{reserved_fits, commit_fits}
-use Rattle.mm_world.proofs.Spaces.{KeepsSpaces, by_beside, by_refusal, by_same, by_regions, space_set, space_add, in_alloc, in_free, in_protect, in_query, in_create, in_create_file, in_open, in_close, in_map, in_unmap, in_flush, in_exit, in_new_process, in_new_file, in_take_fail, in_grow}
+use Rattle.mm_world.proofs.LaidOut.{flags_stay, flags_changed, no_flags, placed_is}
+use Rattle.mm_world.proofs.RowsFit.{length-change_range, reserved_fits, commit_fits}
+use Rattle.mm_world.proofs.Spaces.{KeepsSpaces, by_beside, in_watch, in_reset_watch, by_refusal, by_same, by_regions, space_set, space_add, in_alloc, in_free, in_protect, in_query, in_create, in_create_file, in_open, in_close, in_map, in_unmap, in_flush, in_exit, in_new_process, in_new_file, in_take_fail, in_grow}
 
 module _ {B : Type 0} where
   -- ---- one row is changed
@@ -39,7 +37,17 @@ module _ {B : Type 0} where
       let r = c.region.thing in
       let there = found_stands _ p.regions c.region h.region in
       let changed : RegionOf B = record r { rows = set r.rows (page - r.base) new } in
+      by_regions w pid p (set p.regions c.region.place changed) a lives (space_set p.regions c.region.place r changed there.there refl (length-set r.rows (page - r.base) new) (flags_stay r changed refl (length-set r.rows (page - r.base) new) refl)
+      (λ rows. each-set (RowFits r.kind) r.rows (page - r.base) new rows (fit (each-at (RowFits r.kind) r.rows (page - r.base) c.row rows h.row_there))))
+
+  -- the same, and its page is marked
+  by_marked : (w : WorldOf B) (pid : ℕ) (p : ProcessOf B) (c : Committed B) (page : ℕ) (new : RowOf B) (b : Bool) (a : Answer) → process_of w pid ≡ Some p → IsCommitted w p.regions page c → (RowFits c.region.thing.kind c.row → RowFits c.region.thing.kind new) → Holds (KeepsSpaces w) (done a (set_region w pid p c.region.place (mark_written b (one_page page) (with_row page new c.region.thing))))
+  by_marked w pid p c page new b a lives h fit =
+      let r = c.region.thing in
+      let there = found_stands _ p.regions c.region h.region in
+      let changed : RegionOf B = mark_written b (one_page page) (with_row page new r) in
       by_regions w pid p (set p.regions c.region.place changed) a lives (space_set p.regions c.region.place r changed there.there refl (length-set r.rows (page - r.base) new)
+      (λ fits. flags_changed (change_range (λ was. b) (page - r.base) 1) (with_row page new r) (length-change_range (λ was. b) (page - r.base) 1) (flags_stay r (with_row page new r) refl (length-set r.rows (page - r.base) new) refl fits))
       (λ rows. each-set (RowFits r.kind) r.rows (page - r.base) new rows (fit (each-at (RowFits r.kind) r.rows (page - r.base) c.row rows h.row_there))))
 
   -- a committed private row has own bytes
@@ -89,7 +97,7 @@ module _ {B : Type 0} where
 
 in_own : (w : World) (pid : ℕ) (p : ProcessOf Page) (c : Committed Page) (page offset : ℕ) (bytes old : List ℕ) (a : Answer) → process_of w pid ≡ Some p → IsCommitted w p.regions page c → c.row.own ≡ Some old → Holds (KeepsSpaces w) (done a (write_to w pid p c page offset bytes (Own old)))
 in_own w pid p c page offset bytes old a lives h own =
-    by_row w pid p c page (record c.row { own = Some (written old offset bytes) }) a lives h (own_fits c.region.thing.kind c.row old (written old offset bytes) own)
+    by_marked w pid p c page (record c.row { own = Some (written old offset bytes) }) true a lives h (own_fits c.region.thing.kind c.row old (written old offset bytes) own)
 
 in_section : (w : World) (pid : ℕ) (p : ProcessOf Page) (c : Committed Page) (page offset : ℕ) (bytes : List ℕ) (v : View) (area i : ℕ) (a : Answer) → process_of w pid ≡ Some p → IsCommitted w p.regions page c → c.region.thing.kind ≡ kind.View v → Holds (KeepsSpaces w) (done a (write_to w pid p c page offset bytes (InSection area i)))
 in_section w pid p c page offset bytes v area i a lives h is = copied c.row.marked refl
@@ -134,7 +142,7 @@ in_resume w tid (Some k) = record { it = record { kept = (in_access w k.pid (add
 in_store_line : (w : World) (pid : ℕ) → Holds (KeepsSpaces w) (store_line w pid)
 in_store_line w pid = search (tables, by_refusal, unchanged) depth 12
 
--- ---- stacks
+-- ---- watched regions and stacks
 
 module _ {B : Type 0} (fill : ℕ → B) where
   pub stack_rows : (base r c : ℕ) → RowsFit (stack_region fill base r c)
@@ -157,7 +165,7 @@ by_stack w tid pid p s r c base a lives fits found =
     let at = placed_is (ranges_of p.regions) 0 (record { first = 0; count = r }) r range refl (ap (λ g. option_map (λ first. let range : Range = record { first = first; count = r } in range) g) found) in
     let enough = leb-true (c + 2) r fits in
     by_beside w (set_regions w pid p (add_region (stack_region filled base r c) p.regions)) _ a (by_regions w pid p (add_region (stack_region filled base r c) p.regions) a lives
-    (space_add (stack_region filled base r c) p.regions range at.placed refl (stack_length filled base r c enough) (omega (arith, enough)) (stack_rows filled base r c)))
+    (space_add (stack_region filled base r c) p.regions range at.placed refl (stack_length filled base r c enough) (omega (arith, enough)) (no_flags (stack_region filled base r c) refl) (stack_rows filled base r c)))
 
 in_made : (w : World) (tid pid : ℕ) (p : ProcessOf Page) (r c : ℕ) → process_of w pid ≡ Some p → Holds (KeepsSpaces w) (made filled w tid pid p r c)
 in_made w tid pid p r c lives = search (tables, by_refusal, by_stack) depth 12
@@ -218,8 +226,8 @@ in_unpaged w (line.Fail device direction k n) = in_take_fail w
 in_unpaged w line.Charge = unchanged w _
 in_unpaged w line.Counts = unchanged w _
 in_unpaged w (line.Grow n) = in_grow w n
-in_unpaged w (line.Watch pid unwrites addr size count) = unchanged w _
-in_unpaged w (line.ResetWatch pid addr size) = unchanged w _
+in_unpaged w (line.Watch pid unwrites addr size count) = in_watch w pid.0 unwrites addr size count
+in_unpaged w (line.ResetWatch pid addr size) = in_reset_watch w pid.0 addr size
 in_unpaged w (line.Stack tid pid reserve commit) = in_stack w tid.0 pid.0 reserve commit
 in_unpaged w (line.Probe tid addr) = in_probe_of w tid.0 _ (stack_by w tid.0)
 
@@ -234,16 +242,3 @@ in_stepped w e (Some a) = in_told w e a
 
 pub in_step : (w : World) (e : Event) (before after : Report) → Holds (KeepsSpaces w) (step w e before after)
 in_step w e before after = in_stepped w e (told w e before after)
-
--- ---- watched regions beside the world
-
-in_watch : (w : World) (watches : List WatchOf) (pid addr size count : ℕ) → Holds (KeepsSpaces w) (watch w watches pid addr size count)
-in_watch w watches pid addr size count = search (tables, by_refusal, unchanged) depth 12
-
-in_reset_watch : (w : World) (watches : List WatchOf) (pid addr size : ℕ) → Holds (KeepsSpaces w) (reset_watch w watches pid addr size)
-in_reset_watch w watches pid addr size = search (tables, by_refusal, unchanged) depth 12
-
-pub in_outcome : (s : System) (e : Event) (before after : Report) → Holds (KeepsSpaces s.world) (outcome s e before after)
-in_outcome s (line.Watch pid unwrites addr size count) before after = in_watch s.world s.watches pid.0 addr size count
-in_outcome s (line.ResetWatch pid addr size) before after = in_reset_watch s.world s.watches pid.0 addr size
-in_outcome s e before after = in_step s.world (plain_line e) before after

@@ -1,4 +1,4 @@
--- In the order of reading. The definitions are the lines up to System; below it stand words of laws and worked rows.
+-- In the order of reading. The definitions are the lines up to Step; below it stand words of laws and worked rows.
 
 -- private memory
 pub mod World
@@ -16,19 +16,23 @@ pub mod Access
 pub mod Sections
 pub mod Views
 pub mod Processes
--- stacks
+-- watched regions, stacks
+pub mod Watch
 pub mod Stack
 -- where an answer looks at paging, and one line as a whole
 pub mod Report
 pub mod Failure
 pub mod Step
--- watched regions beside a world
-pub mod Watch
-pub mod System
 -- what holds of worlds, and words of laws
 pub mod WellFormed
 pub mod Contents
 pub mod Laws
+-- what lines tell of written pages, of kept writes and of stacks
+pub mod Written
+pub mod Flags
+pub mod Writes
+pub mod PrivateRegions
+pub mod Stacked
 -- worked rows
 pub mod Worked
 pub mod WorkedPrivate

@@ -1,7 +1,10 @@
-ghost use Rattle.std.specs.Prelude.{◌≡◌, ◌≤◌, ◌%◌, ℕ, Option, Some, true, false, is_some, slice_get};
+ghost use Rattle.std.specs.Prelude.{◌≡◌, ◌≤◌, ◌%◌, ℕ, Bool, List, Option, Some, true, false, is_some, slice_get};
+ghost use Rattle.mm_types.specs.declared.answers.Answer.TheVariants as answer;
 ghost use Rattle.mm_types.specs.declared.events.Event.{Event};
+ghost use Rattle.mm_types.specs.declared.events.Event.TheVariants as line;
 ghost use Rattle.mm_types.specs.declared.numbers.Key.{Key};
-ghost use Rattle.mm_types.specs.Address.{holds_page, are_user_pages, granule_pages};
+ghost use Rattle.mm_types.specs.declared.numbers.Pid.{Pid};
+ghost use Rattle.mm_types.specs.Address.{range_of, holds_page, are_user_pages, granule_pages};
 ghost use Rattle.mm_types.specs.Machine.{MachineOf, IsMachine};
 ghost use Rattle.mm_types.specs.Spelling.{Text};
 ghost use Rattle.mm_world.specs.World.{World, ProcessOf, RegionOf, Page, filled, pages_of};
@@ -18,22 +21,24 @@ ghost use Rattle.mm_world.specs.Sections.{create, create_file, open_section, clo
 ghost use Rattle.mm_world.specs.Views.{map_view, unmap, flush};
 ghost use Rattle.mm_world.specs.Access.{Attempt, access};
 ghost use Rattle.mm_world.specs.Report.{Report};
-ghost use Rattle.mm_world.specs.Step.{step, world_after};
+ghost use Rattle.mm_world.specs.Step.{step, world_after, first_world};
 ghost use Rattle.mm_world.specs.Stack.{stack, probe};
-ghost use Rattle.mm_world.specs.System.{System, system_step, system_after};
+ghost use Rattle.mm_world.specs.Watch.{watch, reset_watch};
 ghost use Rattle.mm_world.specs.WellFormed.{WellFormed, Spaces};
-ghost use Rattle.mm_world.specs.Laws.{LineLeaves, SystemLeaves, HasCommittedRow, Reached, LimitDecides, is_charging_line, is_limit_refusal, more_slots};
+ghost use Rattle.mm_world.specs.Flags.{flag_of, FlagTold, GivesFlagged};
+ghost use Rattle.mm_world.specs.Writes.{writes_of, writes_after};
+ghost use Rattle.mm_world.specs.PrivateRegions.{PagesOf, is_region_of, line_ends};
+ghost use Rattle.mm_world.specs.Stacked.{are_stacked};
+ghost use Rattle.mm_world.specs.Laws.{LineLeaves, HasCommittedRow, Reached, LimitDecides, is_charging_line, is_limit_refusal, more_slots};
 
 /// The answer and the old world determine the new one.
 pub fn answers_determine_worlds()
-    ensures world { (w : World) (e : Event) (before after : Report) → (step w e before after).world ≡ world_after w e (step w e before after).answer }
-    ensures system { (s : System) (e : Event) (before after : Report) → (system_step s e before after).system ≡ system_after s e (system_step s e before after).answer }
+    ensures { (w : World) (e : Event) (before after : Report) → (step w e before after).world ≡ world_after w e (step w e before after).answer }
 {}
 
 /// An answer other than `ok` leaves the world as it was, but for a guard turned off and for what a thread keeps.
 pub fn refusals_change_nothing()
-    ensures world { (w : World) (e : Event) (before after : Report) → LineLeaves w e (step w e before after) }
-    ensures system { (s : System) (e : Event) (before after : Report) → SystemLeaves s e (system_step s e before after) }
+    ensures { (w : World) (e : Event) (before after : Report) → LineLeaves w e (step w e before after) }
 {}
 
 /// An access leaves the charge as it is.
@@ -43,7 +48,7 @@ pub fn accesses_keep_the_charge()
 
 /// The charge is at most the limit in each world that lines reach.
 pub fn charge_stays_within_the_limit()
-    ensures { (m : MachineOf) (s : System) → Reached m s → charge s.world ≤ limit s.world }
+    ensures { (m : MachineOf) (w : World) → Reached m w → charge w ≤ limit w }
 {}
 
 /// ERROR_COMMITMENT_LIMIT comes exactly where no other refusal stands and the charge of the world that the call would
@@ -54,7 +59,7 @@ pub fn commitment_is_refused_exactly_past_the_limit()
     ensures create { (fill : ℕ → Page) (w : World) (pid size flags : ℕ) (name : Option Text) → LimitDecides w (create fill w pid size flags name) (λ n. create fill (more_slots w n) pid size flags name) }
     ensures map { (w : World) (pid handle access offset len addr : ℕ) → LimitDecides w (map_view w pid handle access offset len addr) (λ n. map_view (more_slots w n) pid handle access offset len addr) }
     ensures stack { (fill : ℕ → Page) (w : World) (tid pid reserve commit : ℕ) → LimitDecides w (stack fill w tid pid reserve commit) (λ n. stack fill (more_slots w n) tid pid reserve commit) }
-    ensures others { (s : System) (e : Event) (before after : Report) → is_charging_line e ≡ false → is_limit_refusal (system_step s e before after).answer ≡ false }
+    ensures others { (w : World) (e : Event) (before after : Report) → is_charging_line e ≡ false → is_limit_refusal (step w e before after).answer ≡ false }
 {}
 
 /// The key of each committed row is live, and each live private key has a committed row, whose bytes are the key's.
@@ -65,8 +70,37 @@ pub fn keys_are_those_of_committed_rows()
 
 /// A world is well formed after each line.
 pub fn worlds_are_well_formed()
-    ensures kept { (s : System) (e : Event) (before after : Report) → WellFormed s.world → WellFormed (system_step s e before after).system.world }
-    ensures reached { (m : MachineOf) (s : System) → IsMachine m → Reached m s → WellFormed s.world }
+    ensures kept { (w : World) (e : Event) (before after : Report) → WellFormed w → WellFormed (step w e before after).world }
+    ensures reached { (m : MachineOf) (w : World) → IsMachine m → Reached m w → WellFormed w }
+{}
+
+/// A page that is flagged as written or not after a line has the flag that the line and its answer tell: not written where
+/// the line began its region; else from the flag that it had before.
+pub fn flags_change_as_told()
+    ensures { (w : World) (e : Event) (before after : Report) (pid page : ℕ) (flag : Bool) → Spaces w → flag_of (step w e before after).world pid page ≡ Some flag → FlagTold w e (step w e before after).answer pid page flag }
+{}
+
+/// A `watch` that is answered with pages gives the lowest flagged pages of its range, each page of which is watched.
+pub fn watches_give_flagged_pages()
+    ensures { (w : World) (pid : Pid) (unwrites : Bool) (addr size count : ℕ) (addresses : List ℕ) (before after : Report) → Spaces w → (step w (line.Watch pid unwrites addr size count) before after).answer ≡ answer.Watched addresses → GivesFlagged w pid.0 (range_of addr size) count addresses }
+{}
+
+/// The writes that threads keep change as lines and their answers tell.
+pub fn answers_tell_kept_writes()
+    ensures { (w : World) (e : Event) (before after : Report) → writes_of (step w e before after).world ≡ writes_after (writes_of w) e (step w e before after).answer }
+{}
+
+/// A private region of a process stays one, with its base and its pages, and watched if it was, over each line that does not
+/// release it or end its process.
+pub fn private_regions_stay()
+    ensures { (w : World) (e : Event) (before after : Report) (pages : PagesOf) → line_ends e (step w e before after).answer pages ≡ false → is_region_of w pages ≡ true → is_region_of (step w e before after).world pages ≡ true }
+{}
+
+/// Each stack has a private region of a process that lives, with its base and its guard page, in the first world and after
+/// each line.
+pub fn stacks_stay_private_regions()
+    ensures kept { (w : World) (e : Event) (before after : Report) → are_stacked w ≡ true → are_stacked (step w e before after).world ≡ true }
+    ensures first { (m : MachineOf) → are_stacked {B = Page} (first_world m) ≡ true }
 {}
 
 /// The regions of a process share no page, and lie on granules within the user pages.
@@ -96,6 +130,8 @@ pub fn calls_do_not_look_at_bytes()
     ensures tell_charge { (w : World) → tell_charge (tables_of w) ≡ tables_outcome (tell_charge w) }
     ensures grow { (w : World) (n : ℕ) → grow (tables_of w) n ≡ tables_outcome (grow w n) }
     ensures stack { (w : World) (tid pid reserve commit : ℕ) → stack blank (tables_of w) tid pid reserve commit ≡ tables_outcome (stack filled w tid pid reserve commit) }
+    ensures watch { (w : World) (pid : ℕ) (unwrites : Bool) (addr size count : ℕ) → watch (tables_of w) pid unwrites addr size count ≡ tables_outcome (watch w pid unwrites addr size count) }
+    ensures reset_watch { (w : World) (pid addr size : ℕ) → reset_watch (tables_of w) pid addr size ≡ tables_outcome (reset_watch w pid addr size) }
     ensures probe { (w : World) (tid addr : ℕ) → probe blank (tables_of w) tid addr ≡ tables_outcome (probe filled w tid addr) }
 {}
 
@@ -125,5 +161,7 @@ pub fn calls_keep_bytes()
     ensures grow { (t : Tables) (bytes : Key → Page) → Spaces t → (n : ℕ) → AcrossBytes t bytes (grow t n) (grow (world_with t bytes) n) }
     ensures stack { (t : Tables) (bytes : Key → Page) → Spaces t → (tid pid reserve commit : ℕ) → AcrossBytes t bytes (stack blank t tid pid reserve commit) (stack filled (world_with t bytes) tid pid reserve commit) }
     ensures file { (t : Tables) (bytes : Key → Page) → Spaces t → (name : Text) (pages byte : ℕ) → AcrossFile byte t bytes (new_file blank t name pages byte) (new_file filled (world_with t bytes) name pages byte) }
+    ensures watch { (t : Tables) (bytes : Key → Page) → Spaces t → (pid : ℕ) (unwrites : Bool) (addr size count : ℕ) → AcrossBytes t bytes (watch t pid unwrites addr size count) (watch (world_with t bytes) pid unwrites addr size count) }
+    ensures reset_watch { (t : Tables) (bytes : Key → Page) → Spaces t → (pid addr size : ℕ) → AcrossBytes t bytes (reset_watch t pid addr size) (reset_watch (world_with t bytes) pid addr size) }
     ensures probe { (t : Tables) (bytes : Key → Page) → Spaces t → (tid addr : ℕ) → AcrossBytes t bytes (probe blank t tid addr) (probe filled (world_with t bytes) tid addr) }
 {}

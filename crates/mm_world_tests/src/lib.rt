@@ -1,9 +1,11 @@
-//! Tests of worlds and systems over the store that does not page, in a crate of their own, so that `mm_core` and `mm_system` are each proved once.
+//! Tests of worlds over the store that does not page, in a crate of their own, so that `mm_core` is proved once.
 #![tactic(auto)]
 
 #[cfg(test)]
 mod bytes;
 #[cfg(test)]
-mod systems;
+mod machines;
+#[cfg(test)]
+mod watches_and_stacks;
 #[cfg(test)]
 mod worlds;

@@ -1,56 +1,18 @@
 ghost use Rattle.std.specs.Prelude.{◌≡◌, ◌≤◌, ◌+◌, [], ◌∷◌, true, false, IfOk, OnOk, length};
-ghost use Rattle.mm_script.specs.Printed.{IsWellFormed};
-ghost use Rattle.mm_core.specs.Built.{is_built};
 ghost use Rattle.mm_core.specs.Shown.{line_of};
 
 use crate::bytes::seven;
+use crate::machines::{PID, decide, with_process};
 use mm_blocks::{Blocks, Inject, Injected, MemBlocks};
-use mm_core::{World, is_built};
+use mm_core::{World, is_machine};
 use mm_pages::Pages;
 use mm_plain::Plain;
-use mm_types::{AllocFlags, Answer, Event, Machine, Name, NoMemory, Pid, Prot, Tid};
+use mm_types::{AllocFlags, Answer, Event, Machine, Name, NoMemory, Prot};
 use std::alloc::Global;
 use std::process::Abort;
 use std::test::Fail;
 
-const PID: Pid = Pid(1);
-
 const PAGE: u32 = 0x10000;
-
-// One line, of which its number alone is told, so that what follows is proved with little at hand.
-fn decide<G: Pages>(
-    alloc: Global,
-    world: &mut World<G>,
-    line: u32,
-    event: &Event,
-) -> Result<Answer, NoMemory>
-    requires well_formed { IsWellFormed event.now }
-    requires built { is_built event.now ≡ true }
-    requires next { line ≡ line_of world.old + 1 }
-    requires few { line ≤ 1000000 }
-    requires ready { world.old.spent ≡ false }
-    ensures line { OnOk result (line_of world.new ≡ line) }
-    ensures ready { OnOk result (world.new.spent ≡ false) }
-{
-    world.step(alloc, line, event)
-}
-
-// A machine with one process.
-fn with_process<F: Inject + Drop>(alloc: Global, files: F) -> Result<World<Plain<F>>, NoMemory>
-    requires opened { length (F.blocks files) ≡ 2 }
-    requires plain { F.named files ≡ [] }
-    ensures line { IfOk result (λ w. line_of w ≡ 2) }
-    ensures ready { IfOk result (λ w. w.spent ≡ false) }
-{
-    let machine = Machine::new(8, 8, 1, 2);
-    let store = match Plain::new(alloc, machine, files) {
-        Ok(store) => store,
-        Err(_) => return Err(NoMemory),
-    };
-    let mut world = World::new(alloc, machine, store);
-    decide(alloc, &mut world, 2, &Event::Process { min: 0, max: 8 })?;
-    Ok(world)
-}
 
 // The name of one letter, a.
 fn name() -> Name
@@ -200,20 +162,14 @@ fn bytes_of_files_come_from_the_store(rt: HostRuntime) -> Result<(), Fail> {
 }
 
 #[test]
-fn a_world_decides_some_forms(rt: HostRuntime) {
-    assert!(rt; is_built(&Event::Charge));
-    assert!(rt; is_built(&Event::Counts));
+fn the_machine_line_makes_a_world(rt: HostRuntime) {
+    assert!(rt; is_machine(&Event::Machine(Machine::new(8, 8, 1, 2))));
+    assert!(rt; !is_machine(&Event::Charge));
     assert!(rt;
-        !is_built(&Event::ResetWatch {
+        !is_machine(&Event::ResetWatch {
             pid: PID,
             addr: PAGE,
             size: 1
-        })
-    );
-    assert!(rt;
-        is_built(&Event::Probe {
-            tid: Tid(0),
-            addr: PAGE
         })
     );
 }

@@ -1,4 +1,5 @@
-use Rattle.std.proofs.Common.{true, ◌≡◌, ◌∙◌, ap, ◌%◌, Option, Some}
+use Rattle.std.proofs.Common.{true, ◌≡◌, ◌∙◌, ap, sym, subst, ℕ, ◌%◌, Option, Some}
+use Rattle.mm_types.specs.declared.protections.Access.TheVariants as access_kind
 use Rattle.mm_types.specs.Address.{page_of, page_size}
 use Rattle.mm_pages.specs.Conditions.{place_at, touch, IsReady}
 use Rattle.mm_core.specs.Answering.{aim_in}
@@ -9,7 +10,8 @@ use Rattle.mm_world.specs.Access.{WriteOf, written}
 use Rattle.mm_world.specs.Contents.{world_with}
 use Rattle.mm_tables.specs.Fits.{bytes_of}
 use Rattle.mm_core.proofs.AccessLines.{accessed-had, accessed-lost, changed-others, changed-at}
-use Rattle.mm_core.proofs.Accesses.{write-needs, writes}
+use Rattle.mm_core.proofs.Accesses.{write-needs, writes, made-marks}
+use Rattle.mm_tables.specs.References.{MadeAtMost}
 use Rattle.mm_core.proofs.Writing.{keys-same}
 use Rattle.mm_world.specs.Failure.{same_key}
 use Rattle.mm_pages.specs.Store.{changed}
@@ -25,9 +27,19 @@ returns-in-Ok-clause-accessed g c =
     (let new = g.G.Pages.contents c.put.new.g in
     let stored : Page = written (bytes_of old c.args.row.key) (c.args.addr % page_size) c.args.bytes.now in
     let is : new ≡ changed same_key old c.args.row.key (Some stored) = c.in-Ok.ensures.written ∙ (λ i. changed same_key old c.args.row.key (Some (written (bytes_of old c.args.row.key) (c.args.addr % page_size) (c.as_slice.ensures.bytes i)))) in
-    writes t (bytes_of old) c.args.pid.0 c.args.addr c.args.bytes.now c.args.row c.requires.admitted (bytes_of new) c.requires.spaces
+    writes t (bytes_of old) c.args.pid.0 c.args.addr c.args.bytes.now c.args.row c.requires.admitted c.mark_written.new.t c.mark_written.ensures.marks (bytes_of new) c.requires.spaces
     (λ k other. ap (λ (c : Key → Option Page). bytes_of c k) is ∙ changed-others old c.args.row.key stored k other)
     (ap (λ (n : Key → Option Page). bytes_of n c.args.row.key) is ∙ changed-at old c.args.row.key stored (keys-same c.args.row.key)) c.requires.stays)
+
+pub returns-in-Ok-clause-keeps : goal.returns-in-Ok-clause-keeps
+returns-in-Ok-clause-keeps g c =
+    let t = c.args.t.now in
+    let after = c.mark_written.new.t in
+    record {
+      fits = c.mark_written.ensures.fits (g.G.Pages.contents c.put.new.g) (g.G.Pages.store c.put.new.g) c.put.ensures.fits;
+      few = subst (λ (n : ℕ). MadeAtMost n after) (sym c.put.ensures.line)
+          (made-marks t (g.G.Pages.store c.args.g.now).line c.args.pid.0 c.args.addr access_kind.Write c.args.row c.requires.admitted after c.mark_written.ensures.marks c.requires.keeps.few);
+    }
 
 pub returns-in-Err-clause-accessed : goal.returns-in-Err-clause-accessed
 returns-in-Err-clause-accessed g c =

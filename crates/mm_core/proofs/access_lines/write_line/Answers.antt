@@ -66,8 +66,8 @@ returns-else-row-clause-decided g c =
     let m = g.G.Pages.store c.begin_access.new.g in
     let call = c.write_at in
     let z = g.G.Pages.store call.new.g in
-    let v = world_with c.admit.new.t (bytes_of (g.G.Pages.contents call.new.g)) in
-    decided-access g.G.Pages.unpaged (event.Write c.args.pid c.args.addr c.args.bytes.now) c.args.line t old mid s m call.result c.admit.new.t (g.G.Pages.contents call.new.g) z c.args.pid.0 c.args.addr (WriteOf c.args.bytes.now)
+    let v = world_with call.new.t (bytes_of (g.G.Pages.contents call.new.g)) in
+    decided-access g.G.Pages.unpaged (event.Write c.args.pid c.args.addr c.args.bytes.now) c.args.line t old mid s m call.result call.new.t (g.G.Pages.contents call.new.g) z c.args.pid.0 c.args.addr (WriteOf c.args.bytes.now)
     c.begin_access.ensures.contents c.begin_access.ensures.begins call.ensures.keeps call.ensures.line refl refl tt tt refl
     (subst (λ (x : Tables). Accessed g.G.Pages.unpaged (world_with x (bytes_of mid)) c.args.pid.0 c.args.addr (WriteOf c.args.bytes.now) m z call.result v) c.in-Ok.ensures.unchanged call.ensures.accessed)
 
@@ -126,5 +126,5 @@ returns-else-row-clause-passes g c =
     let y = g.G.Pages.behind c.begin_access.new.g in
     let began = c.begin_access.ensures in
     let call = c.write_at in
-    access-passes g.G.Pages.unpaged (event.Write c.args.pid c.args.addr c.args.bytes.now) c.args.line t old mid began.contents s m b y c.args.pid c.args.addr (WriteOf c.args.bytes.now) (plain-write w c.args.pid c.args.addr c.args.bytes.now) c.begin_access.result began.lives began.passes _ call.result (world_with c.admit.new.t (bytes_of (g.G.Pages.contents call.new.g))) c.admit.new.t (g.G.Pages.store call.new.g) (g.G.Pages.behind call.new.g)
+    access-passes g.G.Pages.unpaged (event.Write c.args.pid c.args.addr c.args.bytes.now) c.args.line t old mid began.contents s m b y c.args.pid c.args.addr (WriteOf c.args.bytes.now) (plain-write w c.args.pid c.args.addr c.args.bytes.now) c.begin_access.result began.lives began.passes _ call.result (world_with call.new.t (bytes_of (g.G.Pages.contents call.new.g))) c.admit.new.t (g.G.Pages.store call.new.g) (g.G.Pages.behind call.new.g)
     c.in-Ok.ensures.unchanged call.ensures.passes

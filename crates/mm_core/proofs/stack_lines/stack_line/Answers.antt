@@ -9,10 +9,10 @@ use Rattle.mm_world.proofs.Across.{stack_across}
 use Rattle.mm_tables.specs.Fits.{Called, bytes_of}
 use Rattle.mm_core.proofs.Serving.{quiet-beside}
 use Rattle.mm_core.proofs.Making.{in_stack}
-use Rattle.mm_core.proofs.Lines.{decided-call, if-ok}
-use Rattle.mm_pages.specs.Housekeeping.{MakesStack}
+use Rattle.mm_core.proofs.Lines.{decided-call, if-ok, if-err}
+use Rattle.mm_pages.specs.Housekeeping.{MakesStack, guard_told}
 use Rattle.mm_core.proofs.Turned.{stack_makes}
-use Rattle.mm_core.proofs.Marking.{marked_turn, each-ok, each-err, halted_turn}
+use Rattle.mm_core.proofs.Marking.{marked_turn, halted_turn}
 use Rattle.mm_core.proofs.stack_lines.stack_line.Goals as goal
 
 pub returns-clause-ok : goal.returns-clause-ok
@@ -31,13 +31,13 @@ returns-clause-ok g c =
 pub returns-clause-marked : goal.returns-clause-marked
 returns-clause-marked g c =
     let call = c.stack in
-    each-ok call.result (λ a.
+    if-ok call.result call.ensures.passes (λ a passes.
     marked_turn c.args.line kind.Call (event.Stack c.args.tid c.args.pid c.args.reserve c.args.commit) (world_with c.args.t.now (bytes_of (g.G.Pages.contents c.args.g.now))) a (world_with call.new.t (bytes_of (g.G.Pages.contents call.new.g))) g.G.Pages.unpaged
     (g.G.Pages.store c.args.g.now) (g.G.Pages.store c.begin.new.g) (g.G.Pages.store call.new.g) (g.G.Pages.behind c.args.g.now) (g.G.Pages.behind c.begin.new.g) (g.G.Pages.behind call.new.g)
-    (record { ages = λ ms. refl; waits = λ ws l. refl }) MakesStack stack_makes (λ ms h. h) c.begin.ensures.passes call.ensures.passes)
+    (record { ages = λ ms. refl; waits = λ ws l. refl }) (MakesStack (guard_told a)) (stack_makes (guard_told a)) (λ ms h. h) c.begin.ensures.passes passes)
 
 pub returns-clause-halted : goal.returns-clause-halted
 returns-clause-halted g c =
     let call = c.stack in
-    each-err call.result (
-    halted_turn c.args.line kind.Call refl MakesStack stack_makes g.G.Pages.unpaged (g.G.Pages.store c.args.g.now) (g.G.Pages.store c.begin.new.g) (g.G.Pages.store call.new.g) (g.G.Pages.behind c.args.g.now) (g.G.Pages.behind c.begin.new.g) (g.G.Pages.behind call.new.g) c.begin.ensures.passes call.ensures.passes)
+    if-err call.result call.ensures.idle (λ idle.
+    halted_turn c.args.line kind.Call refl (MakesStack 0) (stack_makes 0) g.G.Pages.unpaged (g.G.Pages.store c.args.g.now) (g.G.Pages.store c.begin.new.g) (g.G.Pages.store call.new.g) (g.G.Pages.behind c.args.g.now) (g.G.Pages.behind c.begin.new.g) (g.G.Pages.behind call.new.g) c.begin.ensures.passes (idle (MakesStack 0)))

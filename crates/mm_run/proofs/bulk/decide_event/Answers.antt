@@ -9,4 +9,4 @@ pub returns-else-moves_failed-clause-faults : goal.returns-else-moves_failed-cla
 returns-else-moves_failed-clause-faults g c = λ s o. ap (λ k. counts_with s o k) ((rw c.in-Ok.is at c.decide.ensures.same) (sym c.if-moves_failed.ensures))
 
 pub returns-in-Err-clause-faults : goal.returns-in-Err-clause-faults
-returns-in-Err-clause-faults g c = λ s o. (let b = (rw c.in-Err.is at c.decide.ensures.breaks) in (b.broke.broken refl).grew.later, refl)
+returns-in-Err-clause-faults g c = λ s o. (let b = (rw c.in-Err.is at c.decide.ensures.breaks) in (b.broken refl).grew.later, refl)

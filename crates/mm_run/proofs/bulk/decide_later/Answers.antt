@@ -1,5 +1,6 @@
 use Rattle.std.proofs.Common.{refl, ap, ◌∙◌, cond, arith}
-use Rattle.mm_run.specs.Scenes.{Running, scene}
+use Rattle.mm_core.specs.Promise.{scene}
+use Rattle.mm_run.specs.Scenes.{Running}
 use Rattle.mm_run.specs.Story.{Counts, counts_with}
 use Rattle.mm_run.proofs.Finding.{blamed_then}
 use Rattle.mm_run.proofs.Batches.{handled_none, handled_on, stopped_on}
@@ -7,7 +8,7 @@ use Rattle.mm_run.proofs.bulk.decide_later.Goals as goal
 
 pub loop-event-init : goal.loop-event-init
 loop-event-init g c = record {
-  handled = handled_none (Running (scene c.args.system.now));
+  handled = handled_none (Running (scene c.args.world.now));
   next = refl;
   ok_few = omega arith;
   none_few = omega arith;
@@ -26,7 +27,7 @@ loop-event-preserved g c =
     let ok_most = c.one_if-ok.ensures.most in
     let none_most = c.one_if-none.ensures.most in
     record {
-      handled = handled_on (Running (scene c.args.system.now)) (Running (scene l.system)) (Running (scene c.decide_event.new.system)) c.args.events.now l.event-index l.ok l.none c.one_if-ok.result c.one_if-none.result c.event-item.result c.in-Ok.answer (omega arith) c.event-item.is i.handled d.decided d.noted
+      handled = handled_on (Running (scene c.args.world.now)) (Running (scene l.world)) (Running (scene c.decide_event.new.world)) c.args.events.now l.event-index l.ok l.none c.one_if-ok.result c.one_if-none.result c.event-item.result c.in-Ok.answer (omega arith) c.event-item.is i.handled d.decided d.noted
           (c.one_if-ok.ensures.value ∙ ap (λ b. cond b 1 0) c.begins_ok.ensures) (c.one_if-none.ensures.value ∙ ap (λ b. cond b 1 0) c.is_none.ensures);
       next = omega (arith, i.next);
       ok_few = omega (arith, i.ok_few, ok_most);
@@ -41,7 +42,7 @@ loop-event-preserved g c =
 pub returns-in-Err-clause-came : goal.returns-in-Err-clause-came
 returns-in-Err-clause-came g c =
     let l = c.loop-event in
-    stopped_on (Running (scene c.args.system.now)) (scene l.system) (scene c.decide_event.new.system) c.args.events.now l.event-index l.ok l.none c.event-item.result c.in-Err.ending (omega arith) l.invariant.handled c.in-Err.ensures.ends
+    stopped_on (Running (scene c.args.world.now)) (scene l.world) (scene c.decide_event.new.world) c.args.events.now l.event-index l.ok l.none c.event-item.result c.in-Err.ending (omega arith) l.invariant.handled c.in-Err.ensures.ends
 
 pub returns-in-Err-clause-faults : goal.returns-in-Err-clause-faults
 returns-in-Err-clause-faults g c = λ s o. blamed_then c.in-Err.ending _ _ _ _ (ap (λ k. counts_with s o k) c.loop-event.invariant.faults) (c.in-Err.ensures.faults s o)

@@ -1,18 +1,19 @@
 use Rattle.std.proofs.Common.{◌≡◌, ◌≤◌, ◌+◌, false, take}
-use Rattle.mm_system.specs.Shown.{line_of, loans, behind}
-use Rattle.mm_run.specs.Scenes.{Running, scene}
+use Rattle.mm_core.specs.Shown.{line_of, loans, behind}
+use Rattle.mm_core.specs.Promise.{scene}
+use Rattle.mm_run.specs.Scenes.{Running}
 use Rattle.mm_run.specs.Batch.{Handled}
 use Rattle.mm_run.proofs.bulk.decide_later.Given as goal
 
 abbrev pub invariant-loop-event : goal.invariant-loop-event
 invariant-loop-event g l = record {
-  handled : Handled (Running (scene l.fn.system)) (take l.event-index l.events) l.ok l.none (Running (scene l.system));
+  handled : Handled (Running (scene l.fn.world)) (take l.event-index l.events) l.ok l.none (Running (scene l.world));
   next : l.n ≡ l.event-index + 1;
   ok_few : l.ok ≤ l.event-index;
   none_few : l.none ≤ l.event-index;
-  count : line_of l.system ≡ l.n;
-  ready : l.system.spent ≡ false;
-  noted : (behind l.system).log.failed ≡ false;
-  same : loans l.system ≡ loans l.fn.system;
-  faults : (behind l.system).log.faults ≡ (behind l.fn.system).log.faults;
+  count : line_of l.world ≡ l.n;
+  ready : l.world.spent ≡ false;
+  noted : (behind l.world).log.failed ≡ false;
+  same : loans l.world ≡ loans l.fn.world;
+  faults : (behind l.world).log.faults ≡ (behind l.fn.world).log.faults;
 }

@@ -1,5 +1,6 @@
 use Rattle.std.proofs.Common.{◌+◌, arith}
-use Rattle.mm_run.specs.Scenes.{Running, scene}
+use Rattle.mm_core.specs.Promise.{scene}
+use Rattle.mm_run.specs.Scenes.{Running}
 use Rattle.mm_run.specs.Story.{outside, stand}
 use Rattle.mm_run.proofs.Finding.{found_either, counted_then}
 use Rattle.mm_run.proofs.decisions.decide_line.Goals as goal
@@ -18,8 +19,8 @@ returns-in-None-clause-went g c =
     let took = g.O.Sink.taken in
     let n = c.args.n in
     found_either (outside (left c.args.source.now) (took c.args.out.now) c.args.kept.now) (outside (left c.args.source.now) (took f.new.out) f.new.kept) (outside (left r.new.source) (took r.new.out) r.new.kept)
-    (stand c.args.held.now n (Running (scene c.args.system.now))) (stand c.args.held.now n (Running (scene f.new.system))) (stand r.new.held (n + 1) (Running (scene r.new.system)))
-    (Running (scene r.new.system)) (c.in-None.ensures.went (left c.args.source.now) c.args.held.now n (omega arith) c.requires.held) r.result r.ensures.went
+    (stand c.args.held.now n (Running (scene c.args.world.now))) (stand c.args.held.now n (Running (scene f.new.world))) (stand r.new.held (n + 1) (Running (scene r.new.world)))
+    (Running (scene r.new.world)) (c.in-None.ensures.went (left c.args.source.now) c.args.held.now n (omega arith) c.requires.held) r.result r.ensures.went
 
 pub returns-in-None-clause-faults : goal.returns-in-None-clause-faults
 returns-in-None-clause-faults g c = counted_then _ _ _ _ (c.in-None.ensures.faults (g.S.Source.faults c.args.source.now)) c.take_line.result c.take_line.ensures.faults

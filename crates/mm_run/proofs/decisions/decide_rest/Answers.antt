@@ -1,6 +1,7 @@
 use Rattle.std.proofs.Common.{◌≡◌, ℕ, subst, refl, ◌∙◌, arith}
 use Rattle.mm_run.specs.Story.{Came, outside, stand}
-use Rattle.mm_run.specs.Scenes.{Running, scene}
+use Rattle.mm_core.specs.Promise.{scene}
+use Rattle.mm_run.specs.Scenes.{Running}
 use Rattle.mm_run.proofs.Stories.{went_none, went_then, went_came}
 use Rattle.mm_run.proofs.Finding.{blamed_then}
 use Rattle.mm_run.proofs.decisions.decide_rest.Goals as goal
@@ -33,7 +34,7 @@ loop-n-preserved g c =
     }
 
 pub returns-in-Some-clause-came : goal.returns-in-Some-clause-came
-returns-in-Some-clause-came g c = went_came _ _ _ _ _ (Running (scene c.decide_line.new.system)) c.in-Some.ending c.loop-n.invariant.went c.in-Some.ensures.went
+returns-in-Some-clause-came g c = went_came _ _ _ _ _ (Running (scene c.decide_line.new.world)) c.in-Some.ending c.loop-n.invariant.went c.in-Some.ensures.went
 
 pub returns-in-Some-clause-faults : goal.returns-in-Some-clause-faults
 returns-in-Some-clause-faults g c = blamed_then c.in-Some.ending _ _ _ _ c.loop-n.invariant.faults c.in-Some.ensures.faults
@@ -43,7 +44,7 @@ returns-in-Some-flush_before_read-clause-came g c =
     let l = c.loop-n in
     let f = c.flush_before_read in
     let full : l.n ≡ 1000000 = omega arith in
-    went_came _ _ _ _ _ (Running (scene f.new.system)) c.in-Some-flush_before_read.ending l.invariant.went
+    went_came _ _ _ _ _ (Running (scene f.new.world)) c.in-Some-flush_before_read.ending l.invariant.went
     (c.in-Some-flush_before_read.ensures.went (g.S.Source.left l.source) l.held l.n (omega (arith, full)) l.invariant.few)
 
 pub returns-in-Some-flush_before_read-clause-faults : goal.returns-in-Some-flush_before_read-clause-faults
@@ -57,12 +58,12 @@ returns-in-None-flush_before_read-clause-came g c =
     let b = c.behind_last in
     let left = g.S.Source.left in
     let took = g.O.Sink.taken in
-    let here = Running (scene f.new.system) in
+    let here = Running (scene f.new.world) in
     let full : 1000000 ≡ l.n = omega arith in
     went_came _ _ _ _ _ here b.result
     (went_then _ _ _ _ _ _ l.invariant.went (c.in-None-flush_before_read.ensures.went (left l.source) l.held l.n (omega (arith, full)) l.invariant.few))
     (subst (λ (k : ℕ). Came (outside (left l.source) (took f.new.out) f.new.kept) (outside (left b.new.source) (took f.new.out) f.new.kept) (stand l.held k here) b.result here) full
-    (b.ensures.came (scene f.new.system) (took f.new.out) f.new.kept))
+    (b.ensures.came (scene f.new.world) (took f.new.out) f.new.kept))
 
 pub returns-in-None-flush_before_read-clause-faults : goal.returns-in-None-flush_before_read-clause-faults
 returns-in-None-flush_before_read-clause-faults g c =

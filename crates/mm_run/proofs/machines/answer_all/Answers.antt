@@ -3,7 +3,8 @@ use Rattle.mm_types.specs.declared.answers.Answer.TheVariants as answer
 use Rattle.mm_types.specs.declared.events.Event.TheVariants as line
 use Rattle.mm_types.specs.Machine.{limit_of}
 use Rattle.mm_paging.specs.Runs.{first_move}
-use Rattle.mm_run.specs.Scenes.{NotBegun, Running, scene}
+use Rattle.mm_core.specs.Promise.{scene}
+use Rattle.mm_run.specs.Scenes.{NotBegun, Running}
 use Rattle.mm_run.specs.Story.{counts_with}
 use Rattle.mm_run.proofs.Firsts.{first_answered, told_went, told_muted}
 use Rattle.mm_run.proofs.Finding.{blamed_then}
@@ -13,7 +14,7 @@ use Rattle.mm_run.proofs.machines.answer_all.Goals as goal
 pub returns-then-moves_failed-clause-came : goal.returns-then-moves_failed-clause-came
 returns-then-moves_failed-clause-came g c = λ o made.
     let small : 0 < 1000000 = omega arith in
-    let here = scene c.args.system.now in
+    let here = scene c.args.world.now in
     told_muted c.args.held.now c.args.len 0 c.requires.line small c.requires.behind _ _ c.args.kept.now (NotBegun o) (Running here) (line.Machine c.args.machine) (answer.Limit (limit_of c.args.machine)) (first_move c.args.machine ∷ [])
     c.requires.says c.requires.grammar (first_answered c.args.machine o here made (limit_of c.args.machine) refl) (sym c.if-moves_failed.ensures)
 
@@ -29,8 +30,8 @@ returns-then-moves_failed-clause-faults g c = λ o made fresh. (
 pub returns-clause-came : goal.returns-clause-came
 returns-clause-came g c = λ o made.
     let small : 0 < 1000000 = omega arith in
-    let here = scene c.args.system.now in
-    went_came _ _ _ _ _ (Running (scene c.decide_rest.new.system)) c.decide_rest.result
+    let here = scene c.args.world.now in
+    went_came _ _ _ _ _ (Running (scene c.decide_rest.new.world)) c.decide_rest.result
     (told_went c.args.held.now c.args.len 0 c.requires.line small c.requires.behind _ _ c.args.kept.now (NotBegun o) (Running here) (line.Machine c.args.machine) (answer.Limit c.limit.result) (first_move c.args.machine ∷ [])
     c.requires.says c.requires.grammar (first_answered c.args.machine o here made c.limit.result c.limit.ensures) (sym c.if-moves_failed.ensures) c.tell.new.kept c.tell.new.held c.tell.ensures.held c.tell.ensures.kept)
     c.decide_rest.ensures.came

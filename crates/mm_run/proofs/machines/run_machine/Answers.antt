@@ -2,10 +2,11 @@ use Rattle.std.proofs.Common.{◌≡◌, ◌≤◌, ◌<◌, refl, sym, ap, ◌�
 use Rattle.mm_types.specs.Machine.{IsMachine}
 use Rattle.mm_types.specs.declared.events.Event.TheVariants as line
 use Rattle.mm_blocks.specs.Traffic.{NoneLogged}
-use Rattle.mm_system.specs.Shown.{system, behind}
+use Rattle.mm_core.specs.Shown.{world, behind}
 use Rattle.mm_moving.specs.Shown.{StateOf}
 use Rattle.mm_paged.specs.Store as paged
-use Rattle.mm_run.specs.Scenes.{NotBegun, Running, outset, scene}
+use Rattle.mm_core.specs.Promise.{scene}
+use Rattle.mm_run.specs.Scenes.{NotBegun, Running, outset}
 use Rattle.mm_run.specs.Story.{IsBlamed, counts_with}
 use Rattle.mm_run.proofs.Starting.{opened_of, is_new, is_made, three_names}
 use Rattle.mm_parts.proofs.Starting.{first_legal}
@@ -33,8 +34,8 @@ returns-in-Err-clause-faults g c =
 pub over-requires-clause-unused : goal.over-requires-clause-unused
 over-requires-clause-unused g c = λ b. ap (λ (z : StateOf). z.life.added b) c.in-Ok.ensures.starts.shows
 
-pub new-system-requires : goal.new-system-requires
-new-system-requires g c =
+pub new-world-requires : goal.new-world-requires
+new-world-requires g c =
     let bp = g.P.Blocks in
     let bf = g.F.Blocks in
     let pd = c.new.ensures.device in
@@ -61,15 +62,15 @@ returns-clause-came g c = λ p f later later'.
     (subst (λ d. NoneLogged (bp.log d)) (sym pd) c.requires.paging_logged) (subst (λ d. NoneLogged (bf.log d)) (sym fd) c.requires.files_logged)
     c.new.ensures.named c.new-2.ensures.named (subst (λ d. p ≤ bp.faults d) (sym pd) later) (subst (λ d. f ≤ bf.faults d) (sym fd) later') in
     let log : _ ≡ o.log = λ i. record { bytes = bm.taken (c.new-3.ensures.sink i); given = bm.given (c.new-3.ensures.sink i); failed = c.new-3.ensures.fresh i; faults = bm.faults (c.new-3.ensures.sink i) } in
-    let first = c.new-system.result in
-    let last = c.answer_all-ending.new.system in
-    let made = is_made m o _ _ _ _ opened _ _ log c.in-Ok.ensures.starts (first_legal m whole) (system first) (paged.store first.world.pages) (paged.behind first.world.pages) c.new-system.ensures.system
-    (ap (λ x. paged.store x) c.new-system.ensures.pages ∙ c.over.ensures.store) (ap (λ x. paged.behind x) c.new-system.ensures.pages ∙ c.over.ensures.behind) (c.new-system.ensures.agrees refl) in
-    let names = three_names last.world.pages.state.paging.device.ghost_name last.world.pages.state.files.device.ghost_name last.world.pages.state.moves.sink.ghost_name c.new.result.device.ghost_name c.new-2.result.device.ghost_name c.new-3.result.sink.ghost_name
-    (c.answer_all-ending.ensures.loans ∙ ap (λ x. paged.loans x) c.new-system.ensures.pages ∙ c.over.ensures.loans ∙ c.in-Ok.ensures.loans) in
-    let paging : c.finish-paging.result.0 ≡ last.world.pages.state.paging = ap (λ x. x.0) c.finish-paging.ensures ∙ ap (λ x. x.paging) c.finish-3.ensures.state ∙ ap (λ x. x.state.paging) c.finish-2.ensures in
-    let files : c.finish-paging.result.1 ≡ last.world.pages.state.files = ap (λ x. x.1) c.finish-paging.ensures ∙ ap (λ x. x.files) c.finish-3.ensures.state ∙ ap (λ x. x.state.files) c.finish-2.ensures in
-    let moves : c.finish-paging.result.2 ≡ last.world.pages.state.moves = ap (λ x. x.2) c.finish-paging.ensures ∙ ap (λ x. x.moves) c.finish-3.ensures.state ∙ ap (λ x. x.state.moves) c.finish-2.ensures in
+    let first = c.new-world.result in
+    let last = c.answer_all-ending.new.world in
+    let made = is_made m o _ _ _ _ opened _ _ log c.in-Ok.ensures.starts (first_legal m whole) (world first) (paged.store first.pages) (paged.behind first.pages) c.new-world.ensures.world
+    (ap (λ x. paged.store x) c.new-world.ensures.pages ∙ c.over.ensures.store) (ap (λ x. paged.behind x) c.new-world.ensures.pages ∙ c.over.ensures.behind) (c.new-world.ensures.agrees refl) in
+    let names = three_names last.pages.state.paging.device.ghost_name last.pages.state.files.device.ghost_name last.pages.state.moves.sink.ghost_name c.new.result.device.ghost_name c.new-2.result.device.ghost_name c.new-3.result.sink.ghost_name
+    (c.answer_all-ending.ensures.loans ∙ ap (λ x. paged.loans x) c.new-world.ensures.pages ∙ c.over.ensures.loans ∙ c.in-Ok.ensures.loans) in
+    let paging : c.finish-paging.result.0 ≡ last.pages.state.paging = ap (λ x. x.0) c.finish-paging.ensures ∙ ap (λ x. x.paging) c.finish-3.ensures.state ∙ ap (λ x. x.state.paging) c.finish-2.ensures in
+    let files : c.finish-paging.result.1 ≡ last.pages.state.files = ap (λ x. x.1) c.finish-paging.ensures ∙ ap (λ x. x.files) c.finish-3.ensures.state ∙ ap (λ x. x.state.files) c.finish-2.ensures in
+    let moves : c.finish-paging.result.2 ≡ last.pages.state.moves = ap (λ x. x.2) c.finish-paging.ensures ∙ ap (λ x. x.moves) c.finish-3.ensures.state ∙ ap (λ x. x.state.moves) c.finish-2.ensures in
     let end_p = c.paging-2-1.given.1 (sym c.new.ensures.same_reference ∙ sym names.0 ∙ sym (ap (λ x. x.device.ghost_name) paging) ∙ sym c.finish-4.ensures.same_reference) in
     let end_f = c.files-2-1.given.1 (sym c.new-2.ensures.same_reference ∙ sym names.1 ∙ sym (ap (λ x. x.device.ghost_name) files) ∙ sym c.finish-5.ensures.same_reference) in
     let end_m = c.moves-2-1.given.1 (sym c.new-3.ensures.same_reference ∙ sym names.2 ∙ sym (ap (λ x. x.sink.ghost_name) moves) ∙ sym c.finish-6.ensures.same_reference) in
@@ -109,13 +110,13 @@ returns-clause-faults g c =
     (subst (λ d. NoneLogged (bp.log d)) (sym pd) c.requires.paging_logged) (subst (λ d. NoneLogged (bf.log d)) (sym fd) c.requires.files_logged)
     c.new.ensures.named c.new-2.ensures.named (omega arith) (omega arith) in
     let log : _ ≡ o.log = λ i. record { bytes = bm.taken (c.new-3.ensures.sink i); given = bm.given (c.new-3.ensures.sink i); failed = c.new-3.ensures.fresh i; faults = bm.faults (c.new-3.ensures.sink i) } in
-    let first = c.new-system.result in
-    let last = c.answer_all-ending.new.system in
-    let made = is_made m o _ _ _ _ opened _ _ log c.in-Ok.ensures.starts (first_legal m whole) (system first) (paged.store first.world.pages) (paged.behind first.world.pages) c.new-system.ensures.system
-    (ap (λ x. paged.store x) c.new-system.ensures.pages ∙ c.over.ensures.store) (ap (λ x. paged.behind x) c.new-system.ensures.pages ∙ c.over.ensures.behind) (c.new-system.ensures.agrees refl) in
-    let names = three_names last.world.pages.state.paging.device.ghost_name last.world.pages.state.files.device.ghost_name last.world.pages.state.moves.sink.ghost_name c.new.result.device.ghost_name c.new-2.result.device.ghost_name c.new-3.result.sink.ghost_name
-    (c.answer_all-ending.ensures.loans ∙ ap (λ x. paged.loans x) c.new-system.ensures.pages ∙ c.over.ensures.loans ∙ c.in-Ok.ensures.loans) in
-    let moves : c.finish-paging.result.2 ≡ last.world.pages.state.moves = ap (λ x. x.2) c.finish-paging.ensures ∙ ap (λ x. x.moves) c.finish-3.ensures.state ∙ ap (λ x. x.state.moves) c.finish-2.ensures in
+    let first = c.new-world.result in
+    let last = c.answer_all-ending.new.world in
+    let made = is_made m o _ _ _ _ opened _ _ log c.in-Ok.ensures.starts (first_legal m whole) (world first) (paged.store first.pages) (paged.behind first.pages) c.new-world.ensures.world
+    (ap (λ x. paged.store x) c.new-world.ensures.pages ∙ c.over.ensures.store) (ap (λ x. paged.behind x) c.new-world.ensures.pages ∙ c.over.ensures.behind) (c.new-world.ensures.agrees refl) in
+    let names = three_names last.pages.state.paging.device.ghost_name last.pages.state.files.device.ghost_name last.pages.state.moves.sink.ghost_name c.new.result.device.ghost_name c.new-2.result.device.ghost_name c.new-3.result.sink.ghost_name
+    (c.answer_all-ending.ensures.loans ∙ ap (λ x. paged.loans x) c.new-world.ensures.pages ∙ c.over.ensures.loans ∙ c.in-Ok.ensures.loans) in
+    let moves : c.finish-paging.result.2 ≡ last.pages.state.moves = ap (λ x. x.2) c.finish-paging.ensures ∙ ap (λ x. x.moves) c.finish-3.ensures.state ∙ ap (λ x. x.state.moves) c.finish-2.ensures in
     let end_m = c.moves-2-1.given.1 (sym c.new-3.ensures.same_reference ∙ sym names.2 ∙ sym (ap (λ x. x.sink.ghost_name) moves) ∙ sym c.finish-6.ensures.same_reference) in
     let left_m = sym (end_m ∙ c.finish-6.ensures.sink ∙ ap (λ x. x.sink.now) moves) in
     subst (λ d. IsBlamed c.answer_all-ending.result ⊥ (counts_with (g.S.Source.faults c.args.source.now) (g.O.Sink.faults c.args.out.now) (bm.faults c.args.moves.now)) (counts_with (g.S.Source.faults c.answer_all-ending.new.source) (g.O.Sink.faults c.answer_all-ending.new.out) (bm.faults d))) left_m

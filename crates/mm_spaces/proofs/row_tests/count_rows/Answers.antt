@@ -1,15 +1,25 @@
-use Rattle.std.proofs.Common.{◌≡◌, ◌+◌, Bool, cond, sym, ap, ◌∙◌, arith}
+use Rattle.std.proofs.Common.{◌≡◌, ◌+◌, ◌≤◌, take, count_by, sym, ◌∙◌, arith}
 use Rattle.mm_spaces.specs.RowTests.{passes}
-use Rattle.mm_spaces.proofs.Owned.{counted_more}
+use Rattle.mm_spaces.proofs.EqualRows.{AreEqual, behind, counted_yes, counted_no}
 use Rattle.mm_spaces.proofs.row_tests.count_rows.Goals as goal
 use Rattle.mm_spaces.proofs.row_tests.count_rows.Goals.{then-holds, else-holds}
 
-pub loop-i-preserved : goal.loop-i-preserved
-loop-i-preserved c =
-    let n = c.loop-i.passing in
-    let none : n ≡ n + 0 = omega arith in
-    let made : c.if-holds.passing ≡ n + cond c.holds.result 1 0 = elim c.if-holds.branch [
-      | then-holds w ↦ w.passing-is ∙ ap (λ (b : Bool). n + cond b 1 0) (sym w.if-holds.true)
-      | else-holds w ↦ w.passing-is ∙ none ∙ ap (λ (b : Bool). n + cond b 1 0) (sym w.if-holds.false)
+pub loop-done-preserved : goal.loop-done-preserved
+loop-done-preserved c =
+    let rows = c.args.rows.now in
+    let kind = c.args.region_kind in
+    let p = passes c.args.test kind in
+    let found = c.equal_from-equal.result in
+    let done = c.loop-done.done in
+    let n = c.min-n.result in
+    let low : n ≤ found.1 = omega (arith, c.min-n.ensures) in
+    let e : AreEqual rows c.args.first done found.1 found.0 = record { inside = c.equal_from-equal.ensures.within; equal = c.equal_from-equal.ensures.equal } in
+    let bounded : c.if-holds.passing ≤ done + n = elim c.if-holds.branch [
+      | then-holds w ↦ omega (arith, w.passing-is, c.loop-done.invariant.1)
+      | else-holds w ↦ omega (arith, w.passing-is, c.loop-done.invariant.1)
     ] in
-    counted_more (passes c.args.test c.args.region_kind) c.args.region_kind c.args.rows.now c.args.first c.loop-i.i n c.if-holds.passing c.get.result c.holds.result (omega arith) c.get.ensures c.holds.ensures c.loop-i.invariant.0 c.loop-i.invariant.1 made
+    let counted : c.if-holds.passing ≡ count_by p (take (done + n) (behind kind rows c.args.first)) = elim c.if-holds.branch [
+      | then-holds w ↦ omega (arith, w.passing-is, c.loop-done.invariant.2, counted_yes p kind rows c.args.first done found.1 found.0 e (sym c.holds.ensures ∙ w.if-holds.true) n low)
+      | else-holds w ↦ omega (arith, w.passing-is, c.loop-done.invariant.2, counted_no p kind rows c.args.first done found.1 found.0 e (sym c.holds.ensures ∙ w.if-holds.false) n low)
+    ] in
+    (omega (arith, c.min-n.ensures), bounded, counted)

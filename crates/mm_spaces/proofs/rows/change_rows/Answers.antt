@@ -1,20 +1,25 @@
-use Rattle.std.proofs.Common.{◌+◌, ◌<◌, arith}
+use Rattle.std.proofs.Common.{◌≡◌, ℕ, ◌+◌, ◌-◌, ◌<◌, ◌≤◌, arith, subst}
 use Rattle.mm_types.specs.Address.{first_user_page, end_of_user_pages}
-use Rattle.mm_spaces.specs.RowChanges.{range_at}
-use Rattle.mm_spaces.proofs.Ranged.{changing_none, changing_more, some_now, user_page}
+use Rattle.mm_vad.specs.Regions.{SpaceOf}
+use Rattle.mm_spaces.specs.declared.rows.RowChange.{RowChange}
+use Rattle.mm_spaces.specs.RowChanges.{range_at, RowsChanged}
+use Rattle.mm_spaces.specs.Shown.{shown}
+use Rattle.mm_spaces.proofs.Ranged.{Changing, changing_none, changing_more, some_now, user_page}
 use Rattle.mm_spaces.proofs.rows.change_rows.Goals as goal
 
-pub loop-i-init : goal.loop-i-init
-loop-i-init c = (omega arith, changing_none c.args.change (range_at c.args.first c.args.count) c.args.space.now)
+pub loop-done-init : goal.loop-done-init
+loop-done-init c = (omega arith, omega arith, changing_none c.args.change (range_at c.args.first c.args.count) c.args.space.now)
 
-pub change_row-requires : goal.change_row-requires
-change_row-requires c = some_now c.args.change (range_at c.args.first c.args.count) c.loop-i.i c.args.space.now c.loop-i.space c.requires c.loop-i.invariant.1 (omega arith)
+pub change_some-done-requires-clause-there : goal.change_some-done-requires-clause-there
+change_some-done-requires-clause-there c = some_now c.args.change (range_at c.args.first c.args.count) c.loop-done.done c.loop-done.done c.args.space.now c.loop-done.space c.requires c.loop-done.invariant.2 (omega arith)
 
-pub loop-i-preserved : goal.loop-i-preserved
-loop-i-preserved c =
-    let sound = c.change_row.ensures.sound in
-    let some = some_now c.args.change (range_at c.args.first c.args.count) c.loop-i.i c.args.space.now c.loop-i.space c.requires c.loop-i.invariant.1 (omega arith) in
-    let user : c.args.first + c.loop-i.i < end_of_user_pages = user_page first_user_page c.loop-i.space.regions (c.args.first + c.loop-i.i) sound.apart sound.whole some in (
+pub loop-done-preserved : goal.loop-done-preserved
+loop-done-preserved c =
+    let sound = c.change_some-done.ensures.sound in
+    let n = c.change_some-done.result in
+    let last = some_now c.args.change (range_at c.args.first c.args.count) c.loop-done.done (c.loop-done.done + n - 1) c.args.space.now c.loop-done.space c.requires c.loop-done.invariant.2 (omega (arith, c.change_some-done.ensures.some, c.change_some-done.ensures.within)) in
+    let user : c.args.first + (c.loop-done.done + n - 1) < end_of_user_pages = user_page first_user_page c.loop-done.space.regions (c.args.first + (c.loop-done.done + n - 1)) sound.apart sound.whole last in (
+      omega (arith, c.change_some-done.ensures.within),
       omega (arith, user),
-      changing_more c.args.change (range_at c.args.first c.args.count) c.loop-i.i c.args.space.now c.loop-i.space c.change_row.new.space c.loop-i.invariant.1 (omega arith) sound c.change_row.ensures.after c.change_row.ensures.spare c.change_row.ensures.kept,
+      changing_more c.args.change (range_at c.args.first c.args.count) c.loop-done.done n c.args.space.now c.loop-done.space c.change_some-done.new.space c.loop-done.invariant.2 c.change_some-done.ensures.some (omega (arith, c.change_some-done.ensures.within)) sound c.change_some-done.ensures.after c.change_some-done.ensures.spare c.change_some-done.ensures.kept,
     )

@@ -1,7 +1,10 @@
-use Rattle.std.proofs.Common.{◌+◌, ◌<◌, ◌^◌}
+use Rattle.std.proofs.Common.{◌+◌, ◌-◌, ◌<◌, ◌≤◌, ◌^◌}
 use Rattle.mm_spaces.specs.RowChanges.{range_at}
 use Rattle.mm_spaces.proofs.Ranged.{Changing}
 use Rattle.mm_spaces.proofs.rows.change_rows.Given as goal
 
-abbrev pub invariant-loop-i : goal.invariant-loop-i
-invariant-loop-i l = (l.first + l.i < 2 ^ 32) × Changing l.change (range_at l.first l.count) l.i l.fn.space l.space
+abbrev pub invariant-loop-done : goal.invariant-loop-done
+invariant-loop-done l = (l.done ≤ l.count) × (l.first + l.done < 2 ^ 32) × Changing l.change (range_at l.first l.count) l.done l.fn.space l.space
+
+abbrev pub decreases-loop-done : goal.decreases-loop-done
+decreases-loop-done l = l.count - l.done

@@ -1,7 +1,9 @@
-use Rattle.std.proofs.Common.{◌≡◌, ◌+◌, ◌-◌, ◌^◌, ◌∙◌, ap, arith}
+use Rattle.std.proofs.Common.{◌≡◌, ℕ, subst, ◌+◌, ◌-◌, ◌^◌, ◌∙◌, ap, arith}
 use Rattle.mm_types.specs.Address.{Range}
 use Rattle.mm_world.specs.Charge.{charge, limit}
 use Rattle.mm_world.specs.Contents.{Tables}
+use Rattle.mm_pages.specs.Housekeeping.{Turns, MakesStack}
+use Rattle.mm_pages.specs.Passing.{PassesIn}
 use Rattle.mm_pages.proofs.Passed.{stack_then}
 use Rattle.mm_stack.proofs.Joined.{joined}
 use Rattle.mm_stack.proofs.RegionSteps.{in_user, top_free, guard_free, both_made, charge_more, lasts_commit}
@@ -123,7 +125,9 @@ returns-clause-passes g c =
     let first : c.pages.result.first ≡ guard + 1 = ap (λ (r : Range). r.first) top in
     let below : c.pages-2.result.first ≡ guard = ap (λ (r : Range). r.first) one in
     let count : c.pages-2.result.count ≡ 1 = ap (λ (r : Range). r.count) one in
-    stack_then g.G.Pages.unpaged guard (g.G.Pages.store c.args.g.now) (g.G.Pages.store c.commit_new.new.g) (g.G.Pages.store c.commit_new-2.new.g)
+    let is : guard ≡ c.args.range.first + c.args.range.count - (c.args.top + 1) = c.guard_of-guard.ensures.guard in
+    subst (λ (n : ℕ). PassesIn g.G.Pages.unpaged (Turns (MakesStack n)) (g.G.Pages.store c.args.g.now) (g.G.Pages.store c.commit_new-2.new.g) (g.G.Pages.behind c.args.g.now) (g.G.Pages.behind c.commit_new-2.new.g)) is
+    (stack_then g.G.Pages.unpaged guard (g.G.Pages.store c.args.g.now) (g.G.Pages.store c.commit_new.new.g) (g.G.Pages.store c.commit_new-2.new.g)
     (g.G.Pages.behind c.args.g.now) (g.G.Pages.behind c.commit_new.new.g) (g.G.Pages.behind c.commit_new-2.new.g)
     (c.commit_new.ensures.passes (guard + 1) (2 ^ 32) (omega (arith, first), c.commit_new.ensures.among.1))
-    (c.commit_new-2.ensures.passes guard (guard + 1) (omega (arith, below), omega (arith, below, count)))
+    (c.commit_new-2.ensures.passes guard (guard + 1) (omega (arith, below), omega (arith, below, count))))

@@ -60,3 +60,9 @@ returns-clause-stack c = λ w tid pid reserve commit. (sections.in_stack no_byte
 
 pub returns-clause-probe : goal.returns-clause-probe
 returns-clause-probe c = λ w tid addr. (sections.in_probe no_bytes filled w tid addr).same
+
+pub returns-clause-watch : goal.returns-clause-watch
+returns-clause-watch c = λ w pid unwrites addr size count. (sections.in_watch no_bytes w pid unwrites addr size count).same
+
+pub returns-clause-reset_watch : goal.returns-clause-reset_watch
+returns-clause-reset_watch c = λ w pid addr size. (sections.in_reset_watch no_bytes w pid addr size).same

@@ -1,4 +1,4 @@
-use Rattle.mm_world.proofs.Across.{alloc_across, free_across, protect_across, query_across, create_across, create_file_across, open_across, close_across, map_across, unmap_across, flush_across, new_process_across, exit_across, take_fail_across, grow_across, stack_across}
+use Rattle.mm_world.proofs.Across.{watch_across, reset_watch_across, alloc_across, free_across, protect_across, query_across, create_across, create_file_across, open_across, close_across, map_across, unmap_across, flush_across, new_process_across, exit_across, take_fail_across, grow_across, stack_across}
 use Rattle.mm_world.proofs.AcrossFile.{new_file_across}
 use Rattle.mm_world.proofs.KeptProbe.{probe_across}
 use Rattle.mm_world.proofs.laws.calls_keep_bytes.Goals as goal
@@ -56,3 +56,9 @@ returns-clause-file c = new_file_across
 
 pub returns-clause-probe : goal.returns-clause-probe
 returns-clause-probe c = probe_across
+
+pub returns-clause-watch : goal.returns-clause-watch
+returns-clause-watch c = watch_across
+
+pub returns-clause-reset_watch : goal.returns-clause-reset_watch
+returns-clause-reset_watch c = reset_watch_across

@@ -1,4 +1,4 @@
-use Rattle.mm_core.specs.Promise.{DecidesStep, scene_of, scene}
+use Rattle.mm_core.specs.Promise.{Decides, scene_of, scene}
 use Rattle.mm_tables.specs.Fits.{bytes_of}
 use Rattle.mm_core.proofs.Memory.{is_ok_with}
 use Rattle.mm_core.proofs.Promised.{at-ok, at-err, decides, breaks}
@@ -9,7 +9,7 @@ returns-clause-decided g c =
     let d = c.decide-result in
     let w = c.args.self.now in
     let p = g.G.Pages in
-    at-ok (λ a. DecidesStep p.unpaged (scene w) c.args.event.now a (scene_of d.new.t (p.contents d.new.g) (p.store d.new.g) (p.behind d.new.g))) d.result (λ a q.
+    at-ok (λ a. Decides p.unpaged (scene w) c.args.event.now a (scene_of d.new.t (p.contents d.new.g) (p.store d.new.g) (p.behind d.new.g))) d.result (λ a q.
     decides p.unpaged c.args.line w.tables (p.contents w.pages) (p.store w.pages) (p.behind w.pages)
     d.new.t (p.contents d.new.g) (p.store d.new.g) (p.behind d.new.g)
     c.args.event.now a (w.fits c.requires.ready)

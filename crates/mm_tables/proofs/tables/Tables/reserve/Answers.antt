@@ -55,22 +55,22 @@ returns-in_err-make_region-clause-settled g c =
 pub invariant_of-self-2 : goal.invariant_of-self-2
 invariant_of-self-2 g c =
     let h = held g (goal.at.invariant_of-self-2 g c).After-index_mut-process in
-    let done = reserve_done c.args.self.now c.args.pid h.process c.args.range _ _ _ _ h.lives h.kept.sound c.requires.fits c.args.kind c.args.prot (c.requires.free h.process h.lives) c.requires.granule c.requires.some c.requires.prot
+    let done = reserve_done c.args.self.now c.args.pid h.process c.args.range _ _ _ _ h.lives h.kept.sound c.requires.fits c.args.watched c.args.kind c.args.prot (c.requires.free h.process h.lives) c.requires.granule c.requires.some c.requires.prot
     c.in_ok-make_region.ensures.stored c.in_ok-make_region.ensures.counted (omega (arith, c.now.ensures.charge, h.kept.charged, c.new_pages-pages.ensures, c.in_ok-make_region.ensures.room)) in
-    let became = subst (λ rs. Became c.index_mut-process.result.now c.make_region.new.process (add_region (private_region blank c.args.kind c.args.prot c.args.range) rs)) h.same c.in_ok-make_region.ensures.changed in
+    let became = subst (λ rs. Became c.index_mut-process.result.now c.make_region.new.process (add_region (private_region blank c.args.watched c.args.kind c.args.prot c.args.range) rs)) h.same c.in_ok-make_region.ensures.changed in
     still_kept h c.make_region.new.process _ c.take.new.commit _ became done.stands done.charged c.requires.room
     (omega (arith, ap (λ (k : CommitOf). k.charge) c.take.ensures, h.kept.charged, c.new_pages-pages.ensures)) (ap (λ (k : CommitOf). k.limit) c.take.ensures)
 
 pub returns-clause-ok : goal.returns-clause-ok
 returns-clause-ok g c q lives =
     let h = held g (goal.at.returns-clause-ok g c).After-index_mut-process in
-    h.changed c.make_region.new.process q (add_region (private_region blank c.args.kind c.args.prot c.args.range) q.regions)
-    (subst (λ rs. Became c.index_mut-process.result.now c.make_region.new.process (add_region (private_region blank c.args.kind c.args.prot c.args.range) rs)) (regions_by h q lives) c.in_ok-make_region.ensures.changed) lives
+    h.changed c.make_region.new.process q (add_region (private_region blank c.args.watched c.args.kind c.args.prot c.args.range) q.regions)
+    (subst (λ rs. Became c.index_mut-process.result.now c.make_region.new.process (add_region (private_region blank c.args.watched c.args.kind c.args.prot c.args.range) rs)) (regions_by h q lives) c.in_ok-make_region.ensures.changed) lives
 
 pub returns-clause-settled : goal.returns-clause-settled
 returns-clause-settled g c =
     let h = held g (goal.at.returns-clause-settled g c).After-index_mut-process in
-    let done = reserve_done c.args.self.now c.args.pid h.process c.args.range _ _ _ _ h.lives h.kept.sound c.requires.fits c.args.kind c.args.prot (c.requires.free h.process h.lives) c.requires.granule c.requires.some c.requires.prot
+    let done = reserve_done c.args.self.now c.args.pid h.process c.args.range _ _ _ _ h.lives h.kept.sound c.requires.fits c.args.watched c.args.kind c.args.prot (c.requires.free h.process h.lives) c.requires.granule c.requires.some c.requires.prot
     c.in_ok-make_region.ensures.stored c.in_ok-make_region.ensures.counted (omega (arith, c.now.ensures.charge, h.kept.charged, c.new_pages-pages.ensures, c.in_ok-make_region.ensures.room)) in
     settled_as (returns-clause-ok g c h.process h.lives) done.settled
 

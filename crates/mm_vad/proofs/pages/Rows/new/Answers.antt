@@ -1,21 +1,26 @@
-use Rattle.std.proofs.Common.{◌≡◌, ◌+◌, ◌*◌, ◌%◌, ◌++◌, refl, replicate, ap, ◌∙◌, arith, List, ℕ}
-use Rattle.std.proofs.lemmas.List.{replicate-append-replicate, take-replicate}
+use Rattle.std.proofs.Common.{◌≡◌, ◌+◌, ◌*◌, ◌/◌, ◌%◌, ◌^◌, ◌<◌, ℕ, List, length, replicate, sym, ap, ◌∙◌, subst, arith}
+use Rattle.std.proofs.lemmas.List.{length-replicate}
 use Rattle.std.proofs.lemmas.Nat.{div-add-mod'}
 use Rattle.mm_vad.specs.declared.pages.Row.{Row}
+use Rattle.mm_vad.specs.Chunks.{joined, AreRows}
+use Rattle.mm_vad.proofs.Joined.{AreWhole, whole-replicate, joined-replicate}
 use Rattle.mm_vad.proofs.pages.Rows.new.Goals as goal
 
--- rows that were written, and so many more of the same
-more : (m k n : ℕ) (row : Row) (xs ys : List Row) → xs ≡ replicate m row → ys ≡ replicate k row → m + k ≡ n → xs ++ ys ≡ replicate n row
-more m k n row xs ys first then sum =
-    ap (λ (zs : List Row). zs ++ ys) first ∙ ap (λ (zs : List Row). replicate m row ++ zs) then ∙ replicate-append-replicate m k row ∙ ap (λ (i : ℕ). replicate i row) sum
+made : (n : ℕ) (row : Row) (chunks : List (List Row)) (rest : List Row) → chunks ≡ replicate (n / 512) (replicate 512 row) → rest ≡ replicate (n % 512) row → joined chunks rest ≡ replicate n row
+made n row chunks rest e f =
+    ap (λ (cs : List (List Row)). joined cs rest) e
+    ∙ ap (λ (rs : List Row). joined (replicate (n / 512) (replicate 512 row)) rs) f
+    ∙ joined-replicate (n / 512) (n % 512) row
+    ∙ ap (λ (q : ℕ). replicate q row) (div-add-mod' n 512)
 
-pub loop-preserved : goal.loop-preserved
-loop-preserved c =
-    c.in_ok-extend_from_slice.ensures.items
-    ∙ more (c.loop.counter * 64) 64 ((c.loop.counter + 1) * 64) c.args.row _ _ c.loop.invariant refl (omega arith)
+pub new-requires : goal.new-requires
+new-requires c = omega (arith, div-add-mod' c.args.n 512)
+
+pub invariant_of-result : goal.invariant_of-result
+invariant_of-result c = record {
+  whole = subst AreWhole (sym c.in_ok-chunks.ensures) (whole-replicate (c.args.n / 512) (replicate 512 c.args.row) (length-replicate 512 c.args.row));
+  few = omega (arith, c.ranges.n.fits, ap length (made c.args.n c.args.row _ _ c.in_ok-chunks.ensures c.in_ok-rest.ensures), length-replicate c.args.n c.args.row);
+}
 
 pub returns : goal.returns
-returns c =
-    let whole : c.loop.counter * 64 + c.args.n % 64 ≡ c.args.n = omega (arith, div-add-mod' c.args.n 64) in
-    c.in_ok-extend_from_slice-2.ensures.items
-    ∙ more (c.loop.counter * 64) (c.args.n % 64) c.args.n c.args.row _ _ c.loop.invariant (take-replicate (c.args.n % 64) 64 c.args.row (omega arith)) whole
+returns c = made c.args.n c.args.row _ _ c.in_ok-chunks.ensures c.in_ok-rest.ensures

@@ -1,39 +1,46 @@
-use Rattle.std.proofs.Common.{◌≡◌, ◌<◌, length, drop, get_or, sym, ap, ◌∙◌, arith}
+use Rattle.std.proofs.Common.{◌≡◌, ◌+◌, ◌<◌, length, drop, get_or, sym, ap, ◌∙◌, arith}
 use Rattle.std.specs.List.{prefix_len}
-use Rattle.std.proofs.lemmas.List.Sums.{prefix_len-drop_yes, prefix_len-drop_no, prefix_len-drop_all}
-use Rattle.std.proofs.lemmas.Option.{get_or_from_slice_get}
+use Rattle.std.proofs.lemmas.List.Sums.{prefix_len-drop_no, prefix_len-drop_all}
 use Rattle.mm_vad.specs.Looks.{are_alike}
-use Rattle.mm_vad.proofs.Runs.{are_alike_itself, run_from_is}
+use Rattle.mm_vad.proofs.Runs.{are_alike_itself, run_from_is, prefix_run, first_of_run}
 use Rattle.mm_vad.proofs.pages.Rows.run_from.Goals as goal
-use Rattle.mm_vad.proofs.pages.Rows.run_from.Goals.{then-loop-end-test+else-is_like, else-loop-end-test}
 
 pub loop-end-init : goal.loop-end-init
 loop-end-init c =
     let rows = c.args.self.now in
-    let first = c.get-first.result in
-    let here : get_or rows c.args.i first ≡ first = get_or_from_slice_get rows c.args.i first first c.get-first.ensures in
-    let step = prefix_len-drop_yes (are_alike first) rows c.args.i first c.requires (ap (are_alike first) here ∙ are_alike_itself first) in
-    (omega arith, omega arith, omega (arith, step))
+    let found = c.equal_from-equal.result in
+    let run = prefix_run (are_alike found.0) rows c.args.i found.1 found.0 (are_alike_itself found.0) c.equal_from-equal.ensures.equal in
+    (omega (arith, c.equal_from-equal.ensures.some), omega (arith, c.equal_from-equal.ensures.within), omega (arith, run))
 
 pub loop-end-preserved : goal.loop-end-preserved
 loop-end-preserved c =
     let rows = c.args.self.now in
-    let first = c.get-first.result in
-    let there : get_or rows c.loop-end.end first ≡ c.get.result = get_or_from_slice_get rows c.loop-end.end c.get.result first c.get.ensures in
-    let inside : c.loop-end.end < length rows = omega arith in
-    let step = prefix_len-drop_yes (are_alike first) rows c.loop-end.end first inside (ap (are_alike first) there ∙ sym c.is_like.ensures ∙ c.if-is_like.true) in
-    (omega arith, omega arith, omega (arith, step, c.loop-end.invariant.2))
+    let first = c.equal_from-equal.result.0 in
+    let found = c.equal_from-equal-in-loop-end.result in
+    let alike = sym c.is_like.ensures ∙ c.if-not-is_like.false in
+    let run = prefix_run (are_alike first) rows c.loop-end.end found.1 found.0 alike c.equal_from-equal-in-loop-end.ensures.equal in (
+      omega (arith, c.loop-end.invariant.0),
+      omega (arith, c.equal_from-equal-in-loop-end.ensures.within),
+      omega (arith, run, c.loop-end.invariant.0, c.loop-end.invariant.2),
+    )
+
+pub returns-then-not-is_like-clause-run : goal.returns-then-not-is_like-clause-run
+returns-then-not-is_like-clause-run c =
+    let rows = c.args.self.now in
+    let first = c.equal_from-equal.result in
+    let found = c.equal_from-equal-in-loop-end.result in
+    let here = first_of_run rows c.args.i first.1 first.0 first.0 c.equal_from-equal.ensures.some c.equal_from-equal.ensures.equal in
+    let there = first_of_run rows c.loop-end.end found.1 found.0 first.0 c.equal_from-equal-in-loop-end.ensures.some c.equal_from-equal-in-loop-end.ensures.equal in
+    let inside : c.loop-end.end < length rows = omega (arith, c.loop-end-test.true, c.len-len.ensures) in
+    let run = run_from_is rows c.args.i first.0 c.requires here in
+    let left = prefix_len-drop_no (are_alike first.0) rows c.loop-end.end first.0 inside (ap (are_alike first.0) there ∙ sym c.is_like.ensures ∙ c.if-not-is_like.true) in
+    omega (arith, run, left, c.loop-end.invariant.2)
 
 pub returns-clause-run : goal.returns-clause-run
 returns-clause-run c =
     let rows = c.args.self.now in
-    let first = c.get-first.result in
-    let here : get_or rows c.args.i first ≡ first = get_or_from_slice_get rows c.args.i first first c.get-first.ensures in
-    let run = run_from_is rows c.args.i first c.requires here in
-    let left : prefix_len (are_alike first) (drop c.loop-end.end rows) ≡ 0 = elim c.loop-end-test.branch [
-      | then-loop-end-test+else-is_like w ↦ (
-          let there : get_or rows c.loop-end.end first ≡ w.get.result = get_or_from_slice_get rows c.loop-end.end w.get.result first w.get.ensures in
-          prefix_len-drop_no (are_alike first) rows c.loop-end.end first (omega arith) (ap (are_alike first) there ∙ sym w.is_like.ensures ∙ w.if-is_like.false))
-      | else-loop-end-test w ↦ prefix_len-drop_all (are_alike first) rows c.loop-end.end (omega arith)
-    ] in
+    let first = c.equal_from-equal.result in
+    let here = first_of_run rows c.args.i first.1 first.0 first.0 c.equal_from-equal.ensures.some c.equal_from-equal.ensures.equal in
+    let run = run_from_is rows c.args.i first.0 c.requires here in
+    let left = prefix_len-drop_all (are_alike first.0) rows c.loop-end.end (omega (arith, c.loop-end-test.false, c.len-len.ensures)) in
     omega (arith, run, left, c.loop-end.invariant.2)

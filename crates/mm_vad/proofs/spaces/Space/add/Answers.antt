@@ -26,7 +26,7 @@ invariant_of-self c =
     let free = free_of c.args.self.now.regions (get nat_eq s.regions) s.taken.ranges (pages_of c.args.region) (ap (λ (v : SpaceOf). v.regions) c.self.view_is)
     (ranges_of-regions_of (get nat_eq s.regions) s.taken.ranges c.self.invariant.held) c.requires.free in
     let done = after_add (get nat_eq s.regions) (get nat_eq c.insert-2.new.self) s.taken.ranges c.insert.new.self.ranges c.args.region c.self.invariant free
-    (adds_from s.regions c.insert-2.new.self c.args.region c.in-Ok.ensures.updates c.requires.whole c.requires.some)
+    (adds_from s.regions c.insert-2.new.self c.args.region c.in-Ok.ensures.updates c.requires.whole c.requires.flags c.requires.some)
     (ap (λ g. g.ranges) c.insert.ensures.after) c.insert.ensures.apart in
     done.index
 
@@ -36,7 +36,7 @@ returns-clause-after c =
     let free = free_of c.args.self.now.regions (get nat_eq s.regions) s.taken.ranges (pages_of c.args.region) (ap (λ (v : SpaceOf). v.regions) c.self.view_is)
     (ranges_of-regions_of (get nat_eq s.regions) s.taken.ranges c.self.invariant.held) c.requires.free in
     let done = after_add (get nat_eq s.regions) (get nat_eq c.insert-2.new.self) s.taken.ranges c.insert.new.self.ranges c.args.region c.self.invariant free
-    (adds_from s.regions c.insert-2.new.self c.args.region c.in-Ok.ensures.updates c.requires.whole c.requires.some)
+    (adds_from s.regions c.insert-2.new.self c.args.region c.in-Ok.ensures.updates c.requires.whole c.requires.flags c.requires.some)
     (ap (λ g. g.ranges) c.insert.ensures.after) c.insert.ensures.apart in
     done.shown ∙ ap (λ (v : SpaceOf). add_region v.regions c.args.region) c.self.view_is
 
@@ -46,6 +46,6 @@ returns-clause-sound c =
     let free = free_of c.args.self.now.regions (get nat_eq s.regions) s.taken.ranges (pages_of c.args.region) (ap (λ (v : SpaceOf). v.regions) c.self.view_is)
     (ranges_of-regions_of (get nat_eq s.regions) s.taken.ranges c.self.invariant.held) c.requires.free in
     let done = after_add (get nat_eq s.regions) (get nat_eq c.insert-2.new.self) s.taken.ranges c.insert.new.self.ranges c.args.region c.self.invariant free
-    (adds_from s.regions c.insert-2.new.self c.args.region c.in-Ok.ensures.updates c.requires.whole c.requires.some)
+    (adds_from s.regions c.insert-2.new.self c.args.region c.in-Ok.ensures.updates c.requires.whole c.requires.flags c.requires.some)
     (ap (λ g. g.ranges) c.insert.ensures.after) c.insert.ensures.apart in
     is_space (get nat_eq c.insert-2.new.self) c.insert.new.self.ranges done.index

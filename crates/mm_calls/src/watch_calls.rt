@@ -1,0 +1,92 @@
+ghost use Rattle.std.specs.Prelude.{◌≡◌, ◌≤◌, true, is_some, map, Option, Some, None, option_map};
+ghost use Rattle.mm_types.specs.declared.numbers.Key.{Key};
+ghost use Rattle.mm_types.specs.Address.{address_of};
+ghost use Rattle.mm_world.specs.World.{Page, RegionOf, ProcessOf};
+ghost use Rattle.mm_world.specs.Find.{Found, process_of};
+ghost use Rattle.mm_world.specs.Watch.{watch, reset_watch, watched_around, written_in};
+ghost use Rattle.mm_pages.specs.Store.{StoreOf};
+ghost use Rattle.mm_tables.specs.Fits.{Fits, Called};
+ghost use Rattle.mm_calls.specs.Watching.{after_watch};
+
+use mm_spaces::PageRange;
+use mm_tables::Tables;
+use mm_types::{Answer, Code, PageList, Pid};
+
+/// The addresses of the lowest written pages of a range of a living process, at most `count`. They
+/// are unwritten from now on, where that is asked for. None exactly where the range lies in no
+/// watched region.
+#[tactic(auto, using(crate::proofs::Watched::after_taken, crate::proofs::Watched::after_told))]
+fn written_pages(
+    t: &mut Tables,
+    pid: Pid,
+    unwrites: bool,
+    range: PageRange,
+    count: u32,
+) -> Option<PageList>
+    requires lives { is_some (process_of t.old pid.0) ≡ true }
+    requires few { count ≤ 16 }
+    ensures found { (p : ProcessOf (Unit {0})) → process_of t.old pid.0 ≡ Some p
+        → result ≡ option_map (λ r. map address_of (written_in r.thing range count))
+        (watched_around p.regions range) }
+    ensures after { (p : ProcessOf (Unit {0})) (r : Found (RegionOf (Unit {0})))
+        → process_of t.old pid.0 ≡ Some p → watched_around p.regions range ≡ Some r
+        → t.new ≡ after_watch t.old pid.0 p r unwrites range count }
+    ensures none { (p : ProcessOf (Unit {0})) → process_of t.old pid.0 ≡ Some p
+        → watched_around p.regions range ≡ None → t.new ≡ t.old }
+    ensures fits { (contents : Key → Option Page) (s : StoreOf)
+        → Fits t.old contents s → Fits t.new contents s }
+{
+    if unwrites {
+        t.take_written(pid, range, count)
+    } else {
+        t.space(pid).written(range, count)
+    }
+}
+
+/// `watch` (GetWriteWatch): the lowest pages of a range that were written, at most `count` (1 to
+/// 16). They are unwritten from now on, where that is asked for (WRITE_WATCH_FLAG_RESET). It takes
+/// no memory.
+///
+/// In this order: `InvalidHandle` for a process that does not live; `InvalidParameter` for a size
+/// of 0, or pages that do not all lie in one watched region.
+pub fn watch(t: &mut Tables, pid: Pid, unwrites: bool, addr: u32, size: u32, count: u32) -> Answer
+    requires few { count ≤ 16 }
+    ensures called { (contents : Key → Option Page) (s : StoreOf) → Fits t.old contents s
+        → Called (watch t.old pid.0 unwrites addr size count)
+        t.old contents result t.new contents }
+    ensures fits { (contents : Key → Option Page) (s : StoreOf)
+        → Fits t.old contents s → Fits t.new contents s }
+{
+    if !t.has(pid) {
+        return Answer::Error(Code::InvalidHandle);
+    }
+    if size == 0 {
+        return Answer::Error(Code::InvalidParameter);
+    }
+    match written_pages(t, pid, unwrites, PageRange::of(addr, size), count) {
+        Some(pages) => Answer::Watched(pages),
+        None => Answer::Error(Code::InvalidParameter),
+    }
+}
+
+/// `resetwatch` (ResetWriteWatch): the pages of a range are unwritten from now on. It takes no
+/// memory.
+///
+/// Its refusals are those of `watch`.
+pub fn reset_watch(t: &mut Tables, pid: Pid, addr: u32, size: u32) -> Answer
+    ensures called { (contents : Key → Option Page) (s : StoreOf) → Fits t.old contents s
+        → Called (reset_watch t.old pid.0 addr size) t.old contents result t.new contents }
+    ensures fits { (contents : Key → Option Page) (s : StoreOf)
+        → Fits t.old contents s → Fits t.new contents s }
+{
+    if !t.has(pid) {
+        return Answer::Error(Code::InvalidHandle);
+    }
+    if size == 0 {
+        return Answer::Error(Code::InvalidParameter);
+    }
+    match t.reset_written(pid, PageRange::of(addr, size)) {
+        Some(()) => Answer::Ok,
+        None => Answer::Error(Code::InvalidParameter),
+    }
+}

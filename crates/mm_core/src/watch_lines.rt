@@ -1,0 +1,56 @@
+ghost use Rattle.std.specs.Prelude.{◌≡◌, ◌≤◌, ◌+◌};
+ghost use Rattle.mm_types.specs.declared.events.Event.TheVariants as event;
+ghost use Rattle.mm_core.specs.Over.{DecidedOver, KeepsOver, MarkedOver};
+
+use crate::beginning::begin;
+use mm_calls::{reset_watch, watch};
+use mm_pages::Pages;
+use mm_tables::Tables;
+use mm_types::{Answer, LineKind, Pid};
+
+/// Decides a `watch` line.
+pub(crate) fn watch_line<G: Pages>(
+    t: &mut Tables,
+    g: &mut G,
+    line: u32,
+    pid: Pid,
+    unwrites: bool,
+    addr: u32,
+    size: u32,
+    count: u32,
+) -> Answer
+    requires keeps { KeepsOver G.Pages t.old g.old }
+    requires next { line ≡ (G.store g.old).line + 1 }
+    requires few { count ≤ 16 }
+    ensures decided { DecidedOver G.Pages (event.Watch pid unwrites addr size count) line
+        t.old g.old result t.new g.new }
+    ensures marked { MarkedOver G.Pages (event.Watch pid unwrites addr size count) line
+        t.old g.old result t.new g.new }
+    ensures loans { G.loans g.new ≡ G.loans g.old }
+{
+    t.sound();
+    begin(g, line, LineKind::Call);
+    watch(t, pid, unwrites, addr, size, count)
+}
+
+/// Decides a `resetwatch` line.
+pub(crate) fn reset_watch_line<G: Pages>(
+    t: &mut Tables,
+    g: &mut G,
+    line: u32,
+    pid: Pid,
+    addr: u32,
+    size: u32,
+) -> Answer
+    requires keeps { KeepsOver G.Pages t.old g.old }
+    requires next { line ≡ (G.store g.old).line + 1 }
+    ensures decided { DecidedOver G.Pages (event.ResetWatch pid addr size) line
+        t.old g.old result t.new g.new }
+    ensures marked { MarkedOver G.Pages (event.ResetWatch pid addr size) line
+        t.old g.old result t.new g.new }
+    ensures loans { G.loans g.new ≡ G.loans g.old }
+{
+    t.sound();
+    begin(g, line, LineKind::Call);
+    reset_watch(t, pid, addr, size)
+}

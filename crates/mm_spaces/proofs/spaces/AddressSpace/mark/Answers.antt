@@ -1,0 +1,29 @@
+use Rattle.std.proofs.Common.{◌≡◌, Some, true, is_some, sym, ap, ◌∙◌, subst, slice_set}
+use Rattle.mm_vad.specs.Regions.{SpaceOf}
+use Rattle.mm_world.specs.Find.{region_with}
+use Rattle.mm_world.specs.Rows.{mark_written, one_page}
+use Rattle.mm_spaces.specs.Shown.{shown}
+use Rattle.mm_spaces.specs.Tables.{RegionsOf}
+use Rattle.mm_spaces.proofs.Shows.{there}
+use Rattle.mm_spaces.proofs.Flagged.{some_at, marked, kept_marks}
+use Rattle.mm_spaces.proofs.spaces.AddressSpace.mark.Goals as goal
+
+pub mark-requires : goal.mark-requires
+mark-requires c =
+    let some = subst (λ (v : RegionsOf). is_some (region_with v.regions c.args.page) ≡ true) (sym c.self.view_is) c.requires.there in
+    some_at c.self.inside.space.regions c.args.page c.self.invariant some
+
+pub invariant_of-self : goal.invariant_of-self
+invariant_of-self c =
+    let vs = c.self.inside.space.regions in
+    let some = subst (λ (v : RegionsOf). is_some (region_with v.regions c.args.page) ≡ true) (sym c.self.view_is) c.requires.there in
+    let r = there (region_with (shown vs) c.args.page) some in
+    kept_marks true vs c.mark.new.self.regions (one_page c.args.page) r.thing c.self.invariant r.is
+    (ap (λ (s : SpaceOf). s.regions) c.mark.ensures.after) c.mark.ensures.sound
+
+pub returns-clause-changed : goal.returns-clause-changed
+returns-clause-changed c = λ r e. (
+    let at = subst (λ (v : RegionsOf). region_with v.regions c.args.page ≡ Some r) (sym c.self.view_is) e in
+    marked true c.self.inside.space.regions c.mark.new.self.regions (one_page c.args.page) r c.self.invariant at
+    (ap (λ (s : SpaceOf). s.regions) c.mark.ensures.after)
+    ∙ ap (λ (v : RegionsOf). slice_set v.regions r.place (mark_written true (one_page c.args.page) r.thing)) c.self.view_is)

@@ -1,0 +1,40 @@
+use Rattle.std.proofs.Common.{◌&&◌, ap, is_some, ◌∙◌}
+use Rattle.std.specs.Prelude.{map, option_map}
+use Rattle.mm_types.specs.Address.{address_of, lies_within}
+use Rattle.mm_world.specs.World.{pages_of}
+use Rattle.mm_world.specs.Watch.{watched_around, written_in, unwritten}
+use Rattle.mm_world.proofs.Spaces.{length-unwritten}
+use Rattle.mm_tables.proofs.Flagged.{flagged, none_found, either_kept, either_fit}
+use Rattle.mm_tables.proofs.Standing.{Held, held_by, regions_by}
+use Rattle.mm_tables.proofs.tables.Tables.take_written.Goals as goal
+use Rattle.mm_tables.proofs.tables.Tables.take_written.Goals.{After-index_mut}
+
+held : (c : After-index_mut) → Held c.self.inside c.args.self.now c.args.pid.0 c.index_mut.result.now
+held c = held_by c.self.inside c.args.self.now c.self.view_is c.self.invariant c.args.pid.0 c.index_mut.result.now c.requires.lives c.index_mut.ensures.value
+
+pub take_pages-requires-clause-lives : goal.take_pages-requires-clause-lives
+take_pages-requires-clause-lives c = (held (goal.at.take_pages-requires-clause-lives c).After-index_mut).there
+
+pub invariant_of-self : goal.invariant_of-self
+invariant_of-self c =
+    either_kept {q = c.args.pid} (held (goal.at.invariant_of-self c).After-index_mut) c.take_pages.new.process (λ r. is_some r.watched && lies_within c.args.range (pages_of r))
+    (λ r. unwritten r.base (written_in r c.args.range c.args.count)) (λ r. length-unwritten r.base (written_in r c.args.range c.args.count)) c.take_pages.ensures.changed c.take_pages.ensures.kept
+
+pub returns-clause-found : goal.returns-clause-found
+returns-clause-found c p lives =
+    c.take_pages.ensures.found ∙ ap (λ rs. option_map (λ r. map address_of (written_in r.thing c.args.range c.args.count)) (watched_around rs c.args.range)) (regions_by (held (goal.at.returns-clause-found c).After-index_mut) p lives)
+
+pub returns-clause-taken : goal.returns-clause-taken
+returns-clause-taken c p r lives found =
+    flagged {q = c.args.pid} (held (goal.at.returns-clause-taken c).After-index_mut) c.take_pages.new.process (λ r. is_some r.watched && lies_within c.args.range (pages_of r))
+    (λ r. unwritten r.base (written_in r c.args.range c.args.count)) (λ r. length-unwritten r.base (written_in r c.args.range c.args.count)) c.take_pages.ensures.changed p r lives found
+
+pub returns-clause-none : goal.returns-clause-none
+returns-clause-none c p lives none =
+    none_found {q = c.args.pid} (held (goal.at.returns-clause-none c).After-index_mut) c.take_pages.new.process (λ r. is_some r.watched && lies_within c.args.range (pages_of r))
+    (λ r. unwritten r.base (written_in r c.args.range c.args.count)) (λ r. length-unwritten r.base (written_in r c.args.range c.args.count)) c.take_pages.ensures.changed c.take_pages.ensures.kept p lives none
+
+pub returns-clause-fits : goal.returns-clause-fits
+returns-clause-fits c contents s f =
+    either_fit {q = c.args.pid} (held (goal.at.returns-clause-fits c).After-index_mut) c.take_pages.new.process (λ r. is_some r.watched && lies_within c.args.range (pages_of r))
+    (λ r. unwritten r.base (written_in r c.args.range c.args.count)) (λ r. length-unwritten r.base (written_in r c.args.range c.args.count)) c.take_pages.ensures.changed c.take_pages.ensures.kept contents s f

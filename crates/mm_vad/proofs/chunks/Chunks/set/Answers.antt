@@ -1,0 +1,75 @@
+use Rattle.std.proofs.Common.{◌≡◌, ◌<◌, ◌≤◌, ℕ, [], List, Option, Some, None, length, get_or, set, replicate, refl, sym, ap, ◌∙◌, subst, arith}
+use Rattle.std.specs.Prelude.{vec_capacity, IfSome}
+use Rattle.std.proofs.Common.{rules}
+use Rattle.std.proofs.lemmas.List.{get_or_read}
+use Rattle.mm_vad.specs.declared.pages.Row.{Row}
+use Rattle.mm_vad.specs.declared.chunks.Chunk.TheVariants as chunk
+use Rattle.mm_vad.specs.Chunks.{chunks_of, AreWritten, place_of, place_after, places_after}
+use Rattle.mm_vad.proofs.Chunked.{inside, stands, rows_read, place_read, room_left, written_out, chunk_written, row_written}
+use Rattle.mm_vad.proofs.chunks.Chunks.set.Goals as goal
+
+if_placed : (place : Option ℕ) (n : ℕ) → ((k : ℕ) → place ≡ Some k → k < n) → IfSome place (λ k. k < n)
+if_placed None n low = search rules
+if_placed (Some k) n low = low k refl
+
+pub index-requires : goal.index-requires
+index-requires c =
+    let s = c.self.inside in
+    omega (arith, s.chunks.ok.0, inside s.chunks.items s.places.items c.args.self.now c.args.index c.self.view_is c.requires.there)
+
+pub index_mut-requires : goal.index_mut-requires
+index_mut-requires c =
+    let s = c.self.inside in
+    omega (arith, s.places.ok.0, c.self.invariant.below c.args.index c.in-Each.place (place_read s.chunks.items s.places.items c.args.self.now c.args.index _ (chunk.Each c.in-Each.place) c.self.view_is c.requires.there c.index.ensures c.in-Each.is))
+
+pub write_out-place-requires-clause-there : goal.write_out-place-requires-clause-there
+write_out-place-requires-clause-there c =
+    let s = c.self.inside in
+    let e = place_read s.chunks.items s.places.items c.args.self.now c.args.index _ (chunk.Equal c.in-Equal.before c.in-Equal.place) c.self.view_is c.requires.there c.index.ensures c.in-Equal.is in
+    if_placed c.in-Equal.place _ (λ k f. omega (arith, s.places.ok.0, c.self.invariant.below c.args.index k (e ∙ f)))
+
+pub write_out-place-requires-clause-room : goal.write_out-place-requires-clause-room
+write_out-place-requires-clause-room c none =
+    let s = c.self.inside in
+    let there = inside s.chunks.items s.places.items c.args.self.now c.args.index c.self.view_is c.requires.there in
+    let e = place_read s.chunks.items s.places.items c.args.self.now c.args.index _ (chunk.Equal c.in-Equal.before c.in-Equal.place) c.self.view_is c.requires.there c.index.ensures c.in-Equal.is in
+    omega (arith, s.places.ok.0, room_left s.chunks.items s.places.items _ c.args.index c.self.invariant there (e ∙ none))
+
+pub index_mut-requires-in-Equal : goal.index_mut-requires-in-Equal
+index_mut-requires-in-Equal c =
+    let s = c.self.inside in
+    omega (arith, s.chunks.ok.0, inside s.chunks.items s.places.items c.args.self.now c.args.index c.self.view_is c.requires.there)
+
+pub invariant_of-self-in-Equal : goal.invariant_of-self-in-Equal
+invariant_of-self-in-Equal c =
+    let s = c.self.inside in
+    let new = c.write_out-place.new.places in
+    let rows = set (replicate 512 c.in-Equal.before) c.args.at c.args.row in
+    let there = inside s.chunks.items s.places.items c.args.self.now c.args.index c.self.view_is c.requires.there in
+    let e = place_read s.chunks.items s.places.items c.args.self.now c.args.index _ (chunk.Equal c.in-Equal.before c.in-Equal.place) c.self.view_is c.requires.there c.index.ensures c.in-Equal.is in
+    subst (λ (k : ℕ). AreWritten (set s.chunks.items c.args.index (chunk.Each k)) new.items (vec_capacity new)) (sym c.write_out-place.ensures.place)
+    (subst (λ (ps : List (List Row)). AreWritten (set s.chunks.items c.args.index (chunk.Each (place_after s.places.items c.in-Equal.place))) ps (vec_capacity new)) (sym c.write_out-place.ensures.items)
+    (written_out s.chunks.items s.places.items _ (vec_capacity new) c.args.index c.in-Equal.place rows c.self.invariant there e (omega (arith, c.write_out-place.ensures.capacity))))
+
+pub returns-in-Each : goal.returns-in-Each
+returns-in-Each c =
+    let s = c.self.inside in
+    let there = inside s.chunks.items s.places.items c.args.self.now c.args.index c.self.view_is c.requires.there in
+    let e = place_read s.chunks.items s.places.items c.args.self.now c.args.index _ (chunk.Each c.in-Each.place) c.self.view_is c.requires.there c.index.ensures c.in-Each.is in
+    row_written s.chunks.items s.places.items _ c.args.index c.in-Each.place c.args.at c.args.row _ c.self.invariant there
+    (stands s.chunks.items c.args.index _ (chunk.Each c.in-Each.place) c.index.ensures c.in-Each.is)
+    (get_or_read s.places.items c.in-Each.place _ (c.self.invariant.below c.args.index c.in-Each.place e) c.index_mut.ensures.value [])
+    ∙ ap (λ (cs : List (List Row)). set cs c.args.index (set (get_or cs c.args.index []) c.args.at c.args.row)) c.self.view_is
+
+pub returns-in-Equal : goal.returns-in-Equal
+returns-in-Equal c =
+    let s = c.self.inside in
+    let rows = set (replicate 512 c.in-Equal.before) c.args.at c.args.row in
+    let there = inside s.chunks.items s.places.items c.args.self.now c.args.index c.self.view_is c.requires.there in
+    let e = place_read s.chunks.items s.places.items c.args.self.now c.args.index _ (chunk.Equal c.in-Equal.before c.in-Equal.place) c.self.view_is c.requires.there c.index.ensures c.in-Equal.is in
+    let was = rows_read s.chunks.items s.places.items c.args.self.now c.args.index _ (chunk.Equal c.in-Equal.before c.in-Equal.place) c.self.view_is c.requires.there c.index.ensures c.in-Equal.is in
+    ap (λ (ps : List (List Row)). chunks_of (set s.chunks.items c.args.index (chunk.Each c.write_out-place.result)) ps) c.write_out-place.ensures.items
+    ∙ ap (λ (k : ℕ). chunks_of (set s.chunks.items c.args.index (chunk.Each k)) (places_after s.places.items c.in-Equal.place rows)) c.write_out-place.ensures.place
+    ∙ chunk_written s.chunks.items s.places.items _ c.args.index c.in-Equal.place rows c.self.invariant there e
+    ∙ ap (λ (cs : List (List Row)). set cs c.args.index rows) c.self.view_is
+    ∙ ap (λ (rs : List Row). set c.args.self.now c.args.index (set rs c.args.at c.args.row)) (sym was)

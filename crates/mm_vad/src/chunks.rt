@@ -1,0 +1,152 @@
+ghost use Rattle.std.specs.Prelude.{◌≡◌, ◌<◌, ◌^◌, [], Some, None, IfOk, IfSome, length, replicate, slice_get, slice_set, slice_index_or, vec_len, vec_capacity};
+ghost use Rattle.mm_vad.specs.Chunks.{own_place, place_after, places_after};
+
+use crate::Row;
+use mm_types::NoMemory;
+use std::alloc::Global;
+use std::marker::Model;
+
+/// How many rows a chunk has.
+pub(crate) const CHUNK: usize = 512;
+
+/// The rows of one chunk.
+#[derive(Clone, Copy)]
+enum Chunk {
+    /// All are equal to this one. A chunk that was written out once keeps its place.
+    Equal(Row, Option<u32>),
+    /// They are written out at this place.
+    Each(u32),
+}
+
+impl Chunk {
+    fn own_place(self) -> Option<u32>
+        ensures { result ≡ own_place self }
+    {
+        match self {
+            Chunk::Equal(_, place) => place,
+            Chunk::Each(place) => Some(place),
+        }
+    }
+}
+
+/// Rows in chunks, of which only those whose rows differ are written out.
+///
+/// Contracts see the list of all chunks' rows. There is room to write out every chunk, which is taken ahead and left
+/// unwritten, so the system maps it as it is first touched, and no write needs memory.
+#[derive(Drop)]
+pub(crate) struct Chunks {
+    chunks: Vec<Chunk>,
+    places: Vec<[Row; CHUNK]>,
+}
+
+impl Model for Chunks {
+    ghost use Rattle.std.specs.Prelude.{List, vec_capacity};
+    ghost use Rattle.mm_vad.specs.declared.pages.Row.{Row};
+    ghost use Rattle.mm_vad.specs.Chunks.{chunks_of, AreWritten};
+
+    ghost Value = { List (List Row) };
+
+    ghost view = { λ c. chunks_of c.chunks.items c.places.items };
+
+    ghost invariant = { λ c. AreWritten c.chunks.items c.places.items (vec_capacity c.places) };
+}
+
+impl Chunks {
+    /// `count` chunks of rows equal to `row`. `NoMemory` where a request for memory was refused.
+    pub(crate) fn new(alloc: Global, count: usize, row: Row) -> Result<Chunks, NoMemory>
+        requires { count < 2 ^ 32 }
+        ensures { IfOk result (λ chunks. chunks ≡ replicate count (replicate 512 row)) }
+    {
+        let mut chunks = Vec::new(alloc);
+        chunks.resize(count, Chunk::Equal(row, None))?;
+        let places = Vec::with_capacity(alloc, count)?;
+        Ok(Chunks { chunks, places })
+    }
+
+    /// How many chunks there are.
+    pub(crate) fn count(&self) -> usize
+        ensures { result ≡ length self.now }
+    {
+        self.chunks.len()
+    }
+
+    /// Row `at` of chunk `index`, both counted from 0.
+    pub(crate) fn get(&self, index: usize, at: usize) -> Row
+        requires there { index < length self.now }
+        requires inside { at < 512 }
+        requires whole { length (slice_index_or self.now index []) ≡ 512 }
+        ensures { slice_get (slice_index_or self.now index []) at ≡ Some result }
+    {
+        match self.chunks[index] {
+            Chunk::Equal(row, _) => row,
+            Chunk::Each(place) => self.places[place as usize][at],
+        }
+    }
+
+    /// The row that all rows of a chunk are known to be equal to.
+    pub(crate) fn equal_row(&self, index: usize) -> Option<Row>
+        requires { index < length self.now }
+        ensures { IfSome result (λ row. slice_index_or self.now index [] ≡ replicate 512 row) }
+    {
+        match self.chunks[index] {
+            Chunk::Equal(row, _) => Some(row),
+            Chunk::Each(_) => None,
+        }
+    }
+
+    /// All rows of chunk `index` become `row`.
+    pub(crate) fn fill(&mut self, index: usize, row: Row)
+        requires { index < length self.old }
+        ensures { self.new ≡ slice_set self.old index (replicate 512 row) }
+    {
+        let place = self.chunks[index].own_place();
+        self.chunks[index] = Chunk::Equal(row, place);
+    }
+
+    /// Writes `row` over row `at` of chunk `index`.
+    pub(crate) fn set(&mut self, index: usize, at: usize, row: Row)
+        requires there { index < length self.old }
+        requires inside { at < 512 }
+        ensures { self.new ≡ slice_set self.old index (slice_set (slice_index_or self.old index []) at row) }
+    {
+        match self.chunks[index] {
+            Chunk::Each(place) => self.places[place as usize][at] = row,
+            Chunk::Equal(before, place) => {
+                let place = write_out(&mut self.places, place, before, at, row);
+                self.chunks[index] = Chunk::Each(place);
+            }
+        }
+    }
+}
+
+// Writes a chunk's rows to its place, or to the next where it has none, and gives its place: rows equal to `before`
+// but for row `at`. A function of its own, since its array is cleared at each call.
+fn write_out(
+    places: &mut Vec<[Row; CHUNK]>,
+    place: Option<u32>,
+    before: Row,
+    at: usize,
+    row: Row,
+) -> u32
+    requires inside { at < 512 }
+    requires few { vec_len places.old < 2 ^ 32 }
+    requires there { IfSome place (λ k. k < vec_len places.old) }
+    requires room { place ≡ None → vec_len places.old < vec_capacity places.old }
+    ensures place { result ≡ place_after places.old.items place }
+    ensures items { places.new.items ≡ places_after places.old.items place (slice_set (replicate 512 before) at row) }
+    ensures capacity { vec_capacity places.new ≡ vec_capacity places.old }
+{
+    let mut rows = [before; CHUNK];
+    rows[at] = row;
+    match place {
+        Some(place) => {
+            places[place as usize] = rows;
+            place
+        }
+        None => {
+            let place = places.len() as u32;
+            places.push_reserved(rows);
+            place
+        }
+    }
+}

@@ -1,0 +1,204 @@
+-- Each line changes the flags of watched regions as it and its answer tell, and `watch` gives the pages that are flagged.
+use Rattle.std.proofs.Common.{◌≡◌, ℕ, Bool, true, false, Option, Some, None, List, refl, sym, ◌∙◌, ap, subst, cond, is_some, option_map, ◌&&◌}
+use Rattle.std.specs.Prelude.{◌==◌}
+use Rattle.mm_types.specs.declared.answers.Answer.{Answer}
+use Rattle.mm_types.specs.declared.answers.Answer.TheVariants as answer
+use Rattle.mm_types.specs.declared.answers.Why.{Why}
+use Rattle.mm_types.specs.declared.codes.Raise.TheVariants as raise
+use Rattle.mm_types.specs.declared.events.AccessSpec.{AccessSpec}
+use Rattle.mm_types.specs.declared.events.AccessSpec.TheVariants as spec
+use Rattle.mm_types.specs.declared.events.Event.{Event}
+use Rattle.mm_types.specs.declared.events.Event.TheVariants as line
+use Rattle.mm_types.specs.declared.numbers.Pid.{Pid}
+use Rattle.mm_types.specs.declared.numbers.Tid.{Tid}
+use Rattle.mm_types.specs.Address.{page_of}
+use Rattle.mm_world.specs.World.{World, KeptOf, filled}
+use Rattle.mm_world.specs.Outcome.{done}
+use Rattle.mm_world.specs.Access.{Attempt, ReadOf, WriteOf, Execute, access, address_in, attempt_in}
+use Rattle.mm_world.specs.Report.{Report}
+use Rattle.mm_world.specs.Failure.{Need, access_fails, wait_failed, pending}
+use Rattle.mm_world.specs.Step.{unpaged, told, step, stepped, world_told, begin, begin_told, resume, resume_told, failing, waiting, when, need_at, kept_by, keep, is_ok}
+use Rattle.mm_world.specs.Written.{access_writes, kept_writes, line_begins, line_wrote, written_after}
+use Rattle.mm_world.specs.Flags.{flag_of, FlagTold, Told}
+use Rattle.mm_world.specs.WellFormed.{Spaces}
+use Rattle.mm_world.proofs.Tables.{Holds, tables}
+use Rattle.mm_world.proofs.FlagsKept as calls
+use Rattle.mm_world.proofs.FlagsKept.{KeepsFlags}
+use Rattle.mm_world.proofs.FlagsWritten.{WritesFlags, is_write, in_access, unwritten_keeps}
+use Rattle.mm_world.proofs.FlagsWritten as writes
+use Rattle.mm_world.proofs.FlagsWatched.{TellsFlags, tells_kept, in_watch, in_reset_watch}
+use Rattle.mm_world.proofs.FlagsBegun.{in_alloc}
+
+-- ---- lines that write
+
+-- whether the page is the one that an access is to
+abbrev is_at : ℕ → ℕ → ℕ → ℕ → Bool
+is_at by page j q = (by == j) && (page == q)
+
+wrote_write : (j q : ℕ) (keeps : ℕ → Bool) (pid : Pid) (addr : ℕ) (bytes : List ℕ) (a : Answer) → ((is_ok a && true) && is_at pid.0 (page_of addr) j q) ≡ line_wrote j q keeps (line.Write pid addr bytes) a
+wrote_write j q keeps pid addr bytes answer.Ok = refl
+wrote_write j q keeps pid addr bytes _ = refl
+
+in_write : (w : World) (pid : Pid) (addr : ℕ) (bytes : List ℕ) → TellsFlags w (line.Write pid addr bytes) (access w pid.0 addr (WriteOf bytes))
+in_write w pid addr bytes = record {
+  told = λ spaces j q b e.
+      let o = access w pid.0 addr (WriteOf bytes) in
+      let h = (in_access w pid.0 addr (WriteOf bytes)).it.told spaces j q b e in
+      Told h.was h.before refl
+      (h.now ∙ ap (λ (t : Bool). cond t true h.was) (wrote_write j q (λ tid. kept_writes j q (kept_by w tid)) pid addr bytes o.answer));
+}
+
+in_reading : (w : World) (pid addr : ℕ) (what : Attempt) → is_write what ≡ false → Holds (KeepsFlags w) (access w pid addr what)
+in_reading w pid addr what none = unwritten_keeps w pid (page_of addr) what (access w pid addr what) none (in_access w pid addr what)
+
+begins_access : (w : World) (tid pid : ℕ) (what : AccessSpec) → Holds (WritesFlags w pid (page_of (address_in what)) (attempt_in what)) (begin w tid pid what)
+begins_access w tid pid what = search (tables, busy, writes.by_refusal, in_access) depth 12
+  where
+    busy : Holds (WritesFlags w pid (page_of (address_in what)) (attempt_in what)) (done answer.Busy w)
+    busy = writes.by_same w pid (page_of (address_in what)) (attempt_in what) answer.Busy refl
+
+writes_spec : (j q by : ℕ) (what : AccessSpec) → ((true && is_write (attempt_in what)) && is_at by (page_of (address_in what)) j q) ≡ access_writes j q by what
+writes_spec j q by (spec.Read addr len) = refl
+writes_spec j q by (spec.Write addr bytes) = refl
+
+wrote_begin : (j q : ℕ) (keeps : ℕ → Bool) (tid : Tid) (pid : Pid) (what : AccessSpec) (a : Answer) → ((is_ok a && is_write (attempt_in what)) && is_at pid.0 (page_of (address_in what)) j q) ≡ line_wrote j q keeps (line.Begin tid pid what) a
+wrote_begin j q keeps tid pid what answer.Ok = writes_spec j q pid.0 what
+wrote_begin j q keeps tid pid what _ = refl
+
+in_begin : (w : World) (tid : Tid) (pid : Pid) (what : AccessSpec) → TellsFlags w (line.Begin tid pid what) (begin w tid.0 pid.0 what)
+in_begin w tid pid what = record {
+  told = λ spaces j q b e.
+      let o = begin w tid.0 pid.0 what in
+      let h = (begins_access w tid.0 pid.0 what).it.told spaces j q b e in
+      Told h.was h.before refl
+      (h.now ∙ ap (λ (t : Bool). cond t true h.was) (wrote_begin j q (λ tid. kept_writes j q (kept_by w tid)) tid pid what o.answer));
+}
+
+wrote_resume : (j q : ℕ) (w : World) (tid : Tid) (k : KeptOf) (a : Answer) → kept_by w tid.0 ≡ Some k → ((is_ok a && is_write (attempt_in k.access)) && is_at k.pid (page_of (address_in k.access)) j q) ≡ line_wrote j q (λ tid. kept_writes j q (kept_by w tid)) (line.Resume tid) a
+wrote_resume j q w tid k answer.Ok kept = writes_spec j q k.pid k.access ∙ ap (kept_writes j q) (sym kept)
+wrote_resume j q w tid k _ kept = refl
+
+in_resume : (w : World) (tid : Tid) (kept : Option KeptOf) → kept_by w tid.0 ≡ kept → TellsFlags w (line.Resume tid) (resume w tid.0 kept)
+in_resume w tid None is = tells_kept w _ _ (calls.by_same w answer.Nothing) (λ j q. refl) (λ j q keeps was. refl)
+in_resume w tid (Some k) is = record {
+  told = λ spaces j q b e.
+      let o = access w k.pid (address_in k.access) (attempt_in k.access) in
+      let h = (in_access w k.pid (address_in k.access) (attempt_in k.access)).it.told spaces j q b e in
+      Told h.was h.before refl (h.now ∙ ap (λ (t : Bool). cond t true h.was) (wrote_resume j q w tid k o.answer is));
+}
+
+-- ---- lines
+
+kept_answered : (w : World) (e : Event) (a : Answer) → ((pid page : ℕ) → line_begins pid page e a ≡ false) → ((pid page : ℕ) (keeps : ℕ → Bool) (was : Bool) → written_after pid page keeps was e a ≡ was) → TellsFlags w e (done a w)
+kept_answered w e a none quiet = tells_kept w e (done a w) (calls.by_same w a) none quiet
+
+in_unpaged : (w : World) (e : Event) → TellsFlags w e (unpaged w e)
+in_unpaged w (line.Machine m) = kept_answered w _ _ (λ j q. refl) (λ j q keeps was. refl)
+in_unpaged w (line.Process min max) = tells_kept w _ _ (calls.in_new_process w) (λ j q. refl) (λ j q keeps was. refl)
+in_unpaged w (line.Exit pid) = tells_kept w _ _ (calls.in_exit w pid.0) (λ j q. refl) (λ j q keeps was. refl)
+in_unpaged w (line.File name pages byte) = tells_kept w _ _ (calls.in_new_file filled w name pages byte) (λ j q. refl) (λ j q keeps was. refl)
+in_unpaged w (line.Alloc pid addr size type prot) = in_alloc w pid addr size type prot
+in_unpaged w (line.Free pid addr size type) = tells_kept w _ _ (calls.in_free w pid.0 addr size type) (λ j q. refl) (λ j q keeps was. refl)
+in_unpaged w (line.Protect pid addr size prot) = tells_kept w _ _ (calls.in_protect w pid.0 addr size prot) (λ j q. refl) (λ j q keeps was. refl)
+in_unpaged w (line.Query pid addr) = tells_kept w _ _ (calls.in_query w pid.0 addr) (λ j q. refl) (λ j q keeps was. refl)
+in_unpaged w (line.Create pid size flags name) = tells_kept w _ _ (calls.in_create filled w pid.0 size flags name) (λ j q. refl) (λ j q keeps was. refl)
+in_unpaged w (line.CreateFile pid file flags name) = tells_kept w _ _ (calls.in_create_file w pid.0 file flags name) (λ j q. refl) (λ j q keeps was. refl)
+in_unpaged w (line.Open pid name) = tells_kept w _ _ (calls.in_open w pid.0 name) (λ j q. refl) (λ j q keeps was. refl)
+in_unpaged w (line.Close pid handle) = tells_kept w _ _ (calls.in_close w pid.0 handle) (λ j q. refl) (λ j q keeps was. refl)
+in_unpaged w (line.Map pid handle access offset len addr) = tells_kept w _ _ (calls.in_map w pid.0 handle access offset len addr) (λ j q. refl) (λ j q keeps was. refl)
+in_unpaged w (line.Unmap pid addr) = tells_kept w _ _ (calls.in_unmap w pid.0 addr) (λ j q. refl) (λ j q keeps was. refl)
+in_unpaged w (line.Flush pid addr size) = tells_kept w _ _ (calls.in_flush w pid.0 addr size) (λ j q. refl) (λ j q keeps was. refl)
+in_unpaged w (line.Read pid addr len) = tells_kept w _ _ (in_reading w pid.0 addr (ReadOf len) refl) (λ j q. refl) (λ j q keeps was. refl)
+in_unpaged w (line.Write pid addr bytes) = in_write w pid addr bytes
+in_unpaged w (line.Exec pid addr) = tells_kept w _ _ (in_reading w pid.0 addr Execute refl) (λ j q. refl) (λ j q keeps was. refl)
+in_unpaged w (line.Begin tid pid what) = in_begin w tid pid what
+in_unpaged w (line.Resume tid) = in_resume w tid (kept_by w tid.0) refl
+in_unpaged w (line.Io i) = kept_answered w _ _ (λ j q. refl) (λ j q keeps was. refl)
+in_unpaged w (line.Trim pid n) = tells_kept w _ _ (calls.in_store_line w pid.0) (λ j q. refl) (λ j q keeps was. refl)
+in_unpaged w (line.Age pid) = tells_kept w _ _ (calls.in_store_line w pid.0) (λ j q. refl) (λ j q keeps was. refl)
+in_unpaged w (line.Writer n) = kept_answered w _ _ (λ j q. refl) (λ j q keeps was. refl)
+in_unpaged w (line.Zeroer n) = kept_answered w _ _ (λ j q. refl) (λ j q keeps was. refl)
+in_unpaged w (line.Fail device direction k n) = tells_kept w _ _ (calls.in_take_fail w) (λ j q. refl) (λ j q keeps was. refl)
+in_unpaged w line.Charge = kept_answered w _ _ (λ j q. refl) (λ j q keeps was. refl)
+in_unpaged w line.Counts = kept_answered w _ _ (λ j q. refl) (λ j q keeps was. refl)
+in_unpaged w (line.Grow n) = tells_kept w _ _ (calls.in_grow w n) (λ j q. refl) (λ j q keeps was. refl)
+in_unpaged w (line.Watch pid unwrites addr size count) = (in_watch w pid unwrites addr size count).it
+in_unpaged w (line.ResetWatch pid addr size) = (in_reset_watch w pid addr size).it
+in_unpaged w (line.Stack tid pid reserve commit) = tells_kept w _ _ (calls.in_stack filled w tid.0 pid.0 reserve commit) (λ j q. refl) (λ j q keeps was. refl)
+in_unpaged w (line.Probe tid addr) = tells_kept w _ _ (calls.in_probe filled w tid.0 addr) (λ j q. refl) (λ j q keeps was. refl)
+
+-- ---- what the store tells in place of that is no `ok`
+
+told_failing : (w : World) (pid : Pid) (addr : ℕ) (bytes : List ℕ) (n : Option Need) (after : Report) (a : Answer) → failing n after ≡ Some a → TellsFlags w (line.Write pid addr bytes) (done a w)
+told_failing w pid addr bytes None after a e = cc
+told_failing w pid addr bytes (Some n) after a e = by_failure (access_fails n after) e
+  where
+    by_failure : (t : Bool) → when t (answer.Raised raise.InPageError) ≡ Some a → TellsFlags w (line.Write pid addr bytes) (done a w)
+    by_failure true e =
+        subst (λ (a : Answer). TellsFlags w (line.Write pid addr bytes) (done a w)) (let same : answer.Raised raise.InPageError ≡ a = cc in same)
+        (kept_answered w _ _ (λ j q. refl) (λ j q keeps was. refl))
+    by_failure false e = cc
+
+-- a line of a thread that waits, or whose access failed
+told_quiet : (w v : World) (e : Event) (a : Answer) → v.processes ≡ w.processes → ((pid page : ℕ) → line_begins pid page e a ≡ false) → ((pid page : ℕ) (keeps : ℕ → Bool) (was : Bool) → written_after pid page keeps was e a ≡ was) → TellsFlags w e (done a v)
+told_quiet w v e a same none quiet = tells_kept w e (done a v) (calls.by_rest w v a same) none quiet
+
+told_waiting : (w : World) (tid : Tid) (n : Option Need) (before after : Report) (a : Answer) → waiting w n before after ≡ Some a → TellsFlags w (line.Resume tid) (done a (world_told w (line.Resume tid) a))
+told_waiting w tid None before after a e = cc
+told_waiting w tid (Some n) before after a e = by_why (pending w.machine.depth n before after) e
+  where
+    by_why : (o : Option Why) → option_map answer.Pending o ≡ Some a → TellsFlags w (line.Resume tid) (done a (world_told w (line.Resume tid) a))
+    by_why None e = cc
+    by_why (Some why) e =
+        subst (λ (a : Answer). TellsFlags w (line.Resume tid) (done a (world_told w (line.Resume tid) a))) (let same : answer.Pending why ≡ a = cc in same)
+        (told_quiet w w _ _ refl (λ j q. refl) (λ j q keeps was. refl))
+
+told_resume : (w : World) (tid : Tid) (kept : Option KeptOf) (before after : Report) (a : Answer) → resume_told w tid.0 kept before after ≡ Some a → TellsFlags w (line.Resume tid) (done a (world_told w (line.Resume tid) a))
+told_resume w tid None before after a e = cc
+told_resume w tid (Some k) before after a e =
+    let n = need_at w k.pid (address_in k.access) (attempt_in k.access) in
+    by_failure (is_some n && wait_failed (before.wait tid.0)) n e
+  where
+    by_failure : (t : Bool) (n : Option Need) → cond t (Some (answer.Raised raise.InPageError)) (waiting w n before after) ≡ Some a → TellsFlags w (line.Resume tid) (done a (world_told w (line.Resume tid) a))
+    by_failure true n e =
+        subst (λ (a : Answer). TellsFlags w (line.Resume tid) (done a (world_told w (line.Resume tid) a))) (let same : answer.Raised raise.InPageError ≡ a = cc in same)
+        (told_quiet w (keep w tid.0 None) _ _ refl (λ j q. refl) (λ j q keeps was. refl))
+    by_failure false n e = told_waiting w tid n before after a e
+
+told_begin : (w : World) (tid : Tid) (pid : Pid) (what : AccessSpec) (before after : Report) (a : Answer) → begin_told w tid.0 pid.0 what before after ≡ Some a → TellsFlags w (line.Begin tid pid what) (done a (world_told w (line.Begin tid pid what) a))
+told_begin w tid pid what before after a e = by_kept (is_some (kept_by w tid.0)) e
+  where
+    by_why : (o : Option Why) → option_map answer.Pending o ≡ Some a → TellsFlags w (line.Begin tid pid what) (done a (world_told w (line.Begin tid pid what) a))
+    by_why None e = cc
+    by_why (Some why) e =
+        subst (λ (a : Answer). TellsFlags w (line.Begin tid pid what) (done a (world_told w (line.Begin tid pid what) a))) (let same : answer.Pending why ≡ a = cc in same)
+        (told_quiet w (keep w tid.0 (Some (record { pid = pid.0; access = what }))) _ _ refl (λ j q. refl) (λ j q keeps was. refl))
+
+    by_need : (n : Option Need) → waiting w n before after ≡ Some a → TellsFlags w (line.Begin tid pid what) (done a (world_told w (line.Begin tid pid what) a))
+    by_need None e = cc
+    by_need (Some n) e = by_why (pending w.machine.depth n before after) e
+
+    by_kept : (t : Bool) → cond t None (waiting w (need_at w pid.0 (address_in what) (attempt_in what)) before after) ≡ Some a → TellsFlags w (line.Begin tid pid what) (done a (world_told w (line.Begin tid pid what) a))
+    by_kept true e = cc
+    by_kept false e = by_need (need_at w pid.0 (address_in what) (attempt_in what)) e
+
+in_told : (w : World) (e : Event) (before after : Report) (a : Answer) → told w e before after ≡ Some a → TellsFlags w e (done a (world_told w e a))
+in_told w (line.File name pages byte) before after a is = kept_answered w _ a (λ j q. refl) (λ j q keeps was. refl)
+in_told w (line.Flush pid addr size) before after a is = kept_answered w _ a (λ j q. refl) (λ j q keeps was. refl)
+in_told w (line.Read pid addr len) before after a is = kept_answered w _ a (λ j q. refl) (λ j q keeps was. refl)
+in_told w (line.Write pid addr bytes) before after a is = told_failing w pid addr bytes (need_at w pid.0 addr (WriteOf bytes)) after a is
+in_told w (line.Exec pid addr) before after a is = kept_answered w _ a (λ j q. refl) (λ j q keeps was. refl)
+in_told w (line.Begin tid pid what) before after a is = told_begin w tid pid what before after a is
+in_told w (line.Resume tid) before after a is = told_resume w tid (kept_by w tid.0) before after a is
+in_told w (line.Io i) before after a is = kept_answered w _ a (λ j q. refl) (λ j q keeps was. refl)
+in_told w line.Counts before after a is = kept_answered w _ a (λ j q. refl) (λ j q keeps was. refl)
+in_told w (line.Grow n) before after a is = kept_answered w _ a (λ j q. refl) (λ j q keeps was. refl)
+in_told w e before after a is = cc
+
+in_stepped : (w : World) (e : Event) (before after : Report) (t : Option Answer) → told w e before after ≡ t → TellsFlags w e (stepped w e t)
+in_stepped w e before after None is = in_unpaged w e
+in_stepped w e before after (Some a) is = in_told w e before after a is
+
+-- after each line a page is written as the line and its answer tell
+pub flags_told : (w : World) (e : Event) (before after : Report) (pid page : ℕ) (b : Bool) → Spaces w → flag_of (step w e before after).world pid page ≡ Some b → FlagTold w e (step w e before after).answer pid page b
+flags_told w e before after pid page b spaces at = (in_stepped w e before after (told w e before after) refl).told spaces pid page b at

@@ -1,0 +1,203 @@
+-- What the lines of watched regions do to flags: a region begins with pages that are not written, and `watch` and
+-- `resetwatch` make pages unwritten.
+use Rattle.std.proofs.Common.{◌≡◌, ℕ, zero, suc, ◌+◌, ◌-◌, ◌≤◌, ◌<◌, Bool, true, false, Option, Some, None, List, [], ◌∷◌, refl, sym, ◌∙◌, ap, subst, cond, arith, length, slice_get, take, drop, map, option_map, is_some, ◌&&◌, ◌||◌}
+use Rattle.std.specs.Prelude.{◌==◌, nat_le, nat_lt, option_and_then, unwrap_or}
+use Rattle.std.specs.List.{list_any}
+use Rattle.std.proofs.lemmas.Bool.{leb-true, le-leb}
+use Rattle.std.proofs.lemmas.List.{length-take}
+use Rattle.mm_types.proofs.Booleans.{parts, both}
+use Rattle.mm_types.specs.declared.answers.Answer.{Answer}
+use Rattle.mm_types.specs.declared.answers.Answer.TheVariants as answer
+use Rattle.mm_types.specs.declared.codes.Code.{Code}
+use Rattle.mm_types.specs.declared.events.Event.{Event}
+use Rattle.mm_types.specs.declared.events.Event.TheVariants as line
+use Rattle.mm_types.specs.declared.numbers.Pid.{Pid}
+use Rattle.mm_types.specs.Address.{Range, address_of, range_of, holds_page, lies_within, end_of}
+use Rattle.mm_world.specs.World.{World, ProcessOf, RegionOf, Page, pages_of}
+use Rattle.mm_world.specs.Find.{Found, change_range, process_of, set_region}
+use Rattle.mm_world.specs.Outcome.{OutcomeOf, done, refused}
+use Rattle.mm_world.specs.Rows.{change_flags, mark_written}
+use Rattle.mm_world.specs.Watch.{watch, reset_watch, watched_around, written_from, written_in, unwritten}
+use Rattle.mm_world.specs.Step.{kept_by}
+use Rattle.mm_world.specs.Written.{kept_writes, line_begins, written_after}
+use Rattle.mm_world.specs.Flags.{flag_of, FlagTold, Told}
+use Rattle.mm_world.specs.WellFormed.{Each, Spaces}
+use Rattle.mm_world.proofs.Tables.{Holds, tables}
+use Rattle.mm_world.proofs.Finding.{found_stands}
+use Rattle.mm_world.proofs.LaidOut.{less, not_less}
+use Rattle.mm_world.proofs.FlagRanges.{got_before, got_within, got_behind, got_unwritten, same_page, any_address, cleared, not_cleared}
+use Rattle.mm_world.proofs.FlagsKept as calls
+use Rattle.mm_world.proofs.FlagsKept.{KeepsFlags}
+use Rattle.mm_world.proofs.FlagsChanged.{FlagChanged, InRegion, Elsewhere, flag_changed}
+use Rattle.mm_world.proofs.FlagsWritten.{equal, from_base}
+
+-- each page that has a flag after the line has it as the line and its answer tell
+pub record TellsFlags (w : World) (e : Event) (o : OutcomeOf Page) : Type 0 where
+  pub told : Spaces w → (pid page : ℕ) (b : Bool) → flag_of o.world pid page ≡ Some b → FlagTold w e o.answer pid page b
+
+-- a line with an answer that tells nothing of pages
+pub tells_kept : (w : World) (e : Event) (o : OutcomeOf Page) → Holds (KeepsFlags w) o → ((pid page : ℕ) → line_begins pid page e o.answer ≡ false) → ((pid page : ℕ) (keeps : ℕ → Bool) (was : Bool) → written_after pid page keeps was e o.answer ≡ was) → TellsFlags w e o
+tells_kept w e o h none quiet = record {
+  told = λ spaces pid page b at.
+      Told b (h.it.kept spaces pid page b at) (none pid page) (sym (quiet pid page (λ tid. kept_writes pid page (kept_by w tid)) b));
+}
+
+-- ---- `resetwatch` and `watch`
+
+pub held_in : (range : Range) (q : ℕ) → holds_page range q ≡ true → (range.first ≤ q) × (q < end_of range)
+held_in range q e =
+    let h = parts (nat_le range.first q) (nat_lt q (end_of range)) e in
+    (leb-true _ _ h.0, less _ _ h.1)
+
+pub is_held : (range : Range) (q : ℕ) → range.first ≤ q → q < end_of range → holds_page range q ≡ true
+is_held range q low high = both (nat_le range.first q) (nat_lt q (end_of range)) (le-leb _ _ low) (le-leb _ _ high)
+
+pub lies_in : (range outer : Range) → lies_within range outer ≡ true → (outer.first ≤ range.first) × (end_of range ≤ end_of outer)
+lies_in range outer e =
+    let h = parts (nat_le outer.first range.first) (nat_le (end_of range) (end_of outer)) e in
+    (leb-true _ _ h.0, leb-true _ _ h.1)
+
+-- the flag of a page, where some pages of a process were unwritten
+record AsCleared (w : World) (pid : ℕ) (clears : ℕ → Bool) (j q : ℕ) (b : Bool) : Type 0 where
+  was : Bool
+  before : flag_of w j q ≡ Some was
+  now : b ≡ cond ((pid == j) && clears q) false was
+
+module _ (w : World) (pid : ℕ) (p : ProcessOf Page) (r : Found (RegionOf Page)) (change : List Bool → List Bool) (clears : ℕ → Bool) (lives : process_of w pid ≡ Some p) (there : slice_get p.regions r.place ≡ Some r.thing) (at : (q : ℕ) (fs : List Bool) → r.thing.base ≤ q → slice_get (change fs) (q - r.thing.base) ≡ cleared (clears q) (slice_get fs (q - r.thing.base))) (inside : (q : ℕ) → clears q ≡ true → holds_page (pages_of r.thing) q ≡ true) where
+  in_flag : (j q : ℕ) (b : Bool) (o : Option Bool) → j ≡ pid → flag_of w j q ≡ o → cleared (clears q) o ≡ Some b → AsCleared w pid clears j q b
+  in_flag j q b None process before now = cc
+  in_flag j q b (Some was) process before now = record {
+    was = was;
+    before = before;
+    now =
+        let is : b ≡ cond (clears q) false was = cc in
+        is ∙ sym (ap (λ (t : Bool). cond (t && clears q) false was) (equal pid j (sym process)));
+  }
+
+  in_flags : (j q : ℕ) (b : Bool) (o : Option (List Bool)) → j ≡ pid → r.thing.base ≤ q → flag_of w j q ≡ option_and_then (λ fs. slice_get fs (q - r.thing.base)) o → option_and_then (λ fs. slice_get fs (q - r.thing.base)) (option_map change o) ≡ Some b → AsCleared w pid clears j q b
+  in_flags j q b None process low before now = cc
+  in_flags j q b (Some fs) process low before now =
+      in_flag j q b (slice_get fs (q - r.thing.base)) process before (sym (at q fs low) ∙ now)
+
+  outside : (j q : ℕ) (b : Bool) → (j ≡ pid → holds_page (pages_of r.thing) q ≡ false) → (t : Bool) → ((pid == j) && clears q) ≡ t → b ≡ cond t false b
+  outside j q b out true e =
+      let h = parts (pid == j) (clears q) e in
+      let bad : true ≡ false = sym (inside q h.1) ∙ out (sym (same_page pid j h.0)) in cc
+  outside j q b out false e = refl
+
+  by_change : (j q : ℕ) (b : Bool) → FlagChanged w pid r.thing (change_flags change r.thing) j q b → AsCleared w pid clears j q b
+  by_change j q b (InRegion process held before now) =
+      in_flags j q b r.thing.watched process (from_base r.thing q held) before now
+  by_change j q b (Elsewhere out before) = record { was = b; before = before; now = outside j q b out ((pid == j) && clears q) refl }
+
+  as_cleared : Spaces w → (j q : ℕ) (b : Bool) → flag_of (set_region w pid p r.place (change_flags change r.thing)) j q ≡ Some b → AsCleared w pid clears j q b
+  as_cleared spaces j q b e =
+      by_change j q b (flag_changed w (set_region w pid p r.place (change_flags change r.thing)) pid p r.place r.thing (change_flags change r.thing) lives there refl refl refl spaces j q b e)
+
+-- ---- `resetwatch`
+
+reset_at : (base : ℕ) (range : Range) (q : ℕ) (fs : List Bool) → base ≤ range.first → base ≤ q → (t : Bool) → holds_page range q ≡ t → slice_get (change_range (λ was. false) (range.first - base) range.count fs) (q - base) ≡ cleared t (slice_get fs (q - base))
+reset_at base range q fs from low true e =
+    let h = held_in range q e in
+    got_within (λ was. false) (range.first - base) range.count fs (q - base) (omega (arith, h.0)) (omega (arith, h.1, from, low))
+reset_at base range q fs from low false e =
+    by_side (nat_lt q range.first) refl ∙ not_cleared (slice_get fs (q - base))
+  where
+    by_side : (t : Bool) → nat_lt q range.first ≡ t → slice_get (change_range (λ was. false) (range.first - base) range.count fs) (q - base) ≡ slice_get fs (q - base)
+    by_side true t = let h = less q range.first t in got_before (λ was. false) (range.first - base) range.count fs (q - base) (omega (arith, h, low))
+    by_side false t =
+        let h = not_less q range.first t in
+        by_end (nat_lt q (end_of range)) refl h
+      where
+        by_end : (t : Bool) → nat_lt q (end_of range) ≡ t → range.first ≤ q → slice_get (change_range (λ was. false) (range.first - base) range.count fs) (q - base) ≡ slice_get fs (q - base)
+        by_end true t above = let bad : true ≡ false = sym (is_held range q above (less _ _ t)) ∙ e in cc
+        by_end false t above =
+            let h = not_less q (end_of range) t in
+            got_behind (λ was. false) (range.first - base) range.count fs (q - base) (omega (arith, h, from, low))
+
+by_reset : (w : World) (pid : Pid) (addr size : ℕ) (p : ProcessOf Page) (r : Found (RegionOf Page)) → process_of w pid.0 ≡ Some p → watched_around p.regions (range_of addr size) ≡ Some r → Holds (TellsFlags w (line.ResetWatch pid addr size)) (done answer.Ok (set_region w pid.0 p r.place (mark_written false (range_of addr size) r.thing)))
+by_reset w pid addr size p r lives found =
+    let range = range_of addr size in
+    let stands = found_stands (λ r. is_some r.watched && lies_within range (pages_of r)) p.regions r found in
+    let lies = lies_in range (pages_of r.thing) (parts (is_some r.thing.watched) (lies_within range (pages_of r.thing)) stands.passes).1 in
+    record {
+      it = record {
+        told = λ spaces j q b e.
+            let h = as_cleared w pid.0 p r (change_range (λ was. false) (range.first - r.thing.base) range.count) (holds_page range) lives stands.there
+            (λ q fs low. reset_at r.thing.base range q fs lies.0 low (holds_page range q) refl)
+            (λ q held. let k = held_in range q held in is_held (pages_of r.thing) q (omega (arith, lies.0, k.0)) (omega (arith, lies.1, k.1))) spaces j q b e in
+            Told h.was h.before refl h.now;
+      };
+    }
+
+pub in_reset_watch : (w : World) (pid : Pid) (addr size : ℕ) → Holds (TellsFlags w (line.ResetWatch pid addr size)) (reset_watch w pid.0 addr size)
+in_reset_watch w pid addr size = search (tables, by_refusal, by_reset) depth 12
+  where
+    by_refusal : (why : Code) → Holds (TellsFlags w (line.ResetWatch pid addr size)) (refused w why)
+    by_refusal why = record { it = tells_kept w _ _ (calls.by_refusal w why) (λ j q. refl) (λ j q keeps was. refl) }
+
+-- ---- `watch`
+
+written_within : (page : ℕ) (ws : List Bool) → Each (λ q. (page ≤ q) × (q < page + length ws)) (written_from page ws)
+written_within page [] = tt
+written_within page (w ∷ ws) = by_flag w (later (page + 1) ws (written_from (page + 1) ws) (written_within (page + 1) ws))
+  where
+    later : (next : ℕ) (ws : List Bool) (qs : List ℕ) → Each (λ q. (next ≤ q) × (q < next + length ws)) qs → next ≡ page + 1 → Each (λ q. (page ≤ q) × (q < page + suc (length ws))) qs
+    later next ws [] h e = tt
+    later next ws (q ∷ qs) h e = ((omega (arith, h.0.0, e), omega (arith, h.0.1, e)), later next ws qs h.1 e)
+
+    by_flag : (w : Bool) → (page + 1 ≡ page + 1 → Each (λ q. (page ≤ q) × (q < page + suc (length ws))) (written_from (page + 1) ws)) → Each (λ q. (page ≤ q) × (q < page + suc (length ws))) (cond w (page ∷ written_from (page + 1) ws) (written_from (page + 1) ws))
+    by_flag true h = ((omega arith, omega arith), h refl)
+    by_flag false h = h refl
+
+each-take : {A : Type 0} (P : A → Type 0) (n : ℕ) (xs : List A) → Each P xs → Each P (take n xs)
+each-take P zero xs h = tt
+each-take P (suc n) [] h = tt
+each-take P (suc n) (x ∷ xs) h = (h.0, each-take P n xs h.1)
+
+each-weaker : {A : Type 0} (P Q : A → Type 0) (xs : List A) → ((x : A) → P x → Q x) → Each P xs → Each Q xs
+each-weaker P Q [] f h = tt
+each-weaker P Q (x ∷ xs) f h = (f x h.0, each-weaker P Q xs f h.1)
+
+any_is : (P : ℕ → Type 0) (q : ℕ) (qs : List ℕ) → Each P qs → list_any (λ p. p == q) qs ≡ true → P q
+any_is P q [] h e = cc
+any_is P q (p ∷ qs) h e = by_first (p == q) refl e (any_is P q qs h.1)
+  where
+    by_first : (t : Bool) → (p == q) ≡ t → (t || list_any (λ p. p == q) qs) ≡ true → (list_any (λ p. p == q) qs ≡ true → P q) → P q
+    by_first true same e later = subst P (same_page p q same) h.0
+    by_first false other e later = later e
+
+pub given_within : (r : RegionOf Page) (range : Range) (count : ℕ) → Each (λ q. (range.first ≤ q) × (q < end_of range)) (written_in r range count)
+given_within r range count =
+    let bits = take range.count (drop (range.first - r.base) (unwrap_or r.watched [])) in
+    let few : length bits ≤ range.count = omega (arith, length-take range.count (drop (range.first - r.base) (unwrap_or r.watched []))) in
+    each-take (λ q. (range.first ≤ q) × (q < end_of range)) count (written_from range.first bits)
+    (each-weaker (λ q. (range.first ≤ q) × (q < range.first + length bits)) (λ q. (range.first ≤ q) × (q < end_of range)) (written_from range.first bits)
+    (λ q h. (h.0, omega (arith, h.1, few))) (written_within range.first bits))
+
+by_unwrite : (w : World) (pid : Pid) (addr size count : ℕ) (p : ProcessOf Page) (r : Found (RegionOf Page)) → process_of w pid.0 ≡ Some p → watched_around p.regions (range_of addr size) ≡ Some r → Holds (TellsFlags w (line.Watch pid true addr size count)) (done (answer.Watched (map address_of (written_in r.thing (range_of addr size) count))) (set_region w pid.0 p r.place (change_flags (unwritten r.thing.base (written_in r.thing (range_of addr size) count)) r.thing)))
+by_unwrite w pid addr size count p r lives found =
+    let range = range_of addr size in
+    let pages = written_in r.thing range count in
+    let stands = found_stands (λ r. is_some r.watched && lies_within range (pages_of r)) p.regions r found in
+    let lies = lies_in range (pages_of r.thing) (parts (is_some r.thing.watched) (lies_within range (pages_of r.thing)) stands.passes).1 in
+    let given = given_within r.thing range count in
+    record {
+      it = record {
+        told = λ spaces j q b e.
+            let h = as_cleared w pid.0 p r (unwritten r.thing.base pages) (λ q. list_any (λ p. p == q) pages) lives stands.there
+            (λ q fs low. got_unwritten r.thing.base q pages fs low (each-weaker (λ q. (range.first ≤ q) × (q < end_of range)) (λ q. r.thing.base ≤ q) pages (λ q k. omega (arith, k.0, lies.0)) given))
+            (λ q any. let k = any_is (λ q. (range.first ≤ q) × (q < end_of range)) q pages given any in is_held (pages_of r.thing) q (omega (arith, lies.0, k.0)) (omega (arith, lies.1, k.1))) spaces j q b e in
+            Told h.was h.before refl (h.now ∙ ap (λ (t : Bool). cond ((pid.0 == j) && t) false h.was) (sym (any_address q pages)));
+      };
+    }
+
+pub in_watch : (w : World) (pid : Pid) (unwrites : Bool) (addr size count : ℕ) → Holds (TellsFlags w (line.Watch pid unwrites addr size count)) (watch w pid.0 unwrites addr size count)
+in_watch w pid true addr size count = search (tables, by_refusal, by_unwrite) depth 12
+  where
+    by_refusal : (why : Code) → Holds (TellsFlags w (line.Watch pid true addr size count)) (refused w why)
+    by_refusal why = record { it = tells_kept w _ _ (calls.by_refusal w why) (λ j q. refl) (λ j q keeps was. refl) }
+in_watch w pid false addr size count = search (tables, by_same) depth 12
+  where
+    by_same : (a : Answer) → Holds (TellsFlags w (line.Watch pid false addr size count)) (done a w)
+    by_same a = record { it = tells_kept w _ _ (calls.by_same w a) (λ j q. refl) (λ j q keeps was. refl) }
