@@ -160,15 +160,6 @@ pub none_stored : (pages : List (List ℕ)) → blocks_of [] pages ≡ []
 unfolding blocks_of
 none_stored pages = refl
 
-pub store_of_none : (room : ℕ) → IsStore [] [] room
-store_of_none room = record {
-  below = λ i k e. cc;
-  apart = λ i j k e f. cc;
-  counted = refl;
-  roomy = omega arith;
-  few = omega arith;
-}
-
 -- a block as it is read
 pub block_read : (places : List (Option ℕ)) (pages : List (List ℕ)) (i : ℕ) (x : List ℕ) (blocks : List (List ℕ)) → blocks_of places pages ≡ blocks → i < length places → get_or (blocks_of places pages) i empty_block ≡ x → slice_get blocks i ≡ Some x
 block_read places pages i x blocks is there read =

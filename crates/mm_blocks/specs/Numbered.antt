@@ -1,4 +1,5 @@
--- Calls that are numbered from 1, some of which are to fail, and a log with room for so many of them.
+-- Calls that are numbered from 1, some of which are to fail, and a log with room for so many of
+-- them.
 use Rattle.std.specs.Prelude.{ℕ, ◌+◌, ◌-◌, ◌^◌, min, if◌then◌else◌, nat_le, List, Contains, Option, Some, None}
 
 -- the count after one more call; it stands still at its type's end

@@ -1,4 +1,5 @@
--- Blocks of which only those that were written stand anywhere: each block has a place among these, or none.
+-- Blocks of which only those that were written stand anywhere: each block has a place among these,
+-- or none.
 use Rattle.std.specs.Prelude.{◌≡◌, ◌≤◌, ◌<◌, ℕ, ◌+◌, ◌^◌, List, [], ◌∷◌, length, map, slice_index_or, Option, Some, None}
 use Rattle.mm_blocks.specs.Traffic.{empty_block}
 

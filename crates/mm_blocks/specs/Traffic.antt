@@ -18,7 +18,8 @@ empty_block = replicate page_size 0
 abbrev pub made_call : {T E : Type 0} → Direction → ℕ → Result T E → DeviceCall
 made_call d i r = record { direction = d; block = i; succeeded = is_ok r }
 
--- These calls came after those in the log. A device may stop telling its log, and tells it again only when it is opened.
+-- These calls came after those in the log. A device may stop telling its log, and tells it again
+-- only when it is opened.
 abbrev pub Logged : Option (List DeviceCall) → Option (List DeviceCall) → List DeviceCall → Type 0
 Logged None None calls = Unit {0}
 Logged None (Some b) calls = ⊥
@@ -42,7 +43,9 @@ is_due d c = same_direction d c.direction && (c.passes == 0) && not (c.fails == 
 
 -- what is still named after one more call of this direction
 abbrev pub one_further : Direction → NamedCalls → NamedCalls
-one_further d c = if same_direction d c.direction then (if c.passes == 0 then record c { fails = c.fails - 1 } else record c { passes = c.passes - 1 }) else c
+one_further d c = if same_direction d c.direction then (if c.passes == 0 then record c {
+  fails = c.fails - 1;
+} else record c { passes = c.passes - 1 }) else c
 
 -- the next call of this direction is named to fail
 abbrev pub is_named : Direction → List NamedCalls → Bool

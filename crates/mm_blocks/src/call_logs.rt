@@ -43,7 +43,8 @@ impl CallLog {
 
     /// One more call.
     pub(crate) fn note(&mut self, call: DeviceCall)
-        ensures logged { Logged (told self.old.room self.old.made self.old.calls.items) (told self.new.room self.new.made self.new.calls.items) (call ∷ []) }
+        ensures logged { Logged (told self.old.room self.old.made self.old.calls.items)
+            (told self.new.room self.new.made self.new.calls.items) (call ∷ []) }
         ensures room { self.new.room ≡ self.old.room }
         ensures made { self.new.made ≡ next_call self.old.made }
     {
@@ -58,7 +59,8 @@ impl CallLog {
 
     /// All calls since it was begun, where there was room for them.
     pub(crate) fn calls(&self) -> Option<&[DeviceCall]>
-        ensures calls { IfSome result (λ calls. told self.now.room self.now.made self.now.calls.items ≡ Some calls.now) }
+        ensures calls { IfSome result
+            (λ calls. told self.now.room self.now.made self.now.calls.items ≡ Some calls.now) }
         ensures cases { IsSome result ↔ (self.now.made ≤ self.now.room) }
     {
         if self.made <= u64::from(self.room) {

@@ -5,8 +5,8 @@ use crate::plans::Plan;
 use crate::{Blocks, Inject};
 use mm_types::{Direction, Failed, OpenFault};
 
-/// A borrowed device that also fails the calls that were named (own). A named call does not reach the
-/// device; any other is the device's own.
+/// A borrowed device that also fails the calls that were named (own). A named call does not reach
+/// the device; any other is the device's own.
 #[derive(Drop)]
 pub struct Injected<'a, B: Blocks> {
     device: &'a mut B,

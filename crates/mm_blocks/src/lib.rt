@@ -1,5 +1,5 @@
-//! Devices of blocks of 4,096 bytes: what the simulator asks of one, one in memory, and one whose calls
-//! fail where they were named.
+//! Devices of blocks of 4,096 bytes: what the simulator asks of one, one in memory, and one whose
+//! calls fail where they were named.
 #![tactic(auto)]
 
 mod call_logs;
@@ -37,8 +37,8 @@ pub trait Blocks {
     /// The references that it holds.
     ghost loans: { Self → Loans };
 
-    /// Opens it with n blocks of zeros, at most 262,144, and an empty log. After an error its log is as
-    /// before, and each device says itself what it holds.
+    /// Opens it with n blocks of zeros, at most 262,144, and an empty log. After an error its log
+    /// is as before, and each device says itself what it holds.
     fn open(&mut self, n: u32) -> Result<(), OpenFault>
         requires { n ≤ 262144 }
         ensures ok { OnOk result (blocks self.new ≡ replicate n empty_block) }
@@ -47,7 +47,8 @@ pub trait Blocks {
         ensures cause { HasOpenCause (faults self.old) (faults self.new) result }
         ensures loans { loans self.new ≡ loans self.old };
 
-    /// Adds n blocks of zeros at the end; 262,144 is the most. After an error the blocks are as before.
+    /// Adds n blocks of zeros at the end; 262,144 is the most. After an error the blocks are as
+    /// before.
     fn extend(&mut self, n: u32) -> Result<(), OpenFault>
         requires { length (blocks self.old) + n ≤ 262144 }
         ensures ok { OnOk result (blocks self.new ≡ blocks self.old ++ replicate n empty_block) }
@@ -96,8 +97,8 @@ pub trait Inject {
     /// The references that it holds.
     ghost loans: { Self → Loans };
 
-    /// Adds n blocks of zeros at the end; 262,144 is the most. After an error the blocks are as before.
-    /// No such call is ever named to fail.
+    /// Adds n blocks of zeros at the end; 262,144 is the most. After an error the blocks are as
+    /// before. No such call is ever named to fail.
     fn extend(&mut self, n: u32) -> Result<(), OpenFault>
         requires { length (blocks self.old) + n ≤ 262144 }
         ensures ok { OnOk result (blocks self.new ≡ blocks self.old ++ replicate n empty_block) }
@@ -112,27 +113,43 @@ pub trait Inject {
         requires { i < length (blocks self.old) }
         ensures ok { OnOk result (slice_get (blocks self.old) i ≡ Some out.new) }
         ensures blocks { blocks self.new ≡ blocks self.old }
-        ensures served { Serves (record { way = way.Read; block = i; succeeded = is_ok result; named = is_named way.Read (named self.old) })
-            (device_with (log self.old) (named self.old) (faults self.old)) (device_with (log self.new) (named self.new) (faults self.new)) }
+        ensures served { Serves (record {
+          way = way.Read;
+          block = i;
+          succeeded = is_ok result;
+          named = is_named way.Read (named self.old);
+        })
+            (device_with (log self.old) (named self.old) (faults self.old))
+            (device_with (log self.new) (named self.new) (faults self.new)) }
         ensures loans { loans self.new ≡ loans self.old };
 
-    /// Writes block i, counted from 0. It fails where it was named to; after an error the blocks are as
-    /// before.
+    /// Writes block i, counted from 0. It fails where it was named to; after an error the blocks
+    /// are as before.
     fn write(&mut self, i: u32, bytes: &[u8; 4096]) -> Result<(), Failed>
         requires { i < length (blocks self.old) }
         ensures ok { OnOk result (blocks self.new ≡ slice_set (blocks self.old) i bytes.now) }
         ensures err { OnErr result (blocks self.new ≡ blocks self.old) }
-        ensures served { Serves (record { way = way.Write; block = i; succeeded = is_ok result; named = is_named way.Write (named self.old) })
-            (device_with (log self.old) (named self.old) (faults self.old)) (device_with (log self.new) (named self.new) (faults self.new)) }
+        ensures served { Serves (record {
+          way = way.Write;
+          block = i;
+          succeeded = is_ok result;
+          named = is_named way.Write (named self.old);
+        })
+            (device_with (log self.old) (named self.old) (faults self.old))
+            (device_with (log self.new) (named self.new) (faults self.new)) }
         ensures loans { loans self.new ≡ loans self.old };
 
-    /// Of the reads, or of the writes, from now on, the k-th, counted from 1, is the first of n that fail.
-    /// At most 64 times: what is named stays in the list once it is spent.
+    /// Of the reads, or of the writes, from now on, the k-th, counted from 1, is the first of n
+    /// that fail. At most 64 times: what is named stays in the list once it is spent.
     fn name_calls(&mut self, direction: Direction, k: u32, n: u32)
         requires room { length (named self.old) < 64 }
         requires first { 1 ≤ k }
         requires some { 1 ≤ n }
-        ensures named { named self.new ≡ named self.old ++ record { direction = direction; passes = k - 1; fails = n } ∷ [] }
+        ensures named { named self.new ≡ named self.old ++ record {
+          direction = direction;
+          passes = k - 1;
+          fails = n;
+        } ∷ [] }
         ensures blocks { blocks self.new ≡ blocks self.old }
         ensures log { log self.new ≡ log self.old }
         ensures faults { faults self.new ≡ faults self.old }

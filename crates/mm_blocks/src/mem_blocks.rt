@@ -12,9 +12,10 @@ use crate::{Blocks, DeviceCall};
 use mm_types::{Direction, Failed, NoMemory, OpenFault};
 use std::alloc::Global;
 
-/// Blocks in memory (own). Its calls are numbered from 1, `open` and `extend` too; those in a list fail, and
-/// none but out of memory in `open` and `extend`. It tells its log as long as at most so many
-/// reads and writes were made since `open` as it was made with room for. Reads and writes take no memory.
+/// Blocks in memory (own). Its calls are numbered from 1, `open` and `extend` too; those in a list
+/// fail, and none but out of memory in `open` and `extend`. It tells its log as long as at most so
+/// many reads and writes were made since `open` as it was made with room for. Reads and writes take
+/// no memory.
 #[derive(Drop)]
 pub struct MemBlocks {
     blocks: Store,
@@ -24,7 +25,8 @@ pub struct MemBlocks {
 }
 
 impl MemBlocks {
-    /// A device without blocks, of which the calls in `fails` fail, with room for a log of `log` calls.
+    /// A device without blocks, of which the calls in `fails` fail, with room for a log of `log`
+    /// calls.
     pub fn new(alloc: Global, fails: Vec<u32>, log: u32) -> Result<MemBlocks, NoMemory>
         ensures blocks { IfOk result (λ d. ⟦<MemBlocks as Blocks>⟧.blocks d ≡ []) }
         ensures log { IfOk result (λ d. ⟦<MemBlocks as Blocks>⟧.log d ≡ Some []) }
@@ -48,7 +50,8 @@ impl MemBlocks {
 
     /// The reads and writes since it was opened, where there was room for all of them.
     pub fn log(&self) -> Option<&[DeviceCall]>
-        ensures some { IfSome result (λ calls. ⟦<MemBlocks as Blocks>⟧.log self.now ≡ Some calls.now) }
+        ensures some { IfSome result
+            (λ calls. ⟦<MemBlocks as Blocks>⟧.log self.now ≡ Some calls.now) }
         ensures none { IfNone result (⟦<MemBlocks as Blocks>⟧.log self.now ≡ None) }
     {
         self.log.calls()
@@ -81,12 +84,16 @@ impl Blocks for MemBlocks {
 
     fn open(&mut self, n: u32) -> Result<(), OpenFault>
         ensures ok { OnOk result (self.new.blocks ≡ replicate n empty_block) }
-        ensures log { OnOk result (NoneLogged (told self.new.log.room self.new.log.made self.new.log.calls.items)) }
-        ensures err_log { OnErr result (told self.new.log.room self.new.log.made self.new.log.calls.items ≡ told self.old.log.room self.old.log.made self.old.log.calls.items) }
+        ensures log { OnOk result (NoneLogged
+            (told self.new.log.room self.new.log.made self.new.log.calls.items)) }
+        ensures err_log { OnErr result
+            (told self.new.log.room self.new.log.made self.new.log.calls.items ≡
+            told self.old.log.room self.old.log.made self.old.log.calls.items) }
         ensures cause { HasOpenCause self.old.list.faults self.new.list.faults result }
         ensures loans { NoLoan ≡ NoLoan }
         ensures err { OnErr result (self.new.blocks ≡ self.old.blocks) }
-        ensures fails { IsErrOf result fault.Failed ↔ NextFails self.old.list.fails.items self.old.list.calls }
+        ensures fails { IsErrOf result fault.Failed ↔ NextFails self.old.list.fails.items
+            self.old.list.calls }
         ensures calls { self.new.list.calls ≡ next_call self.old.list.calls }
         ensures same_fails { self.new.list.fails ≡ self.old.list.fails }
         ensures room { self.new.log.room ≡ self.old.log.room }
@@ -107,10 +114,12 @@ impl Blocks for MemBlocks {
     fn extend(&mut self, n: u32) -> Result<(), OpenFault>
         ensures ok { OnOk result (self.new.blocks ≡ self.old.blocks ++ replicate n empty_block) }
         ensures err { OnErr result (self.new.blocks ≡ self.old.blocks) }
-        ensures log { told self.new.log.room self.new.log.made self.new.log.calls.items ≡ told self.old.log.room self.old.log.made self.old.log.calls.items }
+        ensures log { told self.new.log.room self.new.log.made self.new.log.calls.items ≡
+            told self.old.log.room self.old.log.made self.old.log.calls.items }
         ensures cause { HasOpenCause self.old.list.faults self.new.list.faults result }
         ensures loans { NoLoan ≡ NoLoan }
-        ensures fails { IsErrOf result fault.Failed ↔ NextFails self.old.list.fails.items self.old.list.calls }
+        ensures fails { IsErrOf result fault.Failed ↔ NextFails self.old.list.fails.items
+            self.old.list.calls }
         ensures calls { self.new.list.calls ≡ next_call self.old.list.calls }
         ensures same_fails { self.new.list.fails ≡ self.old.list.fails }
         ensures same_log { self.new.log ≡ self.old.log }
@@ -128,7 +137,9 @@ impl Blocks for MemBlocks {
         requires { i < length self.old.blocks }
         ensures ok { OnOk result (slice_get self.old.blocks i ≡ Some out.new) }
         ensures blocks { self.new.blocks ≡ self.old.blocks }
-        ensures logged { Logged (told self.old.log.room self.old.log.made self.old.log.calls.items) (told self.new.log.room self.new.log.made self.new.log.calls.items) (made_call way.Read i result ∷ []) }
+        ensures logged { Logged (told self.old.log.room self.old.log.made self.old.log.calls.items)
+            (told self.new.log.room self.new.log.made self.new.log.calls.items)
+            (made_call way.Read i result ∷ []) }
         ensures cause { HasCallCause self.old.list.faults self.new.list.faults result }
         ensures loans { NoLoan ≡ NoLoan }
         ensures fails { IsErr result ↔ NextFails self.old.list.fails.items self.old.list.calls }
@@ -154,7 +165,9 @@ impl Blocks for MemBlocks {
         requires { i < length self.old.blocks }
         ensures ok { OnOk result (self.new.blocks ≡ slice_set self.old.blocks i bytes.now) }
         ensures err { OnErr result (self.new.blocks ≡ self.old.blocks) }
-        ensures logged { Logged (told self.old.log.room self.old.log.made self.old.log.calls.items) (told self.new.log.room self.new.log.made self.new.log.calls.items) (made_call way.Write i result ∷ []) }
+        ensures logged { Logged (told self.old.log.room self.old.log.made self.old.log.calls.items)
+            (told self.new.log.room self.new.log.made self.new.log.calls.items)
+            (made_call way.Write i result ∷ []) }
         ensures cause { HasCallCause self.old.list.faults self.new.list.faults result }
         ensures loans { NoLoan ≡ NoLoan }
         ensures fails { IsErr result ↔ NextFails self.old.list.fails.items self.old.list.calls }

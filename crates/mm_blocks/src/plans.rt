@@ -65,11 +65,16 @@ impl Plan {
         }
     }
 
-    /// Of the calls of this direction from now on, the k-th, counted from 1, is the first of n that fail.
+    /// Of the calls of this direction from now on, the k-th, counted from 1, is the first of n that
+    /// fail.
     pub(crate) fn add(&mut self, direction: Direction, k: u32, n: u32)
         requires room { length self.old < 64 }
         requires first { 1 ≤ k }
-        ensures { self.new ≡ self.old ++ record { direction = direction; passes = k - 1; fails = n } ∷ [] }
+        ensures { self.new ≡ self.old ++ record {
+          direction = direction;
+          passes = k - 1;
+          fails = n;
+        } ∷ [] }
     {
         self.entries[self.count] = NamedCalls {
             direction,

@@ -10,8 +10,9 @@ static EMPTY: [u8; 4096] = [0; 4096];
 
 /// Blocks of which only those that were written take memory of their own.
 ///
-/// Contracts see the list of all blocks' bytes. The written ones stand in the order of their first writes, in
-/// room for all blocks that is taken ahead and left unwritten, so the system maps it as it is first touched.
+/// Contracts see the list of all blocks' bytes. The written ones stand in the order of their first
+/// writes, in room for all blocks that is taken ahead and left unwritten, so the system maps it as
+/// it is first touched.
 #[derive(Drop)]
 pub(crate) struct Store {
     places: Vec<Option<u32>>,
@@ -47,7 +48,8 @@ impl Store {
         self.places.len()
     }
 
-    /// n blocks of zeros more at the end. A place is a `u32`, so there is no memory for more blocks than that.
+    /// n blocks of zeros more at the end. A place is a `u32`, so there is no memory for more blocks
+    /// than that.
     pub(crate) fn add(&mut self, n: u32) -> Result<(), NoMemory>
         ensures ok { OnOk result (self.new ≡ self.old ++ replicate n empty_block) }
         ensures err { OnErr result (self.new ≡ self.old) }

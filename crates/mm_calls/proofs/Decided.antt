@@ -1,5 +1,5 @@
 -- What the definitions of calls come to.
-use Rattle.std.proofs.Common.{◌≡◌, ◌≤◌, ◌<◌, ◌+◌, ◌-◌, ℕ, zero, suc, true, false, Option, Some, None, is_some, is_none, refl, sym, ◌∙◌, ap, arith}
+use Rattle.std.proofs.Common.{◌≡◌, ◌≤◌, ◌<◌, ◌+◌, ◌-◌, ℕ, zero, suc, true, Some, None, is_none, refl, sym, ◌∙◌, ap, arith}
 use Rattle.mm_types.specs.declared.answers.Answer.TheVariants as answer
 use Rattle.mm_types.specs.declared.codes.Code.TheVariants as code
 use Rattle.mm_types.specs.declared.views.Kind.TheVariants as kind
@@ -21,7 +21,7 @@ use Rattle.mm_calls.specs.Marking.{protect_pages}
 use Rattle.mm_calls.proofs.Areas.{in_section, range_in_section}
 use Rattle.mm_calls.proofs.Around.{around}
 use Rattle.mm_calls.proofs.Counts.{commit_charge, protect_charge, area_charge_more, no_marks}
-use Rattle.mm_world.proofs.Outcomes.{at_met, at_unmet, at_found, at_room, at_limit}
+use Rattle.mm_world.proofs.Outcomes.{at_met, at_found, at_room, at_limit}
 
 module _ (t : Tables) (pid : ℕ) (p : ProcessOf (Unit {0})) (range : Range) (prot n : ℕ) (lives : process_of t pid ≡ Some p) (r : Found (RegionOf (Unit {0}))) (found : region_around p.regions range ≡ Some r) where
   -- ---- commit in a private region
@@ -42,6 +42,10 @@ module _ (t : Tables) (pid : ℕ) (p : ProcessOf (Unit {0})) (range : Range) (pr
     pub commit_made : charge t + n ≤ limit t → commit_pages blank t pid p range prot ≡ done (answer.At (address_of range.first)) (set_region t pid p r.place (change_rows (commit tt prot) range r.thing))
     commit_made room = reached ∙ at_room t made (omega (arith, total, room))
 
+    -- the pages that were not committed are charged
+    pub commit_charges : charge t + n ≤ limit t → charge (commit_pages blank t pid p range prot).world ≡ charge t + n
+    commit_charges room = ap (λ (o : OutcomeOf (Unit {0})). charge o.world) (commit_made room) ∙ total
+
   -- ---- commit in a view
 
   module _ (v : View) (view : r.thing.kind ≡ kind.View v) where
@@ -54,19 +58,9 @@ module _ (t : Tables) (pid : ℕ) (p : ProcessOf (Unit {0})) (range : Range) (pr
     in_view : commit_pages blank t pid p range prot ≡ need t code.InvalidAddress (is_none (area_at t v.area.0).file_block) (need t code.InvalidParameter (every_page (accepts r.thing prot) range) (within_limit t committed))
     in_view = at_found t code.InvalidAddress (region_around p.regions range) r (λ r. commit_in blank t pid p r r.thing.kind range prot) found ∙ ap (λ k. commit_in blank t pid p r k range prot) view
 
-    pub view_of_file : is_some (area_at t v.area.0).file_block ≡ true → commit_pages blank t pid p range prot ≡ refused t code.InvalidAddress
-    view_of_file file = in_view ∙ at_unmet t code.InvalidAddress (is_none (area_at t v.area.0).file_block) _ (file_is (area_at t v.area.0).file_block file)
-      where
-        file_is : (o : Option ℕ) → is_some o ≡ true → is_none o ≡ false
-        file_is None e = cc
-        file_is (Some x) e = refl
-
     module _ (none : (area_at t v.area.0).file_block ≡ None) where
       in_paging : commit_pages blank t pid p range prot ≡ need t code.InvalidParameter (every_page (accepts r.thing prot) range) (within_limit t committed)
       in_paging = in_view ∙ at_met t code.InvalidAddress (is_none (area_at t v.area.0).file_block) _ (ap is_none none)
-
-      pub view_unaccepted : every_page (accepts r.thing prot) range ≡ false → commit_pages blank t pid p range prot ≡ refused t code.InvalidParameter
-      view_unaccepted refuses = in_paging ∙ at_unmet t code.InvalidParameter (every_page (accepts r.thing prot) range) _ refuses
 
       module _ (h : WellFormed t) (allowed : is_protection_among private_protections prot ≡ true) (takes : every_page (accepts r.thing prot) range ≡ true) (counted : n ≡ uncommitted_in (area_at t v.area.0) first range.count) where
         in_limit : commit_pages blank t pid p range prot ≡ within_limit t committed
@@ -88,6 +82,10 @@ module _ (t : Tables) (pid : ℕ) (p : ProcessOf (Unit {0})) (range : Range) (pr
 
         pub view_made : charge t + n ≤ limit t → commit_pages blank t pid p range prot ≡ done (answer.At (address_of range.first)) (set_area (set_region t pid p r.place (change_rows (protected r.thing.kind prot) range r.thing)) v.area.0 (commit_shared blank (v.first + (range.first - r.thing.base)) range.count (area_at t v.area.0)))
         view_made room = in_limit ∙ at_room t committed (omega (arith, view_total, room))
+
+        -- so are those of a section
+        pub view_charges : charge t + n ≤ limit t → charge (commit_pages blank t pid p range prot).world ≡ charge t + n
+        view_charges room = ap (λ (o : OutcomeOf (Unit {0})). charge o.world) (view_made room) ∙ view_total
 
 -- ---- protect
 

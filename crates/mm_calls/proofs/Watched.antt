@@ -13,7 +13,7 @@ use Rattle.mm_world.specs.Rows.{mark_written, change_flags}
 use Rattle.mm_world.specs.Contents.{Tables}
 use Rattle.mm_world.specs.Outcome.{OutcomeOf, refused}
 use Rattle.mm_world.specs.Watch.{watched_around, written_in, unwritten, with_watched, watch, reset_watch}
-use Rattle.mm_world.proofs.Outcomes.{at_alive, at_met, at_unmet, at_found, at_missing}
+use Rattle.mm_world.proofs.Outcomes.{at_alive, at_met, at_found, at_missing}
 use Rattle.mm_pages.specs.Store.{StoreOf}
 use Rattle.mm_tables.specs.Fits.{Fits, Called}
 use Rattle.mm_calls.specs.Watching.{after_watch}
@@ -25,9 +25,6 @@ called_beside q t after contents s a e f g =
     called_by q t after contents contents s s a e f (record { fits = g; carries = carries_same contents contents refl; rest = refl })
 
 module _ (t : Tables) (pid addr size : ℕ) (p : ProcessOf (Unit {0})) (later : ProcessOf (Unit {0}) → Found (RegionOf (Unit {0})) → OutcomeOf (Unit {0})) (lives : process_of t pid ≡ Some p) where
-  pub no_size : (size == 0) ≡ true → with_watched t pid addr size later ≡ refused t code.InvalidParameter
-  no_size e = at_alive t pid p _ lives ∙ at_unmet t code.InvalidParameter (not (size == 0)) _ (ap not e)
-
   module _ (some : (size == 0) ≡ false) where
     pub in_watched : (r : Found (RegionOf (Unit {0}))) → watched_around p.regions (range_of addr size) ≡ Some r → with_watched t pid addr size later ≡ later p r
     in_watched r found =

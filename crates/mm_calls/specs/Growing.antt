@@ -9,7 +9,8 @@ use Rattle.mm_types.specs.declared.moves.Move.TheVariants as move
 use Rattle.mm_pages.specs.Behind.{Behind}
 use Rattle.mm_pages.specs.Housekeeping.{Grows, OneMove, NoMove}
 
--- the paging file has grown, or it is the line of a call that changed nothing; without memory no line has begun
+-- the paging file has grown, or it is the line of a call that changed nothing; without memory no
+-- line has begun
 abbrev pub GrowsBy : {E : Type 0} → ℕ → ℕ → Result Answer E → Behind → List Move → Behind → Type 0
 GrowsBy line n (Ok (answer.Limit limit)) b moves c = Grows line n b moves c
 GrowsBy line n (Ok a) b moves c = OneMove (move.At line kind.Call) b moves c

@@ -7,8 +7,10 @@ use Rattle.mm_world.specs.Find.{Found, set_region}
 use Rattle.mm_world.specs.Rows.{change_flags}
 use Rattle.mm_world.specs.Watch.{written_in, unwritten}
 
-abbrev pub after_watch : {B : Type 0} → WorldOf B → ℕ → ProcessOf B → Found (RegionOf B) → Bool → Range → ℕ → WorldOf B
+abbrev pub after_watch : {B : Type 0} → WorldOf B → ℕ → ProcessOf B → Found (RegionOf B) → Bool →
+    Range → ℕ → WorldOf B
 after_watch w pid p r unwrites range count =
     if unwrites
-    then set_region w pid p r.place (change_flags (unwritten r.thing.base (written_in r.thing range count)) r.thing)
+    then set_region w pid p r.place
+    (change_flags (unwritten r.thing.base (written_in r.thing range count)) r.thing)
     else w

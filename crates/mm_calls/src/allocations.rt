@@ -1,4 +1,4 @@
-ghost use Rattle.std.specs.Prelude.{◌≡◌, ◌≤◌, ◌+◌, true, is_some, min, Some, IsOk, IfOk, OnErr, option_map};
+ghost use Rattle.std.specs.Prelude.{◌≡◌, ◌≤◌, ◌<◌, ◌+◌, true, is_some, min, Some, IsOk, IfOk, OnErr, option_map};
 ghost use Rattle.mm_types.specs.declared.moves.LineKind.TheVariants as line_kind;
 ghost use Rattle.mm_types.specs.declared.views.Kind.TheVariants as kind;
 ghost use Rattle.mm_world.specs.World.{ProcessOf};
@@ -6,6 +6,7 @@ ghost use Rattle.mm_world.specs.Find.{process_of, region_around};
 ghost use Rattle.mm_world.specs.Alloc.{reserve, commit_pages};
 ghost use Rattle.mm_world.specs.Charge.{charge, limit};
 ghost use Rattle.mm_world.specs.Contents.{blank};
+ghost use Rattle.mm_world.specs.Laws.{is_success};
 ghost use Rattle.mm_world.specs.Rows.{is_protection_among, private_protections};
 ghost use Rattle.mm_pages.specs.Housekeeping.{Turn, Turns, Makes};
 ghost use Rattle.mm_pages.specs.Passing.{PassesIn};
@@ -37,11 +38,22 @@ pub(crate) fn reserve<G: Pages>(
     requires lives { is_some (process_of t.old pid.0) ≡ true }
     requires some { 1 ≤ size }
     requires prot { is_protection_among private_protections prot ≡ true }
-    ensures ok { IfOk result (λ a. (p : ProcessOf (Unit {0})) → process_of t.old pid.0 ≡ Some p → reserve blank t.old pid.0 p addr size watched kind prot ≡ record { answer = a; world = t.new }) }
+    ensures ok { IfOk result (λ a. (p : ProcessOf (Unit {0})) → process_of t.old pid.0 ≡ Some p →
+        reserve blank t.old pid.0 p addr size watched kind prot ≡ record {
+          answer = a;
+          world = t.new;
+        }) }
+    ensures makes { OnErr result ((p : ProcessOf (Unit {0})) → process_of t.old pid.0 ≡ Some p
+        → is_success (reserve blank t.old pid.0 p addr size watched kind prot).answer ≡ true) }
     ensures err { OnErr result ((t.new ≡ t.old) × (G.contents g.new ≡ G.contents g.old)) }
-    ensures settled { Settled t.new (G.contents g.old) (G.contents g.new) (G.store g.old) (G.store g.new) }
-    ensures passes { PassesIn G.unpaged (Turns Makes) (G.store g.old) (G.store g.new) (G.behind g.old) (G.behind g.new) }
-    ensures idle { OnErr result ((turn : Turn) → PassesIn G.unpaged (Turns turn) (G.store g.old) (G.store g.new) (G.behind g.old) (G.behind g.new)) }
+    ensures settled { Settled t.new (G.contents g.old) (G.contents g.new) (G.store g.old)
+        (G.store g.new) }
+    ensures passes { PassesIn G.unpaged (Turns Makes) (G.store g.old) (G.store g.new)
+        (G.behind g.old) (G.behind g.new) }
+    ensures idle { OnErr result
+        ((turn : Turn) →
+        PassesIn G.unpaged (Turns turn) (G.store g.old) (G.store g.new) (G.behind g.old)
+        (G.behind g.new)) }
     ensures loans { G.loans g.new ≡ G.loans g.old }
 {
     let range = match t.space(pid).gap(addr, size) {
@@ -55,8 +67,8 @@ pub(crate) fn reserve<G: Pages>(
     Ok(Answer::At(range.first * PAGE_SIZE))
 }
 
-/// Commits pages of a living process, in a private region or in a view, as `valloc` does. `NoMemory` comes only where the store has no
-/// room for them.
+/// Commits pages of a living process, in a private region or in a view, as `valloc` does.
+/// `NoMemory` comes only where the store has no room for them.
 #[tactic(auto, using(mm_pages::proofs::Passed::turns_same))]
 pub fn commit<G: Pages>(
     t: &mut Tables,
@@ -69,12 +81,24 @@ pub fn commit<G: Pages>(
     requires kind { (G.store g.old).kind ≡ line_kind.Call }
     requires lives { is_some (process_of t.old pid.0) ≡ true }
     requires prot { is_protection_among private_protections prot ≡ true }
-    ensures ok { IfOk result (λ a. (p : ProcessOf (Unit {0})) → process_of t.old pid.0 ≡ Some p → commit_pages blank t.old pid.0 p range prot ≡ record { answer = a; world = t.new }) }
-    ensures enough { min (charge t.old + range.count) (limit t.old) ≤ (G.store g.old).room → IsOk result }
+    ensures ok { IfOk result (λ a. (p : ProcessOf (Unit {0})) → process_of t.old pid.0 ≡ Some p →
+        commit_pages blank t.old pid.0 p range prot ≡ record {
+          answer = a;
+          world = t.new;
+        }) }
+    ensures enough { min (charge t.old + range.count) (limit t.old) ≤ (G.store g.old).room →
+        IsOk result }
+    ensures charges { OnErr result ((p : ProcessOf (Unit {0})) → process_of t.old pid.0 ≡ Some p
+        → charge t.old < charge (commit_pages blank t.old pid.0 p range prot).world) }
     ensures err { OnErr result ((t.new ≡ t.old) × (G.contents g.new ≡ G.contents g.old)) }
-    ensures settled { Settled t.new (G.contents g.old) (G.contents g.new) (G.store g.old) (G.store g.new) }
-    ensures passes { PassesIn G.unpaged (Turns Makes) (G.store g.old) (G.store g.new) (G.behind g.old) (G.behind g.new) }
-    ensures idle { OnErr result ((turn : Turn) → PassesIn G.unpaged (Turns turn) (G.store g.old) (G.store g.new) (G.behind g.old) (G.behind g.new)) }
+    ensures settled { Settled t.new (G.contents g.old) (G.contents g.new) (G.store g.old)
+        (G.store g.new) }
+    ensures passes { PassesIn G.unpaged (Turns Makes) (G.store g.old) (G.store g.new)
+        (G.behind g.old) (G.behind g.new) }
+    ensures idle { OnErr result
+        ((turn : Turn) →
+        PassesIn G.unpaged (Turns turn) (G.store g.old) (G.store g.new) (G.behind g.old)
+        (G.behind g.new)) }
     ensures loans { G.loans g.new ≡ G.loans g.old }
 {
     let region = match t.space(pid).region_around(range) {
@@ -99,14 +123,27 @@ fn commit_private<G: Pages>(
     requires fits { Fits t.old (G.contents g.old) (G.store g.old) }
     requires kind { (G.store g.old).kind ≡ line_kind.Call }
     requires lives { is_some (process_of t.old pid.0) ≡ true }
-    requires around { (p : ProcessOf (Unit {0})) → process_of t.old pid.0 ≡ Some p → option_map (λ r. r.thing.kind) (region_around p.regions range) ≡ Some kind.Private }
+    requires around { (p : ProcessOf (Unit {0})) → process_of t.old pid.0 ≡ Some p →
+        option_map (λ r. r.thing.kind) (region_around p.regions range) ≡ Some kind.Private }
     requires prot { is_protection_among private_protections prot ≡ true }
-    ensures ok { IfOk result (λ a. (p : ProcessOf (Unit {0})) → process_of t.old pid.0 ≡ Some p → commit_pages blank t.old pid.0 p range prot ≡ record { answer = a; world = t.new }) }
-    ensures enough { min (charge t.old + range.count) (limit t.old) ≤ (G.store g.old).room → IsOk result }
+    ensures ok { IfOk result (λ a. (p : ProcessOf (Unit {0})) → process_of t.old pid.0 ≡ Some p →
+        commit_pages blank t.old pid.0 p range prot ≡ record {
+          answer = a;
+          world = t.new;
+        }) }
+    ensures enough { min (charge t.old + range.count) (limit t.old) ≤ (G.store g.old).room →
+        IsOk result }
+    ensures charges { OnErr result ((p : ProcessOf (Unit {0})) → process_of t.old pid.0 ≡ Some p
+        → charge t.old < charge (commit_pages blank t.old pid.0 p range prot).world) }
     ensures err { OnErr result ((t.new ≡ t.old) × (G.contents g.new ≡ G.contents g.old)) }
-    ensures settled { Settled t.new (G.contents g.old) (G.contents g.new) (G.store g.old) (G.store g.new) }
-    ensures passes { PassesIn G.unpaged (Turns Makes) (G.store g.old) (G.store g.new) (G.behind g.old) (G.behind g.new) }
-    ensures idle { OnErr result ((turn : Turn) → PassesIn G.unpaged (Turns turn) (G.store g.old) (G.store g.new) (G.behind g.old) (G.behind g.new)) }
+    ensures settled { Settled t.new (G.contents g.old) (G.contents g.new) (G.store g.old)
+        (G.store g.new) }
+    ensures passes { PassesIn G.unpaged (Turns Makes) (G.store g.old) (G.store g.new)
+        (G.behind g.old) (G.behind g.new) }
+    ensures idle { OnErr result
+        ((turn : Turn) →
+        PassesIn G.unpaged (Turns turn) (G.store g.old) (G.store g.new) (G.behind g.old)
+        (G.behind g.new)) }
     ensures loans { G.loans g.new ≡ G.loans g.old }
 {
     t.sound();
@@ -118,7 +155,8 @@ fn commit_private<G: Pages>(
     Ok(Answer::At(range.first * PAGE_SIZE))
 }
 
-/// Commits section pages under pages of the view around them, which has these pages, and gives the view's rows the protection.
+/// Commits section pages under pages of the view around them, which has these pages, and gives the
+/// view's rows the protection.
 #[tactic(auto, using(mm_pages::proofs::Passed::turns_same))]
 fn commit_view<G: Pages>(
     t: &mut Tables,
@@ -132,14 +170,30 @@ fn commit_view<G: Pages>(
     requires fits { Fits t.old (G.contents g.old) (G.store g.old) }
     requires kind { (G.store g.old).kind ≡ line_kind.Call }
     requires lives { is_some (process_of t.old pid.0) ≡ true }
-    requires around { (p : ProcessOf (Unit {0})) → process_of t.old pid.0 ≡ Some p → option_map found_info (region_around p.regions range) ≡ Some (record { pages = pages; kind = kind.View view }) }
+    requires around { (p : ProcessOf (Unit {0})) → process_of t.old pid.0 ≡ Some p →
+        option_map found_info (region_around p.regions range) ≡ Some (record {
+          pages = pages;
+          kind = kind.View view;
+        }) }
     requires prot { is_protection_among private_protections prot ≡ true }
-    ensures ok { IfOk result (λ a. (p : ProcessOf (Unit {0})) → process_of t.old pid.0 ≡ Some p → commit_pages blank t.old pid.0 p range prot ≡ record { answer = a; world = t.new }) }
-    ensures enough { min (charge t.old + range.count) (limit t.old) ≤ (G.store g.old).room → IsOk result }
+    ensures ok { IfOk result (λ a. (p : ProcessOf (Unit {0})) → process_of t.old pid.0 ≡ Some p →
+        commit_pages blank t.old pid.0 p range prot ≡ record {
+          answer = a;
+          world = t.new;
+        }) }
+    ensures enough { min (charge t.old + range.count) (limit t.old) ≤ (G.store g.old).room →
+        IsOk result }
+    ensures charges { OnErr result ((p : ProcessOf (Unit {0})) → process_of t.old pid.0 ≡ Some p
+        → charge t.old < charge (commit_pages blank t.old pid.0 p range prot).world) }
     ensures err { OnErr result ((t.new ≡ t.old) × (G.contents g.new ≡ G.contents g.old)) }
-    ensures settled { Settled t.new (G.contents g.old) (G.contents g.new) (G.store g.old) (G.store g.new) }
-    ensures passes { PassesIn G.unpaged (Turns Makes) (G.store g.old) (G.store g.new) (G.behind g.old) (G.behind g.new) }
-    ensures idle { OnErr result ((turn : Turn) → PassesIn G.unpaged (Turns turn) (G.store g.old) (G.store g.new) (G.behind g.old) (G.behind g.new)) }
+    ensures settled { Settled t.new (G.contents g.old) (G.contents g.new) (G.store g.old)
+        (G.store g.new) }
+    ensures passes { PassesIn G.unpaged (Turns Makes) (G.store g.old) (G.store g.new)
+        (G.behind g.old) (G.behind g.new) }
+    ensures idle { OnErr result
+        ((turn : Turn) →
+        PassesIn G.unpaged (Turns turn) (G.store g.old) (G.store g.new) (G.behind g.old)
+        (G.behind g.new)) }
     ensures loans { G.loans g.new ≡ G.loans g.old }
 {
     t.sound();

@@ -37,7 +37,8 @@ fn is_protection(prot: u32) -> bool
         && prot != GUARDED_NO_ACCESS
 }
 
-/// Whether an `alloc` of this type makes a watched region: MEM_WRITE_WATCH together with MEM_RESERVE.
+/// Whether an `alloc` of this type makes a watched region: MEM_WRITE_WATCH together with
+/// MEM_RESERVE.
 pub(crate) fn is_watched_type(kind: u32) -> bool
     ensures { result ≡ is_watched_type kind }
 {

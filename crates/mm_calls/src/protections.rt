@@ -6,11 +6,12 @@ ghost use Rattle.mm_world.specs.Find.{Found, process_of, region_around};
 ghost use Rattle.mm_world.specs.Rows.{is_protection_among, all_protections, is_committed_at, every_page};
 ghost use Rattle.mm_pages.specs.Housekeeping.{Turn, Turns};
 ghost use Rattle.mm_pages.specs.Passing.{PassesIn};
+ghost use Rattle.mm_spaces.specs.Asked.{IsAsked};
 ghost use Rattle.mm_tables.specs.Fits.{Fits, Settled, new_marks};
 ghost use Rattle.mm_calls.specs.Marking.{protect_pages};
 
 use mm_pages::Pages;
-use mm_spaces::{AddressSpace, PageRange};
+use mm_spaces::{AddressSpace, PageRange, ProtectInfo};
 use mm_tables::Tables;
 use mm_types::{Answer, Code, Kind, NoMemory, Pid, Prot};
 
@@ -32,49 +33,53 @@ pub(crate) fn protect_range<G: Pages>(
     ensures err { OnErr result ((t.new ≡ t.old) × (G.contents g.new ≡ G.contents g.old)) }
     ensures marks { OnErr result ((p : ProcessOf (Unit {0})) → process_of t.old pid.0 ≡ Some p
         → charge t.old < charge (protect_pages t.old pid.0 p range prot).world) }
-    ensures settled { Settled t.new (G.contents g.old) (G.contents g.new) (G.store g.old) (G.store g.new) }
-    ensures passes { (turn : Turn) → PassesIn G.unpaged (Turns turn) (G.store g.old) (G.store g.new) (G.behind g.old) (G.behind g.new) }
+    ensures settled { Settled t.new (G.contents g.old) (G.contents g.new) (G.store g.old)
+        (G.store g.new) }
+    ensures passes { (turn : Turn) →
+        PassesIn G.unpaged (Turns turn) (G.store g.old) (G.store g.new) (G.behind g.old)
+        (G.behind g.new) }
     ensures loans { G.loans g.new ≡ G.loans g.old }
 {
     t.sound();
     let space = t.space(pid);
-    let region = match space.region_around(range) {
-        Some(region) => region,
+    let asked = match space.protect_info(range, prot) {
+        Some(asked) => asked,
         None => return Ok(Answer::Error(Code::InvalidAddress)),
     };
-    if !are_committed(t, pid, range, region.kind) {
+    if !are_committed(t, pid, range, asked) {
         return Ok(Answer::Error(Code::InvalidAddress));
     }
-    if !space.accepts(range, prot) {
+    if !asked.accepted {
         return Ok(Answer::Error(Code::InvalidParameter));
     }
-    let n = marks(space, range, region.kind, prot);
+    let n = marks(space, range, asked.kind, prot);
     if !t.can_charge(n) {
         return Ok(Answer::Error(Code::CommitmentLimit));
     }
-    let before = space.protection_at(range);
     t.protect(g, pid, range, prot, n)?;
-    Ok(Answer::OldProt(before))
+    Ok(Answer::OldProt(asked.before))
 }
 
-/// Whether all pages of a range are committed; the region around them is of this kind.
-fn are_committed(t: &Tables, pid: Pid, range: PageRange, kind: Kind) -> bool
+/// Whether all pages of a range are committed, of which this was asked.
+fn are_committed(t: &Tables, pid: Pid, range: PageRange, asked: ProtectInfo) -> bool
     requires lives { is_some (process_of t.now pid.0) ≡ true }
-    requires around { (p : ProcessOf (Unit {0})) → process_of t.now pid.0 ≡ Some p → option_map (λ r. r.thing.kind) (region_around p.regions range) ≡ Some kind }
-    ensures { (p : ProcessOf (Unit {0})) (r : Found (RegionOf (Unit {0}))) → process_of t.now pid.0 ≡ Some p → region_around p.regions range ≡ Some r
+    requires asked { (p : ProcessOf (Unit {0})) → process_of t.now pid.0 ≡ Some p →
+        IsAsked p.regions range asked }
+    ensures { (p : ProcessOf (Unit {0})) (r : Found (RegionOf (Unit {0}))) →
+        process_of t.now pid.0 ≡ Some p → region_around p.regions range ≡ Some r
         → result ≡ every_page (is_committed_at t.now r.thing) range }
 {
     t.sound();
-    let space = t.space(pid);
-    match kind {
-        Kind::Private => space.are_owned(range),
-        Kind::View(view) => space.are_committed(range, t.area(view.area)),
+    match asked.kind {
+        Kind::Private => asked.owned,
+        Kind::View(view) => t.space(pid).are_committed(range, t.area(view.area)),
     }
 }
 
 /// How many pages of a range, which lies in one region, the protection marks.
 fn marks(space: &AddressSpace, range: PageRange, kind: Kind, prot: u32) -> u32
-    requires around { option_map (λ r. r.thing.kind) (region_around space.now.regions range) ≡ Some kind }
+    requires around { option_map (λ r. r.thing.kind) (region_around space.now.regions range) ≡
+        Some kind }
     ensures { result ≡ new_marks space.now.regions range prot }
 {
     match kind {

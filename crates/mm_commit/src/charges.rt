@@ -3,7 +3,8 @@ ghost use Rattle.mm_commit.specs.Charge.{CommitOf};
 
 use std::marker::Model;
 
-/// A charge that would pass the commit limit (ERROR_COMMITMENT_LIMIT): the charge and the limit that stand.
+/// A charge that would pass the commit limit (ERROR_COMMITMENT_LIMIT): the charge and the limit
+/// that stand.
 #[derive(Clone, Copy, PartialEq, Eq, Debug)]
 pub struct OverLimit {
     /// Pages charged, as before the call.
@@ -12,7 +13,8 @@ pub struct OverLimit {
     pub limit: u32,
 }
 
-/// The commit charge of a machine, in pages, and its commit limit. The charge is never above the limit.
+/// The commit charge of a machine, in pages, and its commit limit. The charge is never above the
+/// limit.
 #[derive(Drop)]
 pub struct Commit {
     charge: u32,
@@ -37,12 +39,16 @@ impl Commit {
         Commit { charge: 0, limit }
     }
 
-    /// Charges `n` pages. `OverLimit` comes exactly where the charge would pass the limit; then nothing is charged.
+    /// Charges `n` pages. `OverLimit` comes exactly where the charge would pass the limit; then
+    /// nothing is charged.
     pub fn charge(&mut self, n: u32) -> Result<(), OverLimit>
         ensures over { IsErr result ↔ (self.old.limit < self.old.charge + n) }
         ensures ok { OnOk result (self.new ≡ record self.old { charge = self.old.charge + n }) }
         ensures unchanged { OnErr result (self.new ≡ self.old) }
-        ensures numbers { IfErr result (λ e. e ≡ record { charge = self.old.charge; limit = self.old.limit }) }
+        ensures numbers { IfErr result (λ e. e ≡ record {
+          charge = self.old.charge;
+          limit = self.old.limit;
+        }) }
         ensures bound { self.new.charge ≤ self.new.limit }
     {
         // Both numbers can be as great as a u32 holds, so their sum is compared in 64 bits.

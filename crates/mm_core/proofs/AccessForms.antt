@@ -18,7 +18,7 @@ use Rattle.mm_world.specs.Access.{Attempt}
 use Rattle.mm_world.specs.Failure.{Need, same_key}
 use Rattle.mm_world.specs.Report.{Report}
 use Rattle.mm_world.specs.Step.{need_at}
-use Rattle.mm_walks.specs.Walks.{walked_all, waits_through, ages_through, is_read_move, is_wrote_move, takes_frame}
+use Rattle.mm_life.specs.Walks.{walked_all, waits_through, ages_through, is_read_move, is_wrote_move, takes_frame}
 use Rattle.mm_pages.specs.Store.{StoreOf, changed, same_place}
 use Rattle.mm_pages.specs.Behind.{Behind}
 use Rattle.mm_pages.specs.Conditions.{place_at}

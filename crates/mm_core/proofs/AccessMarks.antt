@@ -10,7 +10,7 @@ use Rattle.mm_life.specs.Replay.{Replays}
 use Rattle.mm_world.specs.World.{World}
 use Rattle.mm_world.specs.Report.{Report}
 use Rattle.mm_blocks.specs.Devices.{KeepsOthers}
-use Rattle.mm_walks.specs.Walks.{Walk, Through, walked}
+use Rattle.mm_life.specs.Walks.{Walk, Through, walked}
 use Rattle.mm_pages.specs.Store.{StoreOf}
 use Rattle.mm_pages.specs.Behind.{Behind}
 use Rattle.mm_pages.specs.Told.{told_of, told_through, paging_traffic, file_traffic}

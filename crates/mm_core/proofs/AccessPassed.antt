@@ -14,7 +14,7 @@ use Rattle.mm_world.specs.Contents.{Tables, world_with, process_with}
 use Rattle.mm_world.specs.Find.{process_of}
 use Rattle.mm_world.specs.Report.{Report}
 use Rattle.mm_world.specs.Step.{need_at}
-use Rattle.mm_walks.specs.Waits.{Waiting}
+use Rattle.mm_life.specs.Waits.{Waiting}
 use Rattle.mm_life.specs.Life.{FrameLife}
 use Rattle.mm_pages.specs.Store.{StoreOf}
 use Rattle.mm_pages.specs.Behind.{Behind}

@@ -18,8 +18,8 @@ use Rattle.mm_life.specs.Replay.{Replays}
 use Rattle.mm_pages.specs.Store.{changed}
 use Rattle.mm_pages.specs.Behind.{Behind}
 use Rattle.mm_pages.specs.Accesses.{Aim, AccessMove, ReadyMoves, Goes, ByCopy, FromFull, InShortage, walk_from}
-use Rattle.mm_walks.specs.Waits.{Waiting, Idle, ended_by, waits_after}
-use Rattle.mm_walks.specs.Walks.{Walk, walked, walked_all, Through, waits_through, ages_through, tried_after, is_read_move, is_wrote_move}
+use Rattle.mm_life.specs.Waits.{Waiting, Idle, ended_by, waits_after}
+use Rattle.mm_life.specs.Walks.{Walk, walked, walked_all, Through, waits_through, ages_through, tried_after, is_read_move, is_wrote_move}
 
 -- ---- counts
 

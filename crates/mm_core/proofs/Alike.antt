@@ -1,6 +1,6 @@
 -- What the frames' half asks of a world with bytes is what its tables tell.
-use Rattle.std.proofs.Common.{◌≡◌, ℕ, ◌+◌, ◌-◌, Option, Some, None, List, [], refl, sym, ◌∙◌, ap, cond, is_some, not, ◌&&◌, map, slice_get, option_map, unwrap_or}
-use Rattle.std.specs.Prelude.{option_and_then, ◌==◌}
+use Rattle.std.proofs.Common.{◌≡◌, ℕ, ◌+◌, ◌-◌, Option, Some, None, List, [], ◌∷◌, refl, sym, ◌∙◌, ap, cond, is_some, not, ◌&&◌, map, slice_get, option_map, unwrap_or}
+use Rattle.std.specs.Prelude.{Bool, option_and_then, position, ◌==◌}
 use Rattle.std.proofs.Math.Path.{fun_ext}
 use Rattle.mm_types.specs.declared.moves.LineKind.{LineKind}
 use Rattle.mm_types.specs.declared.moves.LineKind.TheVariants as line_kind
@@ -20,10 +20,12 @@ use Rattle.mm_world.specs.Contents.{Tables, no_bytes, region_with_bytes, process
 use Rattle.mm_world.proofs.Across.{live_back}
 use Rattle.mm_world.proofs.Natural.{first-map, some-map}
 use Rattle.mm_world.proofs.Reconstruct.{tables_back}
+use Rattle.mm_world.specs.Sections.{is_view_of, uses}
+use Rattle.mm_pages.specs.Leaving.{page_rank, or_else, last_rank, rank_behind, handle_rank, section_rank, goes_with, leaving}
 use Rattle.mm_paging.specs.Kinds.{lives, row_key, if_lives, file_block_of}
 use Rattle.mm_paging.specs.Lines.{is_uncommitted, flushed_in, flushed_keys}
 use Rattle.mm_tables.specs.Fits.{key_at, block_in, is_uncommitted as is_free}
-use Rattle.mm_views.specs.Stages.{keys_of_region, flushed_keys as keys_flushed}
+use Rattle.mm_calls.specs.Stages.{keys_of_region, flushed_keys as keys_flushed}
 use Rattle.mm_core.proofs.With.{found_with, home_with, committed_with, pages-with, get-areas, process-with, committed-with}
 
 module _ (t : Tables) (b : Key → Page) where
@@ -64,6 +66,25 @@ module _ (t : Tables) (b : Key → Page) where
 
   pub uncommitted-with : is_free t ≡ is_uncommitted w
   uncommitted-with = λ i. λ place. not (is_some (sym (row_key-with place) i))
+
+  -- ---- with what sections go
+
+  views_rank-with : (n pid k : ℕ) (rs : List (RegionOf (Unit {0}))) → last_rank (λ r. is_view_of n r.kind) (λ place r. rank_behind r) k (map (region_with_bytes b pid) rs) ≡ last_rank (λ r. is_view_of n r.kind) (λ place r. rank_behind r) k rs
+  views_rank-with n pid k [] = refl
+  views_rank-with n pid k (r ∷ rs) = λ i.
+      or_else (views_rank-with n pid (k + 1) rs i) (cond (is_view_of n r.kind) (page_rank (end_of (pages-with b pid r i)) - 1) 0)
+
+  section_rank-with : (n pid : ℕ) (o : Option (ProcessOf (Unit {0}))) → section_rank n (option_map (process_with b pid) o) ≡ section_rank n o
+  section_rank-with n pid None = refl
+  section_rank-with n pid (Some p) = ap (λ v. or_else v (handle_rank n p.handles)) (views_rank-with n pid 0 p.regions)
+
+  goes-with : (pid area : ℕ) → goes_with t pid area ≡ goes_with w pid area
+  goes-with pid area =
+      sym (ap (λ (f : ℕ → ℕ). unwrap_or (option_map f (position (uses area) t.sections)) 0)
+      (fun_ext (λ n. ap (section_rank n) (process-with b t pid) ∙ section_rank-with n pid (process_of t pid))))
+
+  pub leaving-with : (pid : ℕ) (places : Place → Bool) → leaving t pid places ≡ leaving w pid places
+  leaving-with pid places = λ i. record { places = λ p. (p.pid.0 == pid) && places p; rank = λ area. goes-with pid area i }
 
   -- ---- the keys of a flush
 
@@ -109,3 +130,7 @@ module _ (t : Tables) (b : Key → Page) where
       ap (λ o. unwrap_or (option_and_then (λ (p : ProcessOf Page). option_map (λ (r : Found (RegionOf Page)). flushed_in w addr size r.thing.kind r) (flushed_view p.regions addr size)) o) []) (process-with b t pid)
       ∙ ap (λ o. unwrap_or o []) (keys_by_process pid addr size (process_of t pid))
       )
+
+-- what a process gives up, by the world before and the world after
+pub gives-with : (t : Tables) (b : Key → Page) (pid : ℕ) (u : Tables) (d : Key → Page) → leaving t pid (is_free u) ≡ leaving (world_with t b) pid (is_uncommitted (world_with u d))
+gives-with t b pid u d = leaving-with t b pid (is_free u) ∙ ap (leaving (world_with t b) pid) (uncommitted-with u d)

@@ -10,7 +10,7 @@ use Rattle.mm_life.specs.Replay.{Replays}
 use Rattle.mm_life.proofs.Noting.{grew_then}
 use Rattle.mm_life.proofs.Replays.{replays_then, spelled-append, moves-append}
 use Rattle.mm_blocks.specs.Devices.{KeepsOthers}
-use Rattle.mm_walks.specs.Walks.{waits_through, ages_through}
+use Rattle.mm_life.specs.Walks.{waits_through, ages_through}
 use Rattle.mm_pages.specs.Store.{StoreOf}
 use Rattle.mm_pages.specs.Behind.{Behind}
 use Rattle.mm_pages.specs.Told.{told_of, told_through, paging_traffic, file_traffic}
@@ -143,7 +143,3 @@ module _ (n : ℕ) (k : LineKind) where
   pub went_alone : (u : Bool) (s z : StoreOf) (b c : Behind) (Q : List Move → Type 0) → u ≡ false → ((log : Log) → c ≡ begun_with n k log b → Q []) → PassesIn u (OneMove at) s z b c → Went false at Q s z b c
   went_alone u s z b c Q e to p =
       went_from (λ x ms y. (ms ≡ []) × (y ≡ x)) s z b c Q (λ log ms h. subst Q (sym h.0) (to log h.1)) (alone s z b c (paged u (OneMove at) s z b c e p))
-
--- what is told of the moves behind the first is weakened
-pub went_to : (beside : Bool) (x : Move) (P Q : List Move → Type 0) (s z : StoreOf) (b c : Behind) → ((ms : List Move) → P ms → Q ms) → Went beside x P s z b c → Went beside x Q s z b c
-went_to beside x P Q s z b c to p = record { moves = p.moves; in_range = p.in_range; grew = p.grew; replays = p.replays; that = to p.moves p.that; told = p.told; traffic = p.traffic }

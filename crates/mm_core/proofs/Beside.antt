@@ -17,7 +17,7 @@ use Rattle.mm_pages.specs.Store.{StoreOf}
 use Rattle.mm_paging.specs.Lines.{HoldsBeside}
 use Rattle.mm_tables.specs.Fits.{beside_file, extended}
 use Rattle.mm_calls.specs.Growing.{GrowsBy}
-use Rattle.mm_views.specs.Stages.{NewFileMade}
+use Rattle.mm_calls.specs.Stages.{NewFileMade}
 use Rattle.mm_core.specs.Serving.{WritesBlocks, FileWrites, AskedBeside}
 use Rattle.mm_core.specs.Deciding.{Begins}
 use Rattle.mm_core.proofs.Begun.{paged, noted}

@@ -23,22 +23,23 @@ use Rattle.mm_world.specs.Processes.{new_process, no_regions, most_processes}
 use Rattle.mm_world.specs.Step.{kept_by, threads}
 use Rattle.mm_world.specs.Contents.{Tables, world_with}
 use Rattle.mm_world.proofs.Finding.{numbered_inside}
-use Rattle.mm_walks.specs.Waits.{Waiting, Idle}
-use Rattle.mm_walks.specs.Walks.{waits_through, ages_through}
-use Rattle.mm_walks.specs.Chores.{all_aged}
+use Rattle.mm_life.specs.Waits.{Waiting, Idle}
+use Rattle.mm_life.specs.Walks.{waits_through, ages_through}
+use Rattle.mm_life.specs.Chores.{all_aged}
 use Rattle.mm_pages.specs.Store.{StoreOf}
 use Rattle.mm_pages.specs.Behind.{Behind}
 use Rattle.mm_pages.specs.Flushing.{Flushing}
-use Rattle.mm_pages.specs.Housekeeping.{Makes, Ends, AllTurn, Rises, pages_gone, Turned, Turns, OneMove, Trims, Ages, Flushes}
+use Rattle.mm_pages.specs.Leaving.{Leaving, leaving, page_rank}
+use Rattle.mm_pages.specs.Housekeeping.{Makes, Goes, Turned, Turns, OneMove, Trims, Ages, Flushes}
 use Rattle.mm_pages.specs.Passing.{PassesIn, Notes, NotesIn}
-use Rattle.mm_paging.specs.Kinds.{lives, if_lives, made_process, grown}
+use Rattle.mm_paging.specs.Kinds.{lives, if_lives, made_process, kind_of_growth}
 use Rattle.mm_paging.specs.Lines.{Does, GivesUp, Trimming, is_uncommitted, keeps_for, with_line}
 use Rattle.mm_tables.specs.Fits.{Called, bytes_of, is_uncommitted as is_free}
 use Rattle.mm_calls.specs.Growing.{GrowsBy}
-use Rattle.mm_views.specs.Stages.{flushed_keys as keys_flushed}
+use Rattle.mm_calls.specs.Stages.{flushed_keys as keys_flushed}
 use Rattle.mm_core.specs.Forgetting.{is_of, waited}
 use Rattle.mm_core.specs.Noting.{keeps_keys, takes_away, Each, Went, Tells, IdlesIn, idle_left, Halted}
-use Rattle.mm_core.proofs.Alike.{lives-with, kind-with, uncommitted-with, flushed-with}
+use Rattle.mm_core.proofs.Alike.{lives-with, kind-with, leaving-with, gives-with, flushed-with}
 use Rattle.mm_core.proofs.Begun.{noted, begun_with, went_then, noted_from, noted_then, went_alone}
 use Rattle.mm_core.proofs.Turned.{makes_keep, ends_take}
 use Rattle.mm_core.proofs.Marking.{Plain, marked_ends, marked_trims, marked_flushes, marked_alone, halted_none}
@@ -69,6 +70,9 @@ unasked x That s z s' z' b c h = record { moves = h.moves; in_range = h.in_range
 
 -- ---- pages that are taken away
 
+abbrev pub none : Place → Bool
+none place = false
+
 module _ (t : Tables) (old : Key → Option Page) (after : Tables) (new : Key → Option Page) (n : ℕ) (pid : Pid) (e : Event) (a : Answer) where
   abbrev w : World
   w = world_with t (bytes_of old)
@@ -79,29 +83,21 @@ module _ (t : Tables) (old : Key → Option Page) (after : Tables) (new : Key �
   abbrev now : LineKind
   now = cond (is_some (process_of t pid.0)) (kind.Unbind pid) kind.Call
 
-  pub marked_release : (u : Bool) (s m z : StoreOf) (b y c : Behind) → Plain e w a b → ((k : LineKind) (ms : List Move) → GivesUp (is_uncommitted v) (with_line (move.At n k) b).life ms → Does w e a v z.report (with_line (move.At n k) b) ms c)
-      → PassesIn u (OneMove (move.At n now)) s m b y → PassesIn u (Turns (Ends (is_free after) 0 end_of_user_pages)) m z y c → u ≡ false
+  pub marked_release : (u : Bool) (s m z : StoreOf) (b y c : Behind) → Plain e w a b → ((k : LineKind) (ms : List Move) → GivesUp w pid v (with_line (move.At n k) b).life ms → Does w e a v z.report (with_line (move.At n k) b) ms c)
+      → PassesIn u (OneMove (move.At n now)) s m b y → PassesIn u (Turns (Goes (leaving t pid.0 (is_free after)))) m z y c → u ≡ false
       → Went false (move.At n (if_lives w pid (kind.Unbind pid))) (λ ms. Tells n (if_lives w pid (kind.Unbind pid)) e w a v z.report b ms c) s z b c
   marked_release u s m z b y c plain does p q paging =
       subst (λ (k : LineKind). Went false (move.At n k) (λ ms. Tells n k e w a v z.report b ms c) s z b c) (kind-with t (bytes_of old) pid (kind.Unbind pid))
-      (marked_ends n now e w a v u s m z b y c plain (is_free after) 0 end_of_user_pages
-      (λ ms log h. does now ms (subst (λ (held : Place → Bool). GivesUp held (with_line (move.At n now) b).life ms) (uncommitted-with after (bytes_of new)) h.turned)) p q paging)
+      (marked_ends n now e w a v u s m z b y c plain (leaving t pid.0 (is_free after)) 1 (page_rank end_of_user_pages)
+      (λ ms log h. does now ms (subst (λ (held : Leaving). Turned (Goes held) (with_line (move.At n now) b).life ms) (gives-with t (bytes_of old) pid.0 after (bytes_of new)) h.turned)) p q paging)
 
--- a handle is closed: of pages of processes none goes
-none_rises : (ps : List ℕ) → Rises 0 0 ps → ps ≡ []
-none_rises [] r = refl
-none_rises (p ∷ ps) r = absurd (omega (arith, r.1))
-
-ends_any : (held : Place → Bool) (from to low high : ℕ) (ms : List Move) → AllTurn (Ends held from to) ms → AllTurn (Ends held low high) ms
-ends_any held from to low high [] a = tt
-ends_any held from to low high (move.Unmap p ∷ ms) a = (a.0, ends_any held from to low high ms a.1)
-ends_any held from to low high (move.Drop k ∷ ms) a = (refl, ends_any held from to low high ms a.1)
-ends_any held from to low high (_ ∷ ms) a = let bad = a.0 in cc
-
-pub closed : (l : FrameLife) (ms : List Move) → Turned (Ends (λ _. false) 0 0) l ms → GivesUp (λ _. false) l ms × (pages_gone ms ≡ [])
-closed l ms t =
-    let none = none_rises (pages_gone ms) t.order in
-    (record { all = ends_any (λ _. false) 0 0 0 end_of_user_pages ms t.all; order = subst (Rises 0 end_of_user_pages) (sym none) tt; lowest = t.lowest }, none)
+  -- a handle is closed: of pages of the process none goes
+  pub marked_close : (u : Bool) (s m z : StoreOf) (b y c : Behind) → Plain e w a b → ((ms : List Move) → Turned (Goes (leaving w pid.0 none)) (with_line (move.At n kind.Call) b).life ms → Does w e a v z.report (with_line (move.At n kind.Call) b) ms c)
+      → PassesIn u (OneMove (move.At n kind.Call)) s m b y → PassesIn u (Turns (Goes (leaving t pid.0 none))) m z y c → u ≡ false
+      → Went false (move.At n kind.Call) (λ ms. Tells n kind.Call e w a v z.report b ms c) s z b c
+  marked_close u s m z b y c plain does p q paging =
+      marked_ends n kind.Call e w a v u s m z b y c plain (leaving t pid.0 none) 1 (page_rank end_of_user_pages)
+      (λ ms log h. does ms (subst (λ (held : Leaving). Turned (Goes held) (with_line (move.At n kind.Call) b).life ms) (leaving-with t (bytes_of old) pid.0 none) h.turned)) p q paging
 
 -- ---- a process
 
@@ -218,11 +214,11 @@ module _ (n count : ℕ) (w v : World) (s z : StoreOf) (b c : Behind) where
       })
       (record { moves = p.moves; in_range = p.in_range; grew = p.grew; replays = p.replays; that = record { rest = []; is = e; log = c.log; that = refl } })
 
-  grew_by : (E : Type 0) (a : Answer) → Notes (GrowsBy {E = E} n count (Ok a)) b c → Extends a (grown a count)
+  grew_by : (E : Type 0) (a : Answer) → Notes (GrowsBy {E = E} n count (Ok a)) b c → Extends a (kind_of_growth a count)
   grew_by E (answer.Limit limit) p = alone_as (kind.Grow count) (answer.Limit limit) (GrowsBy {E = E} n count (Ok (answer.Limit limit))) (λ ms h. h.one) (λ ms h. h.moved.ages) (λ ms h. h.moved.waits) p
   grew_by E a p = alone_as kind.Call a (GrowsBy {E = E} n count (Ok a)) (λ ms h. h.one) (λ ms h. h.moved.ages) (λ ms h. h.moved.waits) p
 
-  pub marked_grow : {E : Type 0} (u : Bool) (r : Result Answer E) → NotesIn u (GrowsBy n count r) b c → IfOk r (λ a. u ≡ false → Extends a (grown a count))
+  pub marked_grow : {E : Type 0} (u : Bool) (r : Result Answer E) → NotesIn u (GrowsBy n count r) b c → IfOk r (λ a. u ≡ false → Extends a (kind_of_growth a count))
   marked_grow {E} u (Ok a) p = λ paging. grew_by E a (noted u (GrowsBy {E = E} n count (Ok a)) b c paging p)
   marked_grow u (Err e) p = tt
 
@@ -281,16 +277,16 @@ module _ (t : Tables) (old mid : Key → Option Page) (after : Tables) (new : Ke
   first = cond (is_some (process_of t pid.0)) (kind.Unbind pid) kind.Call
 
   abbrev Ended : Behind → List Move → Type 0
-  Ended d ms = (log : Log) × Turns (Ends (is_free after) 0 end_of_user_pages) (begun_with n first log d) ms c
+  Ended d ms = (log : Log) × Turns (Goes (leaving t pid.0 (is_free after))) (begun_with n first log d) ms c
 
   exit_tells : (ws : ℕ → Waiting) → ((tid : ℕ) → ws tid ≡ idle_left t pid.0 threads b.waits tid) → (ms : List Move) → Ended (record b { waits = ws }) ms → Tells n first e exits a exited z.report b ms c
   exit_tells ws idle ms (log, h) = record {
-    one_way = inr (ends_take (is_free after) 0 end_of_user_pages ms h.turned.all);
-    does = subst (λ (held : Place → Bool). GivesUp held (with_line (move.At n first) b).life ms) (uncommitted-with after (bytes_of new)) h.turned;
+    one_way = inr (ends_take (leaving t pid.0 (is_free after)) 1 (page_rank end_of_user_pages) ms h.turned.all);
+    does = subst (λ (held : Leaving). Turned (Goes held) (with_line (move.At n first) b).life ms) (gives-with t (bytes_of old) pid.0 after (bytes_of new)) h.turned;
     ages = h.moved.ages;
     waits =
-        h.moved.waits ∙ away_waits ms ws (ends_take (is_free after) 0 end_of_user_pages ms h.turned.all)
-        ∙ (λ i. λ tid. (idle tid ∙ (λ j. cond ((below pid.0 t tid count ∙ same_holder pid (kept_by t tid)) j) Idle (b.waits tid)) ∙ (λ j. cond (keeps_for (kept_by t tid) pid) Idle (sym (away_waits ms b.waits (ends_take (is_free after) 0 end_of_user_pages ms h.turned.all)) j tid))) i);
+        h.moved.waits ∙ away_waits ms ws (ends_take (leaving t pid.0 (is_free after)) 1 (page_rank end_of_user_pages) ms h.turned.all)
+        ∙ (λ i. λ tid. (idle tid ∙ (λ j. cond ((below pid.0 t tid count ∙ same_holder pid (kept_by t tid)) j) Idle (b.waits tid)) ∙ (λ j. cond (keeps_for (kept_by t tid) pid) Idle (sym (away_waits ms b.waits (ends_take (leaving t pid.0 (is_free after)) 1 (page_rank end_of_user_pages) ms h.turned.all)) j tid))) i);
   }
 
   moved_back : (ws : ℕ → Waiting) → ((tid : ℕ) → ws tid ≡ idle_left t pid.0 threads b.waits tid) → Went false (move.At n first) (Ended (record b { waits = ws })) (waited s x) z (record b { waits = ws }) c → Went false (move.At n first) (λ ms. Tells n first e exits a exited z.report b ms c) s z b c
@@ -313,11 +309,11 @@ module _ (t : Tables) (old mid : Key → Option Page) (after : Tables) (new : Ke
     };
   }
 
-  pub marked_exit : IdlesIn u t pid.0 threads b d → x ≡ waited s x → PassesIn u (OneMove (move.At n first)) x m d y → PassesIn u (Turns (Ends (is_free after) 0 end_of_user_pages)) m z y c → u ≡ false
+  pub marked_exit : IdlesIn u t pid.0 threads b d → x ≡ waited s x → PassesIn u (OneMove (move.At n first)) x m d y → PassesIn u (Turns (Goes (leaving t pid.0 (is_free after)))) m z y c → u ≡ false
       → Went false (move.At n (if_lives exits pid (kind.Unbind pid))) (λ ms. Tells n (if_lives exits pid (kind.Unbind pid)) e exits a exited z.report b ms c) s z b c
   marked_exit idles rest p q paging =
       let h = idles paging in
-      let went = went_then n first (Turns (Ends (is_free after) 0 end_of_user_pages)) u x m z d y c (Ended d) paging (λ log ms k. (log, k)) p q in
+      let went = went_then n first (Turns (Goes (leaving t pid.0 (is_free after)))) u x m z d y c (Ended d) paging (λ log ms k. (log, k)) p q in
       subst (λ (k : LineKind). Went false (move.At n k) (λ ms. Tells n k e exits a exited z.report b ms c) s z b c) (kind-with t (bytes_of old) pid (kind.Unbind pid))
       (moved_back d.waits h.waits
       (subst (λ (o : StoreOf). Went false (move.At n first) (Ended (record b { waits = d.waits })) o z (record b { waits = d.waits }) c) rest

@@ -14,7 +14,7 @@ use Rattle.mm_world.specs.World.{Page}
 use Rattle.mm_world.specs.Step.{kept_by, threads}
 use Rattle.mm_world.specs.Contents.{Tables}
 use Rattle.mm_world.proofs.Finding.{numbered_inside}
-use Rattle.mm_walks.specs.Waits.{Idle}
+use Rattle.mm_life.specs.Waits.{Idle}
 use Rattle.mm_pages.specs.Store.{StoreOf, changed}
 use Rattle.mm_pages.specs.Behind.{Behind}
 use Rattle.mm_pages.specs.Accesses.{Forgets}

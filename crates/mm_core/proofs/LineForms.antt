@@ -23,9 +23,9 @@ use Rattle.mm_world.specs.Access.{Attempt}
 use Rattle.mm_world.specs.Failure.{Need}
 use Rattle.mm_world.specs.Report.{Report, BeingRead}
 use Rattle.mm_world.specs.Step.{need_at}
-use Rattle.mm_walks.specs.Searches.{is_valid, Starved}
-use Rattle.mm_walks.specs.Waits.{Waiting, Idle}
-use Rattle.mm_walks.specs.Walks.{Walk, walked_all, waits_through, ages_through}
+use Rattle.mm_life.specs.Searches.{is_valid, Starved}
+use Rattle.mm_life.specs.Waits.{Waiting, Idle}
+use Rattle.mm_life.specs.Walks.{Walk, walked_all, waits_through, ages_through}
 use Rattle.mm_pages.specs.Store.{StoreOf, changed, same_place}
 use Rattle.mm_pages.specs.Behind.{Behind}
 use Rattle.mm_pages.specs.Conditions.{place_at}

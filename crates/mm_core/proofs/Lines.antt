@@ -11,11 +11,9 @@ use Rattle.mm_pages.specs.Conditions.{pid_after}
 use Rattle.mm_world.specs.World.{Page, World, filled}
 use Rattle.mm_world.specs.Keys.{content_of}
 use Rattle.mm_world.specs.Outcome.{OutcomeOf, done}
-use Rattle.mm_world.specs.Laws.{LineLeaves}
 use Rattle.mm_world.specs.Report.{Report}
 use Rattle.mm_world.specs.Step.{step, stepped, unpaged, told, when, world_told}
 use Rattle.mm_world.specs.Contents.{Tables, BytesAfter, AcrossBytes, world_with}
-use Rattle.mm_world.proofs.LineLeaves.{in_step}
 use Rattle.mm_world.proofs.Tables.{Holds}
 use Rattle.mm_pages.specs.Store.{StoreOf}
 use Rattle.mm_pages.specs.Reports.{Served, SomeFailed, begun}
@@ -187,6 +185,3 @@ pub never-fails : {T E : Type 0} (u : Bool) (r : Result T E) (x : E) → r ≡ E
 never-fails u r x is fine e = not-ok r x is (fine e)
 
 -- ---- what an answer other than `ok` leaves
-
-pub step-leaves : (u : Bool) (w : World) (e : Event) (before later : Report) (a : Answer) (v : World) → Stepped u w e before later a v → LineLeaves w e (done a v)
-step-leaves u w e before later a v h = subst (λ (o : OutcomeOf Page). LineLeaves w e o) h.decided (in_step w e before later)

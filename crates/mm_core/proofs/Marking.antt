@@ -21,14 +21,15 @@ use Rattle.mm_life.specs.Effect.{after_move}
 use Rattle.mm_life.specs.Logs.{Log}
 use Rattle.mm_life.specs.Victims.{can_be_written}
 use Rattle.mm_world.specs.World.{World}
-use Rattle.mm_walks.specs.Waits.{Waiting}
-use Rattle.mm_walks.specs.Walks.{Walk, Through, walked, waits_through, ages_through}
-use Rattle.mm_walks.specs.Chores.{TrimMove, frame_of, clearings, writes_begun, target, ending}
+use Rattle.mm_life.specs.Waits.{Waiting}
+use Rattle.mm_life.specs.Walks.{Walk, Through, walked, waits_through, ages_through}
+use Rattle.mm_life.specs.Chores.{TrimMove, frame_of, clearings, writes_begun, target, ending}
 use Rattle.mm_pages.specs.Flushing.{IsEndOf, IsWriteOf, IsWrittenNow, IsWrittenIf, IsEndedFirst, FlushesBy, FlushedAt, ends_lost, life_through, Flushing}
 use Rattle.mm_pages.specs.Store.{StoreOf}
 use Rattle.mm_pages.specs.Behind.{Behind}
 use Rattle.mm_pages.specs.Housekeeping.{Turn, Makes, Ends, AllTurn, Turned, Turns, OneMove, NoMove, Exactly, Trims, Completes, Flushes}
 use Rattle.mm_pages.specs.Passing.{Passes, PassesIn, Notes, NotesIn}
+use Rattle.mm_pages.specs.Leaving.{Leaving, nothing}
 use Rattle.mm_paging.specs.Lines.{Does, with_line, ages_of_line, waits_of_line}
 use Rattle.mm_core.specs.Noting.{keeps_keys, Each, IsOneWay, Went, Tells, is_later, Halted}
 use Rattle.mm_core.proofs.Begun.{paged, begun_with, went_then, noted_then, went_alone}
@@ -171,7 +172,7 @@ module _ (n : ℕ) (k : LineKind) (e : Event) (w : World) (a : Answer) (v : Worl
     marked_makes done p q = marked_turn Makes (λ ms a. a) done p q
 
     -- pages and keys go
-    pub marked_ends : (held : Place → Bool) (from to : ℕ) → ((ms : List Move) (log : Log) → Turns (Ends held from to) (begun_with n k log b) ms c → Done ms) → PassesIn u (OneMove at) s m b y → PassesIn u (Turns (Ends held from to)) m z y c → Noted
+    pub marked_ends : (held : Leaving) (from to : ℕ) → ((ms : List Move) (log : Log) → Turns (Ends held from to) (begun_with n k log b) ms c → Done ms) → PassesIn u (OneMove at) s m b y → PassesIn u (Turns (Ends held from to)) m z y c → Noted
     marked_ends held from to done p q paging =
         went_then n k (Turns (Ends held from to)) u s m z b y c There paging
         (λ log ms h. tells ms (inr (ends_take held from to ms h.turned.all)) (done ms log h) h.moved.ages h.moved.waits) p q
@@ -181,7 +182,7 @@ module _ (n : ℕ) (k : LineKind) (e : Event) (w : World) (a : Answer) (v : Worl
     marked_still done p q paging =
         went_then n k (Exactly []) u s m z b y c There paging
         (λ log ms h. tells ms (inl (none_keep ms h.are)) (done ms h.are) h.moved.ages h.moved.waits) p
-        (passed u paging (still m z y c (paged u (Turns Makes) m z y c paging (q Makes)) (paged u (Turns (Ends (λ _. false) 0 0)) m z y c paging (q (Ends (λ _. false) 0 0)))))
+        (passed u paging (still m z y c (paged u (Turns Makes) m z y c paging (q Makes)) (paged u (Turns (Ends nothing 0 0)) m z y c paging (q (Ends nothing 0 0)))))
       where
         passed : (u : Bool) → u ≡ false → Passes (Exactly []) m z y c → PassesIn u (Exactly []) m z y c
         passed true e h = cc

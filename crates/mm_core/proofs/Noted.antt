@@ -1,6 +1,6 @@
 -- What a line noted, beside what its store keeps at all times, is what is told of a line's moves.
 use Rattle.std.proofs.Common.{◌≡◌, ℕ, ◌+◌, List, [], ◌∷◌, Bool, true, false, Option, Some, None, refl, sym, ap, ◌∙◌, subst, cond, is_some, not, inl, inr}
-use Rattle.std.specs.Prelude.{◌⊎◌, Result, Ok, Err, OnErr}
+use Rattle.std.specs.Prelude.{◌⊎◌}
 use Rattle.mm_types.specs.declared.answers.Answer.{Answer}
 use Rattle.mm_types.specs.declared.answers.Answer.TheVariants as answer
 use Rattle.mm_types.specs.declared.events.Event.{Event}
@@ -22,7 +22,7 @@ use Rattle.mm_types.proofs.Booleans.{parts}
 use Rattle.mm_pages.specs.Store.{StoreOf}
 use Rattle.mm_pages.specs.Behind.{Behind}
 use Rattle.mm_pages.specs.Standing.{Stands, StandsIn}
-use Rattle.mm_paging.specs.Kinds.{kind_of_line, made_process, grown, kept_kind, lives}
+use Rattle.mm_paging.specs.Kinds.{kind_of_line, made_process, kind_of_growth, kept_kind, lives}
 use Rattle.mm_paging.specs.Lines.{Agrees, TurnsKeys, HoldsBeside, Noted, Broken}
 use Rattle.mm_tables.specs.Fits.{Fits, bytes_of, is_paging}
 use Rattle.mm_core.specs.Deciding.{Keeps}
@@ -70,7 +70,7 @@ process_later : (a : Answer) (min max : ℕ) → is_later (made_process a min ma
 process_later (answer.NewProcess pid) min max = refl
 process_later _ min max = refl
 
-grown_later : (a : Answer) (n : ℕ) → is_later (grown a n) ≡ true
+grown_later : (a : Answer) (n : ℕ) → is_later (kind_of_growth a n) ≡ true
 grown_later (answer.Limit limit) n = refl
 grown_later _ n = refl
 
@@ -201,8 +201,3 @@ module _ (old new : Key → Option Page) (s z : StoreOf) (b c : Behind) (same : 
 
 pub line-broken : (u : Bool) (n : ℕ) (old new : Key → Option Page) (s z : StoreOf) (b c : Behind) → u ≡ false → n ≡ s.line + 1 → new ≡ old → StandsIn u old s b → StandsIn u new z c → HaltedIn u n b c → Broken b c
 line-broken u n old new s z b c paging next same h h' m = broken_by old new s z b c same (stands u old s b paging h) (stands u new z c paging h') n next (m paging)
-
--- of both that hold where memory ran out
-pub if-errs : {T E : Type 0} {P Q R : Type 0} (r : Result T E) → OnErr r P → OnErr r Q → (P → Q → R) → OnErr r R
-if-errs (Ok x) p q f = tt
-if-errs (Err e) p q f = f p q

@@ -1,14 +1,13 @@
 -- What a line did to the devices, from the calls that its store made.
-use Rattle.std.proofs.Common.{◌≡◌, ◌≤◌, ◌⊎◌, inl, inr, ℕ, Bool, List, [], ◌∷◌, ◌++◌, refl, sym, ◌∙◌, ap, subst, arith, length}
+use Rattle.std.proofs.Common.{◌≡◌, ◌≤◌, ◌⊎◌, inl, inr, ℕ, Bool, List, [], ◌∷◌, ◌++◌, sym, ◌∙◌, ap, subst, arith, length}
 use Rattle.std.proofs.lemmas.List.{length-map}
 use Rattle.mm_types.specs.declared.answers.Answer.{Answer}
-use Rattle.mm_types.specs.declared.devices.Direction.{Direction}
 use Rattle.mm_types.specs.declared.devices.Direction.TheVariants as way
 use Rattle.mm_types.specs.declared.events.Event.{Event}
 use Rattle.mm_blocks.specs.Traffic.{one_further}
-use Rattle.mm_world.specs.Report.{Report, Tally}
+use Rattle.mm_world.specs.Report.{Report}
 use Rattle.mm_blocks.specs.Devices.{DeviceOf, Call, AllServed}
-use Rattle.mm_pages.specs.Tallies.{with_call, tallied}
+use Rattle.mm_pages.specs.Tallies.{tallied}
 use Rattle.mm_pages.specs.Store.{StoreOf}
 use Rattle.mm_pages.specs.Reports.{Served, SomeFailed, rearranged}
 use Rattle.mm_tables.specs.Fits.{beside}
@@ -16,14 +15,6 @@ use Rattle.mm_core.specs.Serving.{IsFailure, FailedBefore, Named, OneFailed}
 use Rattle.mm_core.specs.Deciding.{Begins, Devices}
 
 -- ---- calls behind calls
-
-all-then : (a b : List Call) (x y z : DeviceOf) → AllServed a x y → AllServed b y z → AllServed (a ++ b) x z
-all-then [] b x y z h k = subst (λ (y : DeviceOf). AllServed b y z) h k
-all-then (c ∷ cs) b x y z h k = (h.0, (h.1.0, all-then cs b h.0 y z h.1.1 k))
-
-tallied-then : (way : Direction) (a b : List Call) (t : Tally) → tallied way (a ++ b) t ≡ tallied way b (tallied way a t)
-tallied-then way [] b t = refl
-tallied-then way (c ∷ cs) b t = tallied-then way cs b (with_call way c t)
 
 pub all-later : (cs : List Call) (x y : DeviceOf) → AllServed cs x y → x.faults ≤ y.faults
 all-later [] x y h = omega (arith, ap (λ (d : DeviceOf). d.faults) h)

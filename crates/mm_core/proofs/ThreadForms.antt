@@ -14,8 +14,8 @@ use Rattle.mm_life.specs.Legal.{is_thread}
 use Rattle.mm_life.specs.Replay.{Replays}
 use Rattle.mm_world.specs.World.{Page}
 use Rattle.mm_world.specs.Report.{Report, BeingRead}
-use Rattle.mm_walks.specs.Waits.{Waiting, Idle}
-use Rattle.mm_walks.specs.Walks.{Walk, walked_all, Through, waits_through, ages_through, is_read_move, is_wrote_move, takes_frame}
+use Rattle.mm_life.specs.Waits.{Waiting, Idle}
+use Rattle.mm_life.specs.Walks.{Walk, walked_all, Through, waits_through, ages_through, is_read_move, is_wrote_move, takes_frame}
 use Rattle.mm_pages.specs.Store.{StoreOf, changed}
 use Rattle.mm_pages.specs.Behind.{Behind}
 use Rattle.mm_pages.specs.Passing.{PassesIn}

@@ -22,7 +22,7 @@ use Rattle.mm_world.specs.Contents.{Tables, world_with}
 use Rattle.mm_world.specs.Find.{process_of}
 use Rattle.mm_world.specs.Report.{Report}
 use Rattle.mm_world.specs.Step.{need_at, kept_by}
-use Rattle.mm_walks.specs.Waits.{Waiting, Idle}
+use Rattle.mm_life.specs.Waits.{Waiting, Idle}
 use Rattle.mm_pages.specs.Store.{StoreOf, changed}
 use Rattle.mm_pages.specs.Behind.{Behind}
 use Rattle.mm_pages.specs.Accesses.{Aim, Forgets}

@@ -24,6 +24,7 @@ use Rattle.mm_world.specs.Keys.{content_of}
 use Rattle.mm_pages.specs.Behind.{Behind}
 use Rattle.mm_pages.specs.Store.{StoreOf}
 use Rattle.mm_pages.specs.Housekeeping.{Makes, MakesStack, Ends, AllTurn, Turns, Exactly}
+use Rattle.mm_pages.specs.Leaving.{Leaving, nothing}
 use Rattle.mm_pages.specs.Passing.{Passes}
 use Rattle.mm_paging.specs.Lines.{TurnsOne, TurnsKeys}
 use Rattle.mm_core.specs.Noting.{keeps_keys, takes_away, Each}
@@ -204,7 +205,7 @@ pub stack_makes : (guard : ℕ) (ms : List Move) → AllTurn (MakesStack guard) 
 stack_makes guard [] a = tt
 stack_makes guard (m ∷ ms) a = (a.0, stack_makes guard ms a.1)
 
-pub ends_take : (held : Place → Bool) (from to : ℕ) (ms : List Move) → AllTurn (Ends held from to) ms → Each takes_away ms
+pub ends_take : (held : Leaving) (from to : ℕ) (ms : List Move) → AllTurn (Ends held from to) ms → Each takes_away ms
 ends_take held from to [] a = tt
 ends_take held from to (move.Unmap p ∷ ms) a = (refl, ends_take held from to ms a.1)
 ends_take held from to (move.Drop k ∷ ms) a = (refl, ends_take held from to ms a.1)
@@ -224,7 +225,7 @@ same_bool true b f g = f refl
 same_bool false b f g = g refl
 
 -- a call of which each turn is told made no move
-pub still : (s z : StoreOf) (b c : Behind) → Passes (Turns Makes) s z b c → Passes (Turns (Ends (λ _. false) 0 0)) s z b c → Passes (Exactly []) s z b c
+pub still : (s z : StoreOf) (b c : Behind) → Passes (Turns Makes) s z b c → Passes (Turns (Ends nothing 0 0)) s z b c → Passes (Exactly []) s z b c
 still s z b c p q = record {
   moves = p.moves;
   in_range = p.in_range;
@@ -233,7 +234,7 @@ still s z b c p q = record {
   that = record {
     are = none_made p.moves b.life c.life p.replays p.that.turned.all (λ k. same_bool (is_live b.life k) (is_live c.life k)
         (lives_on p.moves b.life c.life p.replays (makes_keep p.moves p.that.turned.all) k)
-        (stays_dead q.moves b.life c.life q.replays (ends_take _ 0 0 q.moves q.that.turned.all) k));
+        (stays_dead q.moves b.life c.life q.replays (ends_take nothing 0 0 q.moves q.that.turned.all) k));
     moved = p.that.moved;
     slots = p.that.slots;
   };

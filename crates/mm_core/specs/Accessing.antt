@@ -22,7 +22,8 @@ use Rattle.mm_tables.specs.declared.looks.CommittedRow.{CommittedRow}
 use Rattle.mm_tables.specs.Looks.{told_row}
 
 -- an access that is refused, or that met a guard: it needs no page
-pub record Refuses (w : World) (pid addr : ℕ) (what : Attempt) (a : Answer) (v : World) : Type 0 where
+pub record Refuses (w : World) (pid addr : ℕ) (what : Attempt) (a : Answer) (v : World) :
+    Type 0 where
   pub needless : need_at w pid addr what ≡ None
   pub outcome : access w pid addr what ≡ record { answer = a; world = v }
 
@@ -44,17 +45,22 @@ pub record Marks (t : Tables) (pid page : ℕ) (told : CommittedRow) (after : Ta
   pub plain : told.watched ≡ false → after ≡ t
 
 -- a permitted access failed: a device did, and the world is as before
-pub record Lost (never_fails : Bool) (w : World) (m z : StoreOf) (a : Answer) (v : World) : Type 0 where
+pub record Lost (never_fails : Bool) (w : World) (m z : StoreOf) (a : Answer) (v : World) :
+    Type 0 where
   pub raised : a ≡ answer.Raised raise.InPageError
   pub same : v ≡ w
   pub blamed : SomeFailed m z
   pub paged : never_fails ≡ true → ⊥
 
 -- a permitted access ended, and its line's report tells whether what it needs was had
-pub record Accessed (never_fails : Bool) (w : World) (pid addr : ℕ) (what : Attempt) (m z : StoreOf) (a : Answer) (v : World) : Type 0 where
+pub record Accessed (never_fails : Bool) (w : World) (pid addr : ℕ) (what : Attempt) (m z : StoreOf)
+    (a : Answer) (v : World) : Type 0 where
   pub need : Need
   pub needs : need_at w pid addr what ≡ Some need
-  pub had : access_fails need z.report ≡ false → access w pid addr what ≡ record { answer = a; world = v }
+  pub had : access_fails need z.report ≡ false → access w pid addr what ≡ record {
+    answer = a;
+    world = v;
+  }
   pub lost : access_fails need z.report ≡ true → Lost never_fails w m z a v
   pub served : Served m z
 

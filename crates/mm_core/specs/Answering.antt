@@ -11,9 +11,9 @@ use Rattle.mm_world.specs.World.{Page}
 use Rattle.mm_world.specs.Access.{Attempt}
 use Rattle.mm_world.specs.Contents.{Tables, world_with}
 use Rattle.mm_world.specs.Report.{Report, BeingRead}
-use Rattle.mm_walks.specs.Searches.{is_valid, Starved}
-use Rattle.mm_walks.specs.Waits.{Idle}
-use Rattle.mm_walks.specs.Walks.{waits_through, ages_through, walked_all, is_read_move}
+use Rattle.mm_life.specs.Searches.{is_valid, Starved}
+use Rattle.mm_life.specs.Waits.{Idle}
+use Rattle.mm_life.specs.Walks.{waits_through, ages_through, walked_all, is_read_move}
 use Rattle.mm_pages.specs.Store.{changed}
 use Rattle.mm_pages.specs.Behind.{Behind}
 use Rattle.mm_pages.specs.Accesses.{Aim, AccessMoves, Starts, walk_from}
@@ -31,17 +31,21 @@ aim_in t contents b pid addr what = aim_at (world_with t (bytes_of contents)) b.
 
 -- ---- a plain access
 
--- an access of this aim was answered: where it was had, its place is valid and new; where it failed because no frame was found, none was to be found
-pub record Answers (a : Aim) (r : Answer) (after : Report) (b : Behind) (moves : List Move) (c : Behind) : Type 0 where
+-- an access of this aim was answered: where it was had, its place is valid and new; where it failed
+-- because no frame was found, none was to be found
+pub record Answers (a : Aim) (r : Answer) (after : Report) (b : Behind) (moves : List Move)
+    (c : Behind) : Type 0 where
   pub made : AccessMoves a b moves
   pub valid : is_had r ≡ true → is_valid c.life a.place ≡ true
-  pub starved : is_failed r ≡ true → after.last_failed_read ≡ None → Starved (c.life.valid a.place) (walked_all (walk_from b) moves)
+  pub starved : is_failed r ≡ true → after.last_failed_read ≡ None →
+      Starved (c.life.valid a.place) (walked_all (walk_from b) moves)
   pub ages : c.ages ≡ place_had (Some a) r (ages_through moves b.ages)
   pub waits : c.waits ≡ waits_through moves b.waits
   pub settled : is_pending_read r ≡ false
 
 -- it was permitted; where its place was ready it read no page
-pub record Answered (aim : Option Aim) (IsReady : Type 0) (r : Answer) (after : Report) (b : Behind) (moves : List Move) (c : Behind) : Type 0 where
+pub record Answered (aim : Option Aim) (IsReady : Type 0) (r : Answer) (after : Report) (b : Behind)
+    (moves : List Move) (c : Behind) : Type 0 where
   pub aimed : Aim
   pub is : aim ≡ Some aimed
   pub answers : Answers aimed r after b moves c
@@ -50,7 +54,8 @@ pub record Answered (aim : Option Aim) (IsReady : Type 0) (r : Answer) (after : 
 -- ---- an access of a thread
 
 -- it was made, and the thread waits for nothing
-pub record MadeBy (aim : Option Aim) (tid : ℕ) (r : Answer) (b : Behind) (moves : List Move) (c : Behind) : Type 0 where
+pub record MadeBy (aim : Option Aim) (tid : ℕ) (r : Answer) (b : Behind) (moves : List Move)
+    (c : Behind) : Type 0 where
   pub aimed : Aim
   pub is : aim ≡ Some aimed
   pub made : AccessMoves aimed b moves
@@ -60,7 +65,8 @@ pub record MadeBy (aim : Option Aim) (tid : ℕ) (r : Answer) (b : Behind) (move
   pub settled : is_pending_read r ≡ false
 
 -- it has to wait; where for a read, its page is being read after it
-pub record WaitsBy (aim : Option Aim) (tid : ℕ) (why : Why) (after : Report) (b : Behind) (moves : List Move) (c : Behind) : Type 0 where
+pub record WaitsBy (aim : Option Aim) (tid : ℕ) (why : Why) (after : Report) (b : Behind)
+    (moves : List Move) (c : Behind) : Type 0 where
   pub aimed : Aim
   pub is : aim ≡ Some aimed
   pub starts : Starts aimed tid (start.Pending why) b moves c
@@ -84,6 +90,7 @@ TurnedBy aim tid (threaded.Made a) after b moves c = MadeBy aim tid a b moves c
 TurnedBy aim tid (threaded.Waiting why) after b moves c = WaitsBy aim tid why after b moves c
 
 -- it was permitted, and went on or has to wait
-abbrev pub WentBy : Option Aim → ℕ → Result Answer Why → Report → Behind → List Move → Behind → Type 0
+abbrev pub WentBy : Option Aim → ℕ → Result Answer Why → Report → Behind → List Move → Behind →
+    Type 0
 WentBy aim tid (Ok a) after b moves c = MadeBy aim tid a b moves c
 WentBy aim tid (Err why) after b moves c = WaitsBy aim tid why after b moves c

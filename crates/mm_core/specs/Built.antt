@@ -4,11 +4,14 @@ use Rattle.std.specs.Prelude.{ℕ, Bool, true, false, nat_le, length}
 use Rattle.mm_types.specs.declared.events.Event.{Event}
 use Rattle.mm_types.specs.declared.events.Event.TheVariants as line
 use Rattle.mm_world.specs.World.{WorldOf}
-use Rattle.mm_world.specs.Processes.{most_processes}
+use Rattle.mm_world.specs.Processes.{grow, most_processes, new_file}
+use Rattle.mm_world.specs.Sections.{create, create_file, open_section}
 use Rattle.mm_world.specs.Stack.{stack}
+use Rattle.mm_world.specs.Views.{map_view}
 use Rattle.mm_world.specs.Laws.{is_success}
+use Rattle.mm_calls.specs.Allocating.{allocates_anew}
 use Rattle.mm_calls.specs.Marking.{marks_anew}
-use Rattle.mm_stack.specs.Growth.{grows}
+use Rattle.mm_calls.specs.Growth.{grows}
 
 -- the line that tells the machine, which comes first and never again
 abbrev pub is_machine : Event → Bool
@@ -23,18 +26,25 @@ is_access_line (line.Exec pid addr) = true
 is_access_line _ = false
 
 -- a line that may run out of memory in this world: of `process`, one for which a number is left, of
--- `protect`, one that gives a page its first mark, of `stack`, one that makes a stack, of `probe`, one
--- that makes a stack grow
+-- `alloc`, one that makes a region or commits a page that was not, of `protect`, one that gives a
+-- page its first mark, of `probe`, one that makes a stack grow, and of the others one that is not
+-- refused
 abbrev pub takes_memory : {B : Type 0} → (ℕ → B) → WorldOf B → Event → Bool
 takes_memory fill w (line.Process min max) = nat_le (length w.processes) most_processes
-takes_memory fill w (line.File name pages byte) = true
-takes_memory fill w (line.Alloc pid addr size type prot) = true
+takes_memory fill w (line.File name pages byte) =
+    is_success (new_file fill w name pages byte).answer
+takes_memory fill w (line.Alloc pid addr size type prot) =
+    allocates_anew fill w pid.0 addr size type prot
 takes_memory fill w (line.Protect pid addr size prot) = marks_anew w pid.0 addr size prot
-takes_memory fill w (line.Create pid size flags name) = true
-takes_memory fill w (line.CreateFile pid file flags name) = true
-takes_memory fill w (line.Open pid name) = true
-takes_memory fill w (line.Map pid handle access offset len addr) = true
-takes_memory fill w (line.Grow n) = true
-takes_memory fill w (line.Stack tid pid reserve commit) = is_success (stack fill w tid.0 pid.0 reserve commit).answer
+takes_memory fill w (line.Create pid size flags name) =
+    is_success (create fill w pid.0 size flags name).answer
+takes_memory fill w (line.CreateFile pid file flags name) =
+    is_success (create_file w pid.0 file flags name).answer
+takes_memory fill w (line.Open pid name) = is_success (open_section w pid.0 name).answer
+takes_memory fill w (line.Map pid handle access offset len addr) =
+    is_success (map_view w pid.0 handle access offset len addr).answer
+takes_memory fill w (line.Grow n) = is_success (grow w n).answer
+takes_memory fill w (line.Stack tid pid reserve commit) =
+    is_success (stack fill w tid.0 pid.0 reserve commit).answer
 takes_memory fill w (line.Probe tid addr) = grows fill w tid.0 addr
 takes_memory fill w _ = false

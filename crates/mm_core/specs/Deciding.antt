@@ -38,22 +38,28 @@ pub record Begins (number : ℕ) (s m : StoreOf) : Type 0 where
 -- what a line did to both devices
 pub record Devices (never_fails : Bool) (e : Event) (s z : StoreOf) (a : Answer) : Type 0 where
   pub asked_files : is_fail e ≡ false → AskedFiles s.file_device z.file_device z.report
-  pub asked_paging : is_fail e ≡ false → is_grow e ≡ false → AskedPaging s.paging_device z.paging_device z.report
+  pub asked_paging : is_fail e ≡ false → is_grow e ≡ false →
+      AskedPaging s.paging_device z.paging_device z.report
   pub named : Named never_fails e a s.paging_device z.paging_device s.file_device z.file_device
-  pub failed : IsFailure a → FailedBefore e s.report ⊎ OneFailed s.paging_device z.paging_device s.file_device z.file_device
+  pub failed : IsFailure a → FailedBefore e s.report ⊎
+      OneFailed s.paging_device z.paging_device s.file_device z.file_device
   pub paging_later : s.paging_device.faults ≤ z.paging_device.faults
   pub files_later : s.file_device.faults ≤ z.file_device.faults
 
 -- a line was decided, from tables, bytes and store to those that there are now: as its step says
-pub record Decided (never_fails : Bool) (e : Event) (number : ℕ) (t : Tables) (old : Key → Option Page) (s : StoreOf) (a : Answer) (after : Tables) (new : Key → Option Page) (z : StoreOf) : Type 0 where
-  pub stepped : Stepped never_fails (world_with t (bytes_of old)) e s.report z.report a (world_with after (bytes_of new))
+pub record Decided (never_fails : Bool) (e : Event) (number : ℕ) (t : Tables)
+    (old : Key → Option Page) (s : StoreOf) (a : Answer) (after : Tables) (new : Key → Option Page)
+    (z : StoreOf) : Type 0 where
+  pub stepped : Stepped never_fails (world_with t (bytes_of old)) e s.report z.report a
+      (world_with after (bytes_of new))
   pub devices : Devices never_fails e s z a
   pub flushed : Flushed (world_with after (bytes_of new)) z.file_blocks e a
   pub keeps : Keeps after new z
   pub line_is : z.line ≡ number
 
 -- a line ran out of memory: the world and the devices are as before
-pub record Idle (t : Tables) (old : Key → Option Page) (s : StoreOf) (after : Tables) (new : Key → Option Page) (z : StoreOf) : Type 0 where
+pub record Idle (t : Tables) (old : Key → Option Page) (s : StoreOf) (after : Tables)
+    (new : Key → Option Page) (z : StoreOf) : Type 0 where
   pub tables : after ≡ t
   pub contents : new ≡ old
   pub paging : z.paging_device ≡ s.paging_device

@@ -19,13 +19,16 @@ abbrev pub is_of : ℕ → Option KeptOf → Bool
 is_of pid None = false
 is_of pid (Some k) = k.pid == pid
 
--- what the threads wait for, where those below a number whose access is of the process wait for nothing
+-- what the threads wait for, where those below a number whose access is of the process wait for
+-- nothing
 abbrev pub wait_left : Tables → ℕ → ℕ → (ℕ → Wait) → ℕ → Wait
-wait_left t pid end waits tid = if nat_lt tid end && is_of pid (kept_by t tid) then wait.None else waits tid
+wait_left t pid end waits tid = if nat_lt tid end && is_of pid (kept_by t tid) then wait.None else
+    waits tid
 
 -- one thread's wait is forgotten, if its access is of the process
 abbrev pub waits_but : Tables → ℕ → ℕ → (ℕ → Wait) → ℕ → Wait
-waits_but t pid tid waits = if is_of pid (kept_by t tid) then changed ◌==◌ waits tid wait.None else waits
+waits_but t pid tid waits = if is_of pid (kept_by t tid) then changed ◌==◌ waits tid wait.None else
+    waits
 
 -- a store in which threads wait otherwise, and all else is as before
 abbrev pub waited : StoreOf → StoreOf → StoreOf
@@ -35,8 +38,10 @@ pub record Forgot (t : Tables) (pid end : ℕ) (s z : StoreOf) : Type 0 where
   pub waits : (tid : ℕ) → z.report.wait tid ≡ wait_left t pid end s.report.wait tid
   pub rest : z ≡ waited s z
 
--- after a `resume` that ended its access its thread waits no more, and after an `exit` no thread whose access was of the process
+-- after a `resume` that ended its access its thread waits no more, and after an `exit` no thread
+-- whose access was of the process
 abbrev pub EndsWaits : {B : Type 0} → WorldOf B → Event → Answer → Report → Type 0
-EndsWaits w (event.Exit pid) a after = (tid : ℕ) (k : KeptOf) → kept_by w tid ≡ Some k → k.pid ≡ pid.0 → after.wait tid ≡ wait.None
+EndsWaits w (event.Exit pid) a after = (tid : ℕ) (k : KeptOf) → kept_by w tid ≡ Some k →
+    k.pid ≡ pid.0 → after.wait tid ≡ wait.None
 EndsWaits w (event.Resume tid) a after = ends_none a ≡ false → after.wait tid.0 ≡ wait.None
 EndsWaits w _ a after = Unit {0}

@@ -1,5 +1,5 @@
--- What a line notes: its `at` and the moves after it, before what its store keeps at all times is put beside them.
--- Profile, "Logs of moves".
+-- What a line notes: its `at` and the moves after it, before what its store keeps at all times is
+-- put beside them. Profile, "Logs of moves".
 use Rattle.std.specs.Prelude.{◌≡◌, ◌⊎◌, ℕ, Bool, true, false, List, [], ◌∷◌, Option, if◌then◌else◌, nat_lt, ◌==◌, ◌&&◌}
 use Rattle.mm_types.specs.declared.answers.Answer.{Answer}
 use Rattle.mm_types.specs.declared.events.Event.{Event}
@@ -15,8 +15,8 @@ use Rattle.mm_world.specs.World.{Page, World}
 use Rattle.mm_world.specs.Report.{Report}
 use Rattle.mm_world.specs.Step.{kept_by}
 use Rattle.mm_world.specs.Contents.{Tables, world_with}
-use Rattle.mm_walks.specs.Waits.{Waiting, Idle}
-use Rattle.mm_walks.specs.Walks.{waits_through}
+use Rattle.mm_life.specs.Waits.{Waiting, Idle}
+use Rattle.mm_life.specs.Walks.{waits_through}
 use Rattle.mm_pages.specs.Store.{StoreOf, changed}
 use Rattle.mm_pages.specs.Behind.{Behind}
 use Rattle.mm_pages.specs.Told.{told_of, told_through}
@@ -50,35 +50,47 @@ IsOneWay ms = Each keeps_keys ms ⊎ Each takes_away ms
 
 -- ---- a line
 
--- a line's first move, and after it moves of which this holds. Of a line whose calls of devices are no moves nothing is told of devices
-pub record Went (beside : Bool) (first : Move) (That : List Move → Type 0) (s z : StoreOf) (b c : Behind) : Type 0 where
+-- a line's first move, and after it moves of which this holds. Of a line whose calls of devices are
+-- no moves nothing is told of devices
+pub record Went (beside : Bool) (first : Move) (That : List Move → Type 0) (s z : StoreOf)
+    (b c : Behind) : Type 0 where
   pub moves : List Move
   pub in_range : AreMoves (first ∷ moves)
   pub grew : Grew b.log c.log (spelled_moves (first ∷ moves))
   pub replays : Replays (first ∷ moves) b.life c.life
   pub that : That moves
-  pub told : beside ≡ false → told_of z.report ≡ told_through b.life (first ∷ moves) (told_of s.report)
+  pub told : beside ≡ false →
+      told_of z.report ≡ told_through b.life (first ∷ moves) (told_of s.report)
   pub traffic : beside ≡ false →
-      Traffic b.life (first ∷ moves) s.paging_device z.paging_device s.file_device z.file_device b.slots c.slots s.file_blocks z.file_blocks
+      Traffic b.life (first ∷ moves) s.paging_device z.paging_device s.file_device z.file_device
+      b.slots c.slots s.file_blocks z.file_blocks
 
--- what the moves of a line are, by the worlds before and after it, where its `at` has this number and kind
-pub record Tells (n : ℕ) (k : LineKind) (e : Event) (w : World) (a : Answer) (v : World) (after : Report) (b : Behind) (moves : List Move) (c : Behind) : Type 0 where
+-- what the moves of a line are, by the worlds before and after it, where its `at` has this number
+-- and kind
+pub record Tells (n : ℕ) (k : LineKind) (e : Event) (w : World) (a : Answer) (v : World)
+    (after : Report) (b : Behind) (moves : List Move) (c : Behind) : Type 0 where
   pub one_way : IsOneWay moves
   pub does : Does w e a v after (with_line (move.At n k) b) moves c
   pub ages : c.ages ≡ ages_of_line w e a b moves
   pub waits : c.waits ≡ waits_of_line w e a b (waits_through moves b.waits) c.life
 
 -- a line was noted, with an `at` of this kind
-abbrev pub MarkedAs : LineKind → Event → ℕ → World → StoreOf → Behind → Answer → World → StoreOf → Behind → Type 0
-MarkedAs k e n w s b a v z c = Went (asks_beside e) (move.At n k) (λ ms. Tells n k e w a v z.report b ms c) s z b c
+abbrev pub MarkedAs : LineKind → Event → ℕ → World → StoreOf → Behind → Answer → World → StoreOf →
+    Behind → Type 0
+MarkedAs k e n w s b a v z c =
+    Went (asks_beside e) (move.At n k) (λ ms. Tells n k e w a v z.report b ms c) s z b c
 
-abbrev pub Marked : Event → ℕ → World → StoreOf → Behind → Answer → World → StoreOf → Behind → Type 0
+abbrev pub Marked : Event → ℕ → World → StoreOf → Behind → Answer → World → StoreOf → Behind →
+    Type 0
 Marked e n w s b a v z c = MarkedAs (kind_of_line w e a) e n w s b a v z c
 
--- of a store that pages: a decided line was noted, from tables, bytes and store to those that there are now
-abbrev pub MarkedIn : Bool → Event → ℕ → Tables → (Key → Option Page) → StoreOf → Behind → Answer → Tables → (Key → Option Page) → StoreOf → Behind → Type 0
+-- of a store that pages: a decided line was noted, from tables, bytes and store to those that there
+-- are now
+abbrev pub MarkedIn : Bool → Event → ℕ → Tables → (Key → Option Page) → StoreOf → Behind → Answer →
+    Tables → (Key → Option Page) → StoreOf → Behind → Type 0
 MarkedIn unpaged e n t old s b a after new z c =
-    unpaged ≡ false → Marked e n (world_with t (bytes_of old)) s b a (world_with after (bytes_of new)) z c
+    unpaged ≡ false →
+    Marked e n (world_with t (bytes_of old)) s b a (world_with after (bytes_of new)) z c
 
 -- ---- a line that ran out of memory
 
@@ -89,7 +101,10 @@ is_later _ = true
 
 -- no move, or an `at` of the line's number, and after it keys that came to be
 abbrev pub IsCut : ℕ → List Move → Type 0
-IsCut n piece = (piece ≡ []) ⊎ ((k : LineKind) × ((moves : List Move) × ((is_later k ≡ true) × (piece ≡ move.At n k ∷ moves) × AllTurn Makes moves)))
+IsCut n piece = (piece ≡ []) ⊎
+    ((k : LineKind) ×
+    ((moves : List Move) ×
+    ((is_later k ≡ true) × (piece ≡ move.At n k ∷ moves) × AllTurn Makes moves)))
 
 pub record Halted (n : ℕ) (b c : Behind) : Type 0 where
   pub piece : List Move
@@ -104,9 +119,11 @@ HaltedIn unpaged n b c = unpaged ≡ false → Halted n b c
 
 -- ---- waits that are forgotten
 
--- what the threads wait for, where those below a number whose access is of the process wait for nothing
+-- what the threads wait for, where those below a number whose access is of the process wait for
+-- nothing
 abbrev pub idle_left : Tables → ℕ → ℕ → (ℕ → Waiting) → ℕ → Waiting
-idle_left t pid end waits tid = if nat_lt tid end && is_of pid (kept_by t tid) then Idle else waits tid
+idle_left t pid end waits tid = if nat_lt tid end && is_of pid (kept_by t tid) then Idle else
+    waits tid
 
 -- one thread's wait is forgotten, if its access is of the process
 abbrev pub idle_but : Tables → ℕ → ℕ → (ℕ → Waiting) → ℕ → Waiting

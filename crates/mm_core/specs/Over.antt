@@ -40,17 +40,21 @@ module _ {G : Type 0} (p : PagesGhosts G) where
   -- what a line asks of devices beside its moves, and what slots and blocks hold then
   abbrev pub AskedBesideOver : Tables → Event → Answer → G → G → Type 0
   AskedBesideOver t e a g h =
-      AskedBeside t.blocks_used e a (p.store g).paging_device (p.store h).paging_device (p.store g).file_device (p.store h).file_device
+      AskedBeside t.blocks_used e a (p.store g).paging_device (p.store h).paging_device
+      (p.store g).file_device (p.store h).file_device
       (p.store g).file_blocks (p.store h).file_blocks
-      × HoldsBeside (world_over t g) e a (p.behind g).slots (p.behind h).slots (p.store g).file_blocks (p.store h).file_blocks
+      × HoldsBeside (world_over t g) e a (p.behind g).slots (p.behind h).slots
+      (p.store g).file_blocks (p.store h).file_blocks
 
   -- a line was decided, by tables and store before it and after it
   abbrev pub DecidedOver : Event → ℕ → Tables → G → Answer → Tables → G → Type 0
-  DecidedOver e n t g a after h = Decided p.unpaged e n t (p.contents g) (p.store g) a after (p.contents h) (p.store h)
+  DecidedOver e n t g a after h = Decided p.unpaged e n t (p.contents g) (p.store g) a after
+      (p.contents h) (p.store h)
 
   -- and noted
   abbrev pub MarkedOver : Event → ℕ → Tables → G → Answer → Tables → G → Type 0
-  MarkedOver e n t g a after h = MarkedIn p.unpaged e n t (p.contents g) (p.store g) (p.behind g) a after (p.contents h) (p.store h) (p.behind h)
+  MarkedOver e n t g a after h = MarkedIn p.unpaged e n t (p.contents g) (p.store g) (p.behind g) a
+      after (p.contents h) (p.store h) (p.behind h)
 
   -- it ran out of memory
   abbrev pub IdleOver : Tables → G → Tables → G → Type 0

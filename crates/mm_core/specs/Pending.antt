@@ -14,14 +14,16 @@ use Rattle.mm_core.specs.declared.threads.Threaded.TheVariants as threaded
 use Rattle.mm_core.specs.Accessing.{Refuses}
 
 -- a permitted access of a thread has to wait, by the reports before and after
-pub record Waits (depth : ℕ) (w : World) (pid addr : ℕ) (what : Attempt) (m z : StoreOf) (why : Why) : Type 0 where
+pub record Waits (depth : ℕ) (w : World) (pid addr : ℕ) (what : Attempt) (m z : StoreOf)
+    (why : Why) : Type 0 where
   pub need : Need
   pub needs : need_at w pid addr what ≡ Some need
   pub pends : pending depth need m.report z.report ≡ Some why
   pub served : Served m z
 
 -- it had what it needs, and was made
-pub record Went (depth : ℕ) (w : World) (pid addr : ℕ) (what : Attempt) (m z : StoreOf) (a : Answer) (v : World) : Type 0 where
+pub record Went (depth : ℕ) (w : World) (pid addr : ℕ) (what : Attempt) (m z : StoreOf) (a : Answer)
+    (v : World) : Type 0 where
   pub need : Need
   pub needs : need_at w pid addr what ≡ Some need
   pub ready : pending depth need m.report z.report ≡ None
@@ -34,8 +36,13 @@ pub record Permitted (w : World) (pid addr : ℕ) (what : Attempt) : Type 0 wher
   pub needs : need_at w pid addr what ≡ Some need
 
 -- how an access of a thread went, whose wait failed or not
-abbrev pub Turned : Threaded → Bool → ℕ → World → ℕ → ℕ → Attempt → StoreOf → StoreOf → World → Type 0
-Turned (threaded.Refused a) failed depth w pid addr what m z v = Refuses w pid addr what a v × (z ≡ m)
-Turned threaded.Failed failed depth w pid addr what m z v = (failed ≡ true) × Permitted w pid addr what × (z ≡ m) × (v ≡ w)
-Turned (threaded.Made a) failed depth w pid addr what m z v = (failed ≡ false) × Went depth w pid addr what m z a v
-Turned (threaded.Waiting why) failed depth w pid addr what m z v = (failed ≡ false) × Waits depth w pid addr what m z why × (v ≡ w)
+abbrev pub Turned : Threaded → Bool → ℕ → World → ℕ → ℕ → Attempt → StoreOf → StoreOf → World →
+    Type 0
+Turned (threaded.Refused a) failed depth w pid addr what m z v = Refuses w pid addr what a v ×
+    (z ≡ m)
+Turned threaded.Failed failed depth w pid addr what m z v = (failed ≡ true) ×
+    Permitted w pid addr what × (z ≡ m) × (v ≡ w)
+Turned (threaded.Made a) failed depth w pid addr what m z v = (failed ≡ false) ×
+    Went depth w pid addr what m z a v
+Turned (threaded.Waiting why) failed depth w pid addr what m z v = (failed ≡ false) ×
+    Waits depth w pid addr what m z why × (v ≡ w)

@@ -23,9 +23,10 @@ use Rattle.mm_blocks.specs.declared.device_calls.NamedCalls.{NamedCalls}
 use Rattle.mm_types.specs.declared.devices.Device.{Device}
 use Rattle.mm_types.specs.declared.devices.Device.TheVariants as device_of
 
--- the reads and writes that a line asked of a device: those not named stand in its log, where that is told, and the report after the line
--- counts them all
-pub record Asked (old new : DeviceOf) (reads writes : Report → Tally) (after : Report) : Type 0 where
+-- the reads and writes that a line asked of a device: those not named stand in its log, where that
+-- is told, and the report after the line counts them all
+pub record Asked (old new : DeviceOf) (reads writes : Report → Tally) (after : Report) :
+    Type 0 where
   pub calls : List Call
   pub served : AllServed calls old new
   pub read : reads after ≡ tallied way.Read calls no_calls
@@ -49,18 +50,26 @@ is_fail _ = false
 
 -- such a line, answered `ok`, names them on its device, and does nothing else to devices
 abbrev pub NamedOn : Bool → Device → NamedCalls → DeviceOf → DeviceOf → DeviceOf → DeviceOf → Type 0
-NamedOn unpaged device_of.Paging calls paging paging' files files' = (paging' ≡ with_named_paging unpaged paging calls) × (files' ≡ files)
-NamedOn unpaged device_of.File calls paging paging' files files' = (paging' ≡ paging) × (files' ≡ with_named files calls)
+NamedOn unpaged device_of.Paging calls paging paging' files files' =
+    (paging' ≡ with_named_paging unpaged paging calls) × (files' ≡ files)
+NamedOn unpaged device_of.File calls paging paging' files files' = (paging' ≡ paging) ×
+    (files' ≡ with_named files calls)
 
 abbrev pub Named : Bool → Event → Answer → DeviceOf → DeviceOf → DeviceOf → DeviceOf → Type 0
 Named unpaged (line.Fail device direction k n) answer.Ok paging paging' files files' =
-    NamedOn unpaged device (record { direction = direction; passes = k - 1; fails = n }) paging paging' files files'
-Named unpaged (line.Fail device direction k n) _ paging paging' files files' = (paging' ≡ paging) × (files' ≡ files)
+    NamedOn unpaged device (record {
+      direction = direction;
+      passes = k - 1;
+      fails = n;
+    }) paging paging' files files'
+Named unpaged (line.Fail device direction k n) _ paging paging' files files' = (paging' ≡ paging) ×
+    (files' ≡ files)
 Named unpaged _ _ paging paging' files files' = Unit {0}
 
--- the blocks of a new file are written in rising order from `first` on, all of them, or up to the first write that fails,
--- which is of one of them
-pub record WritesBlocks (first pages : ℕ) (ok : Bool) (old new : DeviceOf) (blocks blocks' : List Page) : Type 0 where
+-- the blocks of a new file are written in rising order from `first` on, all of them, or up to the
+-- first write that fails, which is of one of them
+pub record WritesBlocks (first pages : ℕ) (ok : Bool) (old new : DeviceOf)
+    (blocks blocks' : List Page) : Type 0 where
   pub whole : ℕ
   pub calls : List Call
   pub served : AllServed calls old new
@@ -72,18 +81,24 @@ pub record WritesBlocks (first pages : ℕ) (ok : Bool) (old new : DeviceOf) (bl
 
 -- of a file that is refused none is written
 abbrev pub FileWrites : ℕ → ℕ → Answer → DeviceOf → DeviceOf → List Page → List Page → Type 0
-FileWrites first pages answer.Ok old new blocks blocks' = WritesBlocks first pages true old new blocks blocks'
-FileWrites first pages answer.Fault old new blocks blocks' = WritesBlocks first pages false old new blocks blocks'
+FileWrites first pages answer.Ok old new blocks blocks' =
+    WritesBlocks first pages true old new blocks blocks'
+FileWrites first pages answer.Fault old new blocks blocks' =
+    WritesBlocks first pages false old new blocks blocks'
 FileWrites first pages _ old new blocks blocks' = (new ≡ old) × (blocks' ≡ blocks)
 
--- What is asked of devices beside the moves: a `file` line writes the blocks of its file, the lowest that no file used, and does not call the
--- paging device; a `grow` line asks the paging device to grow, which stands in no log, and does not call the file device. Where it grew,
--- it is as before but for its slots.
-abbrev pub AskedBeside : ℕ → Event → Answer → DeviceOf → DeviceOf → DeviceOf → DeviceOf → List Page → List Page → Type 0
+-- What is asked of devices beside the moves: a `file` line writes the blocks of its file, the
+-- lowest that no file used, and does not call the paging device; a `grow` line asks the paging
+-- device to grow, which stands in no log, and does not call the file device. Where it grew, it is
+-- as before but for its slots.
+abbrev pub AskedBeside : ℕ → Event → Answer → DeviceOf → DeviceOf → DeviceOf → DeviceOf →
+    List Page → List Page → Type 0
 AskedBeside used (line.File name pages byte) a paging paging' files files' blocks blocks' =
     (paging' ≡ paging) × FileWrites used pages a files files' blocks blocks'
-AskedBeside used (line.Grow n) (answer.Limit limit) paging paging' files files' blocks blocks' = (paging' ≡ paging) × (files' ≡ files)
-AskedBeside used (line.Grow n) a paging paging' files files' blocks blocks' = (paging' ≡ called paging paging') × (files' ≡ files)
+AskedBeside used (line.Grow n) (answer.Limit limit) paging paging' files files' blocks blocks' =
+    (paging' ≡ paging) × (files' ≡ files)
+AskedBeside used (line.Grow n) a paging paging' files files' blocks blocks' =
+    (paging' ≡ called paging paging') × (files' ≡ files)
 AskedBeside used _ a paging paging' files files' blocks blocks' = Unit {0}
 
 -- the thread whose access a line resumes
@@ -112,9 +127,12 @@ OneFailed paging paging' files files' = CallFailed paging paging' ⊎ CallFailed
 -- after a `flush`, the blocks of the shared pages of the range hold their bytes
 abbrev pub FlushHolds : World → List Page → ℕ → ℕ → ℕ → Type 0
 FlushHolds w blocks pid addr size =
-    (p : ProcessOf Page) (r : Found (RegionOf Page)) (v : View) (page first : ℕ) → process_of w pid ≡ Some p → flushed_view p.regions addr size ≡ Some r →
-    r.thing.kind ≡ kind.View v → holds_page (flushed_range r.thing addr size) page ≡ true → (area_at w v.area.0).file_block ≡ Some first →
-    slice_get blocks (first + (v.first + (page - r.thing.base))) ≡ shared_page w v.area.0 (v.first + (page - r.thing.base))
+    (p : ProcessOf Page) (r : Found (RegionOf Page)) (v : View) (page first : ℕ) →
+    process_of w pid ≡ Some p → flushed_view p.regions addr size ≡ Some r →
+    r.thing.kind ≡ kind.View v → holds_page (flushed_range r.thing addr size) page ≡ true →
+    (area_at w v.area.0).file_block ≡ Some first →
+    slice_get blocks (first + (v.first + (page - r.thing.base))) ≡
+    shared_page w v.area.0 (v.first + (page - r.thing.base))
 
 abbrev pub Flushed : World → List Page → Event → Answer → Type 0
 Flushed w blocks (line.Flush pid addr size) answer.Ok = FlushHolds w blocks pid.0 addr size

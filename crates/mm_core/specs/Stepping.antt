@@ -15,8 +15,12 @@ asks_frames (line.Io i) = true
 asks_frames line.Counts = true
 asks_frames _ = false
 
--- the answer and the new world are those of the step, and over a store whose accesses never fail those of unpaged memory, but for a
--- file device that failed
-pub record Stepped (never_fails : Bool) (w : World) (e : Event) (before after : Report) (a : Answer) (v : World) : Type 0 where
+-- the answer and the new world are those of the step, and over a store whose accesses never fail
+-- those of unpaged memory, but for a file device that failed
+pub record Stepped (never_fails : Bool) (w : World) (e : Event) (before after : Report) (a : Answer)
+    (v : World) : Type 0 where
   pub decided : step w e before after ≡ record { answer = a; world = v }
-  pub told : never_fails ≡ true → asks_frames e ≡ false → a ≢ answer.Fault → unpaged w e ≡ record { answer = a; world = v }
+  pub told : never_fails ≡ true → asks_frames e ≡ false → a ≢ answer.Fault → unpaged w e ≡ record {
+    answer = a;
+    world = v;
+  }

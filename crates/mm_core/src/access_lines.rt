@@ -41,11 +41,16 @@ pub(crate) fn read_at<G: Pages>(
     requires some { 1 ≤ len }
     requires few { len ≤ 64 }
     requires inside { addr % 4096 + len ≤ 4096 }
-    ensures accessed { Accessed G.unpaged (world_over G.Pages t.now g.old) pid.0 addr (ReadOf len) (G.store g.old) (G.store g.new) result (world_over G.Pages t.now g.new) }
+    ensures accessed { Accessed G.unpaged (world_over G.Pages t.now g.old) pid.0 addr (ReadOf len)
+        (G.store g.old) (G.store g.new) result (world_over G.Pages t.now g.new) }
     ensures keeps { KeepsOver G.Pages t.now g.new }
-    ensures had { IsReady (G.store g.old) (place_at pid (page_of addr)) (touch row.key) → IsHad (touch row.key) (G.store g.new).report }
+    ensures had { IsReady (G.store g.old) (place_at pid (page_of addr)) (touch row.key) →
+        IsHad (touch row.key) (G.store g.new).report }
     ensures line { (G.store g.new).line ≡ (G.store g.old).line }
-    ensures passes { PassesOver G.Pages (Answered (aim_over G.Pages t.now g.old pid addr (ReadOf len)) (IsReady (G.store g.old) (place_at pid (page_of addr)) (touch row.key)) result (G.store g.new).report) g.old g.new }
+    ensures passes { PassesOver G.Pages
+        (Answered (aim_over G.Pages t.now g.old pid addr (ReadOf len))
+        (IsReady (G.store g.old) (place_at pid (page_of addr)) (touch row.key)) result
+        (G.store g.new).report) g.old g.new }
     ensures loans { G.loans g.new ≡ G.loans g.old }
 {
     match read_bytes(t, g, pid, addr, row.key, len) {
@@ -54,7 +59,8 @@ pub(crate) fn read_at<G: Pages>(
     }
 }
 
-/// Executes what the row of a page permits. No byte is read, but a page that cannot be had raises as for a read.
+/// Executes what the row of a page permits. No byte is read, but a page that cannot be had raises
+/// as for a read.
 #[tactic(auto, using(crate::proofs::Readiness::had_ready))]
 pub(crate) fn execute_at<G: Pages>(
     t: &Tables,
@@ -69,11 +75,16 @@ pub(crate) fn execute_at<G: Pages>(
     requires at { key_at t.now (place_at pid (page_of addr)) ≡ Some row.key }
     requires may { MayAccess (G.store g.old) (place_at pid (page_of addr)) (touch row.key) }
     requires begun { IsBegun (G.store g.old).report }
-    ensures accessed { Accessed G.unpaged (world_over G.Pages t.now g.old) pid.0 addr Execute (G.store g.old) (G.store g.new) result (world_over G.Pages t.now g.new) }
+    ensures accessed { Accessed G.unpaged (world_over G.Pages t.now g.old) pid.0 addr Execute
+        (G.store g.old) (G.store g.new) result (world_over G.Pages t.now g.new) }
     ensures keeps { KeepsOver G.Pages t.now g.new }
-    ensures had { IsReady (G.store g.old) (place_at pid (page_of addr)) (touch row.key) → IsHad (touch row.key) (G.store g.new).report }
+    ensures had { IsReady (G.store g.old) (place_at pid (page_of addr)) (touch row.key) →
+        IsHad (touch row.key) (G.store g.new).report }
     ensures line { (G.store g.new).line ≡ (G.store g.old).line }
-    ensures passes { PassesOver G.Pages (Answered (aim_over G.Pages t.now g.old pid addr Execute) (IsReady (G.store g.old) (place_at pid (page_of addr)) (touch row.key)) result (G.store g.new).report) g.old g.new }
+    ensures passes { PassesOver G.Pages
+        (Answered (aim_over G.Pages t.now g.old pid addr Execute)
+        (IsReady (G.store g.old) (place_at pid (page_of addr)) (touch row.key)) result
+        (G.store g.new).report) g.old g.new }
     ensures loans { G.loans g.new ≡ G.loans g.old }
 {
     match fetch(t, g, pid, addr, row.key, &mut []) {
@@ -114,11 +125,16 @@ pub(crate) fn write_at<G: Pages>(
     requires begun { IsBegun (G.store g.old).report }
     requires stays { row.copies ≡ false }
     requires inside { addr % 4096 + length bytes.now ≤ 4096 }
-    ensures accessed { Accessed G.unpaged (world_over G.Pages t.old g.old) pid.0 addr (WriteOf bytes.now) (G.store g.old) (G.store g.new) result (world_over G.Pages t.new g.new) }
+    ensures accessed { Accessed G.unpaged (world_over G.Pages t.old g.old) pid.0 addr
+        (WriteOf bytes.now) (G.store g.old) (G.store g.new) result (world_over G.Pages t.new g.new) }
     ensures keeps { KeepsOver G.Pages t.new g.new }
-    ensures had { IsReady (G.store g.old) (place_at pid (page_of addr)) (touch row.key) → IsHad (touch row.key) (G.store g.new).report }
+    ensures had { IsReady (G.store g.old) (place_at pid (page_of addr)) (touch row.key) →
+        IsHad (touch row.key) (G.store g.new).report }
     ensures line { (G.store g.new).line ≡ (G.store g.old).line }
-    ensures passes { PassesOver G.Pages (Answered (aim_over G.Pages t.old g.old pid addr (WriteOf bytes.now)) (IsReady (G.store g.old) (place_at pid (page_of addr)) (touch row.key)) result (G.store g.new).report) g.old g.new }
+    ensures passes { PassesOver G.Pages
+        (Answered (aim_over G.Pages t.old g.old pid addr (WriteOf bytes.now))
+        (IsReady (G.store g.old) (place_at pid (page_of addr)) (touch row.key)) result
+        (G.store g.new).report) g.old g.new }
     ensures loans { G.loans g.new ≡ G.loans g.old }
 {
     match put(t, g, pid, addr, row.key, bytes.as_slice()) {
@@ -130,7 +146,8 @@ pub(crate) fn write_at<G: Pages>(
     }
 }
 
-/// Writes bytes, which the row of their page permits, to a copy that is the page's own from then on.
+/// Writes bytes, which the row of their page permits, to a copy that is the page's own from then
+/// on.
 #[tactic(auto, using(crate::proofs::Readiness::had_ready))]
 pub(crate) fn write_to_copy<G: Pages>(
     t: &mut Tables,
@@ -144,15 +161,22 @@ pub(crate) fn write_to_copy<G: Pages>(
     requires spaces { Spaces t.old }
     requires admitted { Admits t.old pid.0 addr access_kind.Write row }
     requires at { key_at t.old (place_at pid (page_of addr)) ≡ Some row.key }
-    requires may { MayAccess (G.store g.old) (place_at pid (page_of addr)) (copying row.key (place_at pid (page_of addr))) }
+    requires may { MayAccess (G.store g.old) (place_at pid (page_of addr))
+        (copying row.key (place_at pid (page_of addr))) }
     requires begun { IsBegun (G.store g.old).report }
     requires copies { row.copies ≡ true }
     requires inside { addr % 4096 + length bytes.now ≤ 4096 }
-    ensures accessed { Accessed G.unpaged (world_over G.Pages t.old g.old) pid.0 addr (WriteOf bytes.now) (G.store g.old) (G.store g.new) result (world_over G.Pages t.new g.new) }
+    ensures accessed { Accessed G.unpaged (world_over G.Pages t.old g.old) pid.0 addr
+        (WriteOf bytes.now) (G.store g.old) (G.store g.new) result (world_over G.Pages t.new g.new) }
     ensures keeps { KeepsOver G.Pages t.new g.new }
-    ensures had { IsReady (G.store g.old) (place_at pid (page_of addr)) (copying row.key (place_at pid (page_of addr))) → IsHad (copying row.key (place_at pid (page_of addr))) (G.store g.new).report }
+    ensures had { IsReady (G.store g.old) (place_at pid (page_of addr))
+        (copying row.key (place_at pid (page_of addr))) →
+        IsHad (copying row.key (place_at pid (page_of addr))) (G.store g.new).report }
     ensures line { (G.store g.new).line ≡ (G.store g.old).line }
-    ensures passes { PassesOver G.Pages (Answered (aim_over G.Pages t.old g.old pid addr (WriteOf bytes.now)) (IsReady (G.store g.old) (place_at pid (page_of addr)) (copying row.key (place_at pid (page_of addr)))) result (G.store g.new).report) g.old g.new }
+    ensures passes { PassesOver G.Pages
+        (Answered (aim_over G.Pages t.old g.old pid addr (WriteOf bytes.now))
+        (IsReady (G.store g.old) (place_at pid (page_of addr))
+        (copying row.key (place_at pid (page_of addr)))) result (G.store g.new).report) g.old g.new }
     ensures loans { G.loans g.new ≡ G.loans g.old }
 {
     match put_copy(t, g, pid, addr, row, bytes.as_slice()) {
@@ -175,8 +199,11 @@ pub(crate) fn read_line<G: Pages>(
     requires some { 1 ≤ len }
     requires few { len ≤ 64 }
     requires inside { addr % 4096 + len ≤ 4096 }
-    ensures decided { DecidedOver G.Pages (event.Read pid addr len) line t.old g.old result t.new g.new }
-    ensures passes { PassesOver G.Pages (Lined (world_over G.Pages t.old g.old) (event.Read pid addr len) line result (world_over G.Pages t.new g.new) (G.store g.new).report) g.old g.new }
+    ensures decided { DecidedOver G.Pages (event.Read pid addr len) line t.old g.old result t.new
+        g.new }
+    ensures passes { PassesOver G.Pages
+        (Lined (world_over G.Pages t.old g.old) (event.Read pid addr len) line result
+        (world_over G.Pages t.new g.new) (G.store g.new).report) g.old g.new }
     ensures loans { G.loans g.new ≡ G.loans g.old }
 {
     t.sound();
@@ -202,8 +229,11 @@ pub(crate) fn write_line<G: Pages>(
     requires keeps { KeepsOver G.Pages t.old g.old }
     requires next { line ≡ (G.store g.old).line + 1 }
     requires inside { addr % 4096 + length bytes.now ≤ 4096 }
-    ensures decided { DecidedOver G.Pages (event.Write pid addr bytes.now) line t.old g.old result t.new g.new }
-    ensures passes { PassesOver G.Pages (Lined (world_over G.Pages t.old g.old) (event.Write pid addr bytes.now) line result (world_over G.Pages t.new g.new) (G.store g.new).report) g.old g.new }
+    ensures decided { DecidedOver G.Pages (event.Write pid addr bytes.now) line t.old g.old result
+        t.new g.new }
+    ensures passes { PassesOver G.Pages
+        (Lined (world_over G.Pages t.old g.old) (event.Write pid addr bytes.now) line result
+        (world_over G.Pages t.new g.new) (G.store g.new).report) g.old g.new }
     ensures loans { G.loans g.new ≡ G.loans g.old }
 {
     t.sound();
@@ -232,7 +262,9 @@ pub(crate) fn exec_line<G: Pages>(
     requires keeps { KeepsOver G.Pages t.old g.old }
     requires next { line ≡ (G.store g.old).line + 1 }
     ensures decided { DecidedOver G.Pages (event.Exec pid addr) line t.old g.old result t.new g.new }
-    ensures passes { PassesOver G.Pages (Lined (world_over G.Pages t.old g.old) (event.Exec pid addr) line result (world_over G.Pages t.new g.new) (G.store g.new).report) g.old g.new }
+    ensures passes { PassesOver G.Pages
+        (Lined (world_over G.Pages t.old g.old) (event.Exec pid addr) line result
+        (world_over G.Pages t.new g.new) (G.store g.new).report) g.old g.new }
     ensures loans { G.loans g.new ≡ G.loans g.old }
 {
     t.sound();

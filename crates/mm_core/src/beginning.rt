@@ -38,9 +38,13 @@ pub(crate) fn begin_release<G: Pages>(t: &Tables, g: &mut G, line: u32, pid: Pid
     requires next { line ≡ (G.store g.old).line + 1 }
     ensures fits { FitsOver G.Pages t.now g.new }
     ensures begins { Begins line (G.store g.old) (G.store g.new) }
-    ensures form { is_some (process_of t.now pid.0) ≡ true → (G.store g.new).kind ≡ line_kind.Unbind pid }
+    ensures form { is_some (process_of t.now pid.0) ≡ true →
+        (G.store g.new).kind ≡ line_kind.Unbind pid }
     ensures contents { G.contents g.new ≡ G.contents g.old }
-    ensures passes { PassesOver G.Pages (OneMove (move.At line (if is_some (process_of t.now pid.0) then line_kind.Unbind pid else line_kind.Call))) g.old g.new }
+    ensures passes { PassesOver G.Pages
+        (OneMove (move.At line
+        (if is_some (process_of t.now pid.0) then line_kind.Unbind pid else line_kind.Call))) g.old
+        g.new }
     ensures loans { G.loans g.new ≡ G.loans g.old }
 {
     begin(g, line, kind_if(t.has(pid), LineKind::Unbind(pid)));
@@ -55,7 +59,9 @@ pub(crate) fn begin_access<G: Pages>(t: &Tables, g: &mut G, line: u32, pid: Pid)
     ensures begins { Begins line (G.store g.old) (G.store g.new) }
     ensures form { result ≡ true → (G.store g.new).kind ≡ line_kind.Access pid }
     ensures contents { G.contents g.new ≡ G.contents g.old }
-    ensures passes { PassesOver G.Pages (OneMove (move.At line (if result then line_kind.Access pid else line_kind.Call))) g.old g.new }
+    ensures passes { PassesOver G.Pages
+        (OneMove (move.At line (if result then line_kind.Access pid else line_kind.Call))) g.old
+        g.new }
     ensures loans { G.loans g.new ≡ G.loans g.old }
 {
     let lives = t.has(pid);
@@ -72,7 +78,8 @@ pub(crate) fn begin_trim<G: Pages>(t: &Tables, g: &mut G, line: u32, pid: Pid) -
     ensures begins { Begins line (G.store g.old) (G.store g.new) }
     ensures form { result ≡ true → (G.store g.new).kind ≡ line_kind.Trim pid }
     ensures contents { G.contents g.new ≡ G.contents g.old }
-    ensures passes { PassesOver G.Pages (OneMove (move.At line (if result then line_kind.Trim pid else line_kind.Call))) g.old g.new }
+    ensures passes { PassesOver G.Pages
+        (OneMove (move.At line (if result then line_kind.Trim pid else line_kind.Call))) g.old g.new }
     ensures loans { G.loans g.new ≡ G.loans g.old }
 {
     let lives = t.has(pid);

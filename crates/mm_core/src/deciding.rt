@@ -49,7 +49,8 @@ fn decide_other<G: Pages>(
     ensures waits { IfOk result (λ a. EndsWaits t.old event.now a (G.store g.new).report) }
     ensures marked { IfOk result (λ a. MarkedOver G.Pages event.now line t.old g.old a t.new g.new) }
     ensures halted { OnErr result (HaltedOver G.Pages line g.old g.new) }
-    ensures beside { G.unpaged ≡ false → IfOk result (λ a. AskedBesideOver G.Pages t.old event.now a g.old g.new) }
+    ensures beside { G.unpaged ≡ false →
+        IfOk result (λ a. AskedBesideOver G.Pages t.old event.now a g.old g.new) }
     ensures loans { G.loans g.new ≡ G.loans g.old }
 {
     match event {
@@ -159,7 +160,8 @@ pub(crate) fn decide<G: Pages>(
     ensures waits { IfOk result (λ a. EndsWaits t.old event.now a (G.store g.new).report) }
     ensures marked { IfOk result (λ a. MarkedOver G.Pages event.now line t.old g.old a t.new g.new) }
     ensures halted { OnErr result (HaltedOver G.Pages line g.old g.new) }
-    ensures beside { G.unpaged ≡ false → IfOk result (λ a. AskedBesideOver G.Pages t.old event.now a g.old g.new) }
+    ensures beside { G.unpaged ≡ false →
+        IfOk result (λ a. AskedBesideOver G.Pages t.old event.now a g.old g.new) }
     ensures loans { G.loans g.new ≡ G.loans g.old }
 {
     match event {

@@ -60,16 +60,23 @@ pub(crate) fn fetch<G: Pages>(
     requires few { length out.old ≤ 64 }
     requires inside { addr % 4096 + length out.old ≤ 4096 }
     ensures length { length out.new ≡ length out.old }
-    ensures bytes { OnOk result (out.new ≡ take (length out.old) (drop (addr % page_size) (bytes_of (G.contents g.old) key))) }
+    ensures bytes { OnOk result (out.new ≡
+        take (length out.old) (drop (addr % page_size) (bytes_of (G.contents g.old) key))) }
     ensures ends { Ends (touch key) (G.store g.new).report result }
     ensures fits { FitsOver G.Pages t.now g.new }
     ensures contents { G.contents g.new ≡ G.contents g.old }
     ensures line { (G.store g.new).line ≡ (G.store g.old).line }
     ensures served { Served (G.store g.old) (G.store g.new) }
     ensures blamed { OnErr result (SomeFailed (G.store g.old) (G.store g.new)) }
-    ensures ready { IsReady (G.store g.old) (place_at pid (page_of addr)) (touch key) → IsOk result }
+    ensures ready { IsReady (G.store g.old) (place_at pid (page_of addr)) (touch key) →
+        IsOk result }
     ensures unpaged { G.unpaged ≡ true → IsOk result }
-    ensures passes { PassesOver G.Pages (Touches (record { place = place_at pid (page_of addr); need = touch key; writes = false; start = (G.behind g.old).life }) (IsReady (G.store g.old) (place_at pid (page_of addr)) (touch key)) result) g.old g.new }
+    ensures passes { PassesOver G.Pages (Touches (record {
+      place = place_at pid (page_of addr);
+      need = touch key;
+      writes = false;
+      start = (G.behind g.old).life;
+    }) (IsReady (G.store g.old) (place_at pid (page_of addr)) (touch key)) result) g.old g.new }
     ensures loans { G.loans g.new ≡ G.loans g.old }
 {
     g.read(place_of(pid, addr), key, offset_of(addr), out)
@@ -91,16 +98,23 @@ pub(crate) fn read_bytes<G: Pages>(
     requires some { 1 ≤ len }
     requires few { len ≤ 64 }
     requires inside { addr % 4096 + len ≤ 4096 }
-    ensures bytes { IfOk result (λ b. b ≡ take len (drop (addr % page_size) (bytes_of (G.contents g.old) key))) }
+    ensures bytes { IfOk result (λ b.
+        b ≡ take len (drop (addr % page_size) (bytes_of (G.contents g.old) key))) }
     ensures ends { Ends (touch key) (G.store g.new).report result }
     ensures fits { FitsOver G.Pages t.now g.new }
     ensures contents { G.contents g.new ≡ G.contents g.old }
     ensures line { (G.store g.new).line ≡ (G.store g.old).line }
     ensures served { Served (G.store g.old) (G.store g.new) }
     ensures blamed { OnErr result (SomeFailed (G.store g.old) (G.store g.new)) }
-    ensures ready { IsReady (G.store g.old) (place_at pid (page_of addr)) (touch key) → IsOk result }
+    ensures ready { IsReady (G.store g.old) (place_at pid (page_of addr)) (touch key) →
+        IsOk result }
     ensures unpaged { G.unpaged ≡ true → IsOk result }
-    ensures passes { PassesOver G.Pages (Touches (record { place = place_at pid (page_of addr); need = touch key; writes = false; start = (G.behind g.old).life }) (IsReady (G.store g.old) (place_at pid (page_of addr)) (touch key)) result) g.old g.new }
+    ensures passes { PassesOver G.Pages (Touches (record {
+      place = place_at pid (page_of addr);
+      need = touch key;
+      writes = false;
+      start = (G.behind g.old).life;
+    }) (IsReady (G.store g.old) (place_at pid (page_of addr)) (touch key)) result) g.old g.new }
     ensures loans { G.loans g.new ≡ G.loans g.old }
 {
     let mut room = [0; 64];
@@ -126,17 +140,25 @@ pub(crate) fn put<G: Pages>(
     requires may { MayAccess (G.store g.old) (place_at pid (page_of addr)) (touch key) }
     requires few { length bytes.now ≤ 64 }
     requires inside { addr % 4096 + length bytes.now ≤ 4096 }
-    ensures written { OnOk result (G.contents g.new ≡ changed same_key (G.contents g.old) key (Some (written (bytes_of (G.contents g.old) key) (addr % page_size) bytes.now))) }
+    ensures written { OnOk result (G.contents g.new ≡ changed same_key (G.contents g.old) key
+        (Some (written (bytes_of (G.contents g.old) key) (addr % page_size) bytes.now))) }
     ensures kept { OnErr result (G.contents g.new ≡ G.contents g.old) }
     ensures ends { IsBegun (G.store g.old).report → Ends (touch key) (G.store g.new).report result }
     ensures fits { FitsOver G.Pages t.now g.new }
     ensures line { (G.store g.new).line ≡ (G.store g.old).line }
     ensures served { Served (G.store g.old) (G.store g.new) }
     ensures blamed { OnErr result (SomeFailed (G.store g.old) (G.store g.new)) }
-    ensures ready { IsReady (G.store g.old) (place_at pid (page_of addr)) (touch key) → IsOk result }
-    ensures eased { IsReady (G.store g.old) (place_at pid (page_of addr)) (touch key) → (G.store g.new).report ≡ eased (G.store g.old).report (G.store g.new).report }
+    ensures ready { IsReady (G.store g.old) (place_at pid (page_of addr)) (touch key) →
+        IsOk result }
+    ensures eased { IsReady (G.store g.old) (place_at pid (page_of addr)) (touch key) →
+        (G.store g.new).report ≡ eased (G.store g.old).report (G.store g.new).report }
     ensures unpaged { G.unpaged ≡ true → IsOk result }
-    ensures passes { PassesOver G.Pages (Touches (record { place = place_at pid (page_of addr); need = touch key; writes = true; start = (G.behind g.old).life }) (IsReady (G.store g.old) (place_at pid (page_of addr)) (touch key)) result) g.old g.new }
+    ensures passes { PassesOver G.Pages (Touches (record {
+      place = place_at pid (page_of addr);
+      need = touch key;
+      writes = true;
+      start = (G.behind g.old).life;
+    }) (IsReady (G.store g.old) (place_at pid (page_of addr)) (touch key)) result) g.old g.new }
     ensures loans { G.loans g.new ≡ G.loans g.old }
 {
     g.write(place_of(pid, addr), key, offset_of(addr), bytes)
@@ -154,22 +176,40 @@ fn copy<G: Pages>(
     requires spaces { Spaces t.old }
     requires admitted { Admits t.old pid.0 addr access_kind.Write row }
     requires copies { row.copies ≡ true }
-    requires may { MayAccess (G.store g.old) (place_at pid (page_of addr)) (copying row.key (place_at pid (page_of addr))) }
+    requires may { MayAccess (G.store g.old) (place_at pid (page_of addr))
+        (copying row.key (place_at pid (page_of addr))) }
     requires begun { IsBegun (G.store g.old).report }
-    ensures copied { OnOk result (G.contents g.new ≡ changed same_key (G.contents g.old) (private_key pid.0 (page_of addr)) (G.contents g.old row.key)) }
-    ensures row { OnOk result ((p : ProcessOf (Unit {0})) (c : Committed (Unit {0})) → process_of t.old pid.0 ≡ Some p → committed_at t.old p.regions (page_of addr) ≡ Some c → t.new ≡ set_row t.old pid.0 p c.region (page_of addr) (record c.row { own = Some tt; prot = readwrite })) }
+    ensures copied { OnOk result (G.contents g.new ≡
+        changed same_key (G.contents g.old) (private_key pid.0 (page_of addr))
+        (G.contents g.old row.key)) }
+    ensures row { OnOk result ((p : ProcessOf (Unit {0})) (c : Committed (Unit {0})) →
+        process_of t.old pid.0 ≡ Some p → committed_at t.old p.regions (page_of addr) ≡ Some c →
+        t.new ≡ set_row t.old pid.0 p c.region (page_of addr) (record c.row {
+          own = Some tt;
+          prot = readwrite;
+        })) }
     ensures kept { OnErr result ((t.new ≡ t.old) × (G.contents g.new ≡ G.contents g.old)) }
-    ensures at { OnOk result (key_at t.new (place_at pid (page_of addr)) ≡ Some (private_key pid.0 (page_of addr))) }
-    ensures ready { OnOk result (IsReady (G.store g.new) (place_at pid (page_of addr)) (touch (private_key pid.0 (page_of addr)))) }
+    ensures at { OnOk result (key_at t.new (place_at pid (page_of addr)) ≡
+        Some (private_key pid.0 (page_of addr))) }
+    ensures ready { OnOk result (IsReady (G.store g.new) (place_at pid (page_of addr))
+        (touch (private_key pid.0 (page_of addr)))) }
     ensures form { (G.store g.new).kind ≡ (G.store g.old).kind }
-    ensures ends { Ends (copying row.key (place_at pid (page_of addr))) (G.store g.new).report result }
+    ensures ends { Ends (copying row.key (place_at pid (page_of addr))) (G.store g.new).report
+        result }
     ensures fits { FitsOver G.Pages t.new g.new }
     ensures line { (G.store g.new).line ≡ (G.store g.old).line }
     ensures served { Served (G.store g.old) (G.store g.new) }
     ensures blamed { OnErr result (SomeFailed (G.store g.old) (G.store g.new)) }
-    ensures was_ready { IsReady (G.store g.old) (place_at pid (page_of addr)) (copying row.key (place_at pid (page_of addr))) → IsOk result }
+    ensures was_ready { IsReady (G.store g.old) (place_at pid (page_of addr))
+        (copying row.key (place_at pid (page_of addr))) → IsOk result }
     ensures unpaged { G.unpaged ≡ true → IsOk result }
-    ensures passes { PassesOver G.Pages (Copies (record { place = place_at pid (page_of addr); need = copying row.key (place_at pid (page_of addr)); writes = true; start = (G.behind g.old).life }) (IsReady (G.store g.old) (place_at pid (page_of addr)) (copying row.key (place_at pid (page_of addr)))) result) g.old g.new }
+    ensures passes { PassesOver G.Pages (Copies (record {
+      place = place_at pid (page_of addr);
+      need = copying row.key (place_at pid (page_of addr));
+      writes = true;
+      start = (G.behind g.old).life;
+    }) (IsReady (G.store g.old) (place_at pid (page_of addr))
+        (copying row.key (place_at pid (page_of addr)))) result) g.old g.new }
     ensures loans { G.loans g.new ≡ G.loans g.old }
 {
     g.copy(place_of(pid, addr), row.key, own_key_of(pid, addr))?;
@@ -191,21 +231,39 @@ pub(crate) fn put_copy<G: Pages>(
     requires spaces { Spaces t.old }
     requires admitted { Admits t.old pid.0 addr access_kind.Write row }
     requires copies { row.copies ≡ true }
-    requires may { MayAccess (G.store g.old) (place_at pid (page_of addr)) (copying row.key (place_at pid (page_of addr))) }
+    requires may { MayAccess (G.store g.old) (place_at pid (page_of addr))
+        (copying row.key (place_at pid (page_of addr))) }
     requires begun { IsBegun (G.store g.old).report }
     requires few { length bytes.now ≤ 64 }
     requires inside { addr % 4096 + length bytes.now ≤ 4096 }
-    ensures written { OnOk result (G.contents g.new ≡ changed same_key (changed same_key (G.contents g.old) (private_key pid.0 (page_of addr)) (G.contents g.old row.key)) (private_key pid.0 (page_of addr)) (Some (written (bytes_of (G.contents g.old) row.key) (addr % page_size) bytes.now))) }
-    ensures row { OnOk result ((p : ProcessOf (Unit {0})) (c : Committed (Unit {0})) → process_of t.old pid.0 ≡ Some p → committed_at t.old p.regions (page_of addr) ≡ Some c → t.new ≡ set_row t.old pid.0 p c.region (page_of addr) (record c.row { own = Some tt; prot = readwrite })) }
+    ensures written { OnOk result (G.contents g.new ≡
+        changed same_key
+        (changed same_key (G.contents g.old) (private_key pid.0 (page_of addr))
+        (G.contents g.old row.key)) (private_key pid.0 (page_of addr))
+        (Some (written (bytes_of (G.contents g.old) row.key) (addr % page_size) bytes.now))) }
+    ensures row { OnOk result ((p : ProcessOf (Unit {0})) (c : Committed (Unit {0})) →
+        process_of t.old pid.0 ≡ Some p → committed_at t.old p.regions (page_of addr) ≡ Some c →
+        t.new ≡ set_row t.old pid.0 p c.region (page_of addr) (record c.row {
+          own = Some tt;
+          prot = readwrite;
+        })) }
     ensures kept { OnErr result ((t.new ≡ t.old) × (G.contents g.new ≡ G.contents g.old)) }
-    ensures ends { Ends (copying row.key (place_at pid (page_of addr))) (G.store g.new).report result }
+    ensures ends { Ends (copying row.key (place_at pid (page_of addr))) (G.store g.new).report
+        result }
     ensures fits { FitsOver G.Pages t.new g.new }
     ensures line { (G.store g.new).line ≡ (G.store g.old).line }
     ensures served { Served (G.store g.old) (G.store g.new) }
     ensures blamed { OnErr result (SomeFailed (G.store g.old) (G.store g.new)) }
-    ensures was_ready { IsReady (G.store g.old) (place_at pid (page_of addr)) (copying row.key (place_at pid (page_of addr))) → IsOk result }
+    ensures was_ready { IsReady (G.store g.old) (place_at pid (page_of addr))
+        (copying row.key (place_at pid (page_of addr))) → IsOk result }
     ensures unpaged { G.unpaged ≡ true → IsOk result }
-    ensures passes { PassesOver G.Pages (Copies (record { place = place_at pid (page_of addr); need = copying row.key (place_at pid (page_of addr)); writes = true; start = (G.behind g.old).life }) (IsReady (G.store g.old) (place_at pid (page_of addr)) (copying row.key (place_at pid (page_of addr)))) result) g.old g.new }
+    ensures passes { PassesOver G.Pages (Copies (record {
+      place = place_at pid (page_of addr);
+      need = copying row.key (place_at pid (page_of addr));
+      writes = true;
+      start = (G.behind g.old).life;
+    }) (IsReady (G.store g.old) (place_at pid (page_of addr))
+        (copying row.key (place_at pid (page_of addr)))) result) g.old g.new }
     ensures loans { G.loans g.new ≡ G.loans g.old }
 {
     copy(t, g, pid, addr, row)?;

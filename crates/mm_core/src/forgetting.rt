@@ -19,10 +19,12 @@ fn keeps_of(t: &Tables, tid: Tid, pid: Pid) -> bool
 
 /// A thread waits for nothing any more, if it keeps an access of the process.
 fn forget_wait<G: Pages>(t: &Tables, g: &mut G, tid: Tid, pid: Pid)
-    ensures waits { (G.store g.new).report.wait ≡ waits_but t.now pid.0 tid.0 (G.store g.old).report.wait }
+    ensures waits { (G.store g.new).report.wait ≡
+        waits_but t.now pid.0 tid.0 (G.store g.old).report.wait }
     ensures rest { G.store g.new ≡ waited (G.store g.old) (G.store g.new) }
     ensures contents { G.contents g.new ≡ G.contents g.old }
-    ensures passes { G.unpaged ≡ false → IdlesBut t.now pid.0 tid.0 (G.behind g.old) (G.behind g.new) }
+    ensures passes { G.unpaged ≡ false →
+        IdlesBut t.now pid.0 tid.0 (G.behind g.old) (G.behind g.new) }
     ensures loans { G.loans g.new ≡ G.loans g.old }
 {
     if keeps_of(t, tid, pid) {

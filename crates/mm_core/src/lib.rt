@@ -1,7 +1,8 @@
 //! A world over any store of pages: one line after another.
 //!
-//! The calls go by tables without bytes, and the bytes stand in the store. What the two are together is a world of
-//! the definitions; each line makes of it what the definitions say, whatever the store.
+//! The calls go by tables without bytes, and the bytes stand in the store. What the two are
+//! together is a world of the definitions; each line makes of it what the definitions say, whatever
+//! the store.
 #![tactic(auto)]
 
 mod access_lines;

@@ -1,17 +1,19 @@
 ghost use Rattle.std.specs.Prelude.{◌≡◌, ◌≤◌, ◌+◌, false, length, nat_le, IfOk, OnErr, IsOk};
 ghost use Rattle.mm_types.specs.declared.events.Event.TheVariants as event;
-ghost use Rattle.mm_world.specs.Processes.{most_processes};
+ghost use Rattle.mm_world.specs.Contents.{blank};
+ghost use Rattle.mm_world.specs.Laws.{is_success};
+ghost use Rattle.mm_world.specs.Processes.{grow, most_processes};
+ghost use Rattle.mm_calls.specs.Allocating.{allocates_anew};
 ghost use Rattle.mm_calls.specs.Marking.{marks_anew};
 ghost use Rattle.mm_core.specs.Forgetting.{EndsWaits};
 ghost use Rattle.mm_core.specs.Over.{AskedBesideOver, DecidedOver, HaltedOver, IdleOver, KeepsOver, MarkedOver};
 
 use crate::beginning::{begin, begin_release};
 use crate::forgetting::forget_waits;
-use mm_calls::{grow_paging, new_process, protect, query, valloc, vfree};
+use mm_calls::{end_process, grow_paging, new_process, protect, query, valloc, vfree};
 use mm_pages::Pages;
 use mm_tables::Tables;
 use mm_types::{Answer, LineKind, NoMemory, Pid};
-use mm_views::end_process;
 use std::alloc::Global;
 
 /// Decides a `process` line.
@@ -28,10 +30,12 @@ pub(crate) fn process_line<G: Pages>(
     requires ordered { min ≤ max }
     requires some { 1 ≤ max }
     requires most { max ≤ 65536 }
-    ensures ok { IfOk result (λ a. DecidedOver G.Pages (event.Process min max) line t.old g.old a t.new g.new) }
+    ensures ok { IfOk result (λ a. DecidedOver G.Pages (event.Process min max) line t.old g.old a
+        t.new g.new) }
     ensures err { OnErr result (IdleOver G.Pages t.old g.old t.new g.new) }
     ensures no_memory { nat_le (length t.old.processes) most_processes ≡ false → IsOk result }
-    ensures marked { IfOk result (λ a. MarkedOver G.Pages (event.Process min max) line t.old g.old a t.new g.new) }
+    ensures marked { IfOk result (λ a. MarkedOver G.Pages (event.Process min max) line t.old g.old a
+        t.new g.new) }
     ensures halted { OnErr result (HaltedOver G.Pages line g.old g.new) }
     ensures loans { G.loans g.new ≡ G.loans g.old }
 {
@@ -47,7 +51,8 @@ pub(crate) fn process_line<G: Pages>(
     new_process(alloc, t, g, min, max)
 }
 
-/// Decides an `exit` line. Threads that keep an access of the process wait no more, before the line begins.
+/// Decides an `exit` line. Threads that keep an access of the process wait no more, before the line
+/// begins.
 pub(crate) fn exit_line<G: Pages>(t: &mut Tables, g: &mut G, line: u32, pid: Pid) -> Answer
     requires keeps { KeepsOver G.Pages t.old g.old }
     requires next { line ≡ (G.store g.old).line + 1 }
@@ -76,9 +81,12 @@ pub(crate) fn alloc_line<G: Pages>(
 ) -> Result<Answer, NoMemory>
     requires keeps { KeepsOver G.Pages t.old g.old }
     requires next { line ≡ (G.store g.old).line + 1 }
-    ensures ok { IfOk result (λ a. DecidedOver G.Pages (event.Alloc pid addr size form prot) line t.old g.old a t.new g.new) }
+    ensures ok { IfOk result (λ a. DecidedOver G.Pages (event.Alloc pid addr size form prot) line
+        t.old g.old a t.new g.new) }
     ensures err { OnErr result (IdleOver G.Pages t.old g.old t.new g.new) }
-    ensures marked { IfOk result (λ a. MarkedOver G.Pages (event.Alloc pid addr size form prot) line t.old g.old a t.new g.new) }
+    ensures no_memory { allocates_anew blank t.old pid.0 addr size form prot ≡ false → IsOk result }
+    ensures marked { IfOk result (λ a. MarkedOver G.Pages (event.Alloc pid addr size form prot) line
+        t.old g.old a t.new g.new) }
     ensures halted { OnErr result (HaltedOver G.Pages line g.old g.new) }
     ensures loans { G.loans g.new ≡ G.loans g.old }
 {
@@ -99,8 +107,10 @@ pub(crate) fn free_line<G: Pages>(
 ) -> Answer
     requires keeps { KeepsOver G.Pages t.old g.old }
     requires next { line ≡ (G.store g.old).line + 1 }
-    ensures decided { DecidedOver G.Pages (event.Free pid addr size form) line t.old g.old result t.new g.new }
-    ensures marked { MarkedOver G.Pages (event.Free pid addr size form) line t.old g.old result t.new g.new }
+    ensures decided { DecidedOver G.Pages (event.Free pid addr size form) line t.old g.old result
+        t.new g.new }
+    ensures marked { MarkedOver G.Pages (event.Free pid addr size form) line t.old g.old result
+        t.new g.new }
     ensures loans { G.loans g.new ≡ G.loans g.old }
 {
     t.sound();
@@ -120,10 +130,12 @@ pub(crate) fn protect_line<G: Pages>(
 ) -> Result<Answer, NoMemory>
     requires keeps { KeepsOver G.Pages t.old g.old }
     requires next { line ≡ (G.store g.old).line + 1 }
-    ensures ok { IfOk result (λ a. DecidedOver G.Pages (event.Protect pid addr size prot) line t.old g.old a t.new g.new) }
+    ensures ok { IfOk result (λ a. DecidedOver G.Pages (event.Protect pid addr size prot) line t.old
+        g.old a t.new g.new) }
     ensures err { OnErr result (IdleOver G.Pages t.old g.old t.new g.new) }
     ensures no_memory { marks_anew t.old pid.0 addr size prot ≡ false → IsOk result }
-    ensures marked { IfOk result (λ a. MarkedOver G.Pages (event.Protect pid addr size prot) line t.old g.old a t.new g.new) }
+    ensures marked { IfOk result (λ a. MarkedOver G.Pages (event.Protect pid addr size prot) line
+        t.old g.old a t.new g.new) }
     ensures halted { OnErr result (HaltedOver G.Pages line g.old g.new) }
     ensures loans { G.loans g.new ≡ G.loans g.old }
 {
@@ -174,11 +186,15 @@ pub(crate) fn grow_line<G: Pages>(
     requires keeps { KeepsOver G.Pages t.old g.old }
     requires next { line ≡ (G.store g.old).line + 1 }
     requires some { 1 ≤ n }
-    ensures ok { IfOk result (λ a. DecidedOver G.Pages (event.Grow n) line t.old g.old a t.new g.new) }
+    ensures ok { IfOk result (λ a. DecidedOver G.Pages (event.Grow n) line t.old g.old a t.new
+        g.new) }
     ensures err { OnErr result (IdleOver G.Pages t.old g.old t.new g.new) }
-    ensures marked { IfOk result (λ a. MarkedOver G.Pages (event.Grow n) line t.old g.old a t.new g.new) }
+    ensures no_memory { is_success (grow t.old n).answer ≡ false → IsOk result }
+    ensures marked { IfOk result (λ a. MarkedOver G.Pages (event.Grow n) line t.old g.old a t.new
+        g.new) }
     ensures halted { OnErr result (HaltedOver G.Pages line g.old g.new) }
-    ensures beside { G.unpaged ≡ false → IfOk result (λ a. AskedBesideOver G.Pages t.old (event.Grow n) a g.old g.new) }
+    ensures beside { G.unpaged ≡ false →
+        IfOk result (λ a. AskedBesideOver G.Pages t.old (event.Grow n) a g.old g.new) }
     ensures loans { G.loans g.new ≡ G.loans g.old }
 {
     t.sound();

@@ -54,7 +54,8 @@ pub(crate) fn zeroer_line<G: Pages>(t: &mut Tables, g: &mut G, line: u32, n: u32
     Answer::Ok
 }
 
-/// Decides a `fail` line: device calls to come are named to fail, while fewer than 64 such lines were taken.
+/// Decides a `fail` line: device calls to come are named to fail, while fewer than 64 such lines
+/// were taken.
 pub(crate) fn fail_line<G: Pages>(
     t: &mut Tables,
     g: &mut G,
@@ -68,9 +69,12 @@ pub(crate) fn fail_line<G: Pages>(
     requires next { line ≡ (G.store g.old).line + 1 }
     requires first { 1 ≤ k }
     requires some { 1 ≤ n }
-    ensures decided { DecidedOver G.Pages (event.Fail device direction k n) line t.old g.old result t.new g.new }
-    ensures marked { MarkedOver G.Pages (event.Fail device direction k n) line t.old g.old result t.new g.new }
-    ensures beside { G.unpaged ≡ false → AskedBesideOver G.Pages t.old (event.Fail device direction k n) result g.old g.new }
+    ensures decided { DecidedOver G.Pages (event.Fail device direction k n) line t.old g.old result
+        t.new g.new }
+    ensures marked { MarkedOver G.Pages (event.Fail device direction k n) line t.old g.old result
+        t.new g.new }
+    ensures beside { G.unpaged ≡ false →
+        AskedBesideOver G.Pages t.old (event.Fail device direction k n) result g.old g.new }
     ensures loans { G.loans g.new ≡ G.loans g.old }
 {
     t.sound();

@@ -20,17 +20,22 @@ use mm_types::{Access, PAGE_SIZE, Pid, Raise, permits};
 /// The alarm of a committed page of a living process whose guard is on; from then on it is off.
 fn alarm(t: &mut Tables, pid: Pid, page: u32) -> Raise
     requires lives { is_some (process_of t.old pid.0) ≡ true }
-    requires committed { (p : ProcessOf (Unit {0})) → process_of t.old pid.0 ≡ Some p → is_some (committed_at t.old p.regions page) ≡ true }
-    ensures off { (p : ProcessOf (Unit {0})) (c : Committed (Unit {0})) → process_of t.old pid.0 ≡ Some p → committed_at t.old p.regions page ≡ Some c → t.new ≡ guard_off t.old pid.0 p c page }
-    ensures fits { (contents : Key → Option Page) (s : StoreOf) → Fits t.old contents s → Fits t.new contents s }
+    requires committed { (p : ProcessOf (Unit {0})) → process_of t.old pid.0 ≡ Some p →
+        is_some (committed_at t.old p.regions page) ≡ true }
+    ensures off { (p : ProcessOf (Unit {0})) (c : Committed (Unit {0})) →
+        process_of t.old pid.0 ≡ Some p → committed_at t.old p.regions page ≡ Some c →
+        t.new ≡ guard_off t.old pid.0 p c page }
+    ensures fits { (contents : Key → Option Page) (s : StoreOf) → Fits t.old contents s →
+        Fits t.new contents s }
     ensures raised { result ≡ raise.GuardPage }
 {
     t.take_guard_off(pid, page);
     Raise::GuardPage
 }
 
-/// What the page of an address of a living process tells an access that it permits. An error is what an access raises that is
-/// refused: by no committed page, by its guard, which is off from then on, or by its protection.
+/// What the page of an address of a living process tells an access that it permits. An error is
+/// what an access raises that is refused: by no committed page, by its guard, which is off from
+/// then on, or by its protection.
 pub(crate) fn admit(
     t: &mut Tables,
     pid: Pid,
@@ -38,11 +43,15 @@ pub(crate) fn admit(
     wanted: Access,
 ) -> Result<CommittedRow, Raise>
     requires lives { is_some (process_of t.old pid.0) ≡ true }
-    ensures refused { IfErr result (λ why. (bytes : Key → Page) (what : Attempt) → access_of what ≡ wanted → Refuses (world_with t.old bytes) pid.0 addr what (answer.Raised why) (world_with t.new bytes)) }
+    ensures refused { IfErr result (λ why. (bytes : Key → Page) (what : Attempt) →
+        access_of what ≡ wanted →
+        Refuses (world_with t.old bytes) pid.0 addr what (answer.Raised why)
+        (world_with t.new bytes)) }
     ensures admitted { IfOk result (λ row. Admits t.old pid.0 addr wanted row) }
     ensures at { IfOk result (λ row. key_at t.old (place_at pid (page_of addr)) ≡ Some row.key) }
     ensures unchanged { OnOk result (t.new ≡ t.old) }
-    ensures keeps { (contents : Key → Option Page) (s : StoreOf) → Keeps t.old contents s → Keeps t.new contents s }
+    ensures keeps { (contents : Key → Option Page) (s : StoreOf) → Keeps t.old contents s →
+        Keeps t.new contents s }
 {
     let page = addr / PAGE_SIZE;
     let row = match t.committed_row(pid, page) {

@@ -3,12 +3,12 @@ ghost use Rattle.mm_types.specs.declared.events.Event.TheVariants as event;
 ghost use Rattle.mm_world.specs.Contents.{blank};
 ghost use Rattle.mm_world.specs.Laws.{is_success};
 ghost use Rattle.mm_world.specs.Stack.{stack};
-ghost use Rattle.mm_stack.specs.Growth.{grows};
+ghost use Rattle.mm_calls.specs.Growth.{grows};
 ghost use Rattle.mm_core.specs.Over.{DecidedOver, HaltedOver, IdleOver, KeepsOver, MarkedOver};
 
 use crate::beginning::begin;
+use mm_calls::{probe, stack};
 use mm_pages::Pages;
-use mm_stack::{probe, stack};
 use mm_tables::Tables;
 use mm_types::{Answer, LineKind, NoMemory, Pid, Tid};
 use std::alloc::Global;
@@ -26,10 +26,13 @@ pub(crate) fn stack_line<G: Pages>(
 ) -> Result<Answer, NoMemory>
     requires keeps { KeepsOver G.Pages t.old g.old }
     requires next { line ≡ (G.store g.old).line + 1 }
-    ensures ok { IfOk result (λ a. DecidedOver G.Pages (event.Stack tid pid reserve commit) line t.old g.old a t.new g.new) }
+    ensures ok { IfOk result (λ a. DecidedOver G.Pages (event.Stack tid pid reserve commit) line
+        t.old g.old a t.new g.new) }
     ensures err { OnErr result (IdleOver G.Pages t.old g.old t.new g.new) }
-    ensures no_memory { is_success (stack blank t.old tid.0 pid.0 reserve commit).answer ≡ false → IsOk result }
-    ensures marked { IfOk result (λ a. MarkedOver G.Pages (event.Stack tid pid reserve commit) line t.old g.old a t.new g.new) }
+    ensures no_memory { is_success (stack blank t.old tid.0 pid.0 reserve commit).answer ≡ false →
+        IsOk result }
+    ensures marked { IfOk result (λ a. MarkedOver G.Pages (event.Stack tid pid reserve commit) line
+        t.old g.old a t.new g.new) }
     ensures halted { OnErr result (HaltedOver G.Pages line g.old g.new) }
     ensures loans { G.loans g.new ≡ G.loans g.old }
 {
@@ -48,10 +51,12 @@ pub(crate) fn probe_line<G: Pages>(
 ) -> Result<Answer, NoMemory>
     requires keeps { KeepsOver G.Pages t.old g.old }
     requires next { line ≡ (G.store g.old).line + 1 }
-    ensures ok { IfOk result (λ a. DecidedOver G.Pages (event.Probe tid addr) line t.old g.old a t.new g.new) }
+    ensures ok { IfOk result (λ a. DecidedOver G.Pages (event.Probe tid addr) line t.old g.old a
+        t.new g.new) }
     ensures err { OnErr result (IdleOver G.Pages t.old g.old t.new g.new) }
     ensures no_memory { grows blank t.old tid.0 addr ≡ false → IsOk result }
-    ensures marked { IfOk result (λ a. MarkedOver G.Pages (event.Probe tid addr) line t.old g.old a t.new g.new) }
+    ensures marked { IfOk result (λ a. MarkedOver G.Pages (event.Probe tid addr) line t.old g.old a
+        t.new g.new) }
     ensures halted { OnErr result (HaltedOver G.Pages line g.old g.new) }
     ensures loans { G.loans g.new ≡ G.loans g.old }
 {

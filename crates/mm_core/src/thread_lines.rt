@@ -40,11 +40,15 @@ fn access_on<G: Pages>(
     requires form { (G.store g.old).kind ≡ line_kind.Thread pid }
     requires begun { IsBegun (G.store g.old).report }
     requires fits { FitsPage what.now }
-    ensures turned { Turned result failed t.old.machine.depth (world_over G.Pages t.old g.old) pid.0 (address_in what.now) (attempt_in what.now) (G.store g.old) (G.store g.new) (world_over G.Pages t.new g.new) }
+    ensures turned { Turned result failed t.old.machine.depth (world_over G.Pages t.old g.old) pid.0
+        (address_in what.now) (attempt_in what.now) (G.store g.old) (G.store g.new)
+        (world_over G.Pages t.new g.new) }
     ensures keeps { KeepsOver G.Pages t.new g.new }
     ensures line { (G.store g.new).line ≡ (G.store g.old).line }
     ensures unpaged { G.unpaged ≡ true → (why : Why) → result ≡ threaded.Waiting why → ⊥ }
-    ensures passes { PassesOver G.Pages (TurnedBy (aim_over G.Pages t.old g.old pid (address_in what.now) (attempt_in what.now)) tid.0 result (G.store g.new).report) g.old g.new }
+    ensures passes { PassesOver G.Pages
+        (TurnedBy (aim_over G.Pages t.old g.old pid (address_in what.now) (attempt_in what.now))
+        tid.0 result (G.store g.new).report) g.old g.new }
     ensures loans { G.loans g.new ≡ G.loans g.old }
 {
     match what {
@@ -53,7 +57,8 @@ fn access_on<G: Pages>(
     }
 }
 
-/// Begins the line of a thread's access to a process, and tells whether that lives. A thread that is busy accesses nothing.
+/// Begins the line of a thread's access to a process, and tells whether that lives. A thread that
+/// is busy accesses nothing.
 fn begin_thread<G: Pages>(t: &Tables, g: &mut G, line: u32, pid: Pid, busy: bool) -> bool
     requires fits { FitsOver G.Pages t.now g.old }
     requires next { line ≡ (G.store g.old).line + 1 }
@@ -62,7 +67,10 @@ fn begin_thread<G: Pages>(t: &Tables, g: &mut G, line: u32, pid: Pid, busy: bool
     ensures begins { Begins line (G.store g.old) (G.store g.new) }
     ensures form { result ≡ true → busy ≡ false → (G.store g.new).kind ≡ line_kind.Thread pid }
     ensures contents { G.contents g.new ≡ G.contents g.old }
-    ensures passes { PassesOver G.Pages (OneMove (move.At line (if busy then line_kind.Call else if result then line_kind.Thread pid else line_kind.Call))) g.old g.new }
+    ensures passes { PassesOver G.Pages
+        (OneMove (move.At line
+        (if busy then line_kind.Call else if result then line_kind.Thread pid else line_kind.Call)))
+        g.old g.new }
     ensures loans { G.loans g.new ≡ G.loans g.old }
 {
     let lives = t.has(pid);
@@ -74,7 +82,8 @@ fn begin_thread<G: Pages>(t: &Tables, g: &mut G, line: u32, pid: Pid, busy: bool
     lives
 }
 
-/// Decides a `begin` line (own): an access of a thread that waits for no device. The thread keeps an access that has to wait.
+/// Decides a `begin` line (own): an access of a thread that waits for no device. The thread keeps
+/// an access that has to wait.
 pub(crate) fn begin_line<G: Pages>(
     t: &mut Tables,
     g: &mut G,
@@ -86,8 +95,11 @@ pub(crate) fn begin_line<G: Pages>(
     requires keeps { KeepsOver G.Pages t.old g.old }
     requires next { line ≡ (G.store g.old).line + 1 }
     requires fits { FitsPage what.now }
-    ensures decided { DecidedOver G.Pages (event.Begin tid pid what.now) line t.old g.old result t.new g.new }
-    ensures passes { PassesOver G.Pages (Lined (world_over G.Pages t.old g.old) (event.Begin tid pid what.now) line result (world_over G.Pages t.new g.new) (G.store g.new).report) g.old g.new }
+    ensures decided { DecidedOver G.Pages (event.Begin tid pid what.now) line t.old g.old result
+        t.new g.new }
+    ensures passes { PassesOver G.Pages
+        (Lined (world_over G.Pages t.old g.old) (event.Begin tid pid what.now) line result
+        (world_over G.Pages t.new g.new) (G.store g.new).report) g.old g.new }
     ensures loans { G.loans g.new ≡ G.loans g.old }
 {
     let busy = t.kept(tid).is_some();
@@ -133,15 +145,17 @@ fn end_access<G: Pages>(t: &mut Tables, g: &mut G, tid: Tid)
     t.end_kept(tid);
 }
 
-/// Decides a `resume` line (own): the access that a thread keeps is decided anew, in the world that there is now. Any answer but
-/// `pending` ends it.
+/// Decides a `resume` line (own): the access that a thread keeps is decided anew, in the world that
+/// there is now. Any answer but `pending` ends it.
 pub(crate) fn resume_line<G: Pages>(t: &mut Tables, g: &mut G, line: u32, tid: Tid) -> Answer
     requires keeps { KeepsOver G.Pages t.old g.old }
     requires next { line ≡ (G.store g.old).line + 1 }
     requires idle { G.unpaged ≡ true → (n : ℕ) → (G.store g.old).report.wait n ≡ wait.None }
     ensures decided { DecidedOver G.Pages (event.Resume tid) line t.old g.old result t.new g.new }
     ensures waits { EndsWaits t.old (event.Resume tid) result (G.store g.new).report }
-    ensures passes { PassesOver G.Pages (Lined (world_over G.Pages t.old g.old) (event.Resume tid) line result (world_over G.Pages t.new g.new) (G.store g.new).report) g.old g.new }
+    ensures passes { PassesOver G.Pages
+        (Lined (world_over G.Pages t.old g.old) (event.Resume tid) line result
+        (world_over G.Pages t.new g.new) (G.store g.new).report) g.old g.new }
     ensures loans { G.loans g.new ≡ G.loans g.old }
 {
     let kept = match t.kept(tid) {

@@ -53,13 +53,18 @@ pub(crate) fn read_on<G: Pages>(
     requires some { 1 ≤ len }
     requires few { len ≤ 64 }
     requires inside { addr % 4096 + len ≤ 4096 }
-    ensures went { IfOk result (λ a. Went t.now.machine.depth (world_over G.Pages t.now g.old) pid.0 addr (ReadOf len) (G.store g.old) (G.store g.new) a (world_over G.Pages t.now g.new)) }
-    ensures waits { IfErr result (λ why. Waits t.now.machine.depth (world_over G.Pages t.now g.old) pid.0 addr (ReadOf len) (G.store g.old) (G.store g.new) why) }
+    ensures went { IfOk result (λ a. Went t.now.machine.depth (world_over G.Pages t.now g.old) pid.0
+        addr (ReadOf len) (G.store g.old) (G.store g.new) a (world_over G.Pages t.now g.new)) }
+    ensures waits { IfErr result
+        (λ why. Waits t.now.machine.depth (world_over G.Pages t.now g.old) pid.0 addr (ReadOf len)
+        (G.store g.old) (G.store g.new) why) }
     ensures same { OnErr result (G.contents g.new ≡ G.contents g.old) }
     ensures keeps { KeepsOver G.Pages t.now g.new }
     ensures line { (G.store g.new).line ≡ (G.store g.old).line }
     ensures unpaged { G.unpaged ≡ true → IsOk result }
-    ensures passes { PassesOver G.Pages (WentBy (aim_over G.Pages t.now g.old pid addr (ReadOf len)) tid.0 result (G.store g.new).report) g.old g.new }
+    ensures passes { PassesOver G.Pages
+        (WentBy (aim_over G.Pages t.now g.old pid addr (ReadOf len)) tid.0 result
+        (G.store g.new).report) g.old g.new }
     ensures loans { G.loans g.new ≡ G.loans g.old }
 {
     g.sound();
@@ -69,7 +74,8 @@ pub(crate) fn read_on<G: Pages>(
     }
 }
 
-/// A thread writes bytes where they are, which the row of their page permits, or has to wait for the page.
+/// A thread writes bytes where they are, which the row of their page permits, or has to wait for
+/// the page.
 pub(crate) fn write_on<G: Pages>(
     t: &mut Tables,
     g: &mut G,
@@ -87,13 +93,18 @@ pub(crate) fn write_on<G: Pages>(
     requires begun { IsBegun (G.store g.old).report }
     requires stays { row.copies ≡ false }
     requires inside { addr % 4096 + length bytes.now ≤ 4096 }
-    ensures went { IfOk result (λ a. Went t.old.machine.depth (world_over G.Pages t.old g.old) pid.0 addr (WriteOf bytes.now) (G.store g.old) (G.store g.new) a (world_over G.Pages t.new g.new)) }
-    ensures waits { IfErr result (λ why. Waits t.old.machine.depth (world_over G.Pages t.old g.old) pid.0 addr (WriteOf bytes.now) (G.store g.old) (G.store g.new) why) }
+    ensures went { IfOk result (λ a. Went t.old.machine.depth (world_over G.Pages t.old g.old) pid.0
+        addr (WriteOf bytes.now) (G.store g.old) (G.store g.new) a (world_over G.Pages t.new g.new)) }
+    ensures waits { IfErr result
+        (λ why. Waits t.old.machine.depth (world_over G.Pages t.old g.old) pid.0 addr
+        (WriteOf bytes.now) (G.store g.old) (G.store g.new) why) }
     ensures same { OnErr result ((t.new ≡ t.old) × (G.contents g.new ≡ G.contents g.old)) }
     ensures keeps { KeepsOver G.Pages t.new g.new }
     ensures line { (G.store g.new).line ≡ (G.store g.old).line }
     ensures unpaged { G.unpaged ≡ true → IsOk result }
-    ensures passes { PassesOver G.Pages (WentBy (aim_over G.Pages t.old g.old pid addr (WriteOf bytes.now)) tid.0 result (G.store g.new).report) g.old g.new }
+    ensures passes { PassesOver G.Pages
+        (WentBy (aim_over G.Pages t.old g.old pid addr (WriteOf bytes.now)) tid.0 result
+        (G.store g.new).report) g.old g.new }
     ensures loans { G.loans g.new ≡ G.loans g.old }
 {
     g.sound();
@@ -103,8 +114,8 @@ pub(crate) fn write_on<G: Pages>(
     }
 }
 
-/// A thread writes bytes, which the row of their page permits, to a copy that is the page's own from then on, or has to wait for the
-/// page or for a frame of the copy.
+/// A thread writes bytes, which the row of their page permits, to a copy that is the page's own
+/// from then on, or has to wait for the page or for a frame of the copy.
 pub(crate) fn write_to_copy_on<G: Pages>(
     t: &mut Tables,
     g: &mut G,
@@ -122,13 +133,18 @@ pub(crate) fn write_to_copy_on<G: Pages>(
     requires begun { IsBegun (G.store g.old).report }
     requires copies { row.copies ≡ true }
     requires inside { addr % 4096 + length bytes.now ≤ 4096 }
-    ensures went { IfOk result (λ a. Went t.old.machine.depth (world_over G.Pages t.old g.old) pid.0 addr (WriteOf bytes.now) (G.store g.old) (G.store g.new) a (world_over G.Pages t.new g.new)) }
-    ensures waits { IfErr result (λ why. Waits t.old.machine.depth (world_over G.Pages t.old g.old) pid.0 addr (WriteOf bytes.now) (G.store g.old) (G.store g.new) why) }
+    ensures went { IfOk result (λ a. Went t.old.machine.depth (world_over G.Pages t.old g.old) pid.0
+        addr (WriteOf bytes.now) (G.store g.old) (G.store g.new) a (world_over G.Pages t.new g.new)) }
+    ensures waits { IfErr result
+        (λ why. Waits t.old.machine.depth (world_over G.Pages t.old g.old) pid.0 addr
+        (WriteOf bytes.now) (G.store g.old) (G.store g.new) why) }
     ensures same { OnErr result ((t.new ≡ t.old) × (G.contents g.new ≡ G.contents g.old)) }
     ensures keeps { KeepsOver G.Pages t.new g.new }
     ensures line { (G.store g.new).line ≡ (G.store g.old).line }
     ensures unpaged { G.unpaged ≡ true → IsOk result }
-    ensures passes { PassesOver G.Pages (WentBy (aim_over G.Pages t.old g.old pid addr (WriteOf bytes.now)) tid.0 result (G.store g.new).report) g.old g.new }
+    ensures passes { PassesOver G.Pages
+        (WentBy (aim_over G.Pages t.old g.old pid addr (WriteOf bytes.now)) tid.0 result
+        (G.store g.new).report) g.old g.new }
     ensures loans { G.loans g.new ≡ G.loans g.old }
 {
     g.sound();
@@ -138,7 +154,8 @@ pub(crate) fn write_to_copy_on<G: Pages>(
     }
 }
 
-/// A thread reads 1 to 64 bytes. Where it is permitted and the wait has failed, the store is not asked.
+/// A thread reads 1 to 64 bytes. Where it is permitted and the wait has failed, the store is not
+/// asked.
 pub(crate) fn read_access<G: Pages>(
     t: &mut Tables,
     g: &mut G,
@@ -155,11 +172,14 @@ pub(crate) fn read_access<G: Pages>(
     requires some { 1 ≤ len }
     requires few { len ≤ 64 }
     requires inside { addr % 4096 + len ≤ 4096 }
-    ensures turned { Turned result failed t.old.machine.depth (world_over G.Pages t.old g.old) pid.0 addr (ReadOf len) (G.store g.old) (G.store g.new) (world_over G.Pages t.new g.new) }
+    ensures turned { Turned result failed t.old.machine.depth (world_over G.Pages t.old g.old) pid.0
+        addr (ReadOf len) (G.store g.old) (G.store g.new) (world_over G.Pages t.new g.new) }
     ensures keeps { KeepsOver G.Pages t.new g.new }
     ensures line { (G.store g.new).line ≡ (G.store g.old).line }
     ensures unpaged { G.unpaged ≡ true → (why : Why) → result ≡ threaded.Waiting why → ⊥ }
-    ensures passes { PassesOver G.Pages (TurnedBy (aim_over G.Pages t.old g.old pid addr (ReadOf len)) tid.0 result (G.store g.new).report) g.old g.new }
+    ensures passes { PassesOver G.Pages
+        (TurnedBy (aim_over G.Pages t.old g.old pid addr (ReadOf len)) tid.0 result
+        (G.store g.new).report) g.old g.new }
     ensures loans { G.loans g.new ≡ G.loans g.old }
 {
     t.sound();
@@ -191,11 +211,14 @@ pub(crate) fn write_access<G: Pages>(
     requires form { (G.store g.old).kind ≡ line_kind.Thread pid }
     requires begun { IsBegun (G.store g.old).report }
     requires inside { addr % 4096 + length bytes.now ≤ 4096 }
-    ensures turned { Turned result failed t.old.machine.depth (world_over G.Pages t.old g.old) pid.0 addr (WriteOf bytes.now) (G.store g.old) (G.store g.new) (world_over G.Pages t.new g.new) }
+    ensures turned { Turned result failed t.old.machine.depth (world_over G.Pages t.old g.old) pid.0
+        addr (WriteOf bytes.now) (G.store g.old) (G.store g.new) (world_over G.Pages t.new g.new) }
     ensures keeps { KeepsOver G.Pages t.new g.new }
     ensures line { (G.store g.new).line ≡ (G.store g.old).line }
     ensures unpaged { G.unpaged ≡ true → (why : Why) → result ≡ threaded.Waiting why → ⊥ }
-    ensures passes { PassesOver G.Pages (TurnedBy (aim_over G.Pages t.old g.old pid addr (WriteOf bytes.now)) tid.0 result (G.store g.new).report) g.old g.new }
+    ensures passes { PassesOver G.Pages
+        (TurnedBy (aim_over G.Pages t.old g.old pid addr (WriteOf bytes.now)) tid.0 result
+        (G.store g.new).report) g.old g.new }
     ensures loans { G.loans g.new ≡ G.loans g.old }
 {
     t.sound();

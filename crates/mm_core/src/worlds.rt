@@ -32,8 +32,8 @@ impl<G: Pages> World<G> {
     ghost use Rattle.mm_paging.specs.Lines.{Agrees};
     ghost use Rattle.mm_core.specs.Shown.{world, report, behind, line_of, loans};
 
-    /// The world after the `machine` line, over a new store of that machine. Over one that pages its
-    /// report is that of the frames behind it.
+    /// The world after the `machine` line, over a new store of that machine. Over one that pages
+    /// its report is that of the frames behind it.
     pub fn new(alloc: Global, machine: Machine, pages: G) -> World<G>
         requires new { IsNew machine (G.contents pages) (G.store pages) }
         ensures world { world result ≡ first_world machine }
@@ -75,15 +75,16 @@ impl<G: Pages> World<G> {
     /// that there was, by the store's reports before and after it, and the world that there is then
     /// is the step's.
     ///
-    /// Each form is the Windows call that `mm_calls` and `mm_views` name at its function, or this
+    /// Each form is the Windows call that `mm_calls` name at its function, or this
     /// profile's own. `line` is the number of the line in its script, where `machine` is line 1,
     /// which is a world's beginning and no line for this call.
     ///
-    /// `NoMemory` comes only from `file`, `alloc`, `create`, `createfile`, `open`, `map`, `grow`, a
-    /// `process` for which a number is left, a `protect` that gives a page its first mark, a `stack`
-    /// that would be made, and a `probe` that makes a stack grow. Then the world is as it was, and no further line can be decided. A failed access and a
-    /// `fault` come only where a device's count of faults rose in the line, or, of a `resume`,
-    /// where the read that its thread waited for failed before.
+    /// `NoMemory` comes only from a `process` for which a number is left, an `alloc` that makes a
+    /// region or commits a page that was not, a `protect` that gives a page its first mark, a
+    /// `probe` that makes a stack grow, and a `file`, `create`, `createfile`, `open`, `map`, `grow`
+    /// or `stack` that is not refused. Then the world is as it was, and no further line can be
+    /// decided. A failed access and a `fault` come only where a device's count of faults rose in
+    /// the line, or, of a `resume`, where the read that its thread waited for failed before.
     ///
     /// What is told of a line that was decided is one record (`Decides`), and of one that ran out
     /// of memory another (`Breaks`). Over a store that pages, the line's piece of the log of moves

@@ -15,8 +15,8 @@ use Rattle.mm_classes.specs.Counting.{is_class}
 use Rattle.mm_classes.specs.declared.classes.Class.{Class}
 use Rattle.mm_classes.specs.declared.classes.Class.TheVariants as class
 
--- the column in which a class is counted: hard; soft, by where the page was found: standby, modified,
--- transition, active; demand-zero; copy; collided
+-- the column in which a class is counted: hard; soft, by where the page was found: standby,
+-- modified, transition, active; demand-zero; copy; collided
 abbrev pub column_of : Class → Option ℕ
 column_of class.HardFaultFromPagingFile = Some 0
 column_of class.HardFaultFromFile = Some 0
@@ -69,7 +69,8 @@ is_first_use c = is_class class.FirstUse c
 -- it and the soft faults
 abbrev pub is_soft : Option Class → Bool
 is_soft c =
-    is_first_use c || is_class class.SoftFaultFromStandby c || is_class class.SoftFaultFromModified c
+    is_first_use c || is_class class.SoftFaultFromStandby c ||
+    is_class class.SoftFaultFromModified c
     || is_class class.SoftFaultInTransition c || is_class class.SoftFaultShared c
 
 -- ---- the ends of requests

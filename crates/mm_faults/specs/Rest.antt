@@ -27,4 +27,5 @@ said_of true t = tally_text t
 said_of false t = []
 
 abbrev pub fault_rest : FaultTeller → Bool → FrameLife → List Move → Text
-fault_rest t whole l ms = said_of whole (tally_from (tally_of t.counters) l (marks_of t.marks) t.before ms)
+fault_rest t whole l ms =
+    said_of whole (tally_from (tally_of t.counters) l (marks_of t.marks) t.before ms)

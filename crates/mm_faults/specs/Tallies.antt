@@ -34,7 +34,8 @@ counted cmp (e ∷ es) k column =
 
 abbrev pub place_cmp : FaultPlace → FaultPlace → Ordering
 place_cmp a b =
-    ordering_then (ordering_then (ordering_then (nat_cmp a.0 b.0) (bool_cmp a.1 b.1)) (nat_cmp a.2 b.2))
+    ordering_then
+    (ordering_then (ordering_then (nat_cmp a.0 b.0) (bool_cmp a.1 b.1)) (nat_cmp a.2 b.2))
     (nat_cmp a.3 b.3)
 
 -- ---- all that is counted
@@ -105,7 +106,8 @@ tallied t l m c =
 abbrev pub tally_from : Tally → FrameLife → MarksOf → Option Move → List Move → Tally
 tally_from t l v before [] = t
 tally_from t l v before (m ∷ ms) =
-    tally_from (tallied t l m (class_of l v before m (next_of ms))) (after_move l m) (marks_after v m)
+    tally_from (tallied t l m (class_of l v before m (next_of ms))) (after_move l m)
+    (marks_after v m)
     (Some m) ms
 
 abbrev pub tally : List Move → Tally

@@ -10,9 +10,8 @@ ghost use Rattle.mm_life.specs.MoveText.{numbered};
 
 use crate::counters::Counters;
 use crate::kinds::FaultPlace;
-use mm_columns::{put_left, put_numbers, put_right_number};
 use mm_sentences::{put_number, put_words};
-use mm_text::{LineBuf, put_decimal};
+use mm_text::{LineBuf, put_decimal, put_left, put_numbers, put_right_number};
 use mm_types::NoMemory;
 use std::collections::BTreeMap;
 

@@ -1,5 +1,5 @@
 -- The frames in flight stay distinct, and each thread that waits waits for one of them.
-use Rattle.std.proofs.Common.{◌≡◌, ◌≢◌, ◌⊎◌, ℕ, zero, suc, ◌+◌, ◌-◌, Bool, true, false, not, cond, List, [], ◌∷◌, ◌++◌, length, map, take, drop, replicate, Option, Some, None, refl, sym, ap, ◌∙◌, ◌<◌, ◌≤◌, inl, inr, arith}
+use Rattle.std.proofs.Common.{◌≡◌, ◌≢◌, ◌⊎◌, ℕ, zero, suc, ◌+◌, ◌-◌, Bool, true, false, not, cond, List, [], ◌∷◌, ◌++◌, length, map, take, drop, Option, Some, None, refl, sym, ap, ◌∙◌, ◌<◌, ◌≤◌, inl, inr, arith}
 use Rattle.std.specs.Prelude.{◌==◌, ◌||◌, slice_get, slice_set, option_map}
 use Rattle.std.specs.Cmp.{unsigned_Decides}
 use Rattle.std.proofs.lemmas.Option.{slice_get-map}
@@ -170,14 +170,6 @@ none_asked m t ws x inside idle before k w le lt e = elim (set_cases ws t k x w 
 
 -- ---- what the type keeps
 
-pub none_waits : (n : ℕ) → IsKept [] (replicate n waiting.Nothing)
-none_waits n = record { distinct = tt; awaited = λ t f e. absurd (nothing n t f e) }
-  where
-    nothing : (k t : ℕ) (f : Frame) → slice_get (replicate k waiting.Nothing) t ≡ Some (waiting.For f) → ⊥
-    nothing zero t f e = cc
-    nothing (suc k) zero f e = cc
-    nothing (suc k) (suc t) f e = nothing k t f e
-
 module _ (frames : List ℕ) (waits : List Waiting) (h : IsKept frames waits) where
   pub kept_begun : (f : ℕ) → is_in f frames ≡ false → IsKept (frames ++ f ∷ []) waits
   kept_begun f new = record {
@@ -191,25 +183,6 @@ module _ (frames : List ℕ) (waits : List Waiting) (h : IsKept frames waits) wh
     awaited = λ t g e.
         let was = wait_before (slice_get waits t) g f ok (sym (slice_get-map (ended f ok) waits t) ∙ e) in
         in_without frames f g.0 was.1 ∙ h.awaited t g was.0;
-  }
-
-  -- a thread waits for a frame in flight, or for none
-  pub kept_wait : (t : ℕ) (f : Frame) → t < length waits → is_in f.0 frames ≡ true → IsKept frames (slice_set waits t (waiting.For f))
-  kept_wait t f inside there = record {
-    distinct = h.distinct;
-    awaited = λ u g e. elim (set_cases waits t u (waiting.For f) (waiting.For g) inside e) [
-      | inl here ↦ let same : f ≡ g = cc in ap (λ (q : Frame). is_in q.0 frames) (sym same) ∙ there
-      | inr apart ↦ h.awaited u g apart.1
-    ];
-  }
-
-  pub kept_forget : (t : ℕ) → t < length waits → IsKept frames (slice_set waits t waiting.Nothing)
-  kept_forget t inside = record {
-    distinct = h.distinct;
-    awaited = λ u g e. elim (set_cases waits t u waiting.Nothing (waiting.For g) inside e) [
-      | inl here ↦ cc
-      | inr apart ↦ h.awaited u g apart.1
-    ];
   }
 
 pub holds_at : (v : FlightOf) → IsKept v.frames v.waits → Holds v

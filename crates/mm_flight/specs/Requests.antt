@@ -7,7 +7,8 @@ use Rattle.mm_types.specs.declared.answers.Wait.TheVariants as wait
 use Rattle.mm_flight.specs.declared.flights.Waiting.{Waiting}
 use Rattle.mm_flight.specs.declared.flights.Waiting.TheVariants as waiting
 
--- at most so many requests; the frames with a request, oldest first; what each of the 256 threads waits for
+-- at most so many requests; the frames with a request, oldest first; what each of the 256 threads
+-- waits for
 pub record FlightOf : Type 0 where
   pub depth : ℕ
   pub frames : List ℕ
@@ -36,7 +37,8 @@ place_in f frames = option_map (λ i. i + 1) (position (λ x. x == f) frames)
 -- what a thread waits for once the request of frame f has ended, well or not
 abbrev pub ended : ℕ → Bool → Waiting → Waiting
 ended f ok waiting.Nothing = waiting.Nothing
-ended f ok (waiting.For g) = if g.0 == f then (if ok then waiting.Done else waiting.Failed) else waiting.For g
+ended f ok (waiting.For g) = if g.0 == f then (if ok then waiting.Done else waiting.Failed) else
+    waiting.For g
 ended f ok waiting.Done = waiting.Done
 ended f ok waiting.Failed = waiting.Failed
 
@@ -55,7 +57,8 @@ is_for waiting.Failed = false
 
 -- no thread from this number on waits for a request in flight
 abbrev pub NoneWaitsFrom : ℕ → List Waiting → Type 0
-NoneWaitsFrom n waits = (t : ℕ) (w : Waiting) → n ≤ t → slice_get waits t ≡ Some w → is_for w ≡ false
+NoneWaitsFrom n waits = (t : ℕ) (w : Waiting) → n ≤ t → slice_get waits t ≡ Some w →
+    is_for w ≡ false
 
 -- room for `depth` frames, `frames` of which are in flight, and a wait for each thread
 pub record HasRoom (depth frames room threads : ℕ) : Type 0 where
@@ -71,7 +74,8 @@ AreDistinct (f ∷ fs) = (is_in f fs ≡ false) × AreDistinct fs
 
 -- each thread that waits waits for a frame in flight
 abbrev pub AreAwaited : List ℕ → List Waiting → Type 0
-AreAwaited frames waits = (t : ℕ) (f : Frame) → slice_get waits t ≡ Some (waiting.For f) → is_in f.0 frames ≡ true
+AreAwaited frames waits = (t : ℕ) (f : Frame) → slice_get waits t ≡ Some (waiting.For f) →
+    is_in f.0 frames ≡ true
 
 -- what the type keeps
 pub record IsKept (frames : List ℕ) (waits : List Waiting) : Type 0 where

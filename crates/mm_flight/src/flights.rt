@@ -25,7 +25,8 @@ pub struct Flight {
     depth: u32,
     frames: Vec<Frame>,
     waits: Vec<Waiting>,
-    /// No thread from this number on waits for a request, so that the end of a request asks none of them.
+    /// No thread from this number on waits for a request, so that the end of a request asks none of
+    /// them.
     upto: usize,
 }
 
@@ -48,7 +49,11 @@ impl Model for Flight {
 impl Flight {
     /// No request is in flight, and no thread waits. At most `depth` requests can be in flight.
     pub fn new(alloc: Global, depth: u32) -> Result<Flight, NoMemory>
-        ensures { IfOk result (λ f. f ≡ record { depth = depth; frames = []; waits = replicate 256 Waiting.Nothing }) }
+        ensures { IfOk result (λ f. f ≡ record {
+          depth = depth;
+          frames = [];
+          waits = replicate 256 Waiting.Nothing;
+        }) }
     {
         let frames = Vec::with_capacity(alloc, depth as usize)?;
         let mut waits = Vec::new(alloc);
@@ -98,8 +103,8 @@ impl Flight {
         frame_at(&self.frames, i - 1)
     }
 
-    /// That no frame has two requests, that each thread that waits waits for a frame in flight, that at most depth requests are in
-    /// flight, and that there are 256 threads. It does nothing.
+    /// That no frame has two requests, that each thread that waits waits for a frame in flight,
+    /// that at most depth requests are in flight, and that there are 256 threads. It does nothing.
     pub fn requests_hold(&self)
         ensures holds { Holds self.now }
         ensures few { length self.now.frames ≤ self.now.depth }
@@ -120,10 +125,14 @@ impl Flight {
         None
     }
 
-    /// The request of a frame in flight ends, well or not, and so does the wait of each thread for it.
+    /// The request of a frame in flight ends, well or not, and so does the wait of each thread for
+    /// it.
     pub fn end(&mut self, f: Frame, ok: bool)
         requires { is_in f.0 self.old.frames ≡ true }
-        ensures { self.new ≡ record self.old { frames = without f.0 self.old.frames; waits = map (ended f.0 ok) self.old.waits } }
+        ensures { self.new ≡ record self.old {
+          frames = without f.0 self.old.frames;
+          waits = map (ended f.0 ok) self.old.waits;
+        } }
     {
         remove_frame(&mut self.frames, f);
         self.upto = end_waits(&mut self.waits, self.upto, f, ok);
@@ -132,7 +141,9 @@ impl Flight {
     /// The thread waits for the request of a frame in flight from now on.
     pub fn wait(&mut self, t: Tid, f: Frame)
         requires { is_in f.0 self.old.frames ≡ true }
-        ensures waits { self.new ≡ record self.old { waits = slice_set self.old.waits t.0 (Waiting.For f) } }
+        ensures waits { self.new ≡ record self.old {
+          waits = slice_set self.old.waits t.0 (Waiting.For f);
+        } }
         ensures there { t.0 < length self.old.waits }
     {
         self.waits[t.0 as usize] = Waiting::For(f);
@@ -155,7 +166,9 @@ impl Flight {
 
     /// The thread waits for nothing from now on.
     pub fn forget(&mut self, t: Tid)
-        ensures waits { self.new ≡ record self.old { waits = slice_set self.old.waits t.0 Waiting.Nothing } }
+        ensures waits { self.new ≡ record self.old {
+          waits = slice_set self.old.waits t.0 Waiting.Nothing;
+        } }
         ensures there { t.0 < length self.old.waits }
     {
         self.waits[t.0 as usize] = Waiting::Nothing;
@@ -189,8 +202,8 @@ fn is_for(waiting: Waiting) -> bool
     }
 }
 
-/// Ends each wait for the request of frame `f`, where no thread from `upto` on waits for one. Answers from which thread on
-/// none does then.
+/// Ends each wait for the request of frame `f`, where no thread from `upto` on waits for one.
+/// Answers from which thread on none does then.
 fn end_waits(waits: &mut Vec<Waiting>, upto: usize, f: Frame, ok: bool) -> usize
     requires within { upto ≤ length waits.old.items }
     requires idle { NoneWaitsFrom upto waits.old.items }

@@ -45,10 +45,6 @@ first_of = option_map (λ (p : Text × List Row). p.0)
 abbrev second_of : Option (Text × List Row) → Option (List Row)
 second_of = option_map (λ (p : Text × List Row). p.1)
 
-pub no_pair : (o : Option (Text × List Row)) → None ≡ option_map (λ (p : Text × List Row). p.0) o → o ≡ None
-no_pair None e = refl
-no_pair (Some p) e = cc
-
 pair_is : (o : Option (Text × List Row)) (n : Text) (r : List Row) → Some n ≡ option_map (λ (p : Text × List Row). p.0) o → Some r ≡ option_map (λ (p : Text × List Row). p.1) o → o ≡ Some (n, r)
 pair_is None n r e f = cc
 pair_is (Some p) n r e f =

@@ -180,9 +180,6 @@ pub no_kinds : (ks : Kinds) → or_else ks [] ≡ [] → ks ≡ []
 no_kinds [] e = refl
 no_kinds (k ∷ ks) e = e
 
-abbrev range_by : ℕ → ℕ → Bool → Bool → Bool → Bool → Kinds
-range_by k m a b c d = cond a (InvalidValue ∷ []) (cond b (cond c [] (WrongNumberOfValues ∷ [])) (cond d (TooFewValues ∷ []) (cond (nat_lt m k) (TooManyValues ∷ []) [])))
-
 not_zero : (least n : ℕ) → 1 ≤ n → (nat_lt 0 least && n == 0) ≡ false
 not_zero least n some = and_right (nat_lt 0 least) (n == 0) (ne_eqb n 0 (λ e. omega arith))
 

@@ -300,9 +300,6 @@ all_added (f ∷ fs) = forms_added (form_shape f ∷ []) fs
 
 -- ---- the command is one of which clap's clauses tell all
 
-abbrev leaf_ok : Shape → Bool
-leaf_ok s = is_simple_leaf s && (is_ready_leaf s && has_free_rules s)
-
 form_ok : (f : Form) (b : Bool) → (is_simple_leaf (record (new_shape f.name.now) { rules = rules_by f (max f.most f.least) b }) ≡ true)
     × (is_ready_leaf (form_by f (max f.most f.least) b) ≡ true) × (has_free_rules (form_by f (max f.most f.least) b) ≡ true)
 form_ok f true = (refl, refl, refl)

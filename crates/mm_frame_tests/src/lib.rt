@@ -1,6 +1,11 @@
-//! Tests of the crates of page frames and of their moves, in a crate of their own, so that each of those is proved once.
+//! Tests of the crates of page frames and of their moves, in a crate of their own, so that each of
+//! those is proved once.
 #![tactic(auto)]
 
+#[cfg(test)]
+mod areas;
+#[cfg(test)]
+mod entries;
 #[cfg(test)]
 mod frames;
 #[cfg(test)]

@@ -1,7 +1,7 @@
 #![tactic(auto, using(mm_types::proofs::Finite::insert_keeps))]
 
-use mm_radix::Table;
 use mm_types::Vpn;
+use mm_words::Table;
 use std::test::Fail;
 
 #[test]

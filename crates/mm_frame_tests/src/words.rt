@@ -1,6 +1,5 @@
-use mm_entry::Entry;
 use mm_types::{Frame, Key, Pid, Place, Vpn};
-use mm_words::Words;
+use mm_words::{Entry, Words};
 use std::test::Fail;
 
 #[test]

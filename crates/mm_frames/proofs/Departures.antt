@@ -6,13 +6,13 @@ use Rattle.mm_types.specs.declared.frames.Record.{Record}
 use Rattle.mm_types.specs.declared.frames.Request.{Request}
 use Rattle.mm_types.specs.declared.frames.Request.TheVariants as request
 use Rattle.mm_types.proofs.Cells.{same_or_not}
-use Rattle.mm_life.specs.Frames.{blank, is_idle, is_read, is_write, is_again, has_request, without_slot, off_lists, to_free, disowned}
+use Rattle.mm_life.specs.Frames.{blank, is_idle, is_read, is_write, is_again, has_request, off_lists, to_free, disowned}
 use Rattle.mm_lists.specs.Lists.{ListsOf, AreApart, IsOnNone, list_at, number_at, with_list, without}
 use Rattle.mm_lists.proofs.Cuts.{without_other}
 use Rattle.mm_ram.specs.Ram.{page_at}
 use Rattle.mm_frames.specs.declared.standing.Standing.{Standing}
 use Rattle.mm_frames.specs.declared.standing.Standing.TheVariants.{Zeroed, Free, Bound, Cleared, Taken}
-use Rattle.mm_frames.specs.Base.{standing_at, can_be_soiled, record_written}
+use Rattle.mm_frames.specs.Base.{standing_at, can_be_soiled}
 use Rattle.mm_frames.specs.Placing.{list_for, Holds, AreFrames, is_kept, table_of}
 use Rattle.mm_lists.proofs.Members.{without_removes, pop_removes, list-without}
 use Rattle.mm_frames.proofs.Placings.{taken_off, changed, stays_off, put_on, moved, as_empty, frame_low, busy_on_none, not_on_low, first_low, first_list}
@@ -143,15 +143,6 @@ requested_kept records standing lists bytes a f n = elim (same_or_not (length re
   | inl e ↦ let bad : true ≡ false = sym n ∙ ap (λ (q : Record). has_request q.request) (get_or_past records f blank (omega arith)) in cc
   | inr d ↦ kept_by_request (standing_at standing f) (get_or records f blank) (page_at bytes f) (a.holds f (omega arith)) n
 ]
-
--- the owner stays as a write ends
-owner_by : (b : Bool) (x y : Record) (o : Bool) → is_some x.owner ≡ o → is_some y.owner ≡ o → is_some (if b then x else y).owner ≡ o
-owner_by true x y o p q = p
-owner_by false x y o p q = q
-
-pub written_owner : (ok : Bool) (r : Record) → is_some (record_written ok r).owner ≡ is_some r.owner
-written_owner true r = owner_by (is_again r.request) (record r { request = request.None; backing = without_slot r.backing }) (record r { request = request.None; changed = false }) (is_some r.owner) refl refl
-written_owner false r = refl
 
 -- a page that is no more, with its request still there
 pub disowned_kept : (r : Record) → has_request r.request ≡ true → r.shares ≡ 0 → is_kept (disowned r) ≡ true

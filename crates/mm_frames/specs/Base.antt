@@ -33,28 +33,46 @@ stands standing (Some f) s = slice_set standing f s
 
 -- the first of a list is taken into a token
 abbrev pub zeroed_taken : FramesOf → FramesOf
-zeroed_taken v = record v { table = record v.table { zeroed = rest v.table.zeroed }; standing = stands v.standing (slice_get v.table.zeroed 0) Cleared }
+zeroed_taken v = record v {
+  table = record v.table { zeroed = rest v.table.zeroed };
+  standing = stands v.standing (slice_get v.table.zeroed 0) Cleared;
+}
 
 abbrev pub free_taken : FramesOf → FramesOf
-free_taken v = record v { table = record v.table { free = rest v.table.free }; standing = stands v.standing (slice_get v.table.free 0) Taken }
+free_taken v = record v {
+  table = record v.table { free = rest v.table.free };
+  standing = stands v.standing (slice_get v.table.free 0) Taken;
+}
 
 -- a token is spent: its frame goes to the end of a list
 abbrev pub zeroed_put : FramesOf → ℕ → FramesOf
-zeroed_put v f = record v { table = record v.table { zeroed = v.table.zeroed ++ f ∷ [] }; standing = slice_set v.standing f Zeroed }
+zeroed_put v f = record v {
+  table = record v.table { zeroed = v.table.zeroed ++ f ∷ [] };
+  standing = slice_set v.standing f Zeroed;
+}
 
 abbrev pub free_put : FramesOf → ℕ → FramesOf
-free_put v f = record v { table = record v.table { free = v.table.free ++ f ∷ [] }; standing = slice_set v.standing f Free }
+free_put v f = record v {
+  table = record v.table { free = v.table.free ++ f ∷ [] };
+  standing = slice_set v.standing f Free;
+}
 
 -- a frame in hand is all zero
 abbrev pub now_cleared : FramesOf → ℕ → FramesOf
-now_cleared v f = record v { bytes = with_page v.bytes f zero_page; standing = slice_set v.standing f Cleared }
+now_cleared v f = record v {
+  bytes = with_page v.bytes f zero_page;
+  standing = slice_set v.standing f Cleared;
+}
 
 -- a token is spent: its frame is bound to a page
 abbrev pub given_to : FramesOf → ℕ → Key → FramesOf
 given_to v f k = record v { table = bound v.table f k; standing = slice_set v.standing f Bound }
 
 abbrev pub reading_into : FramesOf → ℕ → Key → Backing → FramesOf
-reading_into v f k home = record v { table = with_record v.table f (being_read k home); standing = slice_set v.standing f Bound }
+reading_into v f k home = record v {
+  table = with_record v.table f (being_read k home);
+  standing = slice_set v.standing f Bound;
+}
 
 -- the first of standby is taken into a token: it holds no page from then on, as after a `steal`
 abbrev pub emptied : List Record → Option ℕ → List Record
@@ -64,7 +82,10 @@ emptied records (Some f) = slice_set records f blank
 abbrev pub standby_taken : FramesOf → FramesOf
 standby_taken v =
     record v {
-      table = record v.table { records = emptied v.table.records (slice_get v.table.standby 0); standby = rest v.table.standby };
+      table = record v.table {
+        records = emptied v.table.records (slice_get v.table.standby 0);
+        standby = rest v.table.standby;
+      };
       standing = stands v.standing (slice_get v.table.standby 0) Taken;
     }
 
@@ -72,7 +93,8 @@ standby_taken v =
 
 -- it is not changed and no request holds it, or it is being written and was not changed since
 abbrev pub can_be_soiled : Record → Bool
-can_be_soiled r = (not r.changed && not (has_request r.request)) || (is_write r.request && not (is_again r.request))
+can_be_soiled r = (not r.changed && not (has_request r.request)) ||
+    (is_write r.request && not (is_again r.request))
 
 abbrev pub has_block : Backing → Bool
 has_block backing.None = false
@@ -87,7 +109,8 @@ is_modified_with_block r = is_idle r && (r.changed && has_block r.backing)
 abbrev pub modified_with_block : FrameTable → List ℕ
 modified_with_block d = filter (λ f. has_block (record_at d f).backing) d.modified
 
--- a page without a block is written to a slot, while no valid entry names its frame; a page with a block to that block
+-- a page without a block is written to a slot, while no valid entry names its frame; a page with a
+-- block to that block
 abbrev pub can_go_to : Backing → Record → Bool
 can_go_to backing.None r = false
 can_go_to (backing.Slot s) r = (r.shares == 0) && not (has_block r.backing)
@@ -103,13 +126,26 @@ stands_with None standing f = slice_set standing f Free
 -- a read ends with the bytes of the page, or it fails
 abbrev pub read_ended : FramesOf → ℕ → Option (List ℕ) → FramesOf
 read_ended v f (Some page) =
-    record { table = after_got v.table f; bytes = with_page v.bytes f page; standing = stands_with (record_at v.table f).owner v.standing f }
-read_ended v f None = record v { table = after_bad v.table f; standing = slice_set v.standing f Free }
+    record {
+      table = after_got v.table f;
+      bytes = with_page v.bytes f page;
+      standing = stands_with (record_at v.table f).owner v.standing f;
+    }
+read_ended v f None = record v {
+  table = after_bad v.table f;
+  standing = slice_set v.standing f Free;
+}
 
 -- a write ends well, or it fails
 abbrev pub write_ended : FramesOf → ℕ → Bool → FramesOf
-write_ended v f true = record v { table = after_wrote v.table f; standing = stands_with (record_at v.table f).owner v.standing f }
-write_ended v f false = record v { table = after_lost v.table f; standing = stands_with (record_at v.table f).owner v.standing f }
+write_ended v f true = record v {
+  table = after_wrote v.table f;
+  standing = stands_with (record_at v.table f).owner v.standing f;
+}
+write_ended v f false = record v {
+  table = after_lost v.table f;
+  standing = stands_with (record_at v.table f).owner v.standing f;
+}
 
 abbrev pub record_written : Bool → Record → Record
 record_written true r = write_done r
@@ -124,14 +160,18 @@ abbrev pub forgotten : FramesOf → ℕ → FramesOf
 forgotten v f =
     record v {
       table = after_drop v.table f;
-      standing = if has_request (record_at v.table f).request then v.standing else slice_set v.standing f Free;
+      standing = if has_request (record_at v.table f).request then v.standing else
+          slice_set v.standing f Free;
     }
 
 -- ---- steps of these
 
 -- a bound frame leaves its list, if it is on one, and goes to free
 abbrev pub gone_free : FramesOf → ℕ → FramesOf
-gone_free v f = record v { table = to_free (off_lists v.table f) f; standing = slice_set v.standing f Free }
+gone_free v f = record v {
+  table = to_free (off_lists v.table f) f;
+  standing = slice_set v.standing f Free;
+}
 
 -- a request ends and leaves this record
 abbrev pub ended_with : Record → FrameTable → ℕ → FrameTable

@@ -19,7 +19,13 @@ list_for Cleared r = None
 list_for Taken r = None
 
 abbrev pub table_of : List Record → List (List ℕ) → FrameTable
-table_of records lists = record { records = records; zeroed = list_at lists 0; free = list_at lists 1; standby = list_at lists 2; modified = list_at lists 3 }
+table_of records lists = record {
+  records = records;
+  zeroed = list_at lists 0;
+  free = list_at lists 1;
+  standby = list_at lists 2;
+  modified = list_at lists 3;
+}
 
 -- a bound frame has an owner, or a request and no shares
 abbrev pub is_kept : Record → Bool
@@ -37,9 +43,13 @@ is_zero Cleared = true
 is_zero Taken = false
 
 -- each frame but these is on the list that it stands on, and on no other
-pub record Listed (but : ℕ → Bool) (records : List Record) (standing : List Standing) (lists : List (List ℕ)) : Type 0 where
-  pub held : (j k f : ℕ) → number_at lists j k ≡ Some f → (but f ≡ false) × (list_for (standing_at standing f) (slice_index_or records f blank) ≡ Some j)
-  pub there : (f j : ℕ) → f < length records → but f ≡ false → list_for (standing_at standing f) (slice_index_or records f blank) ≡ Some j → (k : ℕ) × (number_at lists j k ≡ Some f)
+pub record Listed (but : ℕ → Bool) (records : List Record) (standing : List Standing)
+    (lists : List (List ℕ)) : Type 0 where
+  pub held : (j k f : ℕ) → number_at lists j k ≡ Some f → (but f ≡ false) ×
+      (list_for (standing_at standing f) (slice_index_or records f blank) ≡ Some j)
+  pub there : (f j : ℕ) → f < length records → but f ≡ false →
+      list_for (standing_at standing f) (slice_index_or records f blank) ≡ Some j → (k : ℕ) ×
+      (number_at lists j k ≡ Some f)
 
 -- what a frame holds, by where it stands
 pub record Holds (standing : Standing) (r : Record) (page : Option (List ℕ)) : Type 0 where
@@ -51,7 +61,8 @@ pub record Holds (standing : Standing) (r : Record) (page : Option (List ℕ)) :
 abbrev pub none_but : ℕ → Bool
 none_but f = false
 
-pub record AreFrames (records : List Record) (standing : List Standing) (lists : ListsOf) (bytes : List (Option (List ℕ))) : Type 0 where
+pub record AreFrames (records : List Record) (standing : List Standing) (lists : ListsOf)
+    (bytes : List (Option (List ℕ))) : Type 0 where
   pub small : length records < 2 ^ 32
   pub standings : length standing ≡ length records
   pub pages : length bytes ≡ length records
@@ -59,7 +70,8 @@ pub record AreFrames (records : List Record) (standing : List Standing) (lists :
   pub four : length lists.lists ≡ 4
   pub apart : AreApart lists
   pub listed : Listed none_but records standing lists.lists
-  pub holds : (f : ℕ) → f < length records → Holds (standing_at standing f) (slice_index_or records f blank) (page_at bytes f)
+  pub holds : (f : ℕ) → f < length records →
+      Holds (standing_at standing f) (slice_index_or records f blank) (page_at bytes f)
 
 -- of these frames those whose page has a block
 abbrev pub backed_in : List Record → List ℕ → List ℕ
@@ -69,11 +81,13 @@ abbrev pub backed_list : List Record → List ℕ → ListsOf
 backed_list records xs = record { numbers = length records; lists = backed_in records xs ∷ [] }
 
 -- a second list has the modified frames whose page has a block
-pub record AreBacked (records : List Record) (lists : List (List ℕ)) (with_block : ListsOf) : Type 0 where
+pub record AreBacked (records : List Record) (lists : List (List ℕ)) (with_block : ListsOf) :
+    Type 0 where
   pub apart : AreApart with_block
   pub same : with_block ≡ backed_list records (list_at lists 3)
 
-pub record AreKept (records : List Record) (standing : List Standing) (lists with_block : ListsOf) (bytes : List (Option (List ℕ))) : Type 0 where
+pub record AreKept (records : List Record) (standing : List Standing) (lists with_block : ListsOf)
+    (bytes : List (Option (List ℕ))) : Type 0 where
   pub placed : AreFrames records standing lists bytes
   pub backed : AreBacked records lists.lists with_block
 
@@ -87,7 +101,10 @@ abbrev pub lists_of : FrameTable → List (List ℕ)
 lists_of d = d.zeroed ∷ d.free ∷ d.standby ∷ d.modified ∷ []
 
 abbrev pub ArePlaced : FramesOf → Type 0
-ArePlaced v = AreFrames v.table.records v.standing (record { numbers = length v.table.records; lists = lists_of v.table }) v.bytes
+ArePlaced v = AreFrames v.table.records v.standing (record {
+  numbers = length v.table.records;
+  lists = lists_of v.table;
+}) v.bytes
 
 abbrev pub is_in_hand : Standing → Bool
 is_in_hand Zeroed = false
@@ -102,8 +119,10 @@ one_if b = cond b 1 0
 -- on how many of the four lists, active, in transition and in hand the frame is
 abbrev pub places : FramesOf → ℕ → ℕ
 places v f =
-    one_if (is_on f v.table.zeroed) + one_if (is_on f v.table.free) + one_if (is_on f v.table.standby) + one_if (is_on f v.table.modified)
-    + one_if (is_active (record_at v.table f)) + one_if (is_in_transition (record_at v.table f)) + one_if (is_in_hand (standing_at v.standing f))
+    one_if (is_on f v.table.zeroed) + one_if (is_on f v.table.free) + one_if
+    (is_on f v.table.standby) + one_if (is_on f v.table.modified)
+    + one_if (is_active (record_at v.table f)) + one_if (is_in_transition (record_at v.table f)) +
+    one_if (is_in_hand (standing_at v.standing f))
 
 -- a page that no valid entry and no request holds, changed or not
 pub record IsAtRest (changed_page : Bool) (r : Record) : Type 0 where

@@ -141,7 +141,8 @@ impl Frames {
 
     /// The first modified frame that has a block as backing, `None` exactly where none has.
     pub fn front_modified_with_block(&self) -> Option<Frame>
-        ensures first { option_map (λ f. f.0) result ≡ slice_get (modified_with_block self.now.table) 0 }
+        ensures first { option_map (λ f. f.0) result ≡
+            slice_get (modified_with_block self.now.table) 0 }
         ensures there { IfSome result (λ f. f.0 < length self.now.table.records) }
         ensures rests { IfSome result (λ f. IsAtRest true (record_at self.now.table f.0)) }
         ensures block { IfSome result (λ f. has_block (record_at self.now.table f.0).backing ≡ true) }
@@ -184,14 +185,15 @@ impl Frames {
         Some(Dirty { frame: Frame(f) })
     }
 
-    /// Takes the first frame on standby from its page (the move `steal`, with the frame in hand in place of on
-    /// free); `None` exactly where none is on standby.
+    /// Takes the first frame on standby from its page (the move `steal`, with the frame in hand in
+    /// place of on free); `None` exactly where none is on standby.
     pub fn take_standby(&mut self) -> Option<Stolen>
         ensures first { option_map (λ s. s.dirty) result ≡ slice_get self.old.table.standby 0 }
         ensures front { IfSome result (λ s. s.dirty ≡ slice_index self.old.table.standby 0) }
         ensures rests { IfSome result (λ s. IsAtRest false (record_at self.old.table s.dirty)) }
         ensures key { IfSome result (λ s. (record_at self.old.table s.dirty).owner ≡ Some s.key) }
-        ensures backing { IfSome result (λ s. (record_at self.old.table s.dirty).backing ≡ s.backing) }
+        ensures backing { IfSome result
+            (λ s. (record_at self.old.table s.dirty).backing ≡ s.backing) }
         ensures there { IfSome result (λ s. s.dirty < length self.old.table.records) }
         ensures in_hand { IfSome result (λ s. IsDirty self.new s.dirty) }
         ensures taken { self.new ≡ standby_taken self.old }
@@ -254,7 +256,8 @@ impl Frames {
         Dirty { frame }
     }
 
-    /// Spends a blank: its frame becomes that of a demand-zero page, and goes to modified (the move `give`).
+    /// Spends a blank: its frame becomes that of a demand-zero page, and goes to modified (the move
+    /// `give`).
     pub fn bind(&mut self, b: Blank, key: Key) -> Frame
         requires { IsBlank self.old b }
         ensures same { result.0 ≡ b }
@@ -300,7 +303,11 @@ impl Frames {
     /// `n` frames, all free, in rising order.
     pub fn new(alloc: Global, n: u32) -> Result<Frames, NoMemory>
         ensures { IfOk result (λ v. v
-            ≡ record { table = free_table n; bytes = replicate n None; standing = replicate n Standing.Free }) }
+            ≡ record {
+              table = free_table n;
+              bytes = replicate n None;
+              standing = replicate n Standing.Free;
+            }) }
     {
         let mut lists = Lists::new(alloc, n, 4)?;
         push_all(&mut lists, n);
@@ -327,7 +334,8 @@ impl Frames {
         self.ram.read(f, off, out);
     }
 
-    /// All bytes of a frame that has an owner or a write request, and no read request, where they are.
+    /// All bytes of a frame that has an owner or a write request, and no read request, where they
+    /// are.
     pub fn page(&self, f: Frame) -> &[u8; 4096]
         requires kept { is_bound (record_at self.now.table f.0) ≡ true }
         requires not_read { is_read (record_at self.now.table f.0).request ≡ false }
@@ -374,7 +382,8 @@ impl Frames {
         self.ram.copy(from, to);
     }
 
-    /// One more valid entry names the frame, which has an owner and no read request (the move `map`).
+    /// One more valid entry names the frame, which has an owner and no read request (the move
+    /// `map`).
     pub fn share(&mut self, f: Frame)
         requires owned { IsSome (record_at self.old.table f.0).owner }
         requires not_read { is_read (record_at self.old.table f.0).request ≡ false }
@@ -391,7 +400,8 @@ impl Frames {
         self.records.set(f.0, shared);
     }
 
-    /// A valid entry names the frame no more: without shares and request it settles (the move `unmap`).
+    /// A valid entry names the frame no more: without shares and request it settles (the move
+    /// `unmap`).
     pub fn unshare(&mut self, f: Frame)
         requires { 1 ≤ (record_at self.old.table f.0).shares }
         ensures { self.new ≡ record self.old { table = after_unmap self.old.table f.0 } }
@@ -406,8 +416,8 @@ impl Frames {
         settle_with_block(&mut self.with_block, f.0, &unshared);
     }
 
-    /// The page of a frame with shares is changed (the move `soil`): a slot that backed it is given back. It
-    /// was not changed, or it is being written and was not changed since that began.
+    /// The page of a frame with shares is changed (the move `soil`): a slot that backed it is given
+    /// back. It was not changed, or it is being written and was not changed since that began.
     pub fn soil(&mut self, f: Frame) -> Option<Slot>
         requires shared { 1 ≤ (record_at self.old.table f.0).shares }
         requires clean { can_be_soiled (record_at self.old.table f.0) ≡ true }
@@ -419,8 +429,9 @@ impl Frames {
         slot_after_soil(&r)
     }
 
-    /// A write of a changed frame without a request begins (the move `write`): it leaves its list, if any. It
-    /// goes to the block that backs the frame, or for a modified frame without one to a slot.
+    /// A write of a changed frame without a request begins (the move `write`): it leaves its list,
+    /// if any. It goes to the block that backs the frame, or for a modified frame without one to a
+    /// slot.
     pub fn start_write(&mut self, f: Frame, backing: Backing)
         requires changed { (record_at self.old.table f.0).changed ≡ true }
         requires target { can_go_to backing (record_at self.old.table f.0) ≡ true }
@@ -485,18 +496,22 @@ impl Frames {
         }
     }
 
-    /// The read request of a frame ends: with the page's bytes (the move `got`), or without (the move `bad`).
+    /// The read request of a frame ends: with the page's bytes (the move `got`), or without (the
+    /// move `bad`).
     ///
-    /// Answers the page that the frame was read for, if it still lives, the slot to give back, and the backing
-    /// that was read: after a failure the page's home.
+    /// Answers the page that the frame was read for, if it still lives, the slot to give back, and
+    /// the backing that was read: after a failure the page's home.
     pub fn end_read(&mut self, f: Frame, bytes: Option<&[u8; 4096]>) -> Ended
         requires reading { is_read (record_at self.old.table f.0).request ≡ true }
         ensures owner { result.owner ≡ (record_at self.old.table f.0).owner }
-        ensures slot { option_map (λ s. s.0) result.slot ≡ slot_after_read (record_at self.old.table f.0) }
+        ensures slot { option_map (λ s. s.0) result.slot ≡
+            slot_after_read (record_at self.old.table f.0) }
         ensures home { result.home ≡ (record_at self.old.table f.0).backing }
-        ensures ended { self.new ≡ read_ended self.old f.0 (option_map (λ page. page.now) bytes.entry) }
+        ensures ended { self.new ≡ read_ended self.old f.0
+            (option_map (λ page. page.now) bytes.entry) }
         ensures got { IsSome bytes.entry → self.new.table ≡ after_got self.old.table f.0 }
-        ensures page { IfSome bytes.entry (λ page. self.new.bytes ≡ with_page self.old.bytes f.0 page.now) }
+        ensures page { IfSome bytes.entry
+            (λ page. self.new.bytes ≡ with_page self.old.bytes f.0 page.now) }
         ensures bad { IsNone bytes.entry
             → (self.new.table ≡ after_bad self.old.table f.0) × (self.new.bytes ≡ self.old.bytes) }
     {
@@ -522,8 +537,8 @@ impl Frames {
 
     /// The write request of a frame ends: well (the move `wrote`), or not (the move `lost`).
     ///
-    /// Answers the page that the frame holds, if it still lives, the slot to give back, and the backing that
-    /// was written.
+    /// Answers the page that the frame holds, if it still lives, the slot to give back, and the
+    /// backing that was written.
     pub fn end_write(&mut self, f: Frame, ok: bool) -> Ended
         requires writing { is_write (record_at self.old.table f.0).request ≡ true }
         ensures owner { result.owner ≡ (record_at self.old.table f.0).owner }
@@ -544,8 +559,8 @@ impl Frames {
         }
     }
 
-    /// The page of a frame without shares is no more (the move `drop`). Answers the slot to give back: a frame
-    /// with a request keeps its slot, and goes to free only as the request ends.
+    /// The page of a frame without shares is no more (the move `drop`). Answers the slot to give
+    /// back: a frame with a request keeps its slot, and goes to free only as the request ends.
     pub fn forget(&mut self, f: Frame) -> Option<Slot>
         requires owned { IsSome (record_at self.old.table f.0).owner }
         requires unshared { (record_at self.old.table f.0).shares ≡ 0 }
@@ -561,8 +576,8 @@ impl Frames {
         slot_of(r.backing)
     }
 
-    /// A law, which does nothing: each frame is on exactly one list, active, in transition, or in one token
-    /// in hand; and `ArePlaced`, all that the type keeps.
+    /// A law, which does nothing: each frame is on exactly one list, active, in transition, or in
+    /// one token in hand; and `ArePlaced`, all that the type keeps.
     pub fn every_frame_has_one_place(&self)
         ensures placed { ArePlaced self.now }
         ensures one { (f : ℕ) → f < length self.now.table.records → places self.now f ≡ 1 }
@@ -570,7 +585,8 @@ impl Frames {
         let _ = &self.records;
     }
 
-    /// A law, which does nothing: what the frames on each list hold, and on which list a page at rest is.
+    /// A law, which does nothing: what the frames on each list hold, and on which list a page at
+    /// rest is.
     pub fn lists_hold_what_they_say(&self)
         ensures zeroed { (k f : ℕ) → slice_get self.now.table.zeroed k ≡ Some f
             → record_at self.now.table f ≡ blank }
@@ -592,7 +608,8 @@ impl Frames {
         let _ = &self.records;
     }
 
-    /// A law, which does nothing: the bytes of each zeroed frame, and of a blank in hand, are all zero.
+    /// A law, which does nothing: the bytes of each zeroed frame, and of a blank in hand, are all
+    /// zero.
     pub fn zeroed_frames_are_zero(&self)
         ensures zeroed { (k f : ℕ) → slice_get self.now.table.zeroed k ≡ Some f
             → page_at self.now.bytes f ≡ Some zero_page }
@@ -603,8 +620,8 @@ impl Frames {
         let _ = &self.records;
     }
 
-    /// A law, which does nothing: each frame that was written has 4,096 bytes; a frame that has an owner or a
-    /// write request, and no read request, was written.
+    /// A law, which does nothing: each frame that was written has 4,096 bytes; a frame that has an
+    /// owner or a write request, and no read request, was written.
     pub fn written_frames_are_whole(&self)
         ensures whole { (f : ℕ) (page : List ℕ) → page_at self.now.bytes f ≡ Some page
             → length page ≡ page_size }

@@ -92,7 +92,8 @@ pub fn settle(lists: &mut Lists, f: u32, r: &Record)
     }
 }
 
-/// A frame that goes to modified goes to the end of the second list too, where its page has a block.
+/// A frame that goes to modified goes to the end of the second list too, where its page has a
+/// block.
 pub fn settle_with_block(with_block: &mut Lists, f: u32, r: &Record)
     requires one { length with_block.old.lists ≡ 1 }
     requires below { f < with_block.old.numbers }
@@ -184,7 +185,8 @@ pub fn written(r: &Record, ok: bool) -> Record
     }
 }
 
-/// The slot that is given back as a write ends: that of a page which is no more, or has to be written again.
+/// The slot that is given back as a write ends: that of a page which is no more, or has to be
+/// written again.
 pub fn slot_after_write(r: &Record, ok: bool) -> Option<Slot>
     requires { is_write r.now.request ≡ true }
     ensures { option_map (λ s. s.0) result ≡ slot_after_write ok r.now }

@@ -3,7 +3,8 @@ ghost use Rattle.std.specs.Prelude.{◌≡◌};
 use mm_types::{Backing, Frame, Key, Slot};
 use std::marker::Model;
 
-/// A page frame in hand whose bytes are all zero. It must be spent: `bind`, `soil_blank`, `put_zeroed`.
+/// A page frame in hand whose bytes are all zero. It must be spent: `bind`, `soil_blank`,
+/// `put_zeroed`.
 ///
 /// Contracts see its frame's number.
 pub struct Blank {

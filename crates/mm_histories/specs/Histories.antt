@@ -23,7 +23,7 @@ use Rattle.mm_sentences.specs.States.{frame_row, state_of, state_text}
 use Rattle.mm_sentences.specs.Words.{key_text}
 use Rattle.mm_sentences.specs.declared.facts.Facts.{Facts}
 use Rattle.mm_sentences.specs.declared.states.FrameState.{FrameState}
-use Rattle.mm_columns.specs.Columns.{left_in}
+use Rattle.mm_text.specs.Columns.{left_in}
 use Rattle.mm_histories.specs.declared.subjects.Subject.{Subject}
 use Rattle.mm_histories.specs.declared.subjects.Subject.TheVariants as subject
 

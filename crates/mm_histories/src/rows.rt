@@ -1,17 +1,16 @@
 ghost use Rattle.std.specs.Prelude.{◌≡◌, ◌++◌, ◌∷◌, [], OnOk, IfOk, codes};
 ghost use Rattle.mm_types.specs.Spelling.{decimal};
 ghost use Rattle.mm_moves.specs.Standing.{life as life_of};
-ghost use Rattle.mm_columns.specs.Columns.{left_in};
+ghost use Rattle.mm_text.specs.Columns.{left_in};
 ghost use Rattle.mm_histories.specs.Histories.{state_before, change_text, row_text, row_of};
 ghost use Rattle.mm_histories.specs.Rest.{noted, waiting_row};
 
 use crate::subjects::{Subject, is_about};
 use mm_classes::Class;
-use mm_columns::put_left;
 use mm_moves::Life;
 use mm_sentences::{Facts, FrameState, facts_of, put_sentence, put_state, put_words, state_of};
 use mm_tell::Classed;
-use mm_text::{LineBuf, put_decimal};
+use mm_text::{LineBuf, put_decimal, put_left};
 use mm_types::{Frame, Move, NoMemory};
 use std::alloc::Global;
 

@@ -57,8 +57,8 @@ impl<R: Read + Drop> Source for StdSource<R> {
     }
 }
 
-/// A sink over a std writer. It tells nothing of its bytes. A writer that takes nothing of a piece that is
-/// not empty has failed.
+/// A sink over a std writer. It tells nothing of its bytes. A writer that takes nothing of a piece
+/// that is not empty has failed.
 #[derive(Drop)]
 pub struct StdSink<W: Write + Drop> {
     writer: W,

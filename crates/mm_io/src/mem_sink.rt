@@ -7,9 +7,9 @@ use crate::Sink;
 use mm_types::{Failed, NoMemory};
 use std::alloc::Global;
 
-/// Room in memory, taken when the sink is made. A write fails exactly where its number, counted from 1, is
-/// in `fails` or the piece is longer than the room left. Any other write takes the whole piece, and nothing is held
-/// back. A flush does not fail, and is not counted.
+/// Room in memory, taken when the sink is made. A write fails exactly where its number, counted
+/// from 1, is in `fails` or the piece is longer than the room left. Any other write takes the whole
+/// piece, and nothing is held back. A flush does not fail, and is not counted.
 #[derive(Drop)]
 pub struct MemSink {
     pub bytes: Vec<u8>,
@@ -57,10 +57,12 @@ impl Sink for MemSink {
 
     fn write(&mut self, buf: &[u8]) -> Result<usize, Failed>
         ensures bytes { Takes (Some self.old.bytes.items) (Some self.new.bytes.items) buf.now result }
-        ensures given { GivesOn (Some self.old.bytes.items) (Some self.new.bytes.items) (Some self.old.bytes.items) (Some self.new.bytes.items) }
+        ensures given { GivesOn (Some self.old.bytes.items) (Some self.new.bytes.items)
+            (Some self.old.bytes.items) (Some self.new.bytes.items) }
         ensures cause { CountsFaults self.old.faults self.new.faults result }
         ensures loans { NoLoan ≡ NoLoan }
-        ensures fails { IsErr result ↔ (NextFails self.old.fails.items self.old.calls ⊎ (self.old.room < length buf.now)) }
+        ensures fails { IsErr result ↔ (NextFails self.old.fails.items self.old.calls ⊎
+            (self.old.room < length buf.now)) }
         ensures whole { IfOk result (λ n. n ≡ length buf.now) }
         ensures room { IfOk result (λ n. self.new.room + n ≡ self.old.room) }
         ensures calls { self.new.calls ≡ next_call self.old.calls }
@@ -84,7 +86,8 @@ impl Sink for MemSink {
     /// Does nothing: what was taken stands in memory. It is no call that `fails` counts.
     fn flush(&mut self) -> Result<(), Failed>
         ensures taken { Some self.new.bytes.items ≡ Some self.old.bytes.items }
-        ensures given { GivesOn (Some self.old.bytes.items) (Some self.new.bytes.items) (Some self.old.bytes.items) (Some self.new.bytes.items) }
+        ensures given { GivesOn (Some self.old.bytes.items) (Some self.new.bytes.items)
+            (Some self.old.bytes.items) (Some self.new.bytes.items) }
         ensures all { OnOk result (Some self.new.bytes.items ≡ Some self.new.bytes.items) }
         ensures cause { CountsFaults self.old.faults self.new.faults result }
         ensures loans { NoLoan ≡ NoLoan }

@@ -61,7 +61,8 @@ impl Source for MemSource {
     ghost loans = { λ s. NoLoan };
 
     fn read(&mut self, buf: &mut [u8]) -> Result<usize, Failed>
-        ensures bytes { Reads (Some (drop self.old.at self.old.bytes.items)) (Some (drop self.new.at self.new.bytes.items)) buf.new result }
+        ensures bytes { Reads (Some (drop self.old.at self.old.bytes.items))
+            (Some (drop self.new.at self.new.bytes.items)) buf.new result }
         ensures idle { self.new.idle ≤ self.old.idle + spare_read result }
         ensures last { self.new.last_idle ≡ spare_read result }
         ensures cause { CountsFaults self.old.faults self.new.faults result }

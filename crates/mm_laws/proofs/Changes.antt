@@ -127,9 +127,6 @@ module _ (d : FrameTable) (q : List ℕ) (f : ℕ) (stands : Stands d q) where
         (s.modified ∙ ap (λ (r : Record). one_if (is_some r.owner && (is_idle r && r.changed))) e, s.flight ∙ ap (λ (r : Record). one_if (has_request r.request)) e),
       )
 
-  pub first_free : is_first f d.free ≡ true → record_at d f ≡ blank
-  first_free h = (first_fresh (let e = times-rest_same f d.free h in omega (arith, e))).0
-
   pub first_zeroed : is_first f d.zeroed ≡ true → record_at d f ≡ blank
   first_zeroed h = (first_fresh (let e = times-rest_same f d.zeroed h in omega (arith, e))).0
 

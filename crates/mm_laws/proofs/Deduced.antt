@@ -19,7 +19,6 @@ use Rattle.mm_life.specs.Effect.{after_move, after_at, dropped_at, after_unmap_a
 use Rattle.mm_life.specs.Replay.{Replays}
 use Rattle.mm_laws.specs.Tally.{one_if}
 use Rattle.mm_laws.specs.Reached.{Reached}
-use Rattle.mm_laws.specs.Holders.{Holder, slot_held}
 use Rattle.mm_laws.specs.PagingKeys.{is_file_key}
 use Rattle.mm_laws.specs.FileBlocks.{block_held}
 use Rattle.mm_laws.specs.Requests.{may_begin}
@@ -31,7 +30,6 @@ use Rattle.mm_laws.proofs.Machines.{in_range}
 use Rattle.mm_laws.proofs.SetSizes.{share_within, places_most}
 use Rattle.mm_life.specs.declared.sets.ResidentSet.{ResidentSet}
 use Rattle.mm_life.proofs.Replays.{replays_then}
-use Rattle.mm_laws.proofs.FromSound.{slot_one as sound_slot_one, slot_there as sound_slot_there}
 use Rattle.mm_laws.proofs.FileKeys.{in_line, file_along}
 use Rattle.mm_laws.proofs.BlocksApart.{Apart, replay_apart, file_block_along}
 
@@ -46,13 +44,6 @@ reached_along moves l m r more = record { moves = r.moves ++ moves; replays = re
 
 pub reached_next : (x : Move) (l : FrameLife) → Reached l → IsLegal x l → Reached (after_move l x)
 reached_next x l r legal = reached_along (x ∷ []) l (after_move l x) r (legal, refl)
-
--- two holders of a slot are one, and a held slot is there
-pub slot_one : (l : FrameLife) → Reached l → (t : ℕ) (g h : Holder) → slot_held l g ≡ Some t → slot_held l h ≡ Some t → g ≡ h
-slot_one l reached = sound_slot_one l (reached_sound l reached)
-
-pub slot_there : (l : FrameLife) → Reached l → (t : ℕ) (h : Holder) → slot_held l h ≡ Some t → t < l.machine.slots
-slot_there l reached = sound_slot_there l (reached_sound l reached)
 
 -- the most shares of a frame, where no working set has room for more than 65,536 pages
 pub share_most : (l : FrameLife) → Reached l → ((pid : ℕ) (s : ResidentSet) → set_of l pid ≡ Some s → s.max ≤ 65536) → (f : ℕ) → (record_at l.frames f).shares ≤ 4194304

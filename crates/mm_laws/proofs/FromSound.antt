@@ -104,9 +104,6 @@ module _ (l : FrameLife) (s : Sound l) where
   pub behind_one : (t f g : ℕ) → slot_of (record_at l.frames f).backing ≡ Some t → slot_of (record_at l.frames g).backing ≡ Some t → f ≡ g
   behind_one t f g a b = let both = slot_one t (Behind f) (Behind g) a b in cc
 
-  pub home_one : (t : ℕ) (j k : Key) → slot_at (l.stands j) ≡ Some t → slot_at (l.stands k) ≡ Some t → j ≡ k
-  home_one t j k a b = let both = slot_one t (Home j) (Home k) a b in cc
-
   pub behind_no_home : (t f : ℕ) (k : Key) → slot_of (record_at l.frames f).backing ≡ Some t → slot_at (l.stands k) ≢ Some t
   behind_no_home t f k a b = let both = slot_one t (Behind f) (Home k) a b in cc
 

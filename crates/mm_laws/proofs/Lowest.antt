@@ -60,13 +60,6 @@ lowest_nowhere free none t = at (is_lowest t free) refl
     at true e = let bad : true ≡ false = sym (lowest_any t free e) ∙ none in cc
     at false e = refl
 
--- no slot is free
-pub none_free : (bs : List Bool) (s : ℕ) (b : Bool) → list_any (λ x. x) bs ≡ false → slice_get bs s ≡ Some b → b ≡ false
-none_free [] s b e g = cc
-none_free (true ∷ bs) s b e g = cc
-none_free (false ∷ bs) zero b e g = cc
-none_free (false ∷ bs) (suc s) b e g = none_free bs s b e g
-
 pub free_counted : (free : List Bool) → nat_lt 0 (count_by (λ b. b) free) ≡ list_any (λ b. b) free
 free_counted [] = refl
 free_counted (true ∷ free) = let n = sum_by-cons (λ (b : Bool). cond b 1 0) true free in lt-ltb 0 (count_by (λ b. b) (true ∷ free)) (omega (arith, n))

@@ -1,5 +1,5 @@
 -- Frames and the keys that they hold.
-use Rattle.std.proofs.Common.{◌≡◌, ◌≢◌, ◌⊎◌, ℕ, Bool, true, false, cond, List, Option, Some, None, refl, sym, ap, ◌∙◌, subst, inl, inr}
+use Rattle.std.proofs.Common.{◌≡◌, ◌≢◌, ◌⊎◌, ℕ, Bool, true, false, cond, List, Some, None, refl, sym, ap, ◌∙◌, subst, inl, inr}
 use Rattle.std.specs.Prelude.{◌==◌}
 use Rattle.std.proofs.lemmas.Bool.{eqb-true, eq-eqb, and_parts, and_from}
 use Rattle.mm_types.proofs.Cells.{same_or_not}
@@ -69,9 +69,6 @@ is_frame_of (held.Slot s) = false
 is_frame_of (held.Block b) = false
 is_frame_of held.Zero = false
 is_frame_of held.Dead = false
-
-abbrev pub what_of : Sight → Option Key
-what_of s = s.what.owner
 
 module _ (d d' : FrameTable) (q q' : List ℕ) (f : ℕ) (r : Record) (c : Changes d d' q q' f r) (stands : Key → Held) (o : Owned d stands) where
   owner_else : (g : ℕ) → g ≢ f → owner_at d' g ≡ owner_at d g

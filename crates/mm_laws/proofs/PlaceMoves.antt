@@ -50,9 +50,6 @@ room_in : (o : Option ResidentSet) → is_below_max o ≡ true → RoomInSet o
 room_in None e = cc
 room_in (Some s) e = record { set = s; is = refl; room = ltb-true s.resident s.max e }
 
-some_is : (o : Option Key) (k : Key) → o ≡ Some k → is_some o ≡ true
-some_is o k e = ap is_some e
-
 unread : (r : Record) → Fit r → 1 ≤ r.shares → is_read r.request ≡ false
 unread r f h = at (is_read r.request) refl
   where

@@ -10,7 +10,7 @@ use Rattle.mm_life.specs.Frames.{FrameTable, record_at, blank, has_request, is_r
 use Rattle.mm_life.specs.Life.{FrameLife}
 use Rattle.mm_life.specs.Legal.{IsLegal, is_io, is_access, is_call}
 use Rattle.mm_life.specs.Effect.{after_move, after_unmap_at}
-use Rattle.mm_laws.specs.Settling.{joined, ListsAre, ended_as, Settles}
+use Rattle.mm_laws.specs.Settling.{at_end_if, ListsAre, ended_as, Settles}
 use Rattle.mm_laws.specs.Sound.{Sound}
 use Rattle.mm_laws.proofs.Requests.{requested, read_has, write_has}
 use Rattle.mm_laws.proofs.SetSizes.{frame_low}
@@ -19,7 +19,7 @@ use Rattle.std.proofs.lemmas.Bool.{lt-ltb}
 use Rattle.mm_life.proofs.Records.{done_owner}
 
 -- the lists after a frame settles
-lists_settle : (x : FrameTable) (f : ℕ) (i c : Bool) → ListsAre (cond i (cond c (record x { modified = x.modified ++ f ∷ [] }) (record x { standby = x.standby ++ f ∷ [] })) x) x.zeroed x.free (joined (i && not c) f x.standby) (joined (i && c) f x.modified)
+lists_settle : (x : FrameTable) (f : ℕ) (i c : Bool) → ListsAre (cond i (cond c (record x { modified = x.modified ++ f ∷ [] }) (record x { standby = x.standby ++ f ∷ [] })) x) x.zeroed x.free (at_end_if (i && not c) f x.standby) (at_end_if (i && c) f x.modified)
 lists_settle x f true true = record { zeroed = refl; free = refl; standby = refl; modified = refl }
 lists_settle x f true false = record { zeroed = refl; free = refl; standby = refl; modified = refl }
 lists_settle x f false c = record { zeroed = refl; free = refl; standby = refl; modified = refl }
@@ -48,9 +48,9 @@ module _ (d : FrameTable) (f : ℕ) (low : f < length d.records) where
       size = ap (λ (rs : List Record). length rs) records_are ∙ length-set d.records f r;
       lists =
           let a = lists_settle (with_record d f r) f (is_idle r) r.changed in
-          let b : ListsAre (settled (with_record d f r) f) d.zeroed d.free (joined (is_idle r && not r.changed) f d.standby) (joined (is_idle r && r.changed) f d.modified)
-          = subst (λ (t : FrameTable). ListsAre t d.zeroed d.free (joined (is_idle r && not r.changed) f d.standby) (joined (is_idle r && r.changed) f d.modified)) (sym settled_is) a in
-          subst (λ (o : Bool). ListsAre (settled (with_record d f r) f) d.zeroed (joined (not o) f d.free) (joined (o && is_idle r && not r.changed) f d.standby) (joined (o && is_idle r && r.changed) f d.modified)) (sym owned) b;
+          let b : ListsAre (settled (with_record d f r) f) d.zeroed d.free (at_end_if (is_idle r && not r.changed) f d.standby) (at_end_if (is_idle r && r.changed) f d.modified)
+          = subst (λ (t : FrameTable). ListsAre t d.zeroed d.free (at_end_if (is_idle r && not r.changed) f d.standby) (at_end_if (is_idle r && r.changed) f d.modified)) (sym settled_is) a in
+          subst (λ (o : Bool). ListsAre (settled (with_record d f r) f) d.zeroed (at_end_if (not o) f d.free) (at_end_if (o && is_idle r && not r.changed) f d.standby) (at_end_if (o && is_idle r && r.changed) f d.modified)) (sym owned) b;
     }
 
   pub frees : Settles d (to_free d f) f blank

@@ -8,7 +8,7 @@ use Rattle.mm_life.specs.Frames.{FrameTable, blank, record_at, has_request, is_i
 use Rattle.mm_laws.specs.Tally.{one_if, times}
 use Rattle.mm_laws.specs.Fits.{is_kept, Fit}
 use Rattle.mm_laws.specs.Sights.{Sight, sight, Stand}
-use Rattle.mm_laws.proofs.Tallies.{times-push_same, times-push_other, times-without_same, times-without_other}
+use Rattle.mm_laws.proofs.Tallies.{times-push_same, times-push_other, times-without_other}
 use Rattle.mm_laws.proofs.Fits.{fit_blank}
 
 pub same_sight : {w w' : Record} {i i' z z' u u' s s' m m' q q' : ℕ} → w ≡ w' → i ≡ i' → z ≡ z' → u ≡ u' → s ≡ s' → m ≡ m' → q ≡ q' →
@@ -31,10 +31,6 @@ is_inside d f h = ltb-true f (length d.records) (at (nat_lt f (length d.records)
     at false h = absurd (omega arith)
 
 -- ---- what is known of a frame by the list that it is on
-
-pub record OnList (r : Record) : Type 0 where
-  pub owned : is_some r.owner ≡ true
-  pub idle : is_idle r ≡ true
 
 three : (a b c : Bool) → 1 ≤ one_if (a && (b && c)) → (a ≡ true) × ((b ≡ true) × (c ≡ true))
 three true true true h = (refl, (refl, refl))
@@ -118,20 +114,11 @@ module _ (d : FrameTable) (q : List ℕ) (f g : ℕ) (n : g ≢ f) where
       at true false = same_sight refl refl refl refl (times-push_other f g d.standby n) refl refl
       at false c = refl
 
-  pub other-begun : sight d (q ++ f ∷ []) g ≡ sight d q g
-  other-begun = same_sight refl refl refl refl refl refl (times-push_other f g q n)
-
-  pub other-ended : sight d (without f q) g ≡ sight d q g
-  other-ended = same_sight refl refl refl refl refl refl (times-without_other f g q n)
-
 -- ---- and from the frame itself
 
 module _ (d : FrameTable) (q : List ℕ) (f : ℕ) where
   pub own-record : (r : Record) → f < length d.records → sight (with_record d f r) q f ≡ record (sight d q f) { what = r }
   own-record r low = same_sight (get_or-set_same d.records f r blank low) (ap (λ (k : ℕ). one_if (nat_lt f k)) (length-set d.records f r)) refl refl refl refl refl
-
-  pub own-off : sight (off_lists d f) q f ≡ record (sight d q f) { standby = 0; modified = 0 }
-  own-off = same_sight refl refl refl refl (times-without_same f d.standby) (times-without_same f d.modified) refl
 
   pub own-free : f < length d.records → sight (to_free d f) q f ≡ record (sight d q f) { what = blank; free = times f d.free + 1 }
   own-free low = same_sight (get_or-set_same d.records f blank blank low) (ap (λ (k : ℕ). one_if (nat_lt f k)) (length-set d.records f blank)) refl (times-push_same f d.free) refl refl refl
@@ -143,9 +130,3 @@ module _ (d : FrameTable) (q : List ℕ) (f : ℕ) where
       at true true = same_sight refl refl refl refl (omega arith) (times-push_same f d.modified) refl
       at true false = same_sight refl refl refl refl (times-push_same f d.standby) (omega arith) refl
       at false c = same_sight refl refl refl refl (omega arith) (omega arith) refl
-
-  pub own-begun : sight d (q ++ f ∷ []) f ≡ record (sight d q f) { flight = times f q + 1 }
-  own-begun = same_sight refl refl refl refl refl refl (times-push_same f q)
-
-  pub own-ended : sight d (without f q) f ≡ record (sight d q f) { flight = 0 }
-  own-ended = same_sight refl refl refl refl refl refl (times-without_same f q)

@@ -117,14 +117,6 @@ module _ {A : Type 0} where
   total-same h k [] e = refl
   total-same h k (x ∷ xs) e = let a = total-same h k xs e in let b = e x in omega (arith, a, b)
 
-  pub total-within : (h k : A → ℕ) (xs : List A) → ((x : A) → h x ≤ k x) → total h xs ≤ total k xs
-  total-within h k [] e = omega arith
-  total-within h k (x ∷ xs) e = let a = total-within h k xs e in let b = e x in omega (arith, a, b)
-
-  pub total-most : (h : A → ℕ) (xs : List A) → ((x : A) → h x ≤ 1) → total h xs ≤ length xs
-  total-most h [] e = omega arith
-  total-most h (x ∷ xs) e = let a = total-most h xs e in let b = e x in omega (arith, a, b)
-
   pub total-plus : (h k : A → ℕ) (xs : List A) → total (λ x. h x + k x) xs ≡ total h xs + total k xs
   total-plus h k [] = refl
   total-plus h k (x ∷ xs) = let a = total-plus h k xs in omega (arith, a)

@@ -38,8 +38,10 @@ pub record CountsHomes (l : FrameLife) : Type 0 where
   pub once : (k : Key) → tally (same_key k) keys ≡ one_if (l.paging k)
   pub count : length keys ≡ l.paging_keys
   -- each stands in a frame, in a slot or nowhere
-  pub homes : tally (λ k. is_framed (l.stands k)) keys + tally (λ k. is_slotted (l.stands k)) keys + tally (λ k. is_zero (l.stands k)) keys ≡ l.paging_keys
+  pub homes : tally (λ k. is_framed (l.stands k)) keys + tally (λ k. is_slotted (l.stands k)) keys +
+      tally (λ k. is_zero (l.stands k)) keys ≡ l.paging_keys
   -- those in frames are as many as the frames with a page-file page
   pub frames : tally (λ k. is_framed (l.stands k)) keys ≡ count_by (has_paged l) l.frames.records
   -- a slot that is not free is the home of one of them, or it backs a frame
-  pub slots : tally (λ k. is_slotted (l.stands k)) keys + count_by has_slot l.frames.records ≡ count_by not l.free_slots
+  pub slots : tally (λ k. is_slotted (l.stands k)) keys + count_by has_slot l.frames.records ≡
+      count_by not l.free_slots

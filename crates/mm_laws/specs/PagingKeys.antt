@@ -19,7 +19,8 @@ pub record CountsKeys (l : FrameLife) : Type 0 where
 abbrev pub is_file_key : FrameLife → Key → Bool
 is_file_key l k = is_live l k && not (l.paging k)
 
--- where a key can stand: a page-file key in a frame, in a slot or nowhere; any other in a frame, on a block, or it is dead
+-- where a key can stand: a page-file key in a frame, in a slot or nowhere; any other in a frame, on
+-- a block, or it is dead
 abbrev pub is_home_for : Bool → Held → Bool
 is_home_for paging (held.Frame f) = true
 is_home_for paging (held.Slot s) = paging

@@ -37,8 +37,8 @@ abbrev pub maxima_in : List ResidentSet → ℕ
 maxima_in [] = 0
 maxima_in (s ∷ rest) = s.max + maxima_in rest
 
--- a list has each valid place once and no other; so many of them show a frame as it has shares, and so many
--- are of a process as its working set says
+-- a list has each valid place once and no other; so many of them show a frame as it has shares, and
+-- so many are of a process as its working set says
 pub record CountsPlaces (l : FrameLife) : Type 0 where
   pub places : List Place
   pub once : (place : Place) → tally (same_place place) places ≡ one_if (is_some (l.valid place))

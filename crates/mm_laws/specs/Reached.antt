@@ -15,5 +15,11 @@ pub record Reached (l : FrameLife) : Type 0 where
 
 -- `at 1 machine ..` with numbers in range
 abbrev pub is_first_line : Move → Bool
-is_first_line (move.At n (kind.Machine frames slots depth blocks)) = (n == 1) && is_machine (record { frames = frames; slots = slots; depth = depth; blocks = blocks })
+is_first_line (move.At n (kind.Machine frames slots depth blocks)) = (n == 1) &&
+    is_machine (record {
+      frames = frames;
+      slots = slots;
+      depth = depth;
+      blocks = blocks;
+    })
 is_first_line _ = false

@@ -4,7 +4,8 @@ use Rattle.std.specs.Prelude.{Bool, ◌&&◌, ◌||◌}
 use Rattle.mm_life.specs.Life.{FrameLife}
 use Rattle.mm_life.specs.Legal.{is_access, is_call, is_thread, is_writer, has_depth}
 
--- in a plain access and in a call, whatever is in flight; in an access of a thread and in a line of the writer, where
--- fewer than depth requests are
+-- in a plain access and in a call, whatever is in flight; in an access of a thread and in a line of
+-- the writer, where fewer than depth requests are
 abbrev pub may_begin : FrameLife → Bool
-may_begin l = is_access l.kind || is_call l.kind || ((is_thread l.kind || is_writer l.kind) && has_depth l)
+may_begin l = is_access l.kind || is_call l.kind ||
+    ((is_thread l.kind || is_writer l.kind) && has_depth l)

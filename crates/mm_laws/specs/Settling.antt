@@ -5,8 +5,8 @@ use Rattle.mm_types.specs.declared.frames.Record.{Record}
 use Rattle.mm_life.specs.Frames.{FrameTable, blank, record_at, is_idle}
 
 -- the frame at the end of the list, if it joins it
-abbrev pub joined : Bool → ℕ → List ℕ → List ℕ
-joined joins f xs = if joins then xs ++ f ∷ [] else xs
+abbrev pub at_end_if : Bool → ℕ → List ℕ → List ℕ
+at_end_if joins f xs = if joins then xs ++ f ∷ [] else xs
 
 -- the four lists of a table
 pub record ListsAre (d : FrameTable) (z u s m : List ℕ) : Type 0 where
@@ -24,6 +24,6 @@ pub record Settles (d d' : FrameTable) (f : ℕ) (r : Record) : Type 0 where
   pub here : record_at d' f ≡ r
   pub others : (g : ℕ) → g ≢ f → record_at d' g ≡ record_at d g
   pub size : length d'.records ≡ length d.records
-  pub lists : ListsAre d' d.zeroed (joined (not (is_some r.owner)) f d.free)
-      (joined (is_some r.owner && is_idle r && not r.changed) f d.standby)
-      (joined (is_some r.owner && is_idle r && r.changed) f d.modified)
+  pub lists : ListsAre d' d.zeroed (at_end_if (not (is_some r.owner)) f d.free)
+      (at_end_if (is_some r.owner && is_idle r && not r.changed) f d.standby)
+      (at_end_if (is_some r.owner && is_idle r && r.changed) f d.modified)

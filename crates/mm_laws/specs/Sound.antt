@@ -37,13 +37,15 @@ pub record SlotsHeld (free : List Bool) (held_by : Holder → Option ℕ) : Type
   pub past : (s : ℕ) → slice_get free s ≡ None → holder s ≡ None
 
 -- the valid places in a list, and how many there are for each frame and in each process
-pub record Shown (valid : Place → Option Frame) (d : FrameTable) (sets : List ResidentSet) : Type 0 where
+pub record Shown (valid : Place → Option Frame) (d : FrameTable) (sets : List ResidentSet) :
+    Type 0 where
   pub places : List Place
   pub once : (p : Place) → tally (same_place p) places ≡ one_if (is_some (valid p))
   pub shares : (f : ℕ) → tally (λ p. is_frame f (valid p)) places ≡ (record_at d f).shares
   pub resident : (pid : ℕ) → tally (is_of pid) places ≡ residents (set_in sets pid)
   -- a private page is valid at its own place alone
-  pub fits : (p : Place) (f : Frame) (k : Key) → valid p ≡ Some f → (record_at d f.0).owner ≡ Some k → fits_place p k ≡ true
+  pub fits : (p : Place) (f : Frame) (k : Key) → valid p ≡ Some f →
+      (record_at d f.0).owner ≡ Some k → fits_place p k ≡ true
   -- no working set is larger than its max
   pub below : (pid : ℕ) (s : ResidentSet) → set_in sets pid ≡ Some s → s.resident ≤ s.max
 
@@ -56,7 +58,8 @@ pub record Paged (paging : Key → Bool) (count : ℕ) : Type 0 where
 -- a page-file key is on no block, by its home or its frame's backing, and any other key in no slot
 pub record Homed (paging : Key → Bool) (d : FrameTable) (stands : Key → Held) : Type 0 where
   pub home : (k : Key) → is_home_for (paging k) (stands k) ≡ true
-  pub backing : (f : ℕ) (k : Key) → owner_at d f ≡ Some k → is_backing_for (paging k) (record_at d f).backing ≡ true
+  pub backing : (f : ℕ) (k : Key) → owner_at d f ≡ Some k →
+      is_backing_for (paging k) (record_at d f).backing ≡ true
 
 pub record Sound (l : FrameLife) : Type 0 where
   -- each frame is where its record says, and the requests in flight are those of the records

@@ -30,11 +30,13 @@ file_of_three =
 
 -- one access begins three reads
 abbrev pub three_reads : List Move
-three_reads = file_of_three ++ move.Read (frame 0) (in_file 0) ∷ move.Read (frame 1) (in_file 1) ∷ move.Read (frame 2) (in_file 2) ∷ []
+three_reads = file_of_three ++ move.Read (frame 0) (in_file 0) ∷ move.Read (frame 1) (in_file 1) ∷
+    move.Read (frame 2) (in_file 2) ∷ []
 
 -- a page is read, becomes valid and is changed
 abbrev pub changed_page : ℕ → List Move
-changed_page i = move.Read (frame i) (in_file i) ∷ move.Got (frame i) ∷ move.Map (frame i) (place 1 (16 + i)) ∷ move.Soil (frame i) ∷ []
+changed_page i = move.Read (frame i) (in_file i) ∷ move.Got (frame i) ∷
+    move.Map (frame i) (place 1 (16 + i)) ∷ move.Soil (frame i) ∷ []
 
 -- one call, as a flush, begins three writes
 abbrev pub three_writes : List Move

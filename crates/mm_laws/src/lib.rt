@@ -1,7 +1,7 @@
 //! Laws over the replays of logs.
 //!
-//! What the laws say stands in `specs/`. Each function here has no body: its clauses are laws that are proved over the
-//! definitions of `mm_life`, or worked logs that the definitions compute.
+//! What the laws say stands in `specs/`. Each function here has no body: its clauses are laws that
+//! are proved over the definitions of `mm_life`, or worked logs that the definitions compute.
 #![tactic(auto)]
 
 pub mod bursts;

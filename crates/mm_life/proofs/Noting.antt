@@ -2,11 +2,7 @@
 use Rattle.std.proofs.Common.{◌≡◌, ℕ, List, [], ◌∷◌, ◌++◌, Option, Some, None, refl, sym, ap, ◌∙◌, subst, inl, inr, arith, append_assoc}
 use Rattle.std.specs.Prelude.{Bool, true, false}
 use Rattle.mm_types.proofs.Bytes.{append_nil, appended_none, appended_then, rose_then, rose_later}
-use Rattle.mm_types.specs.declared.moves.Move.{Move}
 use Rattle.mm_life.specs.Life.{FrameLife}
-use Rattle.mm_life.specs.Legal.{IsLegal}
-use Rattle.mm_life.specs.Effect.{after_move}
-use Rattle.mm_life.specs.MoveText.{spelling_of_move, IsMove}
 use Rattle.mm_life.specs.Logs.{Log, Front, Told, IsFrontOf, GaveOn, Grew, Noted}
 use Rattle.mm_life.proofs.Replays.{replays_then, spelled-append, moves-append}
 
@@ -90,25 +86,3 @@ noted_then a b c l m n u v =
       grew = subst (λ xs. Grew a c xs) (sym (spelled-append u.moves v.moves)) (grew_then a b c _ _ u.grew v.grew);
       replays = replays_then u.moves v.moves l m n u.replays v.replays;
     }
-
--- no move
-pub noted_nothing : (a : Log) (l : FrameLife) → Noted a a l l
-noted_nothing a l = record { moves = []; in_range = tt; grew = grew_nothing a; replays = refl }
-
--- one move
-pub noted_move : (a b : Log) (x : Move) (l : FrameLife) → IsLegal x l → IsMove x → Grew a b (spelling_of_move x) → Noted a b l (after_move l x)
-noted_move a b x l h r g =
-    record {
-      moves = x ∷ [];
-      in_range = (r, tt);
-      grew = subst (λ xs. Grew a b xs) (sym (append_nil (spelling_of_move x))) g;
-      replays = (h, refl);
-    }
-
--- one move, to a state that is the one after it
-pub noted_to : (a b : Log) (x : Move) (l m : FrameLife) → IsLegal x l → IsMove x → m ≡ after_move l x → Grew a b (spelling_of_move x) → Noted a b l m
-noted_to a b x l m h r e g = subst (λ (k : FrameLife). Noted a b l k) (sym e) (noted_move a b x l h r g)
-
--- the same log and the same state
-pub noted_same : (a b : Log) (l m : FrameLife) → b ≡ a → m ≡ l → Noted a b l m
-noted_same a b l m e f = subst (λ (k : FrameLife). Noted a b l k) (sym f) (subst (λ (c : Log). Noted a c l l) (sym e) (noted_nothing a l))

@@ -60,6 +60,3 @@ done_part part r a b = by (is_again r.request)
 
 pub done_owner : (r : Record) → (write_done r).owner ≡ r.owner
 done_owner r = done_part (λ (q : Record). q.owner) r refl refl
-
-pub done_shares : (r : Record) → (write_done r).shares ≡ r.shares
-done_shares r = done_part (λ (q : Record). q.shares) r refl refl

@@ -54,8 +54,3 @@ replays_from (x ∷ xs) l m e = let h = legal_here (is_legal l x) (replay (after
 pub replays_one : (xs : List Move) (l m n : FrameLife) → Replays xs l m → Replays xs l n → m ≡ n
 replays_one [] l m n e f = e ∙ sym f
 replays_one (x ∷ xs) l m n p q = replays_one xs (after_move l x) m n p.1 q.1
-
--- the first of two pieces leads to where the second begins
-pub replays_front : (xs ys : List Move) (l n : FrameLife) → Replays (xs ++ ys) l n → (m : FrameLife) × Replays xs l m × Replays ys m n
-replays_front [] ys l n r = (l, refl, r)
-replays_front (x ∷ xs) ys l n r = let f = replays_front xs ys (after_move l x) n r.1 in (f.0, (r.0, f.1), f.2)

@@ -53,9 +53,18 @@ homed l (Some k) home = stood l k (home_at home)
 
 abbrev pub after_at : FrameLife → ℕ → LineKind → FrameLife
 after_at l n (kind.Machine frames slots depth blocks) =
-    life_at (record { frames = frames; slots = slots; depth = depth; blocks = blocks }) n (kind.Machine frames slots depth blocks)
+    life_at (record {
+      frames = frames;
+      slots = slots;
+      depth = depth;
+      blocks = blocks;
+    }) n (kind.Machine frames slots depth blocks)
 after_at l n (kind.Process pid min max) =
-    record l { line = n; kind = kind.Process pid min max; sets = l.sets ++ record { min = min; max = max; resident = 0 } ∷ [] }
+    record l {
+      line = n;
+      kind = kind.Process pid min max;
+      sets = l.sets ++ record { min = min; max = max; resident = 0 } ∷ [];
+    }
 after_at l n (kind.Unbind pid) = record l { line = n; kind = kind.Unbind pid }
 after_at l n (kind.Access pid) = record l { line = n; kind = kind.Access pid }
 after_at l n (kind.Thread pid) = record l { line = n; kind = kind.Thread pid }
@@ -65,21 +74,40 @@ after_at l n kind.Zeroer = record l { line = n; kind = kind.Zeroer }
 after_at l n kind.Io = record l { line = n; kind = kind.Io }
 after_at l n kind.Call = record l { line = n; kind = kind.Call }
 after_at l n (kind.Grow count) =
-    record l { line = n; kind = kind.Grow count; machine = record l.machine { slots = l.machine.slots + count }; free_slots = l.free_slots ++ replicate count true }
+    record l {
+      line = n;
+      kind = kind.Grow count;
+      machine = record l.machine { slots = l.machine.slots + count };
+      free_slots = l.free_slots ++ replicate count true;
+    }
 
 -- ---- `add` and `drop`
 
 abbrev pub after_add : FrameLife → Key → Option Block → FrameLife
-after_add l k None = record l { stands = stood l k held.Zero; paging = changed same_key l.paging k true; paging_keys = l.paging_keys + 1 }
-after_add l k (Some b) = record l { stands = stood l k (held.Block b); added = changed ◌==◌ l.added b.0 true }
+after_add l k None = record l {
+  stands = stood l k held.Zero;
+  paging = changed same_key l.paging k true;
+  paging_keys = l.paging_keys + 1;
+}
+after_add l k (Some b) = record l {
+  stands = stood l k (held.Block b);
+  added = changed ◌==◌ l.added b.0 true;
+}
 
 -- the key is not live; its slot, as home or as backing of an idle frame, is free
 abbrev pub unlisted : FrameLife → Key → FrameLife
-unlisted l k = record l { stands = stood l k held.Dead; paging = changed same_key l.paging k false; paging_keys = l.paging_keys - 1 }
+unlisted l k = record l {
+  stands = stood l k held.Dead;
+  paging = changed same_key l.paging k false;
+  paging_keys = l.paging_keys - 1;
+}
 
 abbrev pub dropped_at : Held → FrameLife → Key → FrameLife
 dropped_at (held.Frame f) l k =
-    record (unlisted l k) { frames = after_drop l.frames f.0; free_slots = freed l.free_slots (slot_after_drop (record_at l.frames f.0)) }
+    record (unlisted l k) {
+      frames = after_drop l.frames f.0;
+      free_slots = freed l.free_slots (slot_after_drop (record_at l.frames f.0));
+    }
 dropped_at (held.Slot s) l k = record (unlisted l k) { free_slots = freed l.free_slots (Some s.0) }
 dropped_at (held.Block b) l k = unlisted l k
 dropped_at held.Zero l k = unlisted l k
@@ -90,12 +118,23 @@ dropped_at held.Dead l k = unlisted l k
 abbrev pub after_unmap_at : Option Frame → FrameLife → Place → FrameLife
 after_unmap_at None l place = l
 after_unmap_at (Some f) l place =
-    record l { frames = after_unmap l.frames f.0; valid = changed same_place l.valid place None; sets = with_resident l.sets place.pid.0 (λ n. n - 1) }
+    record l {
+      frames = after_unmap l.frames f.0;
+      valid = changed same_place l.valid place None;
+      sets = with_resident l.sets place.pid.0 (λ n. n - 1);
+    }
 
 abbrev pub after_write_to : FrameLife → ℕ → Stored → FrameLife
 after_write_to l f (stored.Slot s) =
-    record l { frames = after_write l.frames f (backing.Slot s); free_slots = slice_set l.free_slots s.0 false; flight = l.flight ++ f ∷ [] }
-after_write_to l f (stored.Block b) = record l { frames = after_write l.frames f (backing.Block b); flight = l.flight ++ f ∷ [] }
+    record l {
+      frames = after_write l.frames f (backing.Slot s);
+      free_slots = slice_set l.free_slots s.0 false;
+      flight = l.flight ++ f ∷ [];
+    }
+after_write_to l f (stored.Block b) = record l {
+  frames = after_write l.frames f (backing.Block b);
+  flight = l.flight ++ f ∷ [];
+}
 
 abbrev pub after_move : FrameLife → Move → FrameLife
 after_move l (move.At n k) = after_at l n k
@@ -105,21 +144,52 @@ after_move l (move.Clear f) = record l { frames = after_clear l.frames f.0 }
 after_move l (move.Steal f) =
     let r = record_at l.frames f.0 in
     record l { frames = after_steal l.frames f.0; stands = homed l r.owner r.backing }
-after_move l (move.Give f k) = record l { frames = after_give l.frames f.0 k; stands = stood l k (held.Frame f) }
+after_move l (move.Give f k) = record l {
+  frames = after_give l.frames f.0 k;
+  stands = stood l k (held.Frame f);
+}
 after_move l (move.Read f k) =
-    record l { frames = after_read l.frames f.0 k (backing_of (l.stands k)); stands = stood l k (held.Frame f); flight = l.flight ++ f.0 ∷ [] }
+    record l {
+      frames = after_read l.frames f.0 k (backing_of (l.stands k));
+      stands = stood l k (held.Frame f);
+      flight = l.flight ++ f.0 ∷ [];
+    }
 after_move l (move.Got f) =
-    record l { frames = after_got l.frames f.0; free_slots = freed l.free_slots (slot_after_read (record_at l.frames f.0)); flight = without f.0 l.flight }
+    record l {
+      frames = after_got l.frames f.0;
+      free_slots = freed l.free_slots (slot_after_read (record_at l.frames f.0));
+      flight = without f.0 l.flight;
+    }
 after_move l (move.Bad f) =
     let r = record_at l.frames f.0 in
-    record l { frames = after_bad l.frames f.0; free_slots = freed l.free_slots (slot_after_read r); stands = homed l r.owner r.backing; flight = without f.0 l.flight }
+    record l {
+      frames = after_bad l.frames f.0;
+      free_slots = freed l.free_slots (slot_after_read r);
+      stands = homed l r.owner r.backing;
+      flight = without f.0 l.flight;
+    }
 after_move l (move.Map f place) =
-    record l { frames = after_map l.frames f.0; valid = changed same_place l.valid place (Some f); sets = with_resident l.sets place.pid.0 (λ n. n + 1) }
+    record l {
+      frames = after_map l.frames f.0;
+      valid = changed same_place l.valid place (Some f);
+      sets = with_resident l.sets place.pid.0 (λ n. n + 1);
+    }
 after_move l (move.Unmap place) = after_unmap_at (l.valid place) l place
 after_move l (move.Soil f) =
-    record l { frames = after_soil l.frames f.0; free_slots = freed l.free_slots (slot_after_soil (record_at l.frames f.0)) }
+    record l {
+      frames = after_soil l.frames f.0;
+      free_slots = freed l.free_slots (slot_after_soil (record_at l.frames f.0));
+    }
 after_move l (move.Write f s) = after_write_to l f.0 s
 after_move l (move.Wrote f) =
-    record l { frames = after_wrote l.frames f.0; free_slots = freed l.free_slots (slot_after_wrote (record_at l.frames f.0)); flight = without f.0 l.flight }
+    record l {
+      frames = after_wrote l.frames f.0;
+      free_slots = freed l.free_slots (slot_after_wrote (record_at l.frames f.0));
+      flight = without f.0 l.flight;
+    }
 after_move l (move.Lost f) =
-    record l { frames = after_lost l.frames f.0; free_slots = freed l.free_slots (slot_after_lost (record_at l.frames f.0)); flight = without f.0 l.flight }
+    record l {
+      frames = after_lost l.frames f.0;
+      free_slots = freed l.free_slots (slot_after_lost (record_at l.frames f.0));
+      flight = without f.0 l.flight;
+    }

@@ -1,5 +1,5 @@
--- The frame database: what is kept of each page frame, the four lists, and what each move does to them.
--- Profile, "Logs of moves".
+-- The frame database: what is kept of each page frame, the four lists, and what each move does to
+-- them. Profile, "Logs of moves".
 use Rattle.std.specs.Prelude.{ℕ, ◌+◌, ◌-◌, Bool, true, false, not, ◌&&◌, ◌==◌, if◌then◌else◌, is_some, List, [], ◌∷◌, ◌++◌, filter, Option, Some, None, slice_set, slice_index_or}
 use Rattle.std.specs.List.{list_any}
 use Rattle.mm_types.specs.declared.numbers.Key.{Key}
@@ -9,7 +9,8 @@ use Rattle.mm_types.specs.declared.frames.Backing.TheVariants as backing
 use Rattle.mm_types.specs.declared.frames.Request.{Request}
 use Rattle.mm_types.specs.declared.frames.Request.TheVariants as request
 
--- a record for each frame, by its number, and the four lists, the frame that stands there longest first
+-- a record for each frame, by its number, and the four lists, the frame that stands there longest
+-- first
 pub record FrameTable : Type 0 where
   pub records : List Record
   pub zeroed : List ℕ
@@ -21,7 +22,13 @@ pub record FrameTable : Type 0 where
 
 -- the record of a frame that was never used, or is free or zeroed
 abbrev pub blank : Record
-blank = record { owner = None; changed = false; backing = backing.None; shares = 0; request = request.None }
+blank = record {
+  owner = None;
+  changed = false;
+  backing = backing.None;
+  shares = 0;
+  request = request.None;
+}
 
 abbrev pub record_at : FrameTable → ℕ → Record
 record_at d f = slice_index_or d.records f blank
@@ -77,11 +84,23 @@ without_slot (backing.Block b) = backing.Block b
 
 -- a frame for a demand-zero page
 abbrev pub given : Key → Record
-given k = record { owner = Some k; changed = true; backing = backing.None; shares = 0; request = request.None }
+given k = record {
+  owner = Some k;
+  changed = true;
+  backing = backing.None;
+  shares = 0;
+  request = request.None;
+}
 
 -- a frame that a page is read into
 abbrev pub being_read : Key → Backing → Record
-being_read k home = record { owner = Some k; changed = false; backing = home; shares = 0; request = request.Read }
+being_read k home = record {
+  owner = Some k;
+  changed = false;
+  backing = home;
+  shares = 0;
+  request = request.Read;
+}
 
 abbrev pub shared : Record → Record
 shared r = record r { shares = r.shares + 1 }
@@ -95,7 +114,9 @@ disowned r = record r { owner = None }
 
 -- a changed page; while it is being written, the write is to be made again
 abbrev pub soiled : Record → Record
-soiled r = if has_request r.request then record r { request = request.WriteAgain } else record r { changed = true; backing = without_slot r.backing }
+soiled r = if has_request r.request then record r {
+  request = request.WriteAgain;
+} else record r { changed = true; backing = without_slot r.backing }
 
 abbrev pub being_written : Backing → Record → Record
 being_written home r = record r { backing = home; request = request.Write }
@@ -159,7 +180,9 @@ is_idle r = (r.shares == 0) && not (has_request r.request)
 
 abbrev pub settled_by : Record → FrameTable → ℕ → FrameTable
 settled_by r d f =
-    if is_idle r then (if r.changed then record d { modified = d.modified ++ f ∷ [] } else record d { standby = d.standby ++ f ∷ [] })
+    if is_idle r then (if r.changed then record d {
+      modified = d.modified ++ f ∷ [];
+    } else record d { standby = d.standby ++ f ∷ [] })
     else d
 
 -- the frame settles: an idle frame goes to modified where it is changed, else to standby
@@ -176,14 +199,19 @@ after_steal d f = to_free (record d { standby = rest d.standby }) f
 
 -- a frame that is on no list is bound to a page, and goes to modified
 abbrev pub bound : FrameTable → ℕ → Key → FrameTable
-bound d f k = record d { records = slice_set d.records f (given k); modified = d.modified ++ f ∷ [] }
+bound d f k = record d {
+  records = slice_set d.records f (given k);
+  modified = d.modified ++ f ∷ [];
+}
 
 abbrev pub after_give : FrameTable → ℕ → Key → FrameTable
 after_give d f k = bound (record d { zeroed = rest d.zeroed }) f k
 
 -- the first of free is taken, or where free is empty the first of zeroed
 abbrev pub taken_for_read : FrameTable → FrameTable
-taken_for_read d = if is_empty d.free then record d { zeroed = rest d.zeroed } else record d { free = rest d.free }
+taken_for_read d = if is_empty d.free then record d {
+  zeroed = rest d.zeroed;
+} else record d { free = rest d.free }
 
 abbrev pub after_read : FrameTable → ℕ → Key → Backing → FrameTable
 after_read d f k home = with_record (taken_for_read d) f (being_read k home)
@@ -222,7 +250,8 @@ abbrev pub after_lost : FrameTable → ℕ → FrameTable
 after_lost d f = lost_by (record_at d f) d f
 
 abbrev pub dropped_by : Record → FrameTable → ℕ → FrameTable
-dropped_by r d f = if has_request r.request then with_record d f (disowned r) else to_free (off_lists d f) f
+dropped_by r d f = if has_request r.request then with_record d f (disowned r) else
+    to_free (off_lists d f) f
 
 -- the page of the frame is no more
 abbrev pub after_drop : FrameTable → ℕ → FrameTable

@@ -75,14 +75,21 @@ trims pid _ = false
 -- a machine's numbers are in range
 abbrev pub is_machine : MachineOf → Bool
 is_machine m =
-    nat_le 6 m.frames && nat_le m.frames 262144 && nat_le m.slots 262144 && nat_le 1 m.depth && nat_le m.depth 64 && nat_le m.blocks 65536
+    nat_le 6 m.frames && nat_le m.frames 262144 && nat_le m.slots 262144 && nat_le 1 m.depth &&
+    nat_le m.depth 64 && nat_le m.blocks 65536
     && nat_le (2 * m.depth + 4) m.frames
 
 -- line 1 is `machine`, and no other is
 abbrev pub is_legal_kind : FrameLife → LineKind → Bool
 is_legal_kind l (kind.Machine frames slots depth blocks) =
-    (l.line == 0) && is_machine (record { frames = frames; slots = slots; depth = depth; blocks = blocks })
-is_legal_kind l (kind.Process pid min max) = nat_lt 0 l.line && (pid.0 == length l.sets + 1) && nat_le pid.0 64
+    (l.line == 0) && is_machine (record {
+      frames = frames;
+      slots = slots;
+      depth = depth;
+      blocks = blocks;
+    })
+is_legal_kind l (kind.Process pid min max) = nat_lt 0 l.line && (pid.0 == length l.sets + 1) &&
+    nat_le pid.0 64
 is_legal_kind l (kind.Grow n) = nat_lt 0 l.line && nat_le 1 n && nat_le (l.machine.slots + n) 262144
 is_legal_kind l _ = nat_lt 0 l.line
 
@@ -111,7 +118,8 @@ owner_is test r = unwrap_or (option_map test r.owner) false
 
 -- a shared page is valid at the place
 abbrev pub shows_shared : FrameLife → Place → Bool
-shows_shared l place = unwrap_or (option_map (λ f. owner_is is_shared (record_at l.frames f.0)) (l.valid place)) false
+shows_shared l place =
+    unwrap_or (option_map (λ f. owner_is is_shared (record_at l.frames f.0)) (l.valid place)) false
 
 -- in an access, a private page of its process comes to be where a shared page is valid: a copy
 abbrev pub may_copy : FrameLife → Key → Bool
@@ -147,7 +155,8 @@ is_at_max (Some s) = s.resident == s.max
 abbrev pub is_short : FrameLife → Bool
 is_short l = is_empty l.frames.zeroed && is_empty l.frames.free && is_empty l.frames.standby
 
--- an end of pages; a trim above the minimum; a full working set; an access of any process that found no frame; a copy
+-- an end of pages; a trim above the minimum; a full working set; an access of any process that
+-- found no frame; a copy
 abbrev pub may_unmap : FrameLife → Place → Record → Bool
 may_unmap l place r =
     unbinds place.pid.0 l.kind
@@ -169,48 +178,65 @@ is_lowest (suc s) (free ∷ rest) = not free && is_lowest s rest
 
 abbrev pub may_write_block : FrameLife → ℕ → Bool
 may_write_block l f =
-    (is_on f l.frames.modified && is_access l.kind) || (is_on f l.frames.modified && is_writer l.kind && has_depth l) || is_call l.kind
+    (is_on f l.frames.modified && is_access l.kind) ||
+    (is_on f l.frames.modified && is_writer l.kind && has_depth l) || is_call l.kind
 
 -- ---- the moves
 
 abbrev pub is_legal_add : FrameLife → Key → Option Block → Bool
-is_legal_add l k None = not (is_live l k) && nat_lt l.paging_keys (limit_of l.machine) && (is_call l.kind || may_copy l k)
-is_legal_add l k (Some b) = is_call l.kind && is_shared k && not (is_live l k) && nat_lt b.0 l.machine.blocks && not (l.added b.0)
+is_legal_add l k None = not (is_live l k) && nat_lt l.paging_keys (limit_of l.machine) &&
+    (is_call l.kind || may_copy l k)
+is_legal_add l k (Some b) = is_call l.kind && is_shared k && not (is_live l k) &&
+    nat_lt b.0 l.machine.blocks && not (l.added b.0)
 
 abbrev pub is_legal_map : FrameLife → Record → Place → Bool
 is_legal_map l r place =
-    owner_is (fits_place place) r && not (is_read r.request) && is_none (l.valid place) && touches place.pid.0 l.kind
+    owner_is (fits_place place) r && not (is_read r.request) && is_none (l.valid place) &&
+    touches place.pid.0 l.kind
     && is_below_max (set_of l place.pid.0)
 
 abbrev pub is_legal_soil : FrameLife → Record → Bool
 is_legal_soil l r =
-    nat_lt 0 r.shares && ((not r.changed && not (has_request r.request)) || (is_write r.request && not (is_again r.request))) && is_touch l.kind
+    nat_lt 0 r.shares &&
+    ((not r.changed && not (has_request r.request)) ||
+    (is_write r.request && not (is_again r.request))) && is_touch l.kind
 
 abbrev pub is_legal_write : FrameLife → ℕ → Record → Stored → Bool
 is_legal_write l f r (stored.Slot s) =
     is_on f l.frames.modified && owner_is l.paging r && is_lowest s.0 l.free_slots
     && (is_access l.kind || (is_writer l.kind && has_depth l))
 is_legal_write l f r (stored.Block b) =
-    r.changed && is_some r.owner && not (has_request r.request) && is_block b.0 r.backing && may_write_block l f
+    r.changed && is_some r.owner && not (has_request r.request) && is_block b.0 r.backing &&
+    may_write_block l f
 
 abbrev pub is_legal : FrameLife → Move → Bool
-is_legal l (move.At n k) = (n == l.line + 1) && nat_le (length l.flight) l.machine.depth && is_legal_kind l k
+is_legal l (move.At n k) = (n == l.line + 1) && nat_le (length l.flight) l.machine.depth &&
+    is_legal_kind l k
 is_legal l (move.Add k b) = is_legal_add l k b
-is_legal l (move.Drop k) = (is_call l.kind || is_unbind l.kind) && l.paging k && is_unmapped l (l.stands k)
-is_legal l (move.Clear f) = is_first f.0 l.frames.free && (is_zeroer l.kind || (is_touch l.kind && is_empty l.frames.zeroed))
-is_legal l (move.Steal f) = is_first f.0 l.frames.standby && is_empty l.frames.zeroed && is_empty l.frames.free && is_touch l.kind
+is_legal l (move.Drop k) = (is_call l.kind || is_unbind l.kind) && l.paging k &&
+    is_unmapped l (l.stands k)
+is_legal l (move.Clear f) = is_first f.0 l.frames.free &&
+    (is_zeroer l.kind || (is_touch l.kind && is_empty l.frames.zeroed))
+is_legal l (move.Steal f) = is_first f.0 l.frames.standby && is_empty l.frames.zeroed &&
+    is_empty l.frames.free && is_touch l.kind
 is_legal l (move.Give f k) = is_first f.0 l.frames.zeroed && is_zero (l.stands k) && is_touch l.kind
 is_legal l (move.Read f k) =
-    (is_first f.0 l.frames.free || (is_empty l.frames.free && is_first f.0 l.frames.zeroed)) && is_stored (l.stands k)
+    (is_first f.0 l.frames.free || (is_empty l.frames.free && is_first f.0 l.frames.zeroed)) &&
+    is_stored (l.stands k)
     && (is_access l.kind || (is_thread l.kind && has_depth l))
-is_legal l (move.Got f) = is_read (record_at l.frames f.0).request && (is_io l.kind || is_access l.kind)
-is_legal l (move.Bad f) = is_read (record_at l.frames f.0).request && (is_io l.kind || is_access l.kind)
+is_legal l (move.Got f) = is_read (record_at l.frames f.0).request &&
+    (is_io l.kind || is_access l.kind)
+is_legal l (move.Bad f) = is_read (record_at l.frames f.0).request &&
+    (is_io l.kind || is_access l.kind)
 is_legal l (move.Map f place) = is_legal_map l (record_at l.frames f.0) place
-is_legal l (move.Unmap place) = unwrap_or (option_map (λ f. may_unmap l place (record_at l.frames f.0)) (l.valid place)) false
+is_legal l (move.Unmap place) =
+    unwrap_or (option_map (λ f. may_unmap l place (record_at l.frames f.0)) (l.valid place)) false
 is_legal l (move.Soil f) = is_legal_soil l (record_at l.frames f.0)
 is_legal l (move.Write f s) = is_legal_write l f.0 (record_at l.frames f.0) s
-is_legal l (move.Wrote f) = is_write (record_at l.frames f.0).request && (is_io l.kind || is_access l.kind || is_call l.kind)
-is_legal l (move.Lost f) = is_write (record_at l.frames f.0).request && (is_io l.kind || is_access l.kind || is_call l.kind)
+is_legal l (move.Wrote f) = is_write (record_at l.frames f.0).request &&
+    (is_io l.kind || is_access l.kind || is_call l.kind)
+is_legal l (move.Lost f) = is_write (record_at l.frames f.0).request &&
+    (is_io l.kind || is_access l.kind || is_call l.kind)
 
 abbrev pub IsLegal : Move → FrameLife → Type 0
 IsLegal m l = IsTrue (is_legal l m)

@@ -9,3 +9,8 @@ pub mod LogCounts
 pub mod MoveText
 pub mod Logs
 pub mod WorkedLogs
+pub mod Order
+pub mod Waits
+pub mod Walks
+pub mod Searches
+pub mod Chores

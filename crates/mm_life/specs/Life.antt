@@ -74,9 +74,6 @@ is_live l k = not (is_dead (l.stands k))
 
 -- ---- processes
 
-abbrev pub no_set : ResidentSet
-no_set = record { min = 0; max = 0; resident = 0 }
-
 abbrev pub set_in : List ResidentSet → ℕ → Option ResidentSet
 set_in sets zero = None
 set_in sets (suc k) = slice_get sets k
@@ -122,7 +119,13 @@ numbers_from n (suc count) = n ∷ numbers_from (n + 1) count
 
 -- all frames are free in rising order
 abbrev pub free_table : ℕ → FrameTable
-free_table frames = record { records = replicate frames blank; zeroed = []; free = numbers_from 0 frames; standby = []; modified = [] }
+free_table frames = record {
+  records = replicate frames blank;
+  zeroed = [];
+  free = numbers_from 0 frames;
+  standby = [];
+  modified = [];
+}
 
 abbrev pub life_at : MachineOf → ℕ → LineKind → FrameLife
 life_at m line kind = record {

@@ -1,5 +1,5 @@
--- Where a key's bytes stand, and how the bytes of frames and of the two devices fit a replay's state.
--- Profile, "Logs of moves".
+-- Where a key's bytes stand, and how the bytes of frames and of the two devices fit a replay's
+-- state. Profile, "Logs of moves".
 use Rattle.std.specs.Prelude.{◌≡◌, ℕ, true, false, if◌then◌else◌, is_some, List, length, replicate, Option, Some, None, slice_get, slice_index_or}
 use Rattle.mm_types.specs.declared.numbers.Frame.{Frame}
 use Rattle.mm_types.specs.declared.numbers.Key.{Key}
@@ -24,7 +24,8 @@ located l (held.Block b) = held.Block b
 located l held.Zero = held.Zero
 located l held.Dead = held.Dead
 
--- where the bytes of a key stand: its frame, or where that is being read its backing; without a frame its home
+-- where the bytes of a key stand: its frame, or where that is being read its backing; without a
+-- frame its home
 abbrev pub held_at : FrameLife → Key → Held
 held_at l k = located l (l.stands k)
 
@@ -58,10 +59,13 @@ contents_of l ram slots blocks k = bytes_at ram slots blocks (held_at l k)
 
 -- ---- the bytes fit the state
 
--- the bytes of the frames, and the blocks of the paging device and of the file device, are those of this state
-pub record BytesLocated (l : FrameLife) (ram : FrameBytes) (slots blocks : BlockBytes) : Type 0 where
+-- the bytes of the frames, and the blocks of the paging device and of the file device, are those of
+-- this state
+pub record BytesLocated (l : FrameLife) (ram : FrameBytes) (slots blocks : BlockBytes) :
+    Type 0 where
   -- a frame with an owner that is neither changed nor being read equals its backing
-  pub clean : (f : ℕ) → is_some (record_at l.frames f).owner ≡ true → (record_at l.frames f).changed ≡ false → is_read (record_at l.frames f).request ≡ false
+  pub clean : (f : ℕ) → is_some (record_at l.frames f).owner ≡ true →
+      (record_at l.frames f).changed ≡ false → is_read (record_at l.frames f).request ≡ false
       → page_at ram f ≡ bytes_at ram slots blocks (home_at (record_at l.frames f).backing)
   -- a zeroed frame is all zero
   pub zeroed : (f : ℕ) → is_on f l.frames.zeroed ≡ true → page_at ram f ≡ Some zero_page

@@ -6,7 +6,8 @@ use Rattle.mm_life.specs.Life.{FrameLife}
 use Rattle.mm_life.specs.Replay.{Replays}
 use Rattle.mm_life.specs.MoveText.{AreMoves, spelled_moves}
 
--- the bytes taken and those of them that were given on, where told; whether the sink has failed; its count of faults
+-- the bytes taken and those of them that were given on, where told; whether the sink has failed;
+-- its count of faults
 pub record Log : Type 0 where
   pub bytes : Option (List ℕ)
   pub given : Option (List ℕ)
@@ -37,8 +38,9 @@ pub record GaveOn (old new : Log) : Type 0 where
   pub grows : IsFrontOf old.given new.given
   pub front : IsFrontOf old.given old.bytes → IsFrontOf new.given new.bytes
 
--- The log grew by this text: where the sink fails in it, by a front of it, and from then on by nothing.
--- It fails only where its count of faults rose, and while it has not failed the count is as it was.
+-- The log grew by this text: where the sink fails in it, by a front of it, and from then on by
+-- nothing. It fails only where its count of faults rose, and while it has not failed the count is
+-- as it was.
 pub record Grew (old new : Log) (text : List ℕ) : Type 0 where
   pub later : old.faults ≤ new.faults
   pub stays : old.failed ≡ true → new.failed ≡ true
@@ -47,8 +49,8 @@ pub record Grew (old new : Log) (text : List ℕ) : Type 0 where
   pub told : Told old.bytes new.bytes text old.failed new.failed
   pub gave : GaveOn old new
 
--- A flush of the log changes what was given on and the count of faults alone. Answered Ok, all bytes were given on and the count is as it
--- was; else the count rose.
+-- A flush of the log changes what was given on and the count of faults alone. Answered Ok, all
+-- bytes were given on and the count is as it was; else the count rose.
 pub record Flushed {T E : Type 0} (old new : Log) (result : Result T E) : Type 0 where
   pub stays : new ≡ record old { given = new.given; faults = new.faults }
   pub later : old.faults ≤ new.faults

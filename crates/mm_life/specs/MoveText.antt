@@ -26,12 +26,16 @@ place_onto place behind = numbered [] place.pid.0 (numbered (codes ".") place.vp
 -- `p<pid>.<page>` or `s<area>.<index>`
 abbrev pub key_onto : Key → Text → Text
 key_onto (Private pid vpn) behind = numbered (codes "p") pid.0 (numbered (codes ".") vpn.0 behind)
-key_onto (Shared area index) behind = numbered (codes "s") area.0 (numbered (codes ".") index behind)
+key_onto (Shared area index) behind =
+    numbered (codes "s") area.0 (numbered (codes ".") index behind)
 
 abbrev pub kind_onto : LineKind → Text → Text
 kind_onto (kind.Machine frames slots depth blocks) behind =
-    numbered (codes "machine ") frames (numbered (codes " ") slots (numbered (codes " ") depth (numbered (codes " ") blocks behind)))
-kind_onto (kind.Process pid min max) behind = numbered (codes "process ") pid.0 (numbered (codes " ") min (numbered (codes " ") max behind))
+    numbered (codes "machine ") frames
+    (numbered (codes " ") slots
+    (numbered (codes " ") depth (numbered (codes " ") blocks behind)))
+kind_onto (kind.Process pid min max) behind =
+    numbered (codes "process ") pid.0 (numbered (codes " ") min (numbered (codes " ") max behind))
 kind_onto (kind.Unbind pid) behind = numbered (codes "unbind ") pid.0 behind
 kind_onto (kind.Access pid) behind = numbered (codes "access ") pid.0 behind
 kind_onto (kind.Thread pid) behind = numbered (codes "thread ") pid.0 behind
@@ -61,7 +65,8 @@ move_onto (move.Give f k) behind = numbered (codes "give ") f.0 (codes " " ++ ke
 move_onto (move.Read f k) behind = numbered (codes "read ") f.0 (codes " " ++ key_onto k behind)
 move_onto (move.Got f) behind = numbered (codes "got ") f.0 behind
 move_onto (move.Bad f) behind = numbered (codes "bad ") f.0 behind
-move_onto (move.Map f place) behind = numbered (codes "map ") f.0 (codes " " ++ place_onto place behind)
+move_onto (move.Map f place) behind =
+    numbered (codes "map ") f.0 (codes " " ++ place_onto place behind)
 move_onto (move.Unmap place) behind = codes "unmap " ++ place_onto place behind
 move_onto (move.Soil f) behind = numbered (codes "soil ") f.0 behind
 move_onto (move.Write f s) behind = numbered (codes "write ") f.0 (stored_onto s behind)
@@ -90,7 +95,8 @@ abbrev pub IsPlace : Place → Type 0
 IsPlace place = (place.pid.0 < 2 ^ 8) × (place.vpn.0 < 2 ^ 32)
 
 abbrev pub IsKind : LineKind → Type 0
-IsKind (kind.Machine frames slots depth blocks) = (frames < 2 ^ 32) × (slots < 2 ^ 32) × (depth < 2 ^ 32) × (blocks < 2 ^ 32)
+IsKind (kind.Machine frames slots depth blocks) = (frames < 2 ^ 32) × (slots < 2 ^ 32) ×
+    (depth < 2 ^ 32) × (blocks < 2 ^ 32)
 IsKind (kind.Process pid min max) = (pid.0 < 2 ^ 8) × (min < 2 ^ 32) × (max < 2 ^ 32)
 IsKind (kind.Unbind pid) = pid.0 < 2 ^ 8
 IsKind (kind.Access pid) = pid.0 < 2 ^ 8

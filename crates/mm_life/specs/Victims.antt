@@ -6,7 +6,8 @@ use Rattle.mm_life.specs.Frames.{record_at}
 use Rattle.mm_life.specs.Life.{FrameLife}
 use Rattle.mm_life.specs.Legal.{owner_is}
 
--- a valid page of a process and its age: 0 at its `map` and at each line whose access there is answered `ok`
+-- a valid page of a process and its age: 0 at its `map` and at each line whose access there is
+-- answered `ok`
 pub record Aged : Type 0 where
   pub page : ℕ
   pub age : ℕ
@@ -21,4 +22,5 @@ goes_before a b = nat_lt b.age a.age || ((a.age == b.age) && nat_lt a.page b.pag
 
 -- a modified frame can be written: its page has a block of its own, or a slot is free
 abbrev pub can_be_written : FrameLife → ℕ → Bool
-can_be_written l f = owner_is (λ k. not (l.paging k)) (record_at l.frames f) || list_any (λ b. b) l.free_slots
+can_be_written l f = owner_is (λ k. not (l.paging k)) (record_at l.frames f) ||
+    list_any (λ b. b) l.free_slots

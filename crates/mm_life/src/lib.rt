@@ -1,4 +1,6 @@
-//! The life of the page frames: what a log of moves may say, and what each move does.
+//! The life of the page frames: what a log of moves may say, what each move does, and the moves of
+//! one line, one after another: which page goes first, which frame is written, what housekeeping
+//! does.
 //!
 //! The definitions stand in `specs/`. What stands here are worked logs, replayed by computing the
 //! definitions, and laws over them: functions that do nothing and say something.

@@ -41,9 +41,6 @@ module _ (next prev owner firsts lasts lens : List ℕ) (v : ListsOf) (o : Opene
     len_is : len ≡ length (list_at v.lists i)
     len_is = len_at ∙ (s.linked i there_is).count
 
-    pub no_front : len ≡ 0 → number_at v.lists i 0 ≡ None
-    no_front e = slice_get_past (list_at v.lists i) 0 (omega (arith, len_is))
-
     pub front_there : (first : ℕ) → first ≡ get_or firsts i first → len ≢ 0 → number_at v.lists i 0 ≡ Some first
     front_there first read some =
         let h = there (list_at v.lists i) 0 (omega (arith, len_is)) in

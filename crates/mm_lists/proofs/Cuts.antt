@@ -1,5 +1,5 @@
 -- Numbers at the places of a list: one more after the last, one taken out.
-use Rattle.std.proofs.Common.{◌≡◌, ◌≢◌, ◌⊎◌, ℕ, zero, suc, ◌<◌, ◌≤◌, Bool, List, [], ◌∷◌, ◌++◌, length, drop, Some, None, refl, ap, ◌∙◌, inl, inr, arith}
+use Rattle.std.proofs.Common.{◌≡◌, ◌≢◌, ◌⊎◌, ℕ, zero, suc, ◌<◌, ◌≤◌, List, [], ◌∷◌, ◌++◌, length, drop, Some, None, refl, ap, ◌∙◌, inl, inr, arith}
 use Rattle.std.specs.Prelude.{slice_get, not, cond}
 use Rattle.std.specs.Cmp.{unsigned_Decides}
 use Rattle.mm_types.proofs.Cells.{same_or_not, get_within}
@@ -63,9 +63,6 @@ cut_cases (x ∷ xs) (suc p) (suc k) y e = elim (cut_cases xs p k y e) [
 pub drop_one : (xs : List ℕ) → drop 1 xs ≡ cut xs 0
 drop_one [] = refl
 drop_one (x ∷ xs) = refl
-
-keep : Bool → ℕ → List ℕ → List ℕ
-keep b y rest = cond b (y ∷ rest) rest
 
 pub without_other : (x : ℕ) (xs : List ℕ) → ((k : ℕ) → slice_get xs k ≡ Some x → ⊥) → without x xs ≡ xs
 without_other x [] none = refl

@@ -2,7 +2,6 @@
 use Rattle.std.proofs.Common.{◌≡◌, ◌≢◌, ◌⊎◌, ℕ, zero, suc, ◌<◌, Bool, cond, List, [], ◌∷◌, ◌++◌, length, set, map, drop, Some, None, refl, sym, ap, ◌∙◌, inl, inr, arith, get_or-set_same, get_or-set_other}
 use Rattle.std.specs.Prelude.{slice_get, not}
 use Rattle.std.specs.Cmp.{unsigned_Decides}
-use Rattle.std.proofs.lemmas.List.{set-get_or}
 use Rattle.mm_types.proofs.Cells.{same_or_not, get_within}
 use Rattle.mm_types.proofs.Lists.{get_last}
 use Rattle.mm_types.proofs.Tables.{differ}
@@ -94,13 +93,6 @@ pop_removes f lists i inside first once = record {
     behind_first [] f k g n first e = let bad : None ≡ Some g = e in cc
     behind_first (x ∷ xs) f zero g n first e = absurd (n (sym (same x g e) ∙ same x f first))
     behind_first (x ∷ xs) f (suc k) g n first e = (k, e)
-
-pub pop_nothing : (lists : List (List ℕ)) (i : ℕ) → number_at lists i 0 ≡ None → set lists i (drop 1 (list_at lists i)) ≡ lists
-pop_nothing lists i none = ap (λ (xs : List ℕ). set lists i xs) (nothing (list_at lists i) none) ∙ set-get_or lists i []
-  where
-    nothing : (xs : List ℕ) → slice_get xs 0 ≡ None → drop 1 xs ≡ xs
-    nothing [] e = refl
-    nothing (x ∷ xs) e = let bad : Some x ≡ None = e in cc
 
 -- ---- a number is put at the end of a list
 

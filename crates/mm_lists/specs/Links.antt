@@ -1,4 +1,5 @@
--- Lists as links: for each number the one after it and the one before it, for each list its two ends.
+-- Lists as links: for each number the one after it and the one before it, for each list its two
+-- ends.
 use Rattle.std.specs.Prelude.{◌≡◌, ℕ, zero, suc, ◌<◌, ◌^◌, List, [], ◌∷◌, length, Some, slice_get, slice_index}
 use Rattle.mm_lists.specs.Lists.{list_at}
 
@@ -20,16 +21,21 @@ pub record Linked (next prev owner : List ℕ) (j first last len : ℕ) (xs : Li
   pub back : (k x : ℕ) → slice_get xs k ≡ Some x → suc k ≡ length xs → last ≡ x
   pub within : (k x : ℕ) → slice_get xs k ≡ Some x → x < length next
   pub owned : (k x : ℕ) → slice_get xs k ≡ Some x → slice_index owner x ≡ j
-  pub forth : (k x y : ℕ) → slice_get xs k ≡ Some x → slice_get xs (suc k) ≡ Some y → slice_index next x ≡ y
-  pub past : (k x y : ℕ) → slice_get xs k ≡ Some x → slice_get xs (suc k) ≡ Some y → slice_index prev y ≡ x
+  pub forth : (k x y : ℕ) → slice_get xs k ≡ Some x → slice_get xs (suc k) ≡ Some y →
+      slice_index next x ≡ y
+  pub past : (k x y : ℕ) → slice_get xs k ≡ Some x → slice_get xs (suc k) ≡ Some y →
+      slice_index prev y ≡ x
   pub once : (k m x : ℕ) → slice_get xs k ≡ Some x → slice_get xs m ≡ Some x → k ≡ m
 
 -- the links of all the lists
-pub record Stands (next prev owner firsts lasts lens : List ℕ) (lists : List (List ℕ)) : Type 0 where
+pub record Stands (next prev owner firsts lasts lens : List ℕ) (lists : List (List ℕ)) :
+    Type 0 where
   pub small : length next < 2 ^ 32
   pub prevs : length prev ≡ length next
   pub owners : length owner ≡ length next
   pub fronts : length firsts ≡ length lists
   pub backs : length lasts ≡ length lists
   pub counts : length lens ≡ length lists
-  pub linked : (j : ℕ) → j < length lists → Linked next prev owner j (slice_index firsts j) (slice_index lasts j) (slice_index lens j) (list_at lists j)
+  pub linked : (j : ℕ) → j < length lists →
+      Linked next prev owner j (slice_index firsts j) (slice_index lasts j) (slice_index lens j)
+      (list_at lists j)

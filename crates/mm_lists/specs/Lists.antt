@@ -21,7 +21,8 @@ IsOnNone lists x = (j k : ℕ) → number_at lists j k ≡ Some x → ⊥
 -- each number on a list is below the bound, and stands at one place of one list
 pub record AreApart (v : ListsOf) : Type 0 where
   pub below : (j k x : ℕ) → number_at v.lists j k ≡ Some x → x < v.numbers
-  pub once : (i j k m x : ℕ) → number_at v.lists i k ≡ Some x → number_at v.lists j m ≡ Some x → (i ≡ j) × (k ≡ m)
+  pub once : (i j k m x : ℕ) → number_at v.lists i k ≡ Some x → number_at v.lists j m ≡ Some x →
+      (i ≡ j) × (k ≡ m)
 
 -- list j becomes these numbers
 abbrev pub with_list : ListsOf → ℕ → List ℕ → ListsOf

@@ -62,11 +62,6 @@ pub end_told : (left' : Option Text) (more : Text) → left' ≡ Some more → I
 end_told None more e h = cc
 end_told (Some b) more e h = let same : b ≡ more = cc in sym same ∙ h
 
--- a status that a text belongs to, or that of a failed write
-shown_status : (took took' : Option Text) (text : Text) (status result : ℕ) → Shows took took' text status result → ((result ≡ status) × Appended took took' text) ⊎ (result ≡ 5)
-shown_status took took' text status result (inl h) = inl h
-shown_status took took' text status result (inr h) = inr h.0
-
 module _ (a : Asked) (text : Text) (moves : List Move) (l : FrameLife) (left left' took took' : Option Text) (status : ℕ) (told : left ≡ Some text) (few : length text ≤ most_bytes) (whole : IsSpelled moves text) (replays : Replays moves unstarted l) where
   -- the run came to `yes`
   from_yes : (life : FrameLife) (c : CountsOfLog) → Came left left' ending.Yes life c → (c ≡ counts_of_log moves) × (life ≡ l)

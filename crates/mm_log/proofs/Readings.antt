@@ -1,30 +1,25 @@
 -- A log that is read line by line.
-use Rattle.std.proofs.Common.{◌≡◌, ℕ, ◌+◌, ◌-◌, ◌<◌, ◌≤◌, false, List, [], ◌∷◌, ◌++◌, length, take, drop, Option, None, refl, sym, ap, ◌∙◌, subst, arith, add-one, append_assoc, length-append}
+use Rattle.std.proofs.Common.{◌≡◌, ℕ, ◌+◌, ◌-◌, ◌<◌, ◌≤◌, List, [], ◌∷◌, ◌++◌, length, take, drop, Option, None, refl, sym, ap, ◌∙◌, subst, arith, add-one, append_assoc, length-append}
 use Rattle.std.specs.Prelude.{Result, Ok, Err, MatchResult}
 use Rattle.mm_types.specs.Spelling.{Text}
 use Rattle.mm_types.specs.Outside.{IsEnd}
-use Rattle.mm_types.proofs.Bytes.{took_then, took_none, append_nil}
+use Rattle.mm_types.proofs.Bytes.{took_then, append_nil}
 use Rattle.mm_types.specs.declared.moves.Move.{Move}
 use Rattle.mm_life.specs.MoveText.{move_text, spelling_of_move, spelled_moves, IsMove}
 use Rattle.mm_life.specs.Life.{FrameLife}
-use Rattle.mm_life.specs.Legal.{is_legal, IsLegal}
 use Rattle.mm_life.proofs.Replays.{spelled-append, moves-append}
 use Rattle.mm_moves.proofs.Lines.{move_onto-is}
-use Rattle.mm_lines.specs.Lines.{IsLine}
-use Rattle.mm_lines.specs.Looking.{HasLine, IsLong}
-use Rattle.mm_lines.specs.Filling.{Filled, Finds}
-use Rattle.mm_lines.specs.declared.buffers.Found.{Found}
-use Rattle.mm_lines.specs.declared.buffers.Found.TheVariants as found
+use Rattle.mm_io.specs.Lines.{IsLine}
+use Rattle.mm_io.specs.Looking.{HasLine, IsLong}
+use Rattle.mm_io.specs.Filling.{Filled, Finds}
+use Rattle.mm_io.specs.declared.buffers.Found.{Found}
+use Rattle.mm_io.specs.declared.buffers.Found.TheVariants as found
 use Rattle.mm_log.specs.Verdict.{most_bytes, EndsAt}
-use Rattle.mm_log.specs.Reading.{Lines, Reading, Reads, Stops, Takes}
+use Rattle.mm_log.specs.Reading.{Lines, Reads, Stops, Takes}
 use Rattle.mm_log.specs.declared.readers.LogReader.{LogReader}
 use Rattle.mm_log.specs.declared.endings.Ending.{Ending}
 use Rattle.mm_log.specs.declared.endings.Ending.TheVariants as ending
 use Rattle.mm_log.proofs.Stuck.{stuck_line, stuck_long, stuck_end, spells_line, spells_long, spells_end}
-
--- nothing was read
-pub lines_none : (left : Option Text) → Lines left left [] [] 0
-lines_none left = record { taken = []; took = took_none left; whole = refl; in_range = tt; total_is = refl }
 
 pub longer : (left left' : Option Text) (held held' : Text) → Filled left left' held held' → length held ≤ length held'
 longer left left' held held' f = omega (arith, ap length f.behind, length-append held f.taken)

@@ -10,7 +10,14 @@ pub record TallyOf : Type 0 where
   pub brought : MarksOf
 
 abbrev pub no_counts : CountsOfLog
-no_counts = record { moves = 0; zero_fills = 0; soft_faults = 0; hard_faults = 0; steals = 0; write_outs = 0 }
+no_counts = record {
+  moves = 0;
+  zero_fills = 0;
+  soft_faults = 0;
+  hard_faults = 0;
+  steals = 0;
+  write_outs = 0;
+}
 
 -- nothing was counted
 pub record IsNew (t : TallyOf) : Type 0 where
@@ -33,5 +40,7 @@ counted c frames m = record {
 
 -- a move was counted, whichever frames it is that were brought in before it
 pub record Counts (m : Move) (t t' : TallyOf) : Type 0 where
-  pub counts : (frames : List ℕ) → AreMarked t.brought frames → t'.counts ≡ counted t.counts frames m
-  pub brought : (frames : List ℕ) → AreMarked t.brought frames → AreMarked t'.brought (brought_in frames m)
+  pub counts : (frames : List ℕ) → AreMarked t.brought frames →
+      t'.counts ≡ counted t.counts frames m
+  pub brought : (frames : List ℕ) → AreMarked t.brought frames →
+      AreMarked t'.brought (brought_in frames m)

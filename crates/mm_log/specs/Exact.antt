@@ -15,7 +15,8 @@ abbrev pub IsFault : ℕ → Type 0
 IsFault status = (status ≡ 1) ⊎ ((status ≡ 4) ⊎ (status ≡ 5))
 
 -- yes, with the counts of these moves, or where a key stands after them
-pub record SaysYes (a : Asked) (moves : List Move) (l : FrameLife) (took took' : Option Text) (status : ℕ) : Type 0 where
+pub record SaysYes (a : Asked) (moves : List Move) (l : FrameLife) (took took' : Option Text)
+    (status : ℕ) : Type 0 where
   pub zero : status ≡ 0
   pub text : Appended took took' (yes_text a (counts_of_log moves) l)
 

@@ -24,8 +24,12 @@ IsForm words = (a : Asked) × Asks words a
 
 abbrev pub check_text : CountsOfLog → Text
 check_text c =
-    codes "yes" ++ (10 ∷ numbered (codes "moves ") c.moves (10 ∷ numbered (codes "zero ") c.zero_fills (10 ∷ numbered (codes "soft ") c.soft_faults
-    (10 ∷ numbered (codes "hard ") c.hard_faults (10 ∷ numbered (codes "steals ") c.steals (10 ∷ numbered (codes "writes ") c.write_outs (10 ∷ [])))))))
+    codes "yes" ++
+    (10 ∷ numbered (codes "moves ") c.moves
+    (10 ∷ numbered (codes "zero ") c.zero_fills (10 ∷ numbered (codes "soft ") c.soft_faults
+    (10 ∷ numbered (codes "hard ") c.hard_faults
+    (10 ∷ numbered (codes "steals ") c.steals
+    (10 ∷ numbered (codes "writes ") c.write_outs (10 ∷ [])))))))
 
 abbrev pub held_text : Held → Text
 held_text (held.Frame f) = numbered (codes "frame ") f.0 (10 ∷ [])

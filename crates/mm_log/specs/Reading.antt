@@ -20,7 +20,8 @@ pub record IsReady (r : LogReader) : Type 0 where
   pub lines : r.lines + length r.held ≤ r.bytes
 
 -- Bytes were taken: the lines of these moves, and those after them that are held.
-pub record Lines (left left' : Option Text) (held : Text) (moves : List Move) (total : ℕ) : Type 0 where
+pub record Lines (left left' : Option Text) (held : Text) (moves : List Move) (total : ℕ) :
+    Type 0 where
   pub taken : Text
   pub took : Took left left' taken
   pub whole : taken ≡ spelled_moves moves ++ held
@@ -32,12 +33,14 @@ pub record Reading (left left' : Option Text) (r : LogReader) (moves : List Move
   pub number : r.lines ≡ length moves
 
 -- the next line is a move that is legal in this state
-pub record Reads (left left' : Option Text) (r : LogReader) (moves : List Move) (l : FrameLife) (m : Move) : Type 0 where
+pub record Reads (left left' : Option Text) (r : LogReader) (moves : List Move) (l : FrameLife)
+    (m : Move) : Type 0 where
   pub reading : Reading left left' r (moves ++ m ∷ [])
   pub legal : IsLegal m l
 
 -- it came to an end after these moves, which lead to this state
-pub record Stops (left left' : Option Text) (moves : List Move) (l : FrameLife) (e : Ending) : Type 0 where
+pub record Stops (left left' : Option Text) (moves : List Move) (l : FrameLife) (e : Ending) :
+    Type 0 where
   pub held : Text
   pub total : ℕ
   pub lines : Lines left left' held moves total
@@ -53,7 +56,8 @@ abbrev pub IsSpelling : Option Move → Text → Type 0
 IsSpelling (Some m) line = IsMove m × (move_text m ≡ line)
 IsSpelling None line = (m : Move) → IsMove m → move_text m ≡ line → ⊥
 
--- the line in front is a move that is legal in this state, and was taken; or it is none, and nothing was
+-- the line in front is a move that is legal in this state, and was taken; or it is none, and
+-- nothing was
 pub record TakesMove (r r' : LogReader) (len : ℕ) (l : FrameLife) (m : Move) : Type 0 where
   pub in_range : IsMove m
   pub text : move_text m ≡ take len r.held

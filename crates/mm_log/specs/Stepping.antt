@@ -13,7 +13,8 @@ use Rattle.mm_log.specs.Reading.{Reading}
 use Rattle.mm_log.specs.declared.readers.LogReader.{LogReader}
 
 -- the move was made and counted
-pub record Steps (m : Move) (l : FrameLife) (t : TallyOf) (l' : FrameLife) (t' : TallyOf) : Type 0 where
+pub record Steps (m : Move) (l : FrameLife) (t : TallyOf) (l' : FrameLife) (t' : TallyOf) :
+    Type 0 where
   pub after : l' ≡ after_move l m
   pub counts : Counts m t t'
 
@@ -27,7 +28,8 @@ brought_after frames [] = frames
 brought_after frames (m ∷ ms) = brought_after (brought_in frames m) ms
 
 -- these moves were taken, made and counted
-pub record Stands (left left' : Option Text) (r : LogReader) (l : FrameLife) (t : TallyOf) : Type 0 where
+pub record Stands (left left' : Option Text) (r : LogReader) (l : FrameLife) (t : TallyOf) :
+    Type 0 where
   pub moves : List Move
   pub reading : Reading left left' r moves
   pub replays : Replays moves unstarted l

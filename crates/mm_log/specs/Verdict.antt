@@ -21,7 +21,8 @@ most_bytes = 1000000000000
 -- There are bytes, and in front of them stands no whole line of a move that is legal in this state.
 pub record IsStuck (l : FrameLife) (bytes : Text) : Type 0 where
   pub some : 0 < length bytes
-  pub illegal : (m : Move) (behind : Text) → IsMove m → bytes ≡ move_onto m (10 ∷ behind) → is_legal l m ≡ false
+  pub illegal : (m : Move) (behind : Text) → IsMove m → bytes ≡ move_onto m (10 ∷ behind) →
+      is_legal l m ≡ false
 
 -- the same of the bytes that were taken and those that are left, where these are told
 abbrev pub StuckBefore : Option Text → FrameLife → Text → Type 0
@@ -37,17 +38,20 @@ abbrev pub SpellsBefore : Option Text → Option Move → Text → Type 0
 SpellsBefore None refused bytes = Unit {0}
 SpellsBefore (Some more) refused bytes = Spells refused (bytes ++ more)
 
--- After the moves of whole lines, which lead to this state, stand these bytes; so many were taken in all.
+-- After the moves of whole lines, which lead to this state, stand these bytes; so many were taken
+-- in all.
 abbrev pub EndsAt : Ending → Option Text → List Move → FrameLife → Text → ℕ → Type 0
 EndsAt ending.Yes left moves l held total = (held ≡ []) × IsEnd left × (total ≤ most_bytes)
 EndsAt (ending.No line refused) left moves l held total =
-    (line ≡ length moves + 1) × StuckBefore left l held × (total ≤ most_bytes) × SpellsBefore left refused held
+    (line ≡ length moves + 1) × StuckBefore left l held × (total ≤ most_bytes) ×
+    SpellsBefore left refused held
 EndsAt ending.TooLong left moves l held total = most_bytes < total
 EndsAt ending.ReadFault left moves l held total = Unit {0}
 EndsAt ending.NoMemory left moves l held total = Unit {0}
 
 -- Bytes were taken: the lines of moves that replay, and those after them that are held.
-pub record Replayed (left left' : Option Text) (held : Text) (moves : List Move) (l : FrameLife) (total : ℕ) : Type 0 where
+pub record Replayed (left left' : Option Text) (held : Text) (moves : List Move) (l : FrameLife)
+    (total : ℕ) : Type 0 where
   pub taken : Text
   pub took : Took left left' taken
   pub whole : taken ≡ spelled_moves moves ++ held
@@ -56,7 +60,8 @@ pub record Replayed (left left' : Option Text) (held : Text) (moves : List Move)
   pub total_is : total ≡ length taken
 
 -- The check came to an end.
-pub record Came (left left' : Option Text) (e : Ending) (l : FrameLife) (c : CountsOfLog) : Type 0 where
+pub record Came (left left' : Option Text) (e : Ending) (l : FrameLife) (c : CountsOfLog) :
+    Type 0 where
   pub moves : List Move
   pub held : Text
   pub total : ℕ
@@ -73,7 +78,8 @@ pub record Tore (took took' : Option Text) (text : Text) : Type 0 where
   pub written : Appended took took' front
 
 abbrev pub Shows : Option Text → Option Text → Text → ℕ → ℕ → Type 0
-Shows took took' text status result = ((result ≡ status) × Appended took took' text) ⊎ ((result ≡ 5) × Tore took took' text)
+Shows took took' text status result = ((result ≡ status) × Appended took took' text) ⊎
+    ((result ≡ 5) × Tore took took' text)
 
 -- Memory was refused as the words were read, and nothing was written.
 abbrev pub IsRefused : Option Text → Option Text → ℕ → Type 0

@@ -38,7 +38,8 @@ impl Checker {
     fn take(&mut self, m: &Move) -> Result<(), NoMemory>
         requires legal { IsLegal m.now (life self.old.life) }
         requires few { self.old.tally.counts.moves + 1 < 2 ^ 63 }
-        ensures ok { OnOk result (Steps m.now (life self.old.life) self.old.tally (life self.new.life) self.new.tally) }
+        ensures ok { OnOk result (Steps m.now (life self.old.life) self.old.tally
+            (life self.new.life) self.new.tally) }
         ensures err { OnErr result (Halts m.now (life self.old.life) (life self.new.life)) }
     {
         self.life.make(m)?;
@@ -49,11 +50,16 @@ impl Checker {
     fn next<S: Source>(&mut self, reader: &mut LogReader, source: &mut S) -> Result<(), Ending>
         requires ready { IsReady reader.old }
         requires few { self.old.tally.counts.moves + 1 < 2 ^ 63 }
-        ensures went { (left : Option (List ℕ)) → Stands left (S.left source.old) reader.old (life self.old.life) self.old.tally
-            → MatchResult result (λ u. Stands left (S.left source.new) reader.new (life self.new.life) self.new.tally) (λ e. Came left (S.left source.new) e (life self.new.life) self.new.tally.counts) }
+        ensures went { (left : Option (List ℕ)) →
+            Stands left (S.left source.old) reader.old (life self.old.life) self.old.tally
+            → MatchResult result
+            (λ u. Stands left (S.left source.new) reader.new (life self.new.life)
+            self.new.tally)
+            (λ e. Came left (S.left source.new) e (life self.new.life) self.new.tally.counts) }
         ensures ready { OnOk result (IsReady reader.new × (reader.new.lines ≡ reader.old.lines + 1)) }
         ensures later { S.faults source.old ≤ S.faults source.new }
-        ensures blame { result ≡ Err Ending.ReadFault → Rose (S.faults source.old) (S.faults source.new) }
+        ensures blame { result ≡ Err Ending.ReadFault →
+            Rose (S.faults source.old) (S.faults source.new) }
     {
         let m = match reader.next_move(&self.life, source) {
             Ok(m) => m,
@@ -71,7 +77,8 @@ impl Checker {
 pub(crate) fn check_log<S: Source>(checker: &mut Checker, source: &mut S) -> Ending
     requires life { life checker.old.life ≡ unstarted }
     requires tally { IsNew checker.old.tally }
-    ensures came { Came (S.left source.old) (S.left source.new) result (life checker.new.life) checker.new.tally.counts }
+    ensures came { Came (S.left source.old) (S.left source.new) result (life checker.new.life)
+        checker.new.tally.counts }
     ensures later { S.faults source.old ≤ S.faults source.new }
     ensures blame { result ≡ Ending.ReadFault → Rose (S.faults source.old) (S.faults source.new) }
 {

@@ -1,4 +1,5 @@
-//! The checker of logs: whether a log of moves replays, its counts, and where a page stands at its end.
+//! The checker of logs: whether a log of moves replays, its counts, and where a page stands at its
+//! end.
 #![tactic(auto)]
 
 mod checks;

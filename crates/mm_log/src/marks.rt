@@ -5,8 +5,9 @@ use mm_types::NoMemory;
 use std::alloc::Global;
 use std::marker::Model;
 
-/// The frames that were brought in since the line began: each frame is marked with the line in which it was brought in
-/// last, so that a new line takes no time. Memory is in proportion to the frames.
+/// The frames that were brought in since the line began: each frame is marked with the line in
+/// which it was brought in last, so that a new line takes no time. Memory is in proportion to the
+/// frames.
 #[derive(Drop)]
 pub(crate) struct Brought {
     /// The line, counted from 1.
@@ -71,7 +72,8 @@ impl Brought {
 
     /// A frame is brought in.
     pub(crate) fn add(&mut self, frame: u32) -> Result<(), NoMemory>
-        ensures ok { OnOk result ((f : ℕ) → has_mark self.new f ≡ ((frame == f) || has_mark self.old f)) }
+        ensures ok { OnOk result ((f : ℕ) →
+            has_mark self.new f ≡ ((frame == f) || has_mark self.old f)) }
         ensures line { self.new.line ≡ self.old.line }
     {
         reach(&mut self.marks, frame as usize)?;

@@ -2,14 +2,13 @@ ghost use Rattle.std.specs.Prelude.{◌≡◌, ◌+◌, ◌<◌, ◌≤◌, [], 
 ghost use Rattle.mm_life.specs.Legal.{IsLegal};
 ghost use Rattle.mm_types.specs.Outside.{Rose};
 ghost use Rattle.mm_types.specs.declared.moves.Move.{Move};
-ghost use Rattle.mm_lines.specs.Looking.{HasLine};
+ghost use Rattle.mm_io.specs.Looking.{HasLine};
 ghost use Rattle.mm_moves.specs.Standing.{life as life_of};
 ghost use Rattle.mm_log.specs.Verdict.{most_bytes};
 ghost use Rattle.mm_log.specs.Reading.{IsReady, Reading, Reads, Stops, Takes};
 
 use crate::endings::Ending;
-use mm_io::Source;
-use mm_lines::{Found, Held};
+use mm_io::{Found, Held, Source};
 use mm_moves::{Life, read_move};
 use mm_types::{Failed, Move};
 
@@ -43,17 +42,23 @@ impl LogReader {
         }
     }
 
-    /// Takes the next line, a move that is legal in this state. An ending comes where there is none: at the end of the
-    /// log, at a line of no such move, and after a byte too many or a read that failed. After an ending it reads no more.
+    /// Takes the next line, a move that is legal in this state. An ending comes where there is
+    /// none: at the end of the log, at a line of no such move, and after a byte too many or a read
+    /// that failed. After an ending it reads no more.
     #[tactic(auto, using(crate::proofs::Readings::readings))]
     pub fn next_move<S: Source>(&mut self, life: &Life, source: &mut S) -> Result<Move, Ending>
         requires { IsReady self.old }
-        ensures read { (left : Option (List ℕ)) (moves : List Move) → Reading left (S.left source.old) self.old moves
-            → MatchResult result (λ m. Reads left (S.left source.new) self.new moves (life_of life.now) m) (λ e. Stops left (S.left source.new) moves (life_of life.now) e) }
+        ensures read { (left : Option (List ℕ)) (moves : List Move) →
+            Reading left (S.left source.old) self.old moves
+            → MatchResult result
+            (λ m. Reads left (S.left source.new) self.new moves (life_of life.now) m)
+            (λ e. Stops left (S.left source.new) moves (life_of life.now) e) }
         ensures legal { IfOk result (λ m. IsLegal m (life_of life.now)) }
-        ensures ready { MatchResult result (λ m. IsReady self.new × (self.new.lines ≡ self.old.lines + 1)) (λ e. Unit {0}) }
+        ensures ready { MatchResult result (λ m. IsReady self.new ×
+            (self.new.lines ≡ self.old.lines + 1)) (λ e. Unit {0}) }
         ensures later { S.faults source.old ≤ S.faults source.new }
-        ensures blame { result ≡ Err Ending.ReadFault → Rose (S.faults source.old) (S.faults source.new) }
+        ensures blame { result ≡ Err Ending.ReadFault →
+            Rose (S.faults source.old) (S.faults source.new) }
     {
         let before = held_len(&self.held);
         let found = match self.held.next(source) {

@@ -8,7 +8,8 @@ use mm_types::{Move, NoMemory};
 use std::alloc::Global;
 use std::marker::Model;
 
-/// The counts of the moves so far, and the frames that have a `give` or a `got` since the line's `at`.
+/// The counts of the moves so far, and the frames that have a `give` or a `got` since the line's
+/// `at`.
 #[derive(Drop)]
 pub(crate) struct Tally {
     pub(crate) moves: u64,
@@ -79,7 +80,8 @@ fn is_wrote(m: &Move) -> bool
 
 /// Whether the move maps a frame that was not brought in by this line.
 fn is_soft(brought: &Brought, m: &Move) -> bool
-    ensures { (frames : List ℕ) → AreMarked brought.now frames → soft_fault frames m.now ≡ (if result then 1 else 0) }
+    ensures { (frames : List ℕ) → AreMarked brought.now frames →
+        soft_fault frames m.now ≡ (if result then 1 else 0) }
 {
     match *m {
         Move::Map(frame, _) => !brought.has(frame.0),
@@ -91,7 +93,8 @@ fn is_soft(brought: &Brought, m: &Move) -> bool
 #[tactic(auto, using(crate::proofs::Marked::marked))]
 fn bring(brought: &mut Brought, m: &Move) -> Result<(), NoMemory>
     requires { brought.old.line + 1 < 2 ^ 64 }
-    ensures ok { OnOk result ((frames : List ℕ) → AreMarked brought.old frames → AreMarked brought.new (brought_in frames m.now)) }
+    ensures ok { OnOk result ((frames : List ℕ) → AreMarked brought.old frames →
+        AreMarked brought.new (brought_in frames m.now)) }
     ensures line { brought.new.line ≤ brought.old.line + 1 }
     ensures err { OnErr result (brought.new.line ≡ brought.old.line) }
 {

@@ -67,7 +67,8 @@ pub fn write_flushed<O: Sink>(out: &mut O, text: &[u8]) -> Result<(), Failed>
     out.flush()
 }
 
-/// Writes the text, if any, and flushes it. Answers the status, or that of a write or flush that failed.
+/// Writes the text, if any, and flushes it. Answers the status, or that of a write or flush that
+/// failed.
 #[tactic(auto, using(crate::proofs::Shown::shown))]
 pub fn write_text<O: Sink>(out: &mut O, text: &[u8], status: u8) -> u8
     requires { status ≢ 5 }
@@ -87,7 +88,8 @@ pub fn write_text<O: Sink>(out: &mut O, text: &[u8], status: u8) -> u8
 
 /// Checks the log and answers what is asked.
 fn answer<S: Source, O: Sink>(alloc: Global, asked: Asked, source: &mut S, out: &mut O) -> u8
-    ensures ran { Ran asked (S.left source.old) (S.left source.new) (O.taken out.old) (O.taken out.new) result }
+    ensures ran { Ran asked (S.left source.old) (S.left source.new) (O.taken out.old)
+        (O.taken out.new) result }
     ensures source_later { S.faults source.old ≤ S.faults source.new }
     ensures out_later { O.faults out.old ≤ O.faults out.new }
     ensures read_fault { result ≡ 4 → Rose (S.faults source.old) (S.faults source.new) }
@@ -101,25 +103,37 @@ fn answer<S: Source, O: Sink>(alloc: Global, asked: Asked, source: &mut S, out: 
 }
 
 #[tactic(auto, using(crate::proofs::Exactly::exactly))]
-/// Checks the log that the source gives, writes the answer to `out` and flushes it. The words are `check`, or `where` and a key.
-/// The status is 0 where the log replays, 1 where memory was refused, 2 where the words are no form, 3 where a line is
-/// no legal move, 4 and 5 where the source and the sink failed, 8 where the log has more than 1,000,000,000,000 bytes.
+/// Checks the log that the source gives, writes the answer to `out` and flushes it. The words are
+/// `check`, or `where` and a key. The status is 0 where the log replays, 1 where memory was
+/// refused, 2 where the words are no form, 3 where a line is no legal move, 4 and 5 where the
+/// source and the sink failed, 8 where the log has more than 1,000,000,000,000 bytes.
 pub fn run_log<S: Source, O: Sink>(
     alloc: Global,
     words: &[String],
     source: &mut S,
     out: &mut O,
 ) -> u8
-    ensures ran { (a : Asked) → Asks (map string_bytes words.now) a → Ran a (S.left source.old) (S.left source.new) (O.taken out.old) (O.taken out.new) result }
-    ensures yes { (a : Asked) (text : List ℕ) (moves : List Move) (l : FrameLife) → Asks (map string_bytes words.now) a → S.left source.old ≡ Some text → length text ≤ most_bytes
-        → IsSpelled moves text → Replays moves unstarted l → SaysYes a moves l (O.taken out.old) (O.taken out.new) result ⊎ IsFault result }
-    ensures no { (a : Asked) (text rest : List ℕ) (moves : List Move) (l : FrameLife) → Asks (map string_bytes words.now) a → S.left source.old ≡ Some text → length text ≤ most_bytes
-        → AreMoves moves → text ≡ spelled_moves moves ++ rest → Replays moves unstarted l → IsStuck l rest → SaysNo (length moves + 1) (O.taken out.old) (O.taken out.new) result ⊎ IsFault result }
+    ensures ran { (a : Asked) → Asks (map string_bytes words.now) a →
+        Ran a (S.left source.old) (S.left source.new) (O.taken out.old) (O.taken out.new) result }
+    ensures yes { (a : Asked) (text : List ℕ) (moves : List Move) (l : FrameLife) →
+        Asks (map string_bytes words.now) a → S.left source.old ≡ Some text →
+        length text ≤ most_bytes
+        → IsSpelled moves text → Replays moves unstarted l →
+        SaysYes a moves l (O.taken out.old) (O.taken out.new) result ⊎ IsFault result }
+    ensures no { (a : Asked) (text rest : List ℕ) (moves : List Move) (l : FrameLife) →
+        Asks (map string_bytes words.now) a → S.left source.old ≡ Some text →
+        length text ≤ most_bytes
+        → AreMoves moves → text ≡ spelled_moves moves ++ rest → Replays moves unstarted l →
+        IsStuck l rest → SaysNo (length moves + 1) (O.taken out.old) (O.taken out.new) result ⊎
+        IsFault result }
 
-    // Words that are no form are answered by the usage line, or memory was refused and nothing is written. Nothing is read.
-    ensures usage { (IsForm (map string_bytes words.now) → ⊥) → Shows (O.taken out.old) (O.taken out.new) usage_text 2 result
+    // Words that are no form are answered by the usage line, or memory was refused and nothing is
+    // written. Nothing is read.
+    ensures usage { (IsForm (map string_bytes words.now) → ⊥) →
+        Shows (O.taken out.old) (O.taken out.new) usage_text 2 result
         ⊎ IsRefused (O.taken out.old) (O.taken out.new) result }
-    ensures unread { (IsForm (map string_bytes words.now) → ⊥) → S.left source.new ≡ S.left source.old }
+    ensures unread { (IsForm (map string_bytes words.now) → ⊥) →
+        S.left source.new ≡ S.left source.old }
     ensures form { IsForm (map string_bytes words.now) → result ≢ 2 }
 
     // The counts of faults never fall, and a fault is blamed only where its count rose.

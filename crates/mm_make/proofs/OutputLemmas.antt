@@ -3,7 +3,7 @@ use Rattle.std.proofs.Common.{◌≡◌, ℕ, zero, suc, ◌+◌, ◌-◌, ◌%�
 use Rattle.rand_pcg.specs.Lcg.{Lcg, next, advance, state_after}
 use Rattle.rand_pcg.specs.Pcg.{multiplier_64, pcg32}
 use Rattle.mm_types.specs.declared.events.Event.{Event}
-use Rattle.mm_make.specs.Outputs.{outputs, behind}
+use Rattle.mm_make.specs.Outputs.{outputs, outputs_from}
 use Rattle.mm_make.specs.Generated.{drawn, drawn_by, drawn_of_kind, drawn_events, read_drawn, write_drawn}
 
 -- the first output is that of the next step
@@ -37,7 +37,7 @@ outputs_after (suc n) g i =
     ∙ outputs_later g (n + i)
     ∙ ap (outputs g) more
 
-pub outputs_behind : (n : ℕ) (g : Lcg) → outputs (advance 64 multiplier_64 n g) ≡ behind n (outputs g)
+pub outputs_behind : (n : ℕ) (g : Lcg) → outputs (advance 64 multiplier_64 n g) ≡ outputs_from n (outputs g)
 outputs_behind n g = λ k. λ i. outputs_after n g i k
 
 -- ---- the drawn events, from one on

@@ -6,7 +6,7 @@ use Rattle.mm_types.specs.declared.events.Event.TheVariants as line
 use Rattle.mm_types.specs.Address.{page_size}
 use Rattle.mm_types.specs.Allocation.{reserve_and_commit_type}
 use Rattle.mm_types.specs.Protection.{readwrite}
-use Rattle.mm_make.specs.Outputs.{outputs, seeded, behind}
+use Rattle.mm_make.specs.Outputs.{outputs, seeded, outputs_from}
 
 -- two processes on a small machine, that share a section and the pages of a file
 abbrev pub fixed_events : List Event
@@ -31,7 +31,9 @@ address_drawn word pages = 0x10000 + page_size * (word % pages)
 
 -- a write of one byte, its page and its byte each drawn by a word
 abbrev pub write_drawn : ℕ → ℕ → ℕ → ℕ → Event
-write_drawn pid pages page byte = line.Write (record { 0 = pid }) (address_drawn page pages) (byte % 256 ∷ [])
+write_drawn pid pages page byte = line.Write (record {
+  0 = pid;
+}) (address_drawn page pages) (byte % 256 ∷ [])
 
 -- a read of one byte
 abbrev pub read_drawn : ℕ → ℕ → ℕ → Event
@@ -64,7 +66,7 @@ unfoldable pub drawn_events : ℕ → (ℕ → ℕ) → List Event
 drawn_events zero words = []
 drawn_events (suc count) words =
     let first = drawn words in
-    first.event ∷ drawn_events count (behind first.taken words)
+    first.event ∷ drawn_events count (outputs_from first.taken words)
 
 -- the events of a seed and a count
 abbrev pub script_of : ℕ → ℕ → List Event

@@ -16,5 +16,5 @@ abbrev pub seeded : ℕ → Lcg
 seeded seed = started 64 multiplier_64 seed (increment_of 64 stream)
 
 -- the outputs from output n on
-abbrev pub behind : ℕ → (ℕ → ℕ) → ℕ → ℕ
-behind n words i = words (n + i)
+abbrev pub outputs_from : ℕ → (ℕ → ℕ) → ℕ → ℕ
+outputs_from n words i = words (n + i)

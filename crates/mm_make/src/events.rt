@@ -130,7 +130,10 @@ fn map_whole(pid: u8, handle: u32, access: u32) -> Event
 /// The file, and the region of the first process.
 fn push_memory(events: &mut Vec<Event>)
     requires { vec_len events.old + 2 ≤ vec_capacity events.old }
-    ensures fixed { events.new.items ≡ events.old.items ++ line.File (codes "data") 32 1 ∷ line.Alloc (record { 0 = 1 }) 0x0 0x80000 reserve_and_commit_type readwrite ∷ [] }
+    ensures fixed { events.new.items ≡ events.old.items ++ line.File (codes "data") 32 1 ∷
+        line.Alloc (record {
+          0 = 1;
+        }) 0x0 0x80000 reserve_and_commit_type readwrite ∷ [] }
     ensures len { vec_len events.new ≡ vec_len events.old + 2 }
     ensures capacity { vec_capacity events.new ≡ vec_capacity events.old }
 {
@@ -150,8 +153,8 @@ fn push_memory(events: &mut Vec<Event>)
     push(events, region);
 }
 
-/// The events that every script begins with: two processes on a small machine, that share a section and the pages
-/// of a file.
+/// The events that every script begins with: two processes on a small machine, that share a section
+/// and the pages of a file.
 fn push_fixed(events: &mut Vec<Event>)
     requires { vec_len events.old + FIXED_EVENTS ≤ vec_capacity events.old }
     ensures fixed { events.new.items ≡ events.old.items ++ fixed_events }
@@ -186,8 +189,8 @@ fn push_fixed(events: &mut Vec<Event>)
     push(events, map_whole(2, 8, 0x1));
 }
 
-/// The events of a generated script (`mmsim bulk SEED COUNT`): eleven fixed ones and `count` drawn ones, by PCG32
-/// from `seed` on. `NoMemory` where a request for memory was refused.
+/// The events of a generated script (`mmsim bulk SEED COUNT`): eleven fixed ones and `count` drawn
+/// ones, by PCG32 from `seed` on. `NoMemory` where a request for memory was refused.
 pub fn script(alloc: Global, seed: u64, count: u32) -> Result<Vec<Event>, NoMemory>
     ensures { IfOk result (λ events. events.items ≡ script_of seed count) }
 {

@@ -1,4 +1,5 @@
-//! Events drawn from a number: the load that measures of speed and comparisons of two stores are made on.
+//! Events drawn from a number: the load that measures of speed and comparisons of two stores are
+//! made on.
 #![tactic(auto)]
 
 mod events;

@@ -11,7 +11,8 @@ fn first_ten(seed: u64) -> [u32; 10] {
     [0u32; 10].map(|_| words.next_word())
 }
 
-/// What a PCG32 written apart gives; for 42 the first six are those that the demonstration of PCG's C code prints.
+/// What a PCG32 written apart gives; for 42 the first six are those that the demonstration of PCG's
+/// C code prints.
 #[test]
 fn outputs_are_those_of_pcg32(rt: HostRuntime) -> Result<(), Fail> {
     assert_eq!(rt;
@@ -31,7 +32,8 @@ fn outputs_are_those_of_pcg32(rt: HostRuntime) -> Result<(), Fail> {
     Ok(())
 }
 
-// A drawn event as numbers: its form, its process, its address or its count, and the byte that it writes.
+// A drawn event as numbers: its form, its process, its address or its count, and the byte that it
+// writes.
 fn numbers(event: &Event) -> (char, u8, u32, u8) {
     match event {
         Event::Write {

@@ -1,13 +1,12 @@
 -- The list of the frames with a request, and their flags.
-use Rattle.std.proofs.Common.{◌≡◌, ℕ, zero, suc, ◌<◌, Bool, true, false, List, [], ◌∷◌, ◌++◌, length, get_or, set, map, replicate, Some, None, refl, sym, ap, ◌∙◌, inl, inr, arith, length-set, get_or-set_same, get_or-set_other}
+use Rattle.std.proofs.Common.{◌≡◌, ℕ, zero, suc, ◌<◌, Bool, true, false, List, [], ◌∷◌, ◌++◌, length, get_or, set, map, Some, None, refl, sym, ap, ◌∙◌, inl, inr, arith, length-set, get_or-set_same, get_or-set_other}
 use Rattle.std.specs.Prelude.{slice_get}
-use Rattle.std.proofs.lemmas.List.{length-replicate}
 use Rattle.mm_types.proofs.Cells.{same_or_not}
 use Rattle.mm_lists.specs.Lists.{ListsOf, IsOnNone, IsOnOne, list_at, number_at, with_list, without}
 use Rattle.mm_lists.proofs.Cuts.{without_other}
 use Rattle.mm_lists.proofs.Standing.{list_within}
 use Rattle.mm_moves.specs.Flying.{no_requests, flight_of, IsOne, AreFlagged}
-use Rattle.mm_lists.proofs.Members.{without_removes, list-without, push_found, push_keeps, push_new}
+use Rattle.mm_lists.proofs.Members.{without_removes, push_found, push_keeps, push_new}
 
 none_requested : (j k g : ℕ) → number_at no_requests.lists j k ≡ Some g → ⊥
 none_requested zero k g e = let bad : None ≡ Some g = e in cc
@@ -26,22 +25,6 @@ none_one = record {
 }
 
 pub ruleset flying = (none_one, request_on_none)
-
-unset_flag : (n f : ℕ) → get_or (replicate n false) f false ≡ false
-unset_flag zero f = refl
-unset_flag (suc n) zero = refl
-unset_flag (suc n) (suc f) = unset_flag n f
-
-pub flagged_new : (n : ℕ) (v : ListsOf) → v ≡ record { numbers = n; lists = [] ∷ [] } → IsOne v → AreFlagged v (replicate n false)
-flagged_new n v e one = record {
-  lists = one;
-  sized = length-replicate n false ∙ sym (ap (λ (w : ListsOf). w.numbers) e);
-  there = λ f t. let bad : false ≡ true = sym (unset_flag n f) ∙ t in cc;
-  flagged = λ k f at. let bad : None ≡ Some f = ap (λ (w : ListsOf). slice_get (list_at w.lists 0) k) (sym e) ∙ at in cc;
-}
-
-pub flagged_none : AreFlagged no_requests []
-flagged_none = flagged_new 0 no_requests refl none_one
 
 module _ (v : ListsOf) (flags : List Bool) (f : ℕ) (a : AreFlagged v flags) where
   only_one : (j : ℕ) → j < length v.lists → j ≡ 0
@@ -98,15 +81,7 @@ module _ (v : ListsOf) (flags : List Bool) (f : ℕ) (a : AreFlagged v flags) wh
       unset_here (x ∷ xs) zero = refl
       unset_here (x ∷ xs) (suc i) = unset_here xs i
 
-  pub flight_ended : flight_of (record v { lists = map (without f) v.lists }) ≡ record (flight_of v) { requests = without f (list_at v.lists 0) }
-  flight_ended = ap (λ (xs : List ℕ). record { frames = v.numbers; requests = xs }) (list-without f v.lists 0)
-
   pub flight_stays : get_or flags f false ≡ false → flight_of v ≡ record (flight_of v) { requests = without f (list_at v.lists 0) }
   flight_stays e =
       ap (λ (xs : List ℕ). record { frames = v.numbers; requests = xs })
       (sym (without_other f (list_at v.lists 0) (λ k at. let bad : true ≡ false = sym (a.flagged k f at) ∙ e in cc)))
-
-  pub flight_begun : flight_of (with_list v 0 (list_at v.lists 0 ++ f ∷ [])) ≡ record (flight_of v) { requests = list_at v.lists 0 ++ f ∷ [] }
-  flight_begun =
-      ap (λ (xs : List ℕ). record { frames = v.numbers; requests = xs })
-      (get_or-set_same v.lists 0 (list_at v.lists 0 ++ f ∷ []) [] (omega (arith, a.lists.one)))

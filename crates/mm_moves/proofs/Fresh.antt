@@ -69,6 +69,3 @@ all_kept n v e four = record {
       (1, f, ap (λ (w : ListsOf). number_at w.lists 1 f) e ∙ numbers_at 0 n f inside ∙ ap (λ (q : ℕ). Some q) zero_plus);
   owned = λ f. ap is_owned (all_blank n f);
 }
-
-pub none_kept : Kept [] no_lists
-none_kept = all_kept 0 no_lists refl none_four

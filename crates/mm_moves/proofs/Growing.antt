@@ -3,7 +3,7 @@ use Rattle.std.proofs.Common.{◌≡◌, ℕ, ◌-◌, ◌≤◌, ◌<◌, Bool,
 use Rattle.std.proofs.Math.Seq.{take-length}
 use Rattle.std.proofs.lemmas.List.{take-append-drop}
 use Rattle.mm_types.specs.Outside.{Rose, Appended}
-use Rattle.mm_types.proofs.Bytes.{append_nil, appended_then}
+use Rattle.mm_types.proofs.Bytes.{appended_then}
 use Rattle.mm_io.specs.Io.{Wrote, GivesOn}
 use Rattle.mm_life.specs.Logs.{Log, Told, Grew}
 use Rattle.mm_life.proofs.Noting.{gave_nothing}
@@ -72,31 +72,6 @@ rest_of rest n =
 pub piece_more : (done rest line : List ℕ) (n : ℕ) → done ++ rest ≡ line → (done ++ take n rest) ++ take (length rest - n) (drop n rest) ≡ line
 piece_more done rest line n e =
     append_assoc done (take n rest) (take (length rest - n) (drop n rest)) ∙ ap (λ xs. done ++ xs) (rest_of rest n) ∙ e
-
-none_behind : (done rest line : List ℕ) → done ++ rest ≡ line → length rest ≡ 0 → done ≡ line
-none_behind done [] line e none = sym (append_nil done) ∙ e
-none_behind done (x ∷ xs) line e none = absurd (omega arith)
-
-cut_here : (a b : Option (List ℕ)) (line done rest : List ℕ) → done ++ rest ≡ line → 0 < length rest → Appended a b done → IsCut a b line
-cut_here None None line done rest e some written = tt
-cut_here None (Some b) line done rest e some written = written
-cut_here (Some a) None line done rest e some written = written
-cut_here (Some a) (Some b) line done rest e some written =
-    omega (arith, ap length written, length-append a done, ap length e, length-append done rest)
-
--- all pieces were taken
-pub line_whole : (a b : Option (List ℕ)) (line done rest : List ℕ) → done ++ rest ≡ line → length rest ≡ 0 → Appended a b done → WroteOrCut a b line false
-line_whole a b line done rest e none written = record {
-  wrote = record { front = done; rest = rest; whole = sym e; written = written; all = λ h. none_behind done rest line e none };
-  cut = λ h. cc;
-}
-
--- a call failed, before all pieces were taken
-pub line_cut : (a b : Option (List ℕ)) (line done rest : List ℕ) → done ++ rest ≡ line → 0 < length rest → Appended a b done → WroteOrCut a b line true
-line_cut a b line done rest e some written = record {
-  wrote = record { front = done; rest = rest; whole = sym e; written = written; all = λ h. cc };
-  cut = λ h. cut_here a b line done rest e some written;
-}
 
 -- ---- a recorder fails exactly where a line is cut
 

@@ -93,9 +93,6 @@ move_onto-is m b = move_is m [] b
 
 -- ---- no line feed
 
-no_feed : Text → Bool
-no_feed bytes = list_all (λ c. not (c == 10)) bytes
-
 abbrev no_feeds : Text → Bool
 no_feeds bytes = list_all (λ c. not (c == 10)) bytes
 

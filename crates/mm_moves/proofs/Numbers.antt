@@ -94,9 +94,6 @@ abbrev pub ends_number : Text → Bool
 ends_number [] = true
 ends_number (c ∷ cs) = cond (is_digit c) false true
 
-abbrev keep : Bool → (ℕ × Text) → (ℕ × Text) → ℕ × Text
-keep b more last = cond b more last
-
 stop_at : (b : Bool) (more last : ℕ × Text) → cond b false true ≡ true → cond b more last ≡ last
 stop_at true more last e = cc
 stop_at false more last e = refl

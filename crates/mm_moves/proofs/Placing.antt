@@ -1,5 +1,5 @@
 -- The list of each frame, as one frame leaves its list, changes or goes to one.
-use Rattle.std.proofs.Common.{◌≡◌, ◌≢◌, ◌⊎◌, ℕ, zero, suc, ◌<◌, ◌≤◌, Bool, true, false, cond, List, [], ◌∷◌, ◌++◌, length, set, map, drop, Option, Some, None, refl, sym, ap, ◌∙◌, inl, inr, arith, length-set, get_or-set_same, get_or-set_other}
+use Rattle.std.proofs.Common.{◌≡◌, ◌≢◌, ◌⊎◌, ℕ, zero, suc, ◌<◌, ◌≤◌, Bool, true, false, List, [], ◌∷◌, ◌++◌, length, set, map, Option, Some, None, refl, sym, ap, ◌∙◌, inl, inr, arith, length-set, get_or-set_other}
 use Rattle.std.specs.Prelude.{◌-◌, slice_get, ◌==◌, ◌&&◌, ◌||◌, not, nat_lt, is_some, if◌then◌else◌}
 use Rattle.std.specs.Cmp.{unsigned_Decides}
 use Rattle.std.proofs.lemmas.Bool.{and_parts, not-true}
@@ -9,12 +9,12 @@ use Rattle.mm_types.specs.declared.frames.Record.{Record}
 use Rattle.mm_types.proofs.Booleans.{not_true, or_right}
 use Rattle.mm_types.proofs.Cells.{same_or_not}
 use Rattle.mm_types.proofs.Tables.{differ}
-use Rattle.mm_life.specs.Frames.{blank, is_idle, has_request, is_read, is_first, is_empty, is_on, rest, off_lists}
+use Rattle.mm_life.specs.Frames.{blank, is_idle, has_request, is_read, is_first, is_empty, is_on, off_lists}
 use Rattle.mm_lists.specs.Lists.{ListsOf, IsOnOne, list_at, number_at, with_list, without}
 use Rattle.mm_lists.proofs.Cuts.{without_other}
-use Rattle.mm_moves.specs.Listed.{AreFour, table_of, first_taken, put_behind, record_of, belongs, is_owned, is_changed_page, Kept, Off}
+use Rattle.mm_moves.specs.Listed.{AreFour, table_of, record_of, belongs, is_owned, is_changed_page, Kept, Off}
 use Rattle.mm_moves.specs.Sound.{Listed, IsEmptyFrame}
-use Rattle.mm_lists.proofs.Members.{Removes, pop_removes, without_removes, list-without, push_found, push_keeps, push_new}
+use Rattle.mm_lists.proofs.Members.{Removes, without_removes, list-without, push_found, push_keeps, push_new}
 
 -- ---- where a record belongs
 
@@ -50,18 +50,6 @@ owned_not_low : (r : Record) (j : ℕ) → is_some r.owner ≡ true → j < 2 �
 owned_not_low r j owned low e =
     not_first (is_idle r) r.changed j low
     (ap (λ (b : Bool). is_idle r && (if b then (j == (if r.changed then 3 else 2)) else nat_lt j 2)) (sym owned) ∙ e)
-
--- an owned idle frame belongs to modified where it is changed, else to standby
-belongs_by : (r : Record) (idle owned : Bool) (j : ℕ) → is_idle r ≡ idle → is_some r.owner ≡ owned → belongs r j ≡ (idle && (if owned then (j == (if r.changed then 3 else 2)) else nat_lt j 2))
-belongs_by r idle owned j a b =
-    ap (λ (x : Bool). x && (if is_some r.owner then (j == (if r.changed then 3 else 2)) else nat_lt j 2)) a
-    ∙ ap (λ (y : Bool). idle && (if y then (j == (if r.changed then 3 else 2)) else nat_lt j 2)) b
-
-pub belongs_modified : (r : Record) → is_idle r ≡ true → is_some r.owner ≡ true → r.changed ≡ true → belongs r 3 ≡ true
-belongs_modified r a b c = belongs_by r true true 3 a b ∙ ap (λ (z : Bool). 3 == (if z then 3 else 2)) c
-
-pub belongs_standby : (r : Record) → is_idle r ≡ true → is_some r.owner ≡ true → r.changed ≡ false → belongs r 2 ≡ true
-belongs_standby r a b c = belongs_by r true true 2 a b ∙ ap (λ (z : Bool). 2 == (if z then 3 else 2)) c
 
 -- ---- frames and lists
 
@@ -104,11 +92,6 @@ module _ (records : List Record) (v : ListsOf) (f : ℕ) where
     owned = λ g d. k.owned g;
   }
 
-  pub off_first : (i : ℕ) → Kept records v → i < 4 → number_at v.lists i 0 ≡ Some f → AreFour (with_list v i (drop 1 (list_at v.lists i))) → Off records (with_list v i (drop 1 (list_at v.lists i))) f
-  off_first i k inside first four =
-      removed (with_list v i (drop 1 (list_at v.lists i))) k refl four (omega (arith, k.lists.apart.below i 0 f first, k.numbers))
-      (pop_removes f v.lists i (omega (arith, inside, k.lists.four)) first k.lists.apart.once)
-
   pub off_left : Kept records v → is_some (record_of records f).owner ≡ true → AreFour (record v { lists = map (without f) v.lists }) → Off records (record v { lists = map (without f) v.lists }) f
   off_left k owned four =
       removed (record v { lists = map (without f) v.lists }) k refl four (there_is (λ r. is_some r.owner) refl owned) (without_removes f v.lists)
@@ -128,21 +111,6 @@ module _ (records : List Record) (v : ListsOf) (f : ℕ) where
     there = λ g d low idle.
         o.there g d (omega (arith, low, length-set records f r)) (ap is_idle (sym (get_or-set_other records f g r blank d)) ∙ idle);
     owned = λ g d. ap is_owned (get_or-set_other records f g r blank d) ∙ o.owned g d;
-  }
-
-  pub busy_kept : Off records v f → is_idle (record_of records f) ≡ false → is_owned (record_of records f) ≡ true → Kept records v
-  busy_kept o busy owned = record {
-    numbers = o.numbers;
-    lists = o.lists;
-    listed = o.listed;
-    there = λ g low idle. elim (same_or_not g f) [
-      | inl s ↦ let bad : true ≡ false = sym idle ∙ ap (λ (q : ℕ). is_idle (record_of records q)) s ∙ busy in cc
-      | inr d ↦ o.there g d low idle
-    ];
-    owned = λ g. elim (same_or_not g f) [
-      | inl s ↦ ap (λ (q : ℕ). is_owned (record_of records q)) s ∙ owned
-      | inr d ↦ o.owned g d
-    ];
   }
 
   pub put_kept : (i : ℕ) → Off records v f → i < 4 → belongs (record_of records f) i ≡ true → AreFour (with_list v i (list_at v.lists i ++ f ∷ [])) → Kept records (with_list v i (list_at v.lists i ++ f ∷ []))
@@ -183,53 +151,6 @@ module _ (records : List Record) (v : ListsOf) (f : ℕ) where
       let s = sym (without_other f (list_at v.lists 2) (o.off 2)) in
       let m = sym (without_other f (list_at v.lists 3) (o.off 3)) in
       λ t. record { records = records; zeroed = list_at v.lists 0; free = list_at v.lists 1; standby = s t; modified = m t }
-
-four_set : (records : List Record) (v : ListsOf) (i : ℕ) (xs : List ℕ) → length v.lists ≡ 4 → i < 4 → (j : ℕ) → list_at (set v.lists i xs) j ≡ cond (j == i) xs (list_at v.lists j)
-four_set records v i xs four inside j = elim (same_or_not j i) [
-  | inl s ↦
-      ap (λ (q : ℕ). list_at (set v.lists i xs) q) s ∙ get_or-set_same v.lists i xs [] (omega (arith, inside, four))
-      ∙ sym (ap (λ (b : Bool). cond b xs (list_at v.lists j)) ((unsigned_Decides j i).1 s))
-  | inr d ↦
-      get_or-set_other v.lists i j xs [] d
-      ∙ sym (ap (λ (b : Bool). cond b xs (list_at v.lists j)) (differ j i d))
-]
-
--- the four lists after one of them was set
-set_table : (records : List Record) (v : ListsOf) (i : ℕ) (xs : List ℕ) → length v.lists ≡ 4 → i < 4 → table_of records (with_list v i xs) ≡ record {
-  records = records;
-  zeroed = cond (0 == i) xs (list_at v.lists 0);
-  free = cond (1 == i) xs (list_at v.lists 1);
-  standby = cond (2 == i) xs (list_at v.lists 2);
-  modified = cond (3 == i) xs (list_at v.lists 3);
-}
-set_table records v i xs four inside =
-    let z = four_set records v i xs four inside 0 in
-    let e = four_set records v i xs four inside 1 in
-    let s = four_set records v i xs four inside 2 in
-    let m = four_set records v i xs four inside 3 in
-    λ t. record { records = records; zeroed = z t; free = e t; standby = s t; modified = m t }
-
-rest-drop : (xs : List ℕ) → drop 1 xs ≡ rest xs
-rest-drop [] = refl
-rest-drop (x ∷ xs) = refl
-
-pub table_first : (records : List Record) (v : ListsOf) (i : ℕ) → length v.lists ≡ 4 → i < 4 → table_of records (with_list v i (drop 1 (list_at v.lists i))) ≡ first_taken (table_of records v) i
-table_first records v i four inside =
-    ap (λ (xs : List ℕ). table_of records (with_list v i xs)) (rest-drop (list_at v.lists i)) ∙ by_list i inside
-  where
-    by_list : (i : ℕ) → i < 4 → table_of records (with_list v i (rest (list_at v.lists i))) ≡ first_taken (table_of records v) i
-    by_list zero h = set_table records v 0 (rest (list_at v.lists 0)) four h
-    by_list (suc zero) h = set_table records v 1 (rest (list_at v.lists 1)) four h
-    by_list (suc (suc zero)) h = set_table records v 2 (rest (list_at v.lists 2)) four h
-    by_list (suc (suc (suc zero))) h = set_table records v 3 (rest (list_at v.lists 3)) four h
-    by_list (suc (suc (suc (suc j)))) h = absurd (omega arith)
-
-pub table_put : (records : List Record) (v : ListsOf) (i f : ℕ) → length v.lists ≡ 4 → i < 4 → table_of records (with_list v i (list_at v.lists i ++ f ∷ [])) ≡ put_behind (table_of records v) i f
-table_put records v zero f four h = set_table records v 0 (list_at v.lists 0 ++ f ∷ []) four h
-table_put records v (suc zero) f four h = set_table records v 1 (list_at v.lists 1 ++ f ∷ []) four h
-table_put records v (suc (suc zero)) f four h = set_table records v 2 (list_at v.lists 2 ++ f ∷ []) four h
-table_put records v (suc (suc (suc zero))) f four h = set_table records v 3 (list_at v.lists 3 ++ f ∷ []) four h
-table_put records v (suc (suc (suc (suc j)))) f four h = absurd (omega arith)
 
 -- ---- looking
 

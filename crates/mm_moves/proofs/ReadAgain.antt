@@ -1,5 +1,5 @@
 -- What is spelled is read as the same again.
-use Rattle.std.proofs.Common.{◌≡◌, ℕ, ◌^◌, ◌<◌, Bool, true, cond, [], ◌∷◌, ◌++◌, Option, Some, None, refl, sym, ap, ◌∙◌, arith}
+use Rattle.std.proofs.Common.{◌≡◌, ℕ, ◌^◌, ◌<◌, Bool, true, cond, [], ◌∷◌, ◌++◌, Option, Some, None, refl, ap, ◌∙◌, arith}
 use Rattle.std.proofs.lemmas.Bool.{lt-ltb}
 use Rattle.mm_types.specs.Spelling.{Text, decimal}
 use Rattle.mm_types.specs.declared.numbers.Pid.{Pid}
@@ -15,15 +15,11 @@ use Rattle.mm_types.specs.declared.moves.Stored.TheVariants as stored
 use Rattle.mm_types.specs.declared.moves.Move.{Move}
 use Rattle.mm_types.specs.declared.moves.Move.TheVariants as move
 use Rattle.mm_life.specs.MoveText.{place_onto, key_onto, kind_onto, stored_onto, home_onto, move_onto, move_text, IsKey, IsPlace, IsKind, IsStored, IsBlock, IsMove}
-use Rattle.mm_moves.specs.Reading.{pid, small, read_pid, read_place, read_key, read_kind, home_behind, stored_behind, read_text}
+use Rattle.mm_moves.specs.Reading.{pid, read_pid, read_place, read_key, read_kind, home_behind, stored_behind, read_text}
 use Rattle.mm_moves.proofs.Numbers.{ends_number, read_number-decimal}
 
 abbrev small_or : Bool → ℕ → Text → Option (Pid × Text)
 small_or b n text = cond b (Some (pid n, text)) None
-
-abbrev then_small : Option (ℕ × Text) → Option (Pid × Text)
-then_small None = None
-then_small (Some p) = small p.0 p.1
 
 read_pid-decimal : (n : ℕ) (behind : Text) → n < 2 ^ 8 → ends_number behind ≡ true → read_pid (decimal n ++ behind) ≡ Some (pid n, behind)
 read_pid-decimal n behind low ends =
@@ -106,8 +102,3 @@ value_of (Some p) = Some p.0
 abbrev pub rest_of : {A : Type 0} → Option (A × Text) → Text
 rest_of None = []
 rest_of (Some p) = p.1
-
--- the spelling of a move is that of no other
-pub spelling_is_unique : (m n : Move) → IsMove m → IsMove n → move_text m ≡ move_text n → m ≡ n
-spelling_is_unique m n h k e =
-    let same : Some m ≡ Some n = ap value_of (sym (read_text-spelled m h) ∙ ap read_text e ∙ read_text-spelled n k) in cc

@@ -168,12 +168,4 @@ grown_some free others others' more t a e = record {
   others_are = e ∙ ap (λ (xs : List Bool). xs ++ more) a.others_are ∙ set_front free more t true false a.is_lowest.is_free;
 }
 
-pub grown_none : (free others others' others'' more : List Bool) (next : Option ℕ) → AreApartFrom free None others → others' ≡ others ++ more → IsLowestIn others' next → others'' ≡ without_slot others' next → AreApartFrom (free ++ more) next others''
-grown_none free others others' others'' more next a e l w =
-    let same : others' ≡ free ++ more = e ∙ ap (λ (xs : List Bool). xs ++ more) a.others_are in
-    record {
-      is_lowest = subst (λ (xs : List Bool). IsLowestIn xs next) same l;
-      others_are = w ∙ ap (λ (xs : List Bool). without_slot xs next) same;
-    }
-
 pub ruleset slotting = (lowest_none, lowest_some, past_set, same_set)

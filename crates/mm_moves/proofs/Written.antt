@@ -53,11 +53,11 @@ decimal_pair n high low =
     ∙ ap (λ t. t ++ a) (decimal_more (n / 10) (omega arith) (omega arith))
     ∙ append_assoc (decimal (n / 10 / 10)) b a
 
-pub front_then_pair : (n : ℕ) (old : Text) → 100 ≤ n → n < 2 ^ 32 → (old ++ decimal (n / 10 / 10)) ++ glyph (n / 10 % 10) ∷ glyph (n % 10) ∷ [] ≡ old ++ decimal n
-front_then_pair n old high low =
+front_then_two : (n : ℕ) (old : Text) → 100 ≤ n → n < 2 ^ 32 → (old ++ decimal (n / 10 / 10)) ++ glyph (n / 10 % 10) ∷ glyph (n % 10) ∷ [] ≡ old ++ decimal n
+front_then_two n old high low =
     append_assoc old (decimal (n / 10 / 10)) (glyph (n / 10 % 10) ∷ glyph (n % 10) ∷ []) ∙ ap (λ t. old ++ t) (sym (decimal_pair n high low))
 
-pub front_then_four : (n : ℕ) (old : Text) → 10000 ≤ n → n < 2 ^ 32 → (old ++ decimal (n / 10 / 10 / 10 / 10)) ++ glyph (n / 10 / 10 / 10 % 10) ∷ glyph (n / 10 / 10 % 10) ∷ glyph (n / 10 % 10) ∷ glyph (n % 10) ∷ [] ≡ old ++ decimal n
+front_then_four : (n : ℕ) (old : Text) → 10000 ≤ n → n < 2 ^ 32 → (old ++ decimal (n / 10 / 10 / 10 / 10)) ++ glyph (n / 10 / 10 / 10 % 10) ∷ glyph (n / 10 / 10 % 10) ∷ glyph (n / 10 % 10) ∷ glyph (n % 10) ∷ [] ≡ old ++ decimal n
 front_then_four n old high low =
     append_assoc old (decimal (n / 10 / 10 / 10 / 10)) (glyph (n / 10 / 10 / 10 % 10) ∷ glyph (n / 10 / 10 % 10) ∷ glyph (n / 10 % 10) ∷ glyph (n % 10) ∷ [])
     ∙ ap (λ t. old ++ t) (sym (decimal_pieces n high low))
@@ -75,4 +75,52 @@ pub decimal_four : (n : ℕ) → 1000 ≤ n → n < 10000 → decimal n ≡ glyp
 decimal_four n high low =
     decimal_more n (omega arith) (omega arith) ∙ ap (λ t. t ++ glyph (n % 10) ∷ []) (decimal_three (n / 10) (omega arith) (omega arith))
 
-pub ruleset written = (decimal_one, decimal_two, decimal_three, decimal_four, front_then_pair, front_then_four, length-append)
+-- the digits by pairs
+pub three_by_pair : (n : ℕ) → 100 ≤ n → n < 1000 → decimal n ≡ glyph (n / 100) ∷ glyph (n % 100 / 10) ∷ glyph (n % 100 % 10) ∷ []
+three_by_pair n high low =
+    let a : n / 10 / 10 ≡ n / 100 = omega arith in
+    let b : n / 10 % 10 ≡ n % 100 / 10 = omega arith in
+    let c : n % 10 ≡ n % 100 % 10 = omega arith in
+    decimal_three n high low
+    ∙ ap (λ x. glyph x ∷ glyph (n / 10 % 10) ∷ glyph (n % 10) ∷ []) a
+    ∙ ap (λ x. glyph (n / 100) ∷ glyph x ∷ glyph (n % 10) ∷ []) b
+    ∙ ap (λ x. glyph (n / 100) ∷ glyph (n % 100 / 10) ∷ glyph x ∷ []) c
+
+pub four_by_pairs : (n : ℕ) → 1000 ≤ n → n < 10000 → decimal n ≡ glyph (n / 100 / 10) ∷ glyph (n / 100 % 10) ∷ glyph (n % 100 / 10) ∷ glyph (n % 100 % 10) ∷ []
+four_by_pairs n high low =
+    let a : n / 10 / 10 / 10 ≡ n / 100 / 10 = omega arith in
+    let b : n / 10 / 10 % 10 ≡ n / 100 % 10 = omega arith in
+    let c : n / 10 % 10 ≡ n % 100 / 10 = omega arith in
+    let d : n % 10 ≡ n % 100 % 10 = omega arith in
+    decimal_four n high low
+    ∙ ap (λ x. glyph x ∷ glyph (n / 10 / 10 % 10) ∷ glyph (n / 10 % 10) ∷ glyph (n % 10) ∷ []) a
+    ∙ ap (λ x. glyph (n / 100 / 10) ∷ glyph x ∷ glyph (n / 10 % 10) ∷ glyph (n % 10) ∷ []) b
+    ∙ ap (λ x. glyph (n / 100 / 10) ∷ glyph (n / 100 % 10) ∷ glyph x ∷ glyph (n % 10) ∷ []) c
+    ∙ ap (λ x. glyph (n / 100 / 10) ∷ glyph (n / 100 % 10) ∷ glyph (n % 100 / 10) ∷ glyph x ∷ []) d
+
+pub front_then_pair : (n : ℕ) (old : Text) → 100 ≤ n → n < 2 ^ 32 → (old ++ decimal (n / 100)) ++ glyph (n % 100 / 10) ∷ glyph (n % 100 % 10) ∷ [] ≡ old ++ decimal n
+front_then_pair n old high low =
+    let a : n / 100 ≡ n / 10 / 10 = omega arith in
+    let b : n % 100 / 10 ≡ n / 10 % 10 = omega arith in
+    let c : n % 100 % 10 ≡ n % 10 = omega arith in
+    ap (λ x. (old ++ decimal x) ++ glyph (n % 100 / 10) ∷ glyph (n % 100 % 10) ∷ []) a
+    ∙ ap (λ x. (old ++ decimal (n / 10 / 10)) ++ glyph x ∷ glyph (n % 100 % 10) ∷ []) b
+    ∙ ap (λ x. (old ++ decimal (n / 10 / 10)) ++ glyph (n / 10 % 10) ∷ glyph x ∷ []) c
+    ∙ front_then_two n old high low
+
+pub front_then_pairs : (n : ℕ) (old : Text) → 10000 ≤ n → n < 2 ^ 32 → (old ++ decimal (n / 10000)) ++ glyph (n % 10000 / 100 / 10) ∷ glyph (n % 10000 / 100 % 10) ∷ glyph (n % 10000 % 100 / 10) ∷ glyph (n % 10000 % 100 % 10) ∷ [] ≡ old ++ decimal n
+front_then_pairs n old high low =
+    let front : Text = old ++ decimal (n / 10 / 10 / 10 / 10) in
+    let z : n / 10000 ≡ n / 10 / 10 / 10 / 10 = omega arith in
+    let a : n % 10000 / 100 / 10 ≡ n / 10 / 10 / 10 % 10 = omega arith in
+    let b : n % 10000 / 100 % 10 ≡ n / 10 / 10 % 10 = omega arith in
+    let c : n % 10000 % 100 / 10 ≡ n / 10 % 10 = omega arith in
+    let d : n % 10000 % 100 % 10 ≡ n % 10 = omega arith in
+    ap (λ x. (old ++ decimal x) ++ glyph (n % 10000 / 100 / 10) ∷ glyph (n % 10000 / 100 % 10) ∷ glyph (n % 10000 % 100 / 10) ∷ glyph (n % 10000 % 100 % 10) ∷ []) z
+    ∙ ap (λ x. front ++ glyph x ∷ glyph (n % 10000 / 100 % 10) ∷ glyph (n % 10000 % 100 / 10) ∷ glyph (n % 10000 % 100 % 10) ∷ []) a
+    ∙ ap (λ x. front ++ glyph (n / 10 / 10 / 10 % 10) ∷ glyph x ∷ glyph (n % 10000 % 100 / 10) ∷ glyph (n % 10000 % 100 % 10) ∷ []) b
+    ∙ ap (λ x. front ++ glyph (n / 10 / 10 / 10 % 10) ∷ glyph (n / 10 / 10 % 10) ∷ glyph x ∷ glyph (n % 10000 % 100 % 10) ∷ []) c
+    ∙ ap (λ x. front ++ glyph (n / 10 / 10 / 10 % 10) ∷ glyph (n / 10 / 10 % 10) ∷ glyph (n / 10 % 10) ∷ glyph x ∷ []) d
+    ∙ front_then_four n old high low
+
+pub ruleset written = (decimal_one, decimal_two, three_by_pair, four_by_pairs, front_then_pair, front_then_pairs, length-append)

@@ -26,4 +26,5 @@ pub record AreFlagged (v : ListsOf) (flags : List Bool) : Type 0 where
   pub lists : IsOne v
   pub sized : length flags ≡ v.numbers
   pub there : (f : ℕ) → slice_index_or flags f false ≡ true → IsOnOne v.lists f
-  pub flagged : (k f : ℕ) → slice_get (list_at v.lists 0) k ≡ Some f → slice_index_or flags f false ≡ true
+  pub flagged : (k f : ℕ) → slice_get (list_at v.lists 0) k ≡ Some f →
+      slice_index_or flags f false ≡ true

@@ -45,9 +45,11 @@ put_behind d (suc (suc (suc j))) f = record d { modified = d.modified ++ f ∷ [
 abbrev pub record_of : List Record → ℕ → Record
 record_of records f = slice_index_or records f blank
 
--- an idle frame without an owner is zeroed or free, one with an owner on modified where it is changed, else on standby
+-- an idle frame without an owner is zeroed or free, one with an owner on modified where it is
+-- changed, else on standby
 abbrev pub belongs : Record → ℕ → Bool
-belongs r j = is_idle r && (if is_some r.owner then (j == (if r.changed then 3 else 2)) else nat_lt j 2)
+belongs r j = is_idle r &&
+    (if is_some r.owner then (j == (if r.changed then 3 else 2)) else nat_lt j 2)
 
 -- an idle frame of a changed page
 abbrev pub is_changed_page : Record → Bool
@@ -62,7 +64,8 @@ pub record Kept (records : List Record) (v : ListsOf) : Type 0 where
   pub numbers : v.numbers ≡ length records
   pub lists : AreFour v
   pub listed : (j k f : ℕ) → number_at v.lists j k ≡ Some f → belongs (record_of records f) j ≡ true
-  pub there : (f : ℕ) → f < length records → is_idle (record_of records f) ≡ true → (j k : ℕ) × (number_at v.lists j k ≡ Some f)
+  pub there : (f : ℕ) → f < length records → is_idle (record_of records f) ≡ true → (j k : ℕ) ×
+      (number_at v.lists j k ≡ Some f)
   pub owned : (f : ℕ) → is_owned (record_of records f) ≡ true
 
 -- the same of all frames but one, which is on no list
@@ -72,5 +75,6 @@ pub record Off (records : List Record) (v : ListsOf) (f : ℕ) : Type 0 where
   pub low : f < length records
   pub off : IsOnNone v.lists f
   pub listed : (j k g : ℕ) → number_at v.lists j k ≡ Some g → belongs (record_of records g) j ≡ true
-  pub there : (g : ℕ) → g ≢ f → g < length records → is_idle (record_of records g) ≡ true → (j k : ℕ) × (number_at v.lists j k ≡ Some g)
+  pub there : (g : ℕ) → g ≢ f → g < length records → is_idle (record_of records g) ≡ true →
+      (j k : ℕ) × (number_at v.lists j k ≡ Some g)
   pub owned : (g : ℕ) → g ≢ f → is_owned (record_of records g) ≡ true

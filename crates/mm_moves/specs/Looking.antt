@@ -18,7 +18,8 @@ frames_on d list.Modified = d.modified
 abbrev pub frame_at : List ℕ → ℕ → Option Frame
 frame_at frames k = option_map frame (slice_get frames k)
 
--- what stands right after a frame on its list; nothing after the last, nor after a frame that is on none of the lists
+-- what stands right after a frame on its list; nothing after the last, nor after a frame that is on
+-- none of the lists
 pub record IsBehind {A : Type 0} (lists : A → List ℕ) (f : ℕ) (next : Option Frame) : Type 0 where
   pub behind : (j : A) (k : ℕ) → slice_get (lists j) k ≡ Some f → next ≡ frame_at (lists j) (k + 1)
   pub none : ((j : A) (k : ℕ) → slice_get (lists j) k ≡ Some f → ⊥) → next ≡ None

@@ -1,5 +1,5 @@
--- What a table by two numbers has: in leaves where both numbers are small and a leaf is there, in an
--- ordered map otherwise.
+-- What a table by two numbers has: in leaves where both numbers are small and a leaf is there, in
+-- an ordered map otherwise.
 use Rattle.std.specs.Prelude.{ℕ, ◌+◌, ◌*◌, ◌&&◌, nat_lt, if◌then◌else◌, Option, Some, None}
 use Rattle.mm_moves.specs.declared.pairs.Pairs.{Pairs}
 use Rattle.mm_moves.specs.Grids.{in_leaves}
@@ -22,7 +22,8 @@ first_of (Some x) other = Some x
 first_of None other = other
 
 -- the value of one table, or else that of another
-unfoldable pub either_way : {X : Type 0} → (ℕ → ℕ → Option X) → (ℕ → ℕ → Option X) → ℕ → ℕ → Option X
+unfoldable pub either_way : {X : Type 0} → (ℕ → ℕ → Option X) → (ℕ → ℕ → Option X) → ℕ → ℕ →
+    Option X
 either_way near far a b = first_of (near a b) (far a b)
 
 abbrev pub near_of : {X : Type 0} → Pairs X → ℕ → ℕ → Option X

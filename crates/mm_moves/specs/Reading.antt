@@ -1,5 +1,5 @@
--- A reader of a move's text: each reading gives a value and the text after its spelling, which stood in front.
--- Profile, "Logs of moves".
+-- A reader of a move's text: each reading gives a value and the text after its spelling, which
+-- stood in front. Profile, "Logs of moves".
 use Rattle.std.specs.Prelude.{ℕ, ◌+◌, ◌-◌, ◌*◌, ◌^◌, Bool, ◌==◌, ◌&&◌, nat_le, nat_lt, if◌then◌else◌, [], ◌∷◌, codes, Option, Some, None}
 use Rattle.mm_types.specs.Spelling.{Text}
 use Rattle.mm_types.specs.declared.numbers.Pid.{Pid}
@@ -66,14 +66,16 @@ is_digit c = nat_le 0x30 c && nat_le c 0x39
 -- the digits from the front on, added to those before
 abbrev pub number_from : ℕ → Text → ℕ × Text
 number_from sum [] = (sum, [])
-number_from sum (c ∷ cs) = let more = number_from (10 * sum + (c - 0x30)) cs in if is_digit c then more else (sum, c ∷ cs)
+number_from sum (c ∷ cs) = let more = number_from (10 * sum + (c - 0x30)) cs in if is_digit c then
+    more else (sum, c ∷ cs)
 
 abbrev pub below : ℕ → ℕ × Text → Option (ℕ × Text)
 below limit p = if nat_lt p.0 limit then Some p else None
 
 -- a number that begins with this digit: no zero stands in front of another digit
 abbrev pub led_by : ℕ → Text → Option (ℕ × Text)
-led_by c cs = let more = below (2 ^ 32) (number_from (c - 0x30) cs) in if nat_lt 0x30 c then more else Some (0, cs)
+led_by c cs = let more = below (2 ^ 32) (number_from (c - 0x30) cs) in if nat_lt 0x30 c then
+    more else Some (0, cs)
 
 abbrev pub read_number : Text → Option (ℕ × Text)
 read_number [] = None
@@ -91,16 +93,25 @@ number_behind word text = past (strip word text) read_number
 -- ---- parts of a move
 
 abbrev pub read_place : Text → Option (Place × Text)
-read_place text = reading (read_pid text) (λ p behind. reading (number_behind (codes ".") behind) (λ v last. Some (place p v, last)))
+read_place text =
+    reading (read_pid text)
+    (λ p behind. reading (number_behind (codes ".") behind) (λ v last. Some (place p v, last)))
 
 abbrev pub read_private : Text → Option (Key × Text)
-read_private text = reading (read_pid text) (λ p behind. reading (number_behind (codes ".") behind) (λ v last. Some (Private p (vpn v), last)))
+read_private text =
+    reading (read_pid text)
+    (λ p behind.
+    reading (number_behind (codes ".") behind) (λ v last. Some (Private p (vpn v), last)))
 
 abbrev pub read_shared : Text → Option (Key × Text)
-read_shared text = reading (read_number text) (λ a behind. reading (number_behind (codes ".") behind) (λ i last. Some (Shared (area a) i, last)))
+read_shared text =
+    reading (read_number text)
+    (λ a behind.
+    reading (number_behind (codes ".") behind) (λ i last. Some (Shared (area a) i, last)))
 
 abbrev pub read_key : Text → Option (Key × Text)
-read_key text = past_or (strip (codes "p") text) read_private (past (strip (codes "s") text) read_shared)
+read_key text =
+    past_or (strip (codes "p") text) read_private (past (strip (codes "s") text) read_shared)
 
 abbrev pub read_frame : Text → Option (Frame × Text)
 read_frame text = reading (read_number text) (λ n behind. Some (frame n, behind))
@@ -109,12 +120,18 @@ read_frame text = reading (read_number text) (λ n behind. Some (frame n, behind
 
 abbrev pub read_machine : Text → Option (LineKind × Text)
 read_machine text =
-    reading (read_number text) (λ frames t. reading (number_behind (codes " ") t) (λ slots u. reading (number_behind (codes " ") u) (λ depth v.
-    reading (number_behind (codes " ") v) (λ blocks last. Some (kind.Machine frames slots depth blocks, last)))))
+    reading (read_number text)
+    (λ frames t.
+    reading (number_behind (codes " ") t)
+    (λ slots u. reading (number_behind (codes " ") u) (λ depth v.
+    reading (number_behind (codes " ") v)
+    (λ blocks last. Some (kind.Machine frames slots depth blocks, last)))))
 
 abbrev pub read_process : Text → Option (LineKind × Text)
 read_process text =
-    reading (read_pid text) (λ p t. reading (number_behind (codes " ") t) (λ min u. reading (number_behind (codes " ") u) (λ max last.
+    reading (read_pid text)
+    (λ p t. reading (number_behind (codes " ") t)
+    (λ min u. reading (number_behind (codes " ") u) (λ max last.
     Some (kind.Process p min max, last))))
 
 abbrev pub read_unbind : Text → Option (LineKind × Text)
@@ -154,7 +171,9 @@ read_kind text =
 -- ---- moves, from what stands after their first word
 
 abbrev pub kind_behind : ℕ → Text → Option (Move × Text)
-kind_behind n text = past (strip (codes " ") text) (λ behind. reading (read_kind behind) (λ k last. Some (move.At n k, last)))
+kind_behind n text =
+    past (strip (codes " ") text)
+    (λ behind. reading (read_kind behind) (λ k last. Some (move.At n k, last)))
 
 abbrev pub read_at : Text → Option (Move × Text)
 read_at text = reading (read_number text) kind_behind
@@ -162,7 +181,8 @@ read_at text = reading (read_number text) kind_behind
 abbrev pub home_behind : Key → Text → Option (Move × Text)
 home_behind k text =
     past_or (strip (codes " zero") text) (λ last. Some (move.Add k None, last))
-    (reading (number_behind (codes " block ") text) (λ b last. Some (move.Add k (Some (block b)), last)))
+    (reading (number_behind (codes " block ") text)
+    (λ b last. Some (move.Add k (Some (block b)), last)))
 
 abbrev pub read_add : Text → Option (Move × Text)
 read_add text = reading (read_key text) home_behind
@@ -174,24 +194,33 @@ abbrev pub key_behind : Text → Option (Key × Text)
 key_behind text = past (strip (codes " ") text) read_key
 
 abbrev pub read_give : Text → Option (Move × Text)
-read_give text = reading (read_frame text) (λ f behind. reading (key_behind behind) (λ k last. Some (move.Give f k, last)))
+read_give text =
+    reading (read_frame text)
+    (λ f behind. reading (key_behind behind) (λ k last. Some (move.Give f k, last)))
 
 abbrev pub read_read : Text → Option (Move × Text)
-read_read text = reading (read_frame text) (λ f behind. reading (key_behind behind) (λ k last. Some (move.Read f k, last)))
+read_read text =
+    reading (read_frame text)
+    (λ f behind. reading (key_behind behind) (λ k last. Some (move.Read f k, last)))
 
 abbrev pub place_behind : Text → Option (Place × Text)
 place_behind text = past (strip (codes " ") text) read_place
 
 abbrev pub read_map : Text → Option (Move × Text)
-read_map text = reading (read_frame text) (λ f behind. reading (place_behind behind) (λ p last. Some (move.Map f p, last)))
+read_map text =
+    reading (read_frame text)
+    (λ f behind. reading (place_behind behind) (λ p last. Some (move.Map f p, last)))
 
 abbrev pub read_unmap : Text → Option (Move × Text)
 read_unmap text = reading (read_place text) (λ p last. Some (move.Unmap p, last))
 
 abbrev pub stored_behind : Frame → Text → Option (Move × Text)
 stored_behind f text =
-    past_or (strip (codes " slot ") text) (λ behind. reading (read_number behind) (λ s last. Some (move.Write f (stored.Slot (slot s)), last)))
-    (reading (number_behind (codes " block ") text) (λ b last. Some (move.Write f (stored.Block (block b)), last)))
+    past_or (strip (codes " slot ") text)
+    (λ behind. reading (read_number behind)
+    (λ s last. Some (move.Write f (stored.Slot (slot s)), last)))
+    (reading (number_behind (codes " block ") text)
+    (λ b last. Some (move.Write f (stored.Block (block b)), last)))
 
 abbrev pub read_write : Text → Option (Move × Text)
 read_write text = reading (read_frame text) stored_behind

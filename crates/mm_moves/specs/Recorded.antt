@@ -13,8 +13,8 @@ IsCut None (Some b) text = ⊥
 IsCut (Some a) None text = ⊥
 IsCut (Some a) (Some b) text = length b < length a + length text
 
--- The log has failed exactly where it had before, or the sink failed in this text: where the bytes are told, exactly
--- where not all of the text came after them.
+-- The log has failed exactly where it had before, or the sink failed in this text: where the bytes
+-- are told, exactly where not all of the text came after them.
 pub record FailsExactly (old new : Log) (text : Text) : Type 0 where
   pub cut : new.failed ≡ true → IsCut old.bytes new.bytes text
   pub fresh : new.failed ≡ false → old.failed ≡ false

@@ -1,5 +1,5 @@
--- What a move has to know of the state before it: frames and keys agree on who is where, a frame with a valid place has a
--- share, and the frames in flight have a request.
+-- What a move has to know of the state before it: frames and keys agree on who is where, a frame
+-- with a valid place has a share, and the frames in flight have a request.
 use Rattle.std.specs.Prelude.{◌≡◌, ℕ, ◌<◌, ◌≤◌, true, false, List, length, Option, Some, None, slice_get}
 use Rattle.mm_types.specs.declared.numbers.Frame.{Frame}
 use Rattle.mm_types.specs.declared.numbers.Key.{Key}
@@ -43,7 +43,8 @@ owner_in d f = (record_at d f).owner
 
 -- each frame in the list has a request
 abbrev pub Requested : List Record → List ℕ → Type 0
-Requested records flight = (k f : ℕ) → slice_get flight k ≡ Some f → has_request (record_of records f).request ≡ true
+Requested records flight = (k f : ℕ) → slice_get flight k ≡ Some f →
+    has_request (record_of records f).request ≡ true
 
 pub record Sound (l : FrameLife) : Type 0 where
   pub sized : length l.frames.records ≡ l.machine.frames

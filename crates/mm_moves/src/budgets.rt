@@ -6,8 +6,8 @@ const FREE: u32 = 64;
 /// How many values have to be written for each leaf more.
 const VALUES: u32 = 64;
 
-/// How many leaves a table may have: 64, and one more for each 64 values that were written. So values
-/// whose numbers lie far apart take no leaf each.
+/// How many leaves a table may have: 64, and one more for each 64 values that were written. So
+/// values whose numbers lie far apart take no leaf each.
 #[derive(Drop)]
 pub(crate) struct Budget {
     values: u32,

@@ -112,7 +112,12 @@ fn trims(pid: Pid, kind: LineKind) -> bool
 // ---- keys, records, sets
 
 fn is_machine(frames: u32, slots: u32, depth: u32, blocks: u32) -> bool
-    ensures { result ≡ is_machine (record { frames = frames; slots = slots; depth = depth; blocks = blocks }) }
+    ensures { result ≡ is_machine (record {
+      frames = frames;
+      slots = slots;
+      depth = depth;
+      blocks = blocks;
+    }) }
 {
     6 <= frames
         && frames <= 262144

@@ -80,8 +80,10 @@ impl<T: Copy + Drop> Grid<T> {
 
     /// The number has the value from now on.
     pub(crate) fn set(&mut self, n: u32, value: T) -> Result<(), NoMemory>
-        ensures ok { OnOk result (Sets (in_leaves self.old.leaves.items) (in_leaves self.new.leaves.items) n (Some value)) }
-        ensures err { OnErr result (Same (in_leaves self.old.leaves.items) (in_leaves self.new.leaves.items)) }
+        ensures ok { OnOk result (Sets (in_leaves self.old.leaves.items)
+            (in_leaves self.new.leaves.items) n (Some value)) }
+        ensures err { OnErr result
+            (Same (in_leaves self.old.leaves.items) (in_leaves self.new.leaves.items)) }
     {
         self.make_place(n as usize)?;
         self.put(n as usize, Some(value));
@@ -91,7 +93,8 @@ impl<T: Copy + Drop> Grid<T> {
     /// A number that has a value has this one from now on.
     pub(crate) fn change(&mut self, n: u32, value: T)
         requires { IsSome (in_leaves self.old.leaves.items n) }
-        ensures { Sets (in_leaves self.old.leaves.items) (in_leaves self.new.leaves.items) n (Some value) }
+        ensures { Sets (in_leaves self.old.leaves.items) (in_leaves self.new.leaves.items) n
+            (Some value) }
     {
         self.put(n as usize, Some(value));
     }
@@ -99,7 +102,8 @@ impl<T: Copy + Drop> Grid<T> {
     /// The number has no value from now on. Answers the one that it had, if any.
     pub(crate) fn remove(&mut self, n: u32) -> Option<T>
         ensures value { result ≡ in_leaves self.old.leaves.items n }
-        ensures removed { Sets (in_leaves self.old.leaves.items) (in_leaves self.new.leaves.items) n None }
+        ensures removed { Sets (in_leaves self.old.leaves.items) (in_leaves self.new.leaves.items) n
+            None }
     {
         match self.get(n) {
             Some(value) => {
@@ -129,7 +133,8 @@ fn add_leaves<T: Copy + Drop>(
 
 /// Gives a leaf all its places; those that are new have no value.
 fn fill<T: Copy + Drop>(leaf: &mut Vec<Option<T>>) -> Result<(), NoMemory>
-    ensures same { (i : ℕ) → slice_index_or leaf.new.items i None ≡ slice_index_or leaf.old.items i None }
+    ensures same { (i : ℕ) → slice_index_or leaf.new.items i None ≡
+        slice_index_or leaf.old.items i None }
     ensures whole { OnOk result (256 ≤ vec_len leaf.new) }
 {
     let count = leaf.len();

@@ -101,8 +101,10 @@ impl Keys {
 
     /// A key is live from now on.
     pub(crate) fn add(&mut self, key: Key, held: Held, paging: bool) -> Result<(), NoMemory>
-        ensures stands { OnOk result (stands_in self.new ≡ changed same_key (stands_in self.old) key held) }
-        ensures paging { OnOk result (paging_in self.new ≡ changed same_key (paging_in self.old) key paging) }
+        ensures stands { OnOk result (stands_in self.new ≡ changed same_key (stands_in self.old) key
+            held) }
+        ensures paging { OnOk result (paging_in self.new ≡ changed same_key (paging_in self.old) key
+            paging) }
         ensures stands_err { OnErr result (stands_in self.new ≡ stands_in self.old) }
         ensures paging_err { OnErr result (paging_in self.new ≡ paging_in self.old) }
     {
@@ -113,7 +115,8 @@ impl Keys {
     #[tactic(auto, using(crate::proofs::Holding::keeping))]
     /// The page of a key is here from now on; the key is marked as it was.
     pub(crate) fn place(&mut self, key: Key, held: Held) -> Result<(), NoMemory>
-        ensures stands { OnOk result (stands_in self.new ≡ changed same_key (stands_in self.old) key held) }
+        ensures stands { OnOk result (stands_in self.new ≡ changed same_key (stands_in self.old) key
+            held) }
         ensures paging { OnOk result (paging_in self.new ≡ paging_in self.old) }
         ensures stands_err { OnErr result (stands_in self.new ≡ stands_in self.old) }
         ensures paging_err { OnErr result (paging_in self.new ≡ paging_in self.old) }
@@ -170,7 +173,8 @@ impl Places {
 
     /// The place is valid from now on.
     pub(crate) fn add(&mut self, place: Place, frame: Frame) -> Result<(), NoMemory>
-        ensures ok { OnOk result (frames_in self.new ≡ changed same_place (frames_in self.old) place (Some frame)) }
+        ensures ok { OnOk result (frames_in self.new ≡ changed same_place (frames_in self.old) place
+            (Some frame)) }
         ensures err { OnErr result (frames_in self.new ≡ frames_in self.old) }
     {
         self.frames

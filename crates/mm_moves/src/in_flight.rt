@@ -79,7 +79,9 @@ impl RequestList {
     /// Takes `x` off the list.
     fn unlink(&mut self, x: u32)
         requires { IsOnOne self.old.lists x }
-        ensures closed { self.new ≡ record self.old { lists = map (without_number x) self.old.lists } }
+        ensures closed { self.new ≡ record self.old {
+          lists = map (without_number x) self.old.lists;
+        } }
         ensures one { IsOne self.new }
     {
         match &mut self.lists {
@@ -102,7 +104,8 @@ impl RequestList {
     }
 }
 
-/// The frames with a request, oldest first. Each call takes constant time, and none but `new` takes memory.
+/// The frames with a request, oldest first. Each call takes constant time, and none but `new` takes
+/// memory.
 #[derive(Drop)]
 pub(crate) struct InFlight {
     list: RequestList,

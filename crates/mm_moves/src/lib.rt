@@ -1,5 +1,5 @@
-//! Moves of page frames as a log has them: their spelling both ways, a recorder that writes them to a sink,
-//! and the replay of a log as a running check.
+//! Moves of page frames as a log has them: their spelling both ways, a recorder that writes them to
+//! a sink, and the replay of a log as a running check.
 #![tactic(auto)]
 
 mod budgets;

@@ -53,7 +53,8 @@ impl Life {
         is_legal(&self.state, m)
     }
 
-    /// Makes a move that is legal in the state so far. Where memory for it was refused nothing has changed.
+    /// Makes a move that is legal in the state so far. Where memory for it was refused nothing has
+    /// changed.
     pub fn make(&mut self, m: &Move) -> Result<(), NoMemory>
         requires legal { IsLegal m.now (life self.old) }
         ensures ok { OnOk result (life self.new ≡ after_move (life self.old) m.now) }
@@ -63,12 +64,13 @@ impl Life {
         self.state.make(m)
     }
 
-    /// Takes the next move. `Illegal` comes exactly where the move is not legal in the state so far, `Memory`
-    /// where memory for a legal one was refused; after either nothing has changed.
+    /// Takes the next move. `Illegal` comes exactly where the move is not legal in the state so
+    /// far, `Memory` where memory for a legal one was refused; after either nothing has changed.
     pub fn apply(&mut self, m: &Move) -> Result<(), ApplyFault>
         ensures ok { OnOk result (life self.new ≡ after_move (life self.old) m.now) }
         ensures legal { OnOk result (IsLegal m.now (life self.old)) }
-        ensures illegal { (result ≡ Err ApplyFault.Illegal) ↔ (is_legal (life self.old) m.now ≡ false) }
+        ensures illegal { (result ≡ Err ApplyFault.Illegal) ↔
+            (is_legal (life self.old) m.now ≡ false) }
         ensures err { OnErr result (life self.new ≡ life self.old) }
     {
         if !self.is_legal(m) {

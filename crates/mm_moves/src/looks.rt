@@ -166,8 +166,8 @@ impl Life {
         }
     }
 
-    /// The frame of the request that began right after that of this frame; `None` where it is the youngest, or the frame
-    /// has none.
+    /// The frame of the request that began right after that of this frame; `None` where it is the
+    /// youngest, or the frame has none.
     pub fn next_request(&self, frame: Frame) -> Option<Frame>
         ensures { IsBehind {A = Unit {0}} (λ _. (life self.now).flight) frame.0 result }
     {
@@ -240,7 +240,8 @@ impl Life {
         self.state.paging_keys
     }
 
-    /// What a replay keeps of its frames: there are as many as the machine has, each counted once. It does nothing.
+    /// What a replay keeps of its frames: there are as many as the machine has, each counted once.
+    /// It does nothing.
     fn keeps_frames(&self)
         ensures few { length (life self.now).frames.records < 2 ^ 32 }
         ensures sum { counted_frames (counts_of (life self.now)) ≡ (life self.now).machine.frames }
@@ -249,7 +250,8 @@ impl Life {
         let _known = frames;
     }
 
-    /// The eight numbers that `counts` tells, of which six add up to the frames. Takes time in proportion to the frames.
+    /// The eight numbers that `counts` tells, of which six add up to the frames. Takes time in
+    /// proportion to the frames.
     pub fn counts(&self) -> Counts
         ensures value { result ≡ counts_of (life self.now) }
         ensures sum { counted_frames result ≡ (life self.now).machine.frames }

@@ -9,8 +9,9 @@ use crate::ordered_pairs::OrderedPairs;
 use mm_types::NoMemory;
 use std::alloc::Global;
 
-/// Values by two numbers each: a process and its page, or an area and an index there. Where the first is below
-/// 256 and the second is one that a user page has, they stand in leaves, as far as there may be leaves.
+/// Values by two numbers each: a process and its page, or an area and an index there. Where the
+/// first is below 256 and the second is one that a user page has, they stand in leaves, as far as
+/// there may be leaves.
 #[derive(Drop)]
 pub(crate) struct Pairs<T> {
     near: Grid<T>,

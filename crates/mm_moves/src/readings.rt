@@ -44,7 +44,8 @@ fn digits(first: u8, text: &[u8]) -> Option<(u32, &[u8])>
     Some((sum as u32, rest))
 }
 
-/// The number below 2^32 in front of a text, and what stands after it. No zero stands in front of another digit.
+/// The number below 2^32 in front of a text, and what stands after it. No zero stands in front of
+/// another digit.
 fn number(text: &[u8]) -> Option<(u32, &[u8])>
     ensures { option_map (λ p. (p.0, p.1.now)) result ≡ read_number text.now }
 {
@@ -327,7 +328,8 @@ fn move_in_front(text: &[u8]) -> Option<(Move, &[u8])>
     taking_move(text)
 }
 
-/// The move that a line is, without its line feed; `None` where it is none. A number has no leading zeros.
+/// The move that a line is, without its line feed; `None` where it is none. A number has no leading
+/// zeros.
 pub fn read_move(line: &[u8]) -> Option<Move>
     ensures spelled { IfSome result (λ m. move_text m ≡ line.now) }
     ensures in_range { IfSome result IsMove }
@@ -350,7 +352,9 @@ pub fn read_key(word: &[u8]) -> Option<Key>
 ghost use Rattle.std.specs.Prelude.{◌∷◌};
 ghost use Rattle.mm_life.specs.MoveText.{move_onto};
 
-/// The lines of a log determine its moves: two lines in front of two texts that are equal are the same move's.
+/// The lines of a log determine its moves: two lines in front of two texts that are equal are the
+/// same move's.
 pub fn lines_determine_moves()
-    ensures { (m n : Move) (a b : List ℕ) → IsMove m → IsMove n → move_onto m (10 ∷ a) ≡ move_onto n (10 ∷ b) → (m ≡ n) × (a ≡ b) }
+    ensures { (m n : Move) (a b : List ℕ) → IsMove m → IsMove n →
+        move_onto m (10 ∷ a) ≡ move_onto n (10 ∷ b) → (m ≡ n) × (a ≡ b) }
 {}

@@ -12,22 +12,23 @@ use mm_types::{Failed, Move};
 
 /// Takes note of moves, one after another.
 pub trait Moves {
-    /// The bytes written and those that were given on, where told; whether writing has failed; the count of faults, which never falls.
+    /// The bytes written and those that were given on, where told; whether writing has failed; the
+    /// count of faults, which never falls.
     ghost log: { Self → Log };
 
     /// The references that it holds.
     ghost loans: { Self → Loans };
 
-    /// Writes the move's line. Where a call of the sink fails a front of the line is written that is not all of
-    /// it, and the recorder has failed: from then on nothing is written.
+    /// Writes the move's line. Where a call of the sink fails a front of the line is written that
+    /// is not all of it, and the recorder has failed: from then on nothing is written.
     fn note(&mut self, m: Move)
         ensures grew { Grew (log self.old) (log self.new) (spelling_of_move m) }
         ensures exact { FailsExactly (log self.old) (log self.new) (spelling_of_move m) }
         ensures in_range { IsMove m }
         ensures loans { loans self.new ≡ loans self.old };
 
-    /// Gives on the lines that were written. Where that fails the result alone says so: the bytes written stay,
-    /// and so does whether a note failed.
+    /// Gives on the lines that were written. Where that fails the result alone says so: the bytes
+    /// written stay, and so does whether a note failed.
     fn flush(&mut self) -> Result<(), Failed>
         ensures flushed { Flushed (log self.old) (log self.new) result }
         ensures loans { loans self.new ≡ loans self.old };
@@ -46,12 +47,13 @@ pub struct Recorder<'a, K: Sink> {
     line: LineBuf,
 }
 
-/// Writes a line. Where a call of the sink fails, the front that it took is not all of the line: `write_all` does
-/// not say that.
+/// Writes a line. Where a call of the sink fails, the front that it took is not all of the line:
+/// `write_all` does not say that.
 #[tactic(auto, using(crate::proofs::Growing::growing))]
 fn write_line<K: Sink>(sink: &mut K, line: &[u8]) -> Result<(), Failed>
     ensures wrote { WroteOrCut (K.taken sink.old) (K.taken sink.new) line.now (is_err result) }
-    ensures given { GivesOn (K.given sink.old) (K.given sink.new) (K.taken sink.old) (K.taken sink.new) }
+    ensures given { GivesOn (K.given sink.old) (K.given sink.new) (K.taken sink.old)
+        (K.taken sink.new) }
     ensures cause { CountsFaults (K.faults sink.old) (K.faults sink.new) result }
     ensures loans { K.loans sink.new ≡ K.loans sink.old }
 {

@@ -1,4 +1,5 @@
 ghost use Rattle.std.specs.Prelude.{◌≡◌, ◌≤◌, ◌<◌, ◌+◌, ◌^◌, ◌∷◌, ◌++◌, [], List, ℕ, length};
+ghost use Rattle.std.specs.Prelude.{◌/◌, ◌%◌};
 ghost use Rattle.mm_types.specs.Spelling.{glyph, decimal};
 ghost use Rattle.mm_life.specs.MoveText.{numbered, place_onto, key_onto, kind_onto, stored_onto, home_onto, move_onto, spelling_of_move, IsKey, IsPlace, IsKind, IsStored, IsBlock, IsMove};
 
@@ -13,7 +14,41 @@ fn digit(n: u32) -> u8
     b'0' + n as u8
 }
 
-/// Writes a number of at most four digits. The pieces have a fixed length, so that no loop and no copy is called.
+/// The two digits of each number below 100, one number after another.
+#[rattlefmt::skip]
+static PAIRS: [u8; 200] = [
+    48, 48, 48, 49, 48, 50, 48, 51, 48, 52, 48, 53, 48, 54, 48, 55, 48, 56, 48, 57, // 00 to 09
+    49, 48, 49, 49, 49, 50, 49, 51, 49, 52, 49, 53, 49, 54, 49, 55, 49, 56, 49, 57, // 10 to 19
+    50, 48, 50, 49, 50, 50, 50, 51, 50, 52, 50, 53, 50, 54, 50, 55, 50, 56, 50, 57, // 20 to 29
+    51, 48, 51, 49, 51, 50, 51, 51, 51, 52, 51, 53, 51, 54, 51, 55, 51, 56, 51, 57, // 30 to 39
+    52, 48, 52, 49, 52, 50, 52, 51, 52, 52, 52, 53, 52, 54, 52, 55, 52, 56, 52, 57, // 40 to 49
+    53, 48, 53, 49, 53, 50, 53, 51, 53, 52, 53, 53, 53, 54, 53, 55, 53, 56, 53, 57, // 50 to 59
+    54, 48, 54, 49, 54, 50, 54, 51, 54, 52, 54, 53, 54, 54, 54, 55, 54, 56, 54, 57, // 60 to 69
+    55, 48, 55, 49, 55, 50, 55, 51, 55, 52, 55, 53, 55, 54, 55, 55, 55, 56, 55, 57, // 70 to 79
+    56, 48, 56, 49, 56, 50, 56, 51, 56, 52, 56, 53, 56, 54, 56, 55, 56, 56, 56, 57, // 80 to 89
+    57, 48, 57, 49, 57, 50, 57, 51, 57, 52, 57, 53, 57, 54, 57, 55, 57, 56, 57, 57, // 90 to 99
+];
+
+/// The first of the two digits of a number below 100.
+#[inline(always)]
+fn tens(n: u32) -> u8
+    requires { n < 100 }
+    ensures { result ≡ glyph (n / 10) }
+{
+    PAIRS[2 * n as usize]
+}
+
+/// The second of the two digits of a number below 100.
+#[inline(always)]
+fn ones(n: u32) -> u8
+    requires { n < 100 }
+    ensures { result ≡ glyph (n % 10) }
+{
+    PAIRS[2 * n as usize + 1]
+}
+
+/// Writes a number of at most four digits. The pieces have a fixed length, so that no loop and
+/// no copy is called.
 #[inline(always)]
 #[tactic(auto, using(crate::proofs::Written::written))]
 fn put_few(out: &mut LineBuf, n: u32)
@@ -22,21 +57,16 @@ fn put_few(out: &mut LineBuf, n: u32)
     ensures text { out.new ≡ out.old ++ decimal n }
     ensures few { length out.new ≤ length out.old + 4 }
 {
-    let tens = n / 10;
-    let hundreds = tens / 10;
+    let front = n / 100;
+    let last = n % 100;
     if n < 10 {
         out.push(digit(n));
     } else if n < 100 {
-        out.push_slice(&[digit(tens), digit(n % 10)]);
+        out.push_slice(&[tens(n), ones(n)]);
     } else if n < 1000 {
-        out.push_slice(&[digit(hundreds), digit(tens % 10), digit(n % 10)]);
+        out.push_slice(&[digit(front), tens(last), ones(last)]);
     } else {
-        out.push_slice(&[
-            digit(hundreds / 10),
-            digit(hundreds % 10),
-            digit(tens % 10),
-            digit(n % 10),
-        ]);
+        out.push_slice(&[tens(front), ones(front), tens(last), ones(last)]);
     }
 }
 
@@ -52,9 +82,9 @@ fn put_front(out: &mut LineBuf, n: u32)
     if n < 10000 {
         put_few(out, n);
     } else {
-        let tens = n / 10;
-        put_few(out, tens / 10);
-        out.push_slice(&[digit(tens % 10), digit(n % 10)]);
+        let last = n % 100;
+        put_few(out, n / 100);
+        out.push_slice(&[tens(last), ones(last)]);
     }
 }
 
@@ -66,16 +96,10 @@ fn put_many(out: &mut LineBuf, n: u32)
     requires room { length out.old + 10 ≤ 256 }
     ensures { out.new ≡ out.old ++ decimal n }
 {
-    let tens = n / 10;
-    let hundreds = tens / 10;
-    let thousands = hundreds / 10;
-    put_front(out, thousands / 10);
-    out.push_slice(&[
-        digit(thousands % 10),
-        digit(hundreds % 10),
-        digit(tens % 10),
-        digit(n % 10),
-    ]);
+    let front = n % 10000 / 100;
+    let last = n % 10000 % 100;
+    put_front(out, n / 10000);
+    out.push_slice(&[tens(front), ones(front), tens(last), ones(last)]);
 }
 
 /// Writes a number in decimal.
@@ -118,7 +142,8 @@ fn put_words(out: &mut LineBuf, words: &[u8])
 #[inline(always)]
 fn put_frame(out: &mut LineBuf, word: &[u8], frame: Frame)
     requires { length out.old + length word.now + 10 ≤ 256 }
-    ensures text { (behind : List ℕ) → out.new ++ behind ≡ out.old ++ numbered word.now frame.0 behind }
+    ensures text { (behind : List ℕ) →
+        out.new ++ behind ≡ out.old ++ numbered word.now frame.0 behind }
     ensures few { length out.new ≤ length out.old + length word.now + 10 }
     ensures in_range { frame.0 < 2 ^ 32 }
 {

@@ -160,7 +160,8 @@ impl State {
         depth: u32,
         blocks: u32,
     ) -> Result<(), NoMemory>
-        ensures ok { OnOk result (life self.new ≡ after_at (life self.old) line (kind.Machine frames slots depth blocks)) }
+        ensures ok { OnOk result (life self.new ≡
+            after_at (life self.old) line (kind.Machine frames slots depth blocks)) }
         ensures err { OnErr result (life self.new ≡ life self.old) }
     {
         let alloc = self.alloc;
@@ -186,7 +187,8 @@ impl State {
     }
 
     fn at_process(&mut self, line: u32, pid: Pid, min: u32, max: u32) -> Result<(), NoMemory>
-        ensures ok { OnOk result (life self.new ≡ after_at (life self.old) line (kind.Process pid min max)) }
+        ensures ok { OnOk result (life self.new ≡
+            after_at (life self.old) line (kind.Process pid min max)) }
         ensures err { OnErr result (life self.new ≡ life self.old) }
     {
         self.sets.push(ResidentSet {
@@ -312,7 +314,9 @@ impl State {
     /// The owner, if any, has the backing as home from now on.
     fn send_home(&mut self, owner: Option<Key>, home: Backing)
         requires { IfSome owner (λ k. is_dead ((life self.old).stands k) ≡ false) }
-        ensures { life self.new ≡ record (life self.old) { stands = homed (life self.old) owner home } }
+        ensures { life self.new ≡ record (life self.old) {
+          stands = homed (life self.old) owner home;
+        } }
     {
         match owner {
             Some(key) => self.keys.move_to(key, home_of(home)),

@@ -14,8 +14,8 @@ use mm_types::{Backing, Frame, Key, NoMemory, Record};
 use std::alloc::Global;
 use std::marker::Model;
 
-/// The frame database: a record for each frame, and the four lists. Each call takes constant time, and none
-/// but `new` takes memory.
+/// The frame database: a record for each frame, and the four lists. Each call takes constant time,
+/// and none but `new` takes memory.
 #[derive(Drop)]
 pub(crate) struct Table {
     listing: Listing,
@@ -179,7 +179,8 @@ impl Table {
 
     /// A read into the first free frame begins, or where none is free into the first zeroed one.
     pub(crate) fn read(&mut self, f: u32, key: Key, home: Backing)
-        requires { (is_first f self.old.free || (is_empty self.old.free && is_first f self.old.zeroed)) ≡ true }
+        requires { (is_first f self.old.free ||
+            (is_empty self.old.free && is_first f self.old.zeroed)) ≡ true }
         ensures { self.new ≡ after_read self.old f key home }
     {
         take_for_read(&mut self.listing, f);
@@ -289,11 +290,13 @@ impl Table {
     }
 }
 
-/// The frame of a read leaves its list: the first free one, or where none is free the first zeroed one.
+/// The frame of a read leaves its list: the first free one, or where none is free the first zeroed
+/// one.
 #[tactic(auto, using(crate::proofs::Placing::placing))]
 fn take_for_read(listing: &mut Listing, f: u32)
     requires kept { IsKept listing.old }
-    requires first { (is_first f (table listing.old).free || (is_empty (table listing.old).free && is_first f (table listing.old).zeroed)) ≡ true }
+    requires first { (is_first f (table listing.old).free ||
+        (is_empty (table listing.old).free && is_first f (table listing.old).zeroed)) ≡ true }
     ensures off { IsOff listing.new f }
     ensures table { table listing.new ≡ taken_for_read (table listing.old) }
 {

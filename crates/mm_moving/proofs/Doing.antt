@@ -22,7 +22,7 @@ use Rattle.mm_life.proofs.Replays.{replays_then, spelled-append, moves-append}
 use Rattle.mm_life.proofs.Noting.{grew_then, grew_nothing}
 use Rattle.mm_pages.specs.Told.{told_through, call_of, calls_of, in_slot, in_block, paging_traffic, file_traffic}
 use Rattle.mm_pages.proofs.Passed.{waits_then, ages_then}
-use Rattle.mm_walks.specs.Walks.{Walk, walked, walked_all, waits_through, ages_through}
+use Rattle.mm_life.specs.Walks.{Walk, walked, walked_all, waits_through, ages_through}
 use Rattle.mm_moving.specs.Shown.{StateOf, CalledFor, backing_of_frame, Made}
 use Rattle.mm_moving.specs.Doing.{Does, walk_of}
 use Rattle.mm_types.proofs.Bytes.{append_nil}

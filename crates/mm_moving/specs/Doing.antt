@@ -10,12 +10,13 @@ use Rattle.mm_life.specs.Logs.{Grew}
 use Rattle.mm_life.specs.MoveText.{AreMoves, spelled_moves}
 use Rattle.mm_life.specs.Replay.{Replays}
 use Rattle.mm_blocks.specs.Devices.{Call, AllServed, logged_call, KeepsOthers}
-use Rattle.mm_walks.specs.Walks.{Walk, Through, walked_all, waits_through, ages_through, is_wrote_move, is_read_move}
-use Rattle.mm_walks.specs.Searches.{SearchMove, Starved}
+use Rattle.mm_life.specs.Walks.{Walk, Through, walked_all, waits_through, ages_through, is_wrote_move, is_read_move}
+use Rattle.mm_life.specs.Searches.{SearchMove, Starved}
 use Rattle.mm_pages.specs.Told.{told_through, paging_traffic, file_traffic}
 use Rattle.mm_moving.specs.Shown.{StateOf, called, SomeFault}
 
--- these moves were made, noted and counted; each device's calls are those that they stand for, and a slot or a block that none of them wrote is as before
+-- these moves were made, noted and counted; each device's calls are those that they stand for, and
+-- a slot or a block that none of them wrote is as before
 pub record Does (moves : List Move) (s z : StateOf) : Type 0 where
   pub in_range : AreMoves moves
   pub grew : Grew s.log z.log (spelled_moves moves)
@@ -40,15 +41,18 @@ walk_of s = record { life = s.life; ages = s.ages; tried = [] }
 
 -- what was in flight earlier in this access is in flight still, or is the pinned frame
 abbrev pub IsFlightOf : List ℕ → Option Frame → FrameLife → Type 0
-IsFlightOf flight pin l = (f : Frame) → is_on f.0 flight ≡ true → (is_on f.0 l.flight ≡ true) ⊎ (pin ≡ Some f)
+IsFlightOf flight pin l = (f : Frame) → is_on f.0 flight ≡ true → (is_on f.0 l.flight ≡ true) ⊎
+    (pin ≡ Some f)
 
--- A search for a frame, while one frame, if any, is pinned. Its moves are those of a search, in order; at most one write succeeds, and none where it finds no
--- frame: then zeroed, free and standby are empty, each modified frame that can be written was tried, no place but those of the pinned frame is valid, and a device
--- write failed.
+-- A search for a frame, while one frame, if any, is pinned. Its moves are those of a search, in
+-- order; at most one write succeeds, and none where it finds no frame: then zeroed, free and
+-- standby are empty, each modified frame that can be written was tried, no place but those of the
+-- pinned frame is valid, and a device write failed.
 pub record Searched (pin : Option Frame) (found : Bool) (s z : StateOf) : Type 0 where
   pub moves : List Move
   pub does : Does moves s z
-  pub each : (flight : List ℕ) → IsFlightOf flight pin s.life → Through (SearchMove pin flight) (walk_of s) moves
+  pub each : (flight : List ℕ) → IsFlightOf flight pin s.life →
+      Through (SearchMove pin flight) (walk_of s) moves
   pub one : count_by is_wrote_move moves ≤ 1
   pub no_read : count_by is_read_move moves ≡ 0
   pub got : found ≡ true → is_short z.life ≡ false

@@ -1,5 +1,5 @@
--- What a machine's joined state shows to the store of pages above it, and what its calls make of that.
--- Profile, "Which frame moves, and when".
+-- What a machine's joined state shows to the store of pages above it, and what its calls make of
+-- that. Profile, "Which frame moves, and when".
 use Rattle.std.specs.Prelude.{◌≡◌, ◌<◌, ◌⊎◌, ℕ, Bool, true, false, List, [], ◌∷◌, Option, Some, None}
 use Rattle.mm_types.specs.declared.devices.Direction.{Direction}
 use Rattle.mm_types.specs.declared.devices.Direction.TheVariants as way
@@ -19,8 +19,8 @@ use Rattle.mm_life.specs.Logs.{Log, Grew}
 use Rattle.mm_life.specs.MoveText.{AreMoves, spelled_moves}
 use Rattle.mm_blocks.specs.Traffic.{is_named}
 use Rattle.mm_blocks.specs.Devices.{DeviceOf, Serves, CallFailed, KeepsOthers}
-use Rattle.mm_walks.specs.Waits.{Waiting, waits_after, ages_after}
-use Rattle.mm_located.specs.Carried.{slots_written, blocks_written}
+use Rattle.mm_life.specs.Waits.{Waiting, waits_after, ages_after}
+use Rattle.mm_frame_laws.specs.Carried.{slots_written, blocks_written}
 use Rattle.mm_life.specs.Located.{BlockBytes}
 use Rattle.mm_pages.specs.Told.{Told, told_after, none_told, paging_traffic, file_traffic}
 use Rattle.mm_parts.specs.Shown.{is_own_line}
@@ -57,12 +57,23 @@ pub record StateOf : Type 0 where
 -- ---- one move
 
 -- the one call of a device for a backing, with this outcome; the other device was not called
-abbrev pub CalledFor : Direction → Backing → Bool → DeviceOf → DeviceOf → DeviceOf → DeviceOf → Type 0
+abbrev pub CalledFor : Direction → Backing → Bool → DeviceOf → DeviceOf → DeviceOf → DeviceOf →
+    Type 0
 CalledFor w backing.None ok paging files paging' files' = (paging' ≡ paging) × (files' ≡ files)
 CalledFor w (backing.Slot b) ok paging files paging' files' =
-    Serves (record { way = w; block = b.0; succeeded = ok; named = is_named w paging.named }) paging paging' × (files' ≡ files)
+    Serves (record {
+      way = w;
+      block = b.0;
+      succeeded = ok;
+      named = is_named w paging.named;
+    }) paging paging' × (files' ≡ files)
 CalledFor w (backing.Block b) ok paging files paging' files' =
-    Serves (record { way = w; block = b.0; succeeded = ok; named = is_named w files.named }) files files' × (paging' ≡ paging)
+    Serves (record {
+      way = w;
+      block = b.0;
+      succeeded = ok;
+      named = is_named w files.named;
+    }) files files' × (paging' ≡ paging)
 
 abbrev pub Called : Direction → Backing → Bool → StateOf → StateOf → Type 0
 Called w home ok s z = CalledFor w home ok s.paging s.files z.paging z.files
@@ -122,7 +133,12 @@ moved s z = record s { life = z.life; log = z.log; told = z.told; ages = z.ages;
 
 -- with a call of a device
 abbrev pub called : StateOf → StateOf → StateOf
-called s z = record (moved s z) { paging = z.paging; files = z.files; slots = z.slots; blocks = z.blocks }
+called s z = record (moved s z) {
+  paging = z.paging;
+  files = z.files;
+  slots = z.slots;
+  blocks = z.blocks;
+}
 
 -- ---- keys and places
 
@@ -131,14 +147,21 @@ abbrev pub HasHome : StateOf → Key → Type 0
 HasHome s (Private p v) = s.bound (record { pid = p; vpn = v }) ≡ true
 HasHome s (Shared a i) = (n : ℕ) × ((s.areas a.0 ≡ Some n) × (i < n))
 
--- a private key comes to be at a place that names none, or beside the tables where nothing stands there
+-- a private key comes to be at a place that names none, or beside the tables where nothing stands
+-- there
 abbrev pub IsClear : StateOf → Key → Type 0
-IsClear s (Private p v) = (s.names (record { pid = p; vpn = v }) ≡ None) ⊎ ((is_touch s.life.kind ≡ true) × (s.aside ≡ None))
+IsClear s (Private p v) = (s.names (record {
+  pid = p;
+  vpn = v;
+}) ≡ None) ⊎ ((is_touch s.life.kind ≡ true) × (s.aside ≡ None))
 IsClear s (Shared a i) = Unit {0}
 
 -- it comes to stand beside the tables where its place names a page
 abbrev pub aside_after_add : StateOf → Key → Option Place
-aside_after_add s (Private p v) = aside_added (s.names (record { pid = p; vpn = v })) s.aside (record { pid = p; vpn = v })
+aside_after_add s (Private p v) = aside_added (s.names (record {
+  pid = p;
+  vpn = v;
+})) s.aside (record { pid = p; vpn = v })
 aside_after_add s (Shared a i) = s.aside
 
 -- a private page that has a frame is used at its place, unless it stands beside the tables
@@ -155,7 +178,8 @@ names_after_drop s (Shared a i) = s.names
 
 -- a shared page becomes valid where the place's own private key is dead
 abbrev pub MayMap : StateOf → Frame → Place → Type 0
-MayMap s f place = owner_is is_shared (record_at s.life.frames f.0) ≡ true → is_dead (s.life.stands (key_of_place place)) ≡ true
+MayMap s f place = owner_is is_shared (record_at s.life.frames f.0) ≡ true →
+    is_dead (s.life.stands (key_of_place place)) ≡ true
 
 -- there is room for the line's own request, where a request would be one
 abbrev pub CanBegin : StateOf → Type 0

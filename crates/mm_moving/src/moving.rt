@@ -19,21 +19,21 @@ ghost use Rattle.mm_life.specs.Logs.{Flushed};
 ghost use Rattle.mm_life.specs.Legal.{IsLegal, is_at_max, is_above_min, is_below_max, has_depth};
 ghost use Rattle.mm_life.specs.Located.{zero_page};
 ghost use Rattle.mm_life.specs.Victims.{can_be_written};
-ghost use Rattle.mm_radix.specs.Pages.{pages};
+ghost use Rattle.mm_words.specs.Pages.{pages};
 ghost use Rattle.mm_ram.specs.Ram.{bytes_from, overwritten};
 ghost use Rattle.mm_frames.specs.Base.{has_block, modified_with_block};
 ghost use Rattle.mm_frames.specs.Placing.{IsAtRest};
 ghost use Rattle.mm_flight.specs.Requests.{nth_oldest, place_in};
-ghost use Rattle.mm_walks.specs.Chores.{all_aged};
-ghost use Rattle.mm_walks.specs.Order.{IsOldest};
-ghost use Rattle.mm_walks.specs.Waits.{Idle, ForFrame, wait_of};
+ghost use Rattle.mm_life.specs.Chores.{all_aged};
+ghost use Rattle.mm_life.specs.Order.{IsOldest};
+ghost use Rattle.mm_life.specs.Waits.{Idle, ForFrame, wait_of};
 ghost use Rattle.mm_wset.specs.InOrder.{IsNextFrom};
 ghost use Rattle.mm_words.specs.Words.{changed_in, place_of};
 ghost use Rattle.mm_parts.specs.Moves.{front, front_for_read, own_after, own_ended, read_end, write_end, write_target, left_by, IsPlainLine, after_page};
 ghost use Rattle.mm_pages.specs.Reports.{with_named};
 ghost use Rattle.mm_pages.specs.Told.{with_write};
-ghost use Rattle.mm_room.specs.Order.{IsNext, NoneFollows};
-ghost use Rattle.mm_located.specs.Carried.{IsSoiled};
+ghost use Rattle.mm_frame_laws.specs.Order.{IsNext, NoneFollows};
+ghost use Rattle.mm_frame_laws.specs.Carried.{IsSoiled};
 ghost use Rattle.mm_moving.specs.Shown.{StateOf, Made, Begins, Wrote, Called, moved, called, asked_to_grow, backing_of_frame, written_if, HasHome, IsClear, MayMap, CanBegin, aside_after_add, names_after_give, names_after_map, names_after_drop, KeepsRequests};
 ghost use Rattle.mm_moving.specs.Holds.{Holds};
 
@@ -44,9 +44,10 @@ use mm_types::{
 
 /// A machine's joined state, by its calls: one for each move of the log, and what looks at it.
 ///
-/// Page tables, prototype entries, working sets, page frames, slots, requests in flight and bytes, over a paging device, a device
-/// of files and a sink of moves. Contracts see what it shows (`StateOf`). Each move asks that it is legal, and is then made, noted
-/// and counted (`Made`); beside it exactly what a clause names changes. No call takes memory but `open_process`, `bind`,
+/// Page tables, prototype entries, working sets, page frames, slots, requests in flight and bytes,
+/// over a paging device, a device of files and a sink of moves. Contracts see what it shows
+/// (`StateOf`). Each move asks that it is legal, and is then made, noted and counted (`Made`);
+/// beside it exactly what a clause names changes. No call takes memory but `open_process`, `bind`,
 /// `open_area` and `grow`.
 pub trait Moving {
     ghost shown: { Self → StateOf };
@@ -59,8 +60,8 @@ pub trait Moving {
 
     // ---- lines
 
-    /// A line begins, of any kind but one in which the paging file grows. The last line's own request is done, and nothing stands
-    /// beside the tables.
+    /// A line begins, of any kind but one in which the paging file grows. The last line's own
+    /// request is done, and nothing stands beside the tables.
     fn at(&mut self, line: u32, kind: LineKind)
         requires legal { IsLegal (move.At line kind) (shown self.old).life }
         requires plain { IsPlainLine kind }
@@ -70,58 +71,82 @@ pub trait Moving {
         ensures rest { shown self.new ≡ moved (shown self.old) (shown self.new) }
         ensures loans { loans self.new ≡ loans self.old };
 
-    /// A line begins in which the paging file grows by `n` slots of zeros. Where the paging device fails the line is a call that
-    /// changes nothing; after `Memory` no line has begun, and nothing has changed.
+    /// A line begins in which the paging file grows by `n` slots of zeros. Where the paging device
+    /// fails the line is a call that changes nothing; after `Memory` no line has begun, and nothing
+    /// has changed.
     fn grow(&mut self, line: u32, n: u32) -> Result<(), GrowFault>
         requires legal { IsLegal (move.At line (kind.Grow n)) (shown self.old).life }
         requires done { (shown self.old).own ≡ None }
         requires alone { (shown self.old).aside ≡ None }
-        ensures ok { OnOk result (Begins (move.At line (kind.Grow n)) (shown self.old) (shown self.new)) }
-        ensures grown { OnOk result (shown self.new ≡ record (moved (shown self.old) (shown self.new)) {
-          slots = (shown self.old).slots ++ replicate n zero_page;
-        }) }
-        ensures failed { IsErrOf result grow_fault.Failed → Begins (move.At line kind.Call) (shown self.old) (shown self.new) }
-        ensures kept { IsErrOf result grow_fault.Failed → shown self.new ≡ record (moved (shown self.old) (shown self.new)) {
-          paging = asked_to_grow (shown self.old).paging (shown self.new).paging;
-        } }
+        ensures ok { OnOk result (Begins (move.At line (kind.Grow n)) (shown self.old)
+            (shown self.new)) }
+        ensures grown { OnOk result (shown self.new ≡
+            record (moved (shown self.old) (shown self.new)) {
+              slots = (shown self.old).slots ++ replicate n zero_page;
+            }) }
+        ensures failed { IsErrOf result grow_fault.Failed →
+            Begins (move.At line kind.Call) (shown self.old) (shown self.new) }
+        ensures kept { IsErrOf result grow_fault.Failed →
+            shown self.new ≡ record (moved (shown self.old) (shown self.new)) {
+              paging = asked_to_grow (shown self.old).paging (shown self.new).paging;
+            } }
         ensures memory { IsErrOf result grow_fault.Memory → shown self.new ≡ shown self.old }
         ensures later { (shown self.old).paging.faults ≤ (shown self.new).paging.faults }
-        ensures cause { IsErrOf result grow_fault.Failed → Rose (shown self.old).paging.faults (shown self.new).paging.faults }
+        ensures cause { IsErrOf result grow_fault.Failed →
+            Rose (shown self.old).paging.faults (shown self.new).paging.faults }
         ensures loans { loans self.new ≡ loans self.old };
 
     // ---- processes, places, areas
 
-    /// Opens a process whose line has begun, and takes the room of its working set. After `NoMemory` nothing has changed.
+    /// Opens a process whose line has begun, and takes the room of its working set. After
+    /// `NoMemory` nothing has changed.
     fn open_process(&mut self, pid: Pid) -> Result<(), NoMemory>
         requires { is_some (set_of (shown self.old).life pid.0) ≡ true }
-        ensures ok { OnOk result (shown self.new ≡ record (shown self.old) { is_open = changed ◌==◌ (shown self.old).is_open pid.0 true }) }
+        ensures ok { OnOk result (shown self.new ≡ record (shown self.old) {
+          is_open = changed ◌==◌ (shown self.old).is_open pid.0 true;
+        }) }
         ensures err { OnErr result (shown self.new ≡ shown self.old) }
         ensures loans { loans self.new ≡ loans self.old };
 
     /// Closes an open process that has no bound place.
     fn close_process(&mut self, pid: Pid)
         requires open { (shown self.old).is_open pid.0 ≡ true }
-        requires unbound { (v : ℕ) → (shown self.old).bound (place_of pid (record { 0 = v })) ≡ false }
-        ensures rest { shown self.new ≡ record (shown self.old) { is_open = changed ◌==◌ (shown self.old).is_open pid.0 false } }
+        requires unbound { (v : ℕ) → (shown self.old).bound (place_of pid (record {
+          0 = v;
+        })) ≡ false }
+        ensures rest { shown self.new ≡ record (shown self.old) {
+          is_open = changed ◌==◌ (shown self.old).is_open pid.0 false;
+        } }
         ensures loans { loans self.new ≡ loans self.old };
 
-    /// Binds `n` user pages of an open process from `first` on; those that were bound keep what they name. After `NoMemory`
-    /// nothing has changed.
+    /// Binds `n` user pages of an open process from `first` on; those that were bound keep what
+    /// they name. After `NoMemory` nothing has changed.
     fn bind(&mut self, pid: Pid, first: Vpn, n: u32) -> Result<(), NoMemory>
         requires open { (shown self.old).is_open pid.0 ≡ true }
         requires low { first_user_page ≤ first.0 }
         requires high { first.0 + n ≤ end_of_user_pages }
-        ensures ok { OnOk result (shown self.new ≡ record (shown self.old) { bound = changed_in (shown self.old).bound pid.0 (pages first.0 n) true }) }
+        ensures ok { OnOk result (shown self.new ≡ record (shown self.old) {
+          bound = changed_in (shown self.old).bound pid.0 (pages first.0 n) true;
+        }) }
         ensures err { OnErr result (shown self.new ≡ shown self.old) }
         ensures loans { loans self.new ≡ loans self.old };
 
-    /// Gives up `n` bound pages of a process from `first` on, none of which is valid or has a live private key. Nothing stands
-    /// beside the tables. They name nothing from then on.
+    /// Gives up `n` bound pages of a process from `first` on, none of which is valid or has a live
+    /// private key. Nothing stands beside the tables. They name nothing from then on.
     fn unbind(&mut self, pid: Pid, first: Vpn, n: u32)
         requires open { (shown self.old).is_open pid.0 ≡ true }
-        requires bound { (v : ℕ) → first.0 ≤ v → v < first.0 + n → (shown self.old).bound (place_of pid (record { 0 = v })) ≡ true }
-        requires invalid { (v : ℕ) → first.0 ≤ v → v < first.0 + n → (shown self.old).life.valid (place_of pid (record { 0 = v })) ≡ None }
-        requires dead { (v : ℕ) → first.0 ≤ v → v < first.0 + n → (shown self.old).life.stands (Private pid (record { 0 = v })) ≡ held.Dead }
+        requires bound { (v : ℕ) → first.0 ≤ v → v < first.0 + n →
+            (shown self.old).bound (place_of pid (record {
+              0 = v;
+            })) ≡ true }
+        requires invalid { (v : ℕ) → first.0 ≤ v → v < first.0 + n →
+            (shown self.old).life.valid (place_of pid (record {
+              0 = v;
+            })) ≡ None }
+        requires dead { (v : ℕ) → first.0 ≤ v → v < first.0 + n →
+            (shown self.old).life.stands (Private pid (record {
+              0 = v;
+            })) ≡ held.Dead }
         requires alone { (shown self.old).aside ≡ None }
         ensures rest { shown self.new ≡ record (shown self.old) {
           bound = changed_in (shown self.old).bound pid.0 (pages first.0 n) false;
@@ -129,12 +154,14 @@ pub trait Moving {
         } }
         ensures loans { loans self.new ≡ loans self.old };
 
-    /// Opens an area that is not open, of `n` pages, none of which is live. An area's number is below 2^28. After `NoMemory`
-    /// nothing has changed.
+    /// Opens an area that is not open, of `n` pages, none of which is live. An area's number is
+    /// below 2^28. After `NoMemory` nothing has changed.
     fn open_area(&mut self, area: Area, n: u32) -> Result<(), NoMemory>
         requires new { (shown self.old).areas area.0 ≡ None }
         requires few { area.0 < 2 ^ 28 }
-        ensures ok { OnOk result (shown self.new ≡ record (shown self.old) { areas = changed ◌==◌ (shown self.old).areas area.0 (Some n) }) }
+        ensures ok { OnOk result (shown self.new ≡ record (shown self.old) {
+          areas = changed ◌==◌ (shown self.old).areas area.0 (Some n);
+        }) }
         ensures err { OnErr result (shown self.new ≡ shown self.old) }
         ensures loans { loans self.new ≡ loans self.old };
 
@@ -142,13 +169,15 @@ pub trait Moving {
     fn close_area(&mut self, area: Area)
         requires open { is_some ((shown self.old).areas area.0) ≡ true }
         requires dead { (i : ℕ) → (shown self.old).life.stands (Shared area i) ≡ held.Dead }
-        ensures rest { shown self.new ≡ record (shown self.old) { areas = changed ◌==◌ (shown self.old).areas area.0 None } }
+        ensures rest { shown self.new ≡ record (shown self.old) {
+          areas = changed ◌==◌ (shown self.old).areas area.0 None;
+        } }
         ensures loans { loans self.new ≡ loans self.old };
 
     // ---- keys
 
-    /// A page-file key comes to be, and reads as zero. In an access it is that of a copy, and stands beside the tables, since its
-    /// place names the page that is copied.
+    /// A page-file key comes to be, and reads as zero. In an access it is that of a copy, and
+    /// stands beside the tables, since its place names the page that is copied.
     fn add_zero(&mut self, key: Key)
         requires legal { IsLegal (move.Add key None) (shown self.old).life }
         requires home { HasHome (shown self.old) key }
@@ -166,7 +195,8 @@ pub trait Moving {
         requires home { HasHome (shown self.old) key }
         ensures made { Made (move.Add key (Some b)) (shown self.old) (shown self.new) }
         ensures rest { shown self.new ≡ record (moved (shown self.old) (shown self.new)) {
-          contents = changed same_key (shown self.old).contents key (slice_get (shown self.old).blocks b.0);
+          contents = changed same_key (shown self.old).contents key
+              (slice_get (shown self.old).blocks b.0);
         } }
         ensures loans { loans self.new ≡ loans self.old };
 
@@ -184,28 +214,39 @@ pub trait Moving {
 
     /// The first free frame is cleared, and goes to the end of zeroed.
     fn clear(&mut self)
-        requires legal { IsLegal (move.Clear (front (shown self.old).life.frames.free)) (shown self.old).life }
-        ensures made { Made (move.Clear (front (shown self.old).life.frames.free)) (shown self.old) (shown self.new) }
+        requires legal { IsLegal (move.Clear (front (shown self.old).life.frames.free))
+            (shown self.old).life }
+        ensures made { Made (move.Clear (front (shown self.old).life.frames.free)) (shown self.old)
+            (shown self.new) }
         ensures rest { shown self.new ≡ moved (shown self.old) (shown self.new) }
         ensures loans { loans self.new ≡ loans self.old };
 
-    /// The first frame on standby is taken from its page, and is free: the page is where it was read from or written to.
+    /// The first frame on standby is taken from its page, and is free: the page is where it was
+    /// read from or written to.
     fn steal(&mut self)
-        requires legal { IsLegal (move.Steal (front (shown self.old).life.frames.standby)) (shown self.old).life }
-        ensures made { Made (move.Steal (front (shown self.old).life.frames.standby)) (shown self.old) (shown self.new) }
+        requires legal { IsLegal (move.Steal (front (shown self.old).life.frames.standby))
+            (shown self.old).life }
+        ensures made { Made (move.Steal (front (shown self.old).life.frames.standby))
+            (shown self.old) (shown self.new) }
         ensures rest { shown self.new ≡ moved (shown self.old) (shown self.new) }
         ensures loans { loans self.new ≡ loans self.old };
 
     /// The first zeroed frame is that of a page that reads as zero and has none.
     fn give(&mut self, key: Key) -> Frame
-        requires legal { IsLegal (move.Give (front (shown self.old).life.frames.zeroed) key) (shown self.old).life }
+        requires legal { IsLegal (move.Give (front (shown self.old).life.frames.zeroed) key)
+            (shown self.old).life }
         ensures frame { result ≡ front (shown self.old).life.frames.zeroed }
         ensures quiet { is_read (record_at (shown self.new).life.frames result.0).request ≡ false }
         ensures made { Made (move.Give result key) (shown self.old) (shown self.new) }
-        ensures rest { shown self.new ≡ record (moved (shown self.old) (shown self.new)) { names = names_after_give (shown self.old) key } }
+        ensures rest { shown self.new ≡
+            record (moved (shown self.old) (shown self.new)) {
+              names =
+                  names_after_give (shown self.old) key;
+            } }
         ensures loans { loans self.new ≡ loans self.old };
 
-    /// The page of a frame becomes valid at a place, and has age 0 there. For a shared page the place's own private key is dead.
+    /// The page of a frame becomes valid at a place, and has age 0 there. For a shared page the
+    /// place's own private key is dead.
     fn map(&mut self, f: Frame, place: Place)
         requires legal { IsLegal (move.Map f place) (shown self.old).life }
         requires bound { (shown self.old).bound place ≡ true }
@@ -218,8 +259,8 @@ pub trait Moving {
         } }
         ensures loans { loans self.new ≡ loans self.old };
 
-    /// A place is valid no more; it names what it named. Without shares and without a request the page's frame goes to standby or
-    /// modified.
+    /// A place is valid no more; it names what it named. Without shares and without a request the
+    /// page's frame goes to standby or modified.
     fn unmap(&mut self, place: Place)
         requires legal { IsLegal (move.Unmap place) (shown self.old).life }
         ensures requests { KeepsRequests (shown self.old).life (shown self.new).life }
@@ -229,7 +270,8 @@ pub trait Moving {
         ensures rest { shown self.new ≡ moved (shown self.old) (shown self.new) }
         ensures loans { loans self.new ≡ loans self.old };
 
-    /// A page that is valid somewhere differs from its backing from now on. While it is being written, it is to be written again.
+    /// A page that is valid somewhere differs from its backing from now on. While it is being
+    /// written, it is to be written again.
     fn soil(&mut self, f: Frame)
         requires legal { IsLegal (move.Soil f) (shown self.old).life }
         ensures soiled { IsSoiled (record_at (shown self.new).life.frames f.0) }
@@ -239,17 +281,24 @@ pub trait Moving {
 
     // ---- requests
 
-    /// A read of a page begins, into the first free frame, or where none is free the first zeroed one.
+    /// A read of a page begins, into the first free frame, or where none is free the first zeroed
+    /// one.
     fn start_read(&mut self, key: Key) -> Frame
-        requires legal { IsLegal (move.Read (front_for_read (shown self.old).life) key) (shown self.old).life }
+        requires legal { IsLegal (move.Read (front_for_read (shown self.old).life) key)
+            (shown self.old).life }
         requires room { CanBegin (shown self.old) }
         ensures frame { result ≡ front_for_read (shown self.old).life }
         ensures reading { is_read (record_at (shown self.new).life.frames result.0).request ≡ true }
         ensures made { Made (move.Read result key) (shown self.old) (shown self.new) }
-        ensures rest { shown self.new ≡ record (moved (shown self.old) (shown self.new)) { own = own_after (shown self.old).life.kind (shown self.old).own result } }
+        ensures rest { shown self.new ≡
+            record (moved (shown self.old) (shown self.new)) {
+              own =
+                  own_after (shown self.old).life.kind (shown self.old).own result;
+            } }
         ensures loans { loans self.new ≡ loans self.old };
 
-    /// The device is called, and the read ends: true where the call succeeded. The waits for it have ended too.
+    /// The device is called, and the read ends: true where the call succeeded. The waits for it
+    /// have ended too.
     fn end_read(&mut self, f: Frame) -> bool
         requires legal { IsLegal (move.Got f) (shown self.old).life }
         ensures quiet { result ≡ true
@@ -262,34 +311,53 @@ pub trait Moving {
         } }
         ensures loans { loans self.new ≡ loans self.old };
 
-    /// A write of a page begins: to the block that backs its frame, or for a page of the paging file to the lowest free slot.
+    /// A write of a page begins: to the block that backs its frame, or for a page of the paging
+    /// file to the lowest free slot.
     fn start_write(&mut self, f: Frame) -> Stored
-        requires legal { IsLegal (move.Write f (write_target (shown self.old).life f)) (shown self.old).life }
+        requires legal { IsLegal (move.Write f (write_target (shown self.old).life f))
+            (shown self.old).life }
         requires room { CanBegin (shown self.old) }
         ensures to { result ≡ write_target (shown self.old).life f }
         ensures made { Made (move.Write f result) (shown self.old) (shown self.new) }
-        ensures rest { shown self.new ≡ record (moved (shown self.old) (shown self.new)) { own = own_after (shown self.old).life.kind (shown self.old).own f } }
+        ensures rest { shown self.new ≡
+            record (moved (shown self.old) (shown self.new)) {
+              own =
+                  own_after (shown self.old).life.kind (shown self.old).own f;
+            } }
         ensures loans { loans self.new ≡ loans self.old };
 
     /// The device is called, and the write ends: true where the call succeeded.
     fn end_write(&mut self, f: Frame) -> bool
         requires legal { IsLegal (move.Wrote f) (shown self.old).life }
         ensures made { Made (write_end result f) (shown self.old) (shown self.new) }
-        ensures rest { shown self.new ≡ record (called (shown self.old) (shown self.new)) { own = own_ended (shown self.old).own f.0 } }
-        ensures wrote { (k : Key) (page : List ℕ) → (record_at (shown self.old).life.frames f.0).owner ≡ Some k → (shown self.old).contents k ≡ Some page → Wrote (backing_of_frame (shown self.old) f) page result (shown self.old) (shown self.new) }
-        ensures ownerless { (record_at (shown self.old).life.frames f.0).owner ≡ None → (shown self.new).blocks ≡ (shown self.old).blocks }
+        ensures rest { shown self.new ≡
+            record (called (shown self.old) (shown self.new)) {
+              own =
+                  own_ended (shown self.old).own f.0;
+            } }
+        ensures wrote { (k : Key) (page : List ℕ) →
+            (record_at (shown self.old).life.frames f.0).owner ≡ Some k →
+            (shown self.old).contents k ≡ Some page →
+            Wrote (backing_of_frame (shown self.old) f) page result (shown self.old)
+            (shown self.new) }
+        ensures ownerless { (record_at (shown self.old).life.frames f.0).owner ≡ None →
+            (shown self.new).blocks ≡ (shown self.old).blocks }
         ensures loans { loans self.new ≡ loans self.old };
 
     /// A thread waits for a read in flight, which is not the line's own, from now on.
     fn wait(&mut self, t: Tid, f: Frame)
         requires read { is_read (record_at (shown self.old).life.frames f.0).request ≡ true }
         requires other { (shown self.old).own ≢ Some f }
-        ensures rest { shown self.new ≡ record (shown self.old) { waits = changed ◌==◌ (shown self.old).waits t.0 (ForFrame f.0) } }
+        ensures rest { shown self.new ≡ record (shown self.old) {
+          waits = changed ◌==◌ (shown self.old).waits t.0 (ForFrame f.0);
+        } }
         ensures loans { loans self.new ≡ loans self.old };
 
     /// A thread waits for nothing from now on.
     fn forget(&mut self, t: Tid)
-        ensures rest { shown self.new ≡ record (shown self.old) { waits = changed ◌==◌ (shown self.old).waits t.0 Idle } }
+        ensures rest { shown self.new ≡ record (shown self.old) {
+          waits = changed ◌==◌ (shown self.old).waits t.0 Idle;
+        } }
         ensures loans { loans self.new ≡ loans self.old };
 
     // ---- bytes and ages
@@ -298,58 +366,92 @@ pub trait Moving {
     fn read(&mut self, place: Place, off: u16, out: &mut [u8])
         requires valid { IsSome ((shown self.old).life.valid place) }
         requires inside { off + length out.old ≤ 4096 }
-        ensures bytes { (k : Key) → (shown self.old).names place ≡ Some k → out.new ≡ bytes_from (unwrap_or ((shown self.old).contents k) zero_page) off (length out.old) }
-        ensures rest { shown self.new ≡ record (shown self.old) { ages = changed same_place (shown self.old).ages place 0 } }
+        ensures bytes { (k : Key) → (shown self.old).names place ≡ Some k →
+            out.new ≡ bytes_from (unwrap_or ((shown self.old).contents k) zero_page) off
+            (length out.old) }
+        ensures rest { shown self.new ≡ record (shown self.old) {
+          ages = changed same_place (shown self.old).ages place 0;
+        } }
         ensures loans { loans self.new ≡ loans self.old };
 
-    /// Writes bytes of the page that is valid at a place, from `off` on. The page has age 0 then. Its frame is changed, and is not
-    /// being written, or is to be written again.
+    /// Writes bytes of the page that is valid at a place, from `off` on. The page has age 0 then.
+    /// Its frame is changed, and is not being written, or is to be written again.
     fn write(&mut self, place: Place, off: u16, bytes: &[u8])
         requires valid { IsSome ((shown self.old).life.valid place) }
-        requires soiled { (f : Frame) → (shown self.old).life.valid place ≡ Some f → IsSoiled (record_at (shown self.old).life.frames f.0) }
+        requires soiled { (f : Frame) → (shown self.old).life.valid place ≡ Some f →
+            IsSoiled (record_at (shown self.old).life.frames f.0) }
         requires inside { off + length bytes.now ≤ 4096 }
-        ensures bytes { (k : Key) → (shown self.old).names place ≡ Some k → (shown self.new).contents ≡ changed same_key (shown self.old).contents k (Some (overwritten (unwrap_or ((shown self.old).contents k) zero_page) off bytes.now)) }
-        ensures rest { shown self.new ≡ record (shown self.old) { ages = changed same_place (shown self.old).ages place 0; contents = (shown self.new).contents } }
+        ensures bytes { (k : Key) → (shown self.old).names place ≡ Some k →
+            (shown self.new).contents ≡ changed same_key (shown self.old).contents k
+            (Some (overwritten (unwrap_or ((shown self.old).contents k) zero_page) off bytes.now)) }
+        ensures rest { shown self.new ≡ record (shown self.old) {
+          ages = changed same_place (shown self.old).ages place 0;
+          contents = (shown self.new).contents;
+        } }
         ensures loans { loans self.new ≡ loans self.old };
 
-    /// Copies the page of one frame to that of another, which is changed, and is not being written, or is to be written again.
+    /// Copies the page of one frame to that of another, which is changed, and is not being written,
+    /// or is to be written again.
     fn copy(&mut self, from: Frame, to: Frame)
         requires from_owned { IsSome (record_at (shown self.old).life.frames from.0).owner }
-        requires from_calm { is_read (record_at (shown self.old).life.frames from.0).request ≡ false }
+        requires from_calm { is_read (record_at (shown self.old).life.frames from.0).request ≡
+            false }
         requires to_owned { IsSome (record_at (shown self.old).life.frames to.0).owner }
         requires soiled { IsSoiled (record_at (shown self.old).life.frames to.0) }
         requires other { from.0 ≢ to.0 }
-        ensures copied { (j k : Key) → (record_at (shown self.old).life.frames from.0).owner ≡ Some j → (record_at (shown self.old).life.frames to.0).owner ≡ Some k → (shown self.new).contents ≡ changed same_key (shown self.old).contents k ((shown self.old).contents j) }
-        ensures rest { shown self.new ≡ record (shown self.old) { contents = (shown self.new).contents } }
+        ensures copied { (j k : Key) → (record_at (shown self.old).life.frames from.0).owner ≡
+            Some j → (record_at (shown self.old).life.frames to.0).owner ≡ Some k →
+            (shown self.new).contents ≡ changed same_key (shown self.old).contents k
+            ((shown self.old).contents j) }
+        ensures rest { shown self.new ≡ record (shown self.old) {
+          contents = (shown self.new).contents;
+        } }
         ensures loans { loans self.new ≡ loans self.old };
 
     /// Each valid page of an open process is one older, up to 7.
     fn age_all(&mut self, pid: Pid)
         requires { (shown self.old).is_open pid.0 ≡ true }
-        ensures rest { shown self.new ≡ record (shown self.old) { ages = all_aged pid (shown self.old).life (shown self.old).ages } }
+        ensures rest { shown self.new ≡ record (shown self.old) {
+          ages = all_aged pid (shown self.old).life (shown self.old).ages;
+        } }
         ensures loans { loans self.new ≡ loans self.old };
 
     // ---- devices
 
-    /// Writes one block of a new file throughout with a byte: true where the device call succeeded. No key was ever added with it.
+    /// Writes one block of a new file throughout with a byte: true where the device call succeeded.
+    /// No key was ever added with it.
     fn write_block(&mut self, b: Block, byte: u8) -> bool
         requires there { b.0 < (shown self.old).life.machine.blocks }
         requires new { (shown self.old).life.added b.0 ≡ false }
         ensures called { Called way.Write (backing.Block b) result (shown self.old) (shown self.new) }
-        ensures told { (shown self.new).told ≡ with_write result (backing.Block b) (shown self.old).told }
-        ensures written { (shown self.new).blocks ≡ written_if result (λ blocks. slice_set blocks b.0 (replicate 4096 byte)) (shown self.old).blocks }
-        ensures rest { shown self.new ≡ record (shown self.old) { told = (shown self.new).told; files = (shown self.new).files; blocks = (shown self.new).blocks } }
+        ensures told { (shown self.new).told ≡
+            with_write result (backing.Block b) (shown self.old).told }
+        ensures written { (shown self.new).blocks ≡
+            written_if result (λ blocks. slice_set blocks b.0 (replicate 4096 byte))
+            (shown self.old).blocks }
+        ensures rest { shown self.new ≡ record (shown self.old) {
+          told = (shown self.new).told;
+          files = (shown self.new).files;
+          blocks = (shown self.new).blocks;
+        } }
         ensures loans { loans self.new ≡ loans self.old };
 
-    /// Of the calls of that device and direction from now on, the `k`-th, counted from 1, is the first of `n` that fail: at most 64
-    /// times for each device.
+    /// Of the calls of that device and direction from now on, the `k`-th, counted from 1, is the
+    /// first of `n` that fail: at most 64 times for each device.
     fn fail(&mut self, device: Device, direction: Direction, k: u32, n: u32)
-        requires paging_room { device ≡ device_of.Paging → length (shown self.old).paging.named < 64 }
+        requires paging_room { device ≡ device_of.Paging →
+            length (shown self.old).paging.named < 64 }
         requires file_room { device ≡ device_of.File → length (shown self.old).files.named < 64 }
         requires first { 1 ≤ k }
         requires some { 1 ≤ n }
-        ensures files { device ≡ device_of.File → shown self.new ≡ record (shown self.old) { files = with_named (shown self.old).files (record { direction = direction; passes = k - 1; fails = n }) } }
-        ensures paging { device ≡ device_of.Paging → shown self.new ≡ record (shown self.old) { paging = with_named (shown self.old).paging (record { direction = direction; passes = k - 1; fails = n }) } }
+        ensures files { device ≡ device_of.File → shown self.new ≡ record (shown self.old) {
+          files = with_named (shown self.old).files
+              (record { direction = direction; passes = k - 1; fails = n });
+        } }
+        ensures paging { device ≡ device_of.Paging → shown self.new ≡ record (shown self.old) {
+          paging = with_named (shown self.old).paging
+              (record { direction = direction; passes = k - 1; fails = n });
+        } }
         ensures loans { loans self.new ≡ loans self.old };
 
     // ---- looking
@@ -370,7 +472,8 @@ pub trait Moving {
     fn is_open(&self, pid: Pid) -> bool
         ensures { result ≡ (shown self.now).is_open pid.0 };
 
-    /// Where the bytes of a key stand, or that it is not live. Its place is bound, or its index is one of an open area.
+    /// Where the bytes of a key stand, or that it is not live. Its place is bound, or its index is
+    /// one of an open area.
     fn stands(&self, key: Key) -> Held
         requires { HasHome (shown self.now) key }
         ensures { result ≡ (shown self.now).life.stands key };
@@ -399,7 +502,8 @@ pub trait Moving {
 
     /// The first modified frame; `None` exactly where none is modified.
     fn front_modified(&self) -> Option<Frame>
-        ensures first { option_map (λ f. f.0) result ≡ slice_get (shown self.now).life.frames.modified 0 }
+        ensures first { option_map (λ f. f.0) result ≡
+            slice_get (shown self.now).life.frames.modified 0 }
         ensures there { IfSome result (λ f. f.0 < (shown self.now).life.machine.frames) }
         ensures rests { IfSome result
             (λ f. IsAtRest true (record_at (shown self.now).life.frames f.0)) };
@@ -410,7 +514,8 @@ pub trait Moving {
 
     /// The first modified frame that has a block as backing; `None` exactly where none has.
     fn front_modified_with_block(&self) -> Option<Frame>
-        ensures first { option_map (λ f. f.0) result ≡ slice_get (modified_with_block (shown self.now).life.frames) 0 }
+        ensures first { option_map (λ f. f.0) result ≡
+            slice_get (modified_with_block (shown self.now).life.frames) 0 }
         ensures there { IfSome result (λ f. f.0 < (shown self.now).life.machine.frames) }
         ensures rests { IfSome result
             (λ f. IsAtRest true (record_at (shown self.now).life.frames f.0)) }
@@ -421,7 +526,8 @@ pub trait Moving {
     fn free_slots(&self) -> u32
         ensures { result ≡ count_by (λ b. b) (shown self.now).life.free_slots };
 
-    /// How many frames stand where, how many slots are free, and how many requests there are, the line's own among them.
+    /// How many frames stand where, how many slots are free, and how many requests there are, the
+    /// line's own among them.
     fn counts(&self) -> Counts
         ensures { result ≡ counts_of (shown self.now).life };
 
@@ -445,21 +551,28 @@ pub trait Moving {
         requires { is_some (set_of (shown self.now).life pid.0) ≡ true }
         ensures { result ≡ is_above_min (set_of (shown self.now).life pid.0) };
 
-    /// The oldest page of an open process, or with a valid page the one that goes next after it; none where there is none. Among
-    /// equal ages the lowest page goes first.
+    /// The oldest page of an open process, or with a valid page the one that goes next after it;
+    /// none where there is none. Among equal ages the lowest page goes first.
     fn oldest(&self, pid: Pid, after: Option<Vpn>) -> Option<Vpn>
         requires open { (shown self.now).is_open pid.0 ≡ true }
-        requires held { ForSome after (λ v. is_some ((shown self.now).life.valid (place_of pid v)) ≡ true) }
-        ensures next { MatchOption result (NoneFollows (shown self.now).life (shown self.now).ages pid.0 (after_page pid after)) (λ v. IsNext (shown self.now).life (shown self.now).ages (after_page pid after) (place_of pid v)) }
+        requires held { ForSome after
+            (λ v. is_some ((shown self.now).life.valid (place_of pid v)) ≡ true) }
+        ensures next { MatchOption result
+            (NoneFollows (shown self.now).life (shown self.now).ages pid.0 (after_page pid after))
+            (λ v. IsNext (shown self.now).life (shown self.now).ages (after_page pid after)
+            (place_of pid v)) }
         ensures first { after ≡ None → IfSome result
             (λ v. IsOldest (shown self.now).life (shown self.now).ages None (place_of pid v)) };
 
     /// The lowest valid page of an open process at `from` or above; none where there is none.
     fn next_valid(&self, pid: Pid, from: Vpn) -> Option<Vpn>
         requires { (shown self.now).is_open pid.0 ≡ true }
-        ensures { IsNextFrom (λ v. is_some ((shown self.now).life.valid (place_of pid (record { 0 = v })))) from.0 result };
+        ensures { IsNextFrom (λ v. is_some ((shown self.now).life.valid (place_of pid (record {
+          0 = v;
+        })))) from.0 result };
 
-    /// The frame of the i-th oldest request, counted from 1, the line's own among them. `None` comes at 0 and past the last.
+    /// The frame of the i-th oldest request, counted from 1, the line's own among them. `None`
+    /// comes at 0 and past the last.
     fn nth(&self, i: u32) -> Option<Frame>
         ensures { option_map (λ f. f.0) result ≡ nth_oldest i (shown self.now).life.flight };
 
@@ -475,7 +588,8 @@ pub trait Moving {
     fn moves_failed(&self) -> bool
         ensures { result ≡ (shown self.now).log.failed };
 
-    /// Gives on the moves that were noted. Nothing else changes but the log's count of faults, where that fails.
+    /// Gives on the moves that were noted. Nothing else changes but the log's count of faults,
+    /// where that fails.
     fn flush_moves(&mut self) -> Result<(), Failed>
         ensures rest { shown self.new ≡ record (shown self.old) { log = (shown self.new).log } }
         ensures flushed { Flushed (shown self.old).log (shown self.new).log result }

@@ -1,5 +1,5 @@
-//! The fixed texts of the page that `mmshow html` writes: HTML, styles and script, made by `tools/page` of the
-//! files in `page/`. Between them stand the data of one log.
+//! The fixed texts of the page that `mmshow html` writes: HTML, styles and script, made by
+//! `tools/page` of the files in `page/`. Between them stand the data of one log.
 #![tactic(auto)]
 
 mod texts;

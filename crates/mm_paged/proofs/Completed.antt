@@ -21,13 +21,13 @@ use Rattle.mm_types.specs.declared.numbers.Key.{Key}
 use Rattle.mm_types.specs.declared.numbers.Place.{Place}
 use Rattle.mm_life.specs.Frames.{record_at, blank, is_read, is_write, has_request}
 use Rattle.mm_life.specs.Life.{FrameLife}
-use Rattle.mm_life.specs.Legal.{IsLegal, is_touch, is_thread, is_io, is_access, is_call}
+use Rattle.mm_life.specs.Legal.{is_touch, is_thread}
 use Rattle.mm_life.specs.Effect.{after_move}
 use Rattle.mm_laws.specs.Fits.{is_backed}
 use Rattle.mm_laws.specs.Tally.{one_if, times}
 use Rattle.mm_laws.proofs.Deduced.{reached_sound}
 use Rattle.mm_flight.specs.Requests.{nth_oldest}
-use Rattle.mm_walks.specs.Chores.{ending}
+use Rattle.mm_life.specs.Chores.{ending}
 use Rattle.mm_world.specs.Report.{failed_calls}
 use Rattle.mm_pages.specs.declared.outcomes.Done.{Done}
 use Rattle.mm_pages.specs.declared.outcomes.Done.TheVariants as done
@@ -60,33 +60,11 @@ ending_write : (r : Record) (f : Frame) (ok : Bool) → is_read r.request ≡ fa
 ending_write r f true e = ap (λ (b : Bool). if b then move.Got f else move.Wrote f) e
 ending_write r f false e = ap (λ (b : Bool). if b then move.Bad f else move.Lost f) e
 
-pub made_read : (r : Record) (f : Frame) (ok : Bool) (s z : StateOf) → is_read r.request ≡ true → Made (read_end ok f) s z → Made (ending r f ok) s z
-made_read r f ok s z e m = subst (λ (x : Move). Made x s z) (sym (ending_read r f ok e)) m
-
-pub made_write : (r : Record) (f : Frame) (ok : Bool) (s z : StateOf) → is_read r.request ≡ false → Made (write_end ok f) s z → Made (ending r f ok) s z
-made_write r f ok s z e m = subst (λ (x : Move). Made x s z) (sym (ending_write r f ok e)) m
-
-io_ends : (a b c : Bool) → a ≡ true → b ≡ true → (a && (b || c)) ≡ true
-io_ends true true c p q = refl
-io_ends true false c p q = cc
-io_ends false b c p q = cc
-
-io_ends_write : (a b c d : Bool) → a ≡ true → b ≡ true → (a && (b || c || d)) ≡ true
-io_ends_write true true c d p q = refl
-io_ends_write true false c d p q = cc
-io_ends_write false b c d p q = cc
-
-pub got_legal : (l : FrameLife) (f : Frame) → l.kind ≡ kind.Io → is_read (record_at l.frames f.0).request ≡ true → IsLegal (move.Got f) l
-got_legal l f e r = io_ends (is_read (record_at l.frames f.0).request) (is_io l.kind) (is_access l.kind) r (ap is_io e)
-
 writes_else : (q : Request) → has_request q ≡ true → is_read q ≡ false → is_write q ≡ true
 writes_else request.None h r = cc
 writes_else request.Read h r = cc
 writes_else request.Write h r = refl
 writes_else request.WriteAgain h r = refl
-
-pub wrote_legal : (l : FrameLife) (f : Frame) → l.kind ≡ kind.Io → has_request (record_at l.frames f.0).request ≡ true → is_read (record_at l.frames f.0).request ≡ false → IsLegal (move.Wrote f) l
-wrote_legal l f e h r = io_ends_write (is_write (record_at l.frames f.0).request) (is_io l.kind) (is_access l.kind) (is_call l.kind) (writes_else (record_at l.frames f.0).request h r) (ap is_io e)
 
 pub called_by_write : (s z : StateOf) (n : ℕ) → s.own ≡ None → z ≡ record (called s z) { own = own_ended s.own n } → z ≡ called s z
 called_by_write s z n o e = e ∙ ap (λ (x : Option Frame). record (called s z) { own = x }) (ap (λ (x : Option Frame). own_ended x n) o ∙ sym o)

@@ -25,14 +25,6 @@ use Rattle.mm_paged.proofs.Keeping.{kept_then}
 
 -- ---- by the result
 
-pub ok_map : {T E A B : Type 0} (r : Result T E) → (A → B) → OnOk r A → OnOk r B
-ok_map (Ok v) f h = f h
-ok_map (Err e) f h = tt
-
-pub err_map : {T E A B : Type 0} (r : Result T E) → (A → B) → OnErr r A → OnErr r B
-err_map (Ok v) f h = tt
-err_map (Err e) f h = f h
-
 -- ---- the page is valid at the place, and its frame is pinned
 
 few_reads : (o : Option Frame) → most_reads o ≤ 1

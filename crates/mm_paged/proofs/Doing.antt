@@ -5,7 +5,7 @@ use Rattle.mm_types.specs.declared.faults.PageFault.TheVariants as fault
 use Rattle.mm_types.specs.declared.moves.Move.{Move}
 use Rattle.mm_pages.specs.Accesses.{Aim, AccessMove}
 use Rattle.mm_pages.proofs.Walking.{accesses_then, walked_then}
-use Rattle.mm_walks.specs.Walks.{Walk, Through, walked_all, is_read_move, takes_frame, is_wrote_move}
+use Rattle.mm_life.specs.Walks.{Walk, Through, walked_all, is_read_move, takes_frame, is_wrote_move}
 use Rattle.mm_moving.specs.Shown.{StateOf}
 use Rattle.mm_moving.specs.Doing.{Does, walk_of}
 use Rattle.mm_moving.proofs.Doing.{does_nothing, does_then, count-append, walked_here}

@@ -15,7 +15,7 @@ use Rattle.mm_pages.specs.Shortage.{is_framed}
 use Rattle.mm_laws.proofs.PlaceCounts.{same_place-self}
 use Rattle.mm_paged.proofs.Reading.{had_ends}
 use Rattle.mm_pages.specs.Store.{StoreOf, Ready}
-use Rattle.mm_walks.specs.Walks.{Walk, Through}
+use Rattle.mm_life.specs.Walks.{Walk, Through}
 use Rattle.mm_moving.specs.Shown.{StateOf, called}
 use Rattle.mm_moving.specs.Doing.{Does, walk_of}
 use Rattle.mm_moving.specs.Holds.{Holds}

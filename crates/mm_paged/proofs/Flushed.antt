@@ -40,12 +40,12 @@ use Rattle.mm_pages.specs.Shortage.{is_framed}
 use Rattle.mm_pages.specs.Store.{Ready}
 use Rattle.mm_pages.specs.Told.{Told, with_write}
 use Rattle.mm_parts.specs.Moves.{write_end, write_target, goes_to, lowest_free, own_after, own_ended}
-use Rattle.mm_walks.specs.Waits.{wait_of}
+use Rattle.mm_life.specs.Waits.{wait_of}
 use Rattle.mm_moving.specs.Shown.{StateOf, CalledFor, Made, Wrote, backing_of_frame, moved, called, written_if}
 use Rattle.mm_moving.specs.Doing.{Does}
 use Rattle.mm_moving.specs.Holds.{Holds}
 use Rattle.mm_moving.proofs.Doing.{does_one, does_two, does_then, does_nothing}
-use Rattle.mm_located.specs.Carried.{blocks_written, slots_written}
+use Rattle.mm_frame_laws.specs.Carried.{blocks_written, slots_written}
 use Rattle.mm_paged.specs.Flushed.{Filed, WritesTo, WritesBack, EndedIf, WrittenIf, is_changed_then, EndsFlight, WritesChanged, FlushesFrame, FlushesPage}
 use Rattle.mm_paged.specs.Pieces.{LifeKept}
 use Rattle.mm_paged.specs.Shown.{OwnOf, Kept, store_of, report_of, behind_of}
@@ -74,9 +74,6 @@ some_in (Some v) h = (v, refl)
 pub some_there : {A : Type 0} (o : Option A) → IsSome o → (v : A) × (o ≡ Some v)
 some_there None h = cc
 some_there (Some v) h = (v, refl)
-
-pub filed_of : (s : StateOf) (k : Key) (f : Frame) → s.life.stands k ≡ held.Frame f → IsSome (block_at (backed_by s.life (s.life.stands k))) → Filed f s
-filed_of s k f e b = let n = some_there (block_at (backed_by s.life (s.life.stands k))) b in record { key = k; stands = e; block = record { 0 = n.0 }; backed = block_of_frame s k f n.0 e n.1 }
 
 live_frame : (s : StateOf) (k : Key) (f : Frame) → s.life.stands k ≡ held.Frame f → is_live s.life k ≡ true
 live_frame s k f e = ap (λ (h : Held). not (is_dead h)) e

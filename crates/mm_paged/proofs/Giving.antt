@@ -11,7 +11,7 @@ use Rattle.mm_life.specs.Frames.{record_at, given}
 use Rattle.mm_life.specs.Life.{FrameLife, changed, same_place, key_of_place}
 use Rattle.mm_life.specs.Effect.{after_move}
 use Rattle.mm_laws.proofs.PlaceCounts.{same_place-true, same_place-self}
-use Rattle.mm_located.specs.Carried.{IsSoiled, is_calm}
+use Rattle.mm_frame_laws.specs.Carried.{IsSoiled, is_calm}
 use Rattle.mm_parts.specs.Moves.{names_given}
 use Rattle.mm_moving.specs.Shown.{StateOf, names_after_give}
 use Rattle.mm_paged.specs.Pieces.{NamesFor}

@@ -1,9 +1,7 @@
 -- What was in flight when an access began is so still, but the page's own read.
 use Rattle.std.proofs.Common.{◌≡◌, ◌≢◌, ℕ, Bool, true, false, List, [], ◌∷◌, ◌++◌, Option, Some, None, refl, sym, ap, ◌∙◌, inl, inr}
-use Rattle.std.specs.Prelude.{Result, Ok, Err, IfOk}
 use Rattle.std.proofs.lemmas.Bool.{or_left}
 use Rattle.mm_types.proofs.Cells.{same_or_not}
-use Rattle.mm_types.specs.declared.faults.PageFault.{PageFault}
 use Rattle.mm_types.specs.declared.moves.Move.{Move}
 use Rattle.mm_types.specs.declared.moves.Move.TheVariants as move
 use Rattle.mm_types.specs.declared.moves.Stored.TheVariants as stored
@@ -14,9 +12,9 @@ use Rattle.mm_life.specs.Frames.{is_on}
 use Rattle.mm_life.specs.Life.{FrameLife}
 use Rattle.mm_life.specs.Effect.{after_move, after_unmap_at}
 use Rattle.mm_life.specs.Replay.{Replays}
-use Rattle.mm_room.proofs.Walks.{on_append, on_left}
-use Rattle.mm_walks.specs.Walks.{Walk, Through, walked}
-use Rattle.mm_walks.specs.Searches.{SearchMove}
+use Rattle.mm_frame_laws.proofs.Walks.{on_append, on_left}
+use Rattle.mm_life.specs.Walks.{Walk, Through, walked}
+use Rattle.mm_life.specs.Searches.{SearchMove}
 use Rattle.mm_moving.specs.Shown.{StateOf, Made}
 use Rattle.mm_moving.specs.Doing.{IsFlightOf, Searched, walk_of}
 
@@ -99,10 +97,6 @@ search_flight found s z h =
     flight_all None s.life.flight h.moves (walk_of s) z.life (h.each s.life.flight all) h.does.replays all
 
 -- ---- by the result
-
-pub ok_flight_then : (r : Result Frame PageFault) (flight : List ℕ) (l m : FrameLife) → IsFlightOf flight None l → IfOk r (λ f. IsFlightOf l.flight (Some f) m) → IfOk r (λ f. IsFlightOf flight (Some f) m)
-ok_flight_then (Ok f) flight l m p q = flight_then flight (Some f) l m p q
-ok_flight_then (Err e) flight l m p q = tt
 
 -- a page that is valid was brought into this frame
 pub flight_at : (f g : Frame) (flight : List ℕ) (l m : FrameLife) (place : Place) → IsFlightOf flight (Some f) l → m.flight ≡ l.flight → m.valid place ≡ Some f → m.valid place ≡ Some g → IsFlightOf flight (Some g) m

@@ -26,7 +26,7 @@ use Rattle.mm_laws.proofs.Deduced.{reached_sound, block_kept}
 use Rattle.mm_pages.specs.Accesses.{Aim, AccessMove}
 use Rattle.mm_pages.specs.Standing.{block_at, backed_by, in_backing}
 use Rattle.mm_pages.specs.Reports.{fetched}
-use Rattle.mm_walks.specs.Walks.{Walk, Through, walked}
+use Rattle.mm_life.specs.Walks.{Walk, Through, walked}
 use Rattle.mm_moving.specs.Shown.{StateOf}
 use Rattle.mm_moving.specs.Holds.{Holds}
 use Rattle.mm_paged.specs.Pieces.{LifeKept}

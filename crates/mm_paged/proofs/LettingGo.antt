@@ -23,7 +23,7 @@ use Rattle.mm_types.proofs.Options.{none_of, some_found}
 use Rattle.mm_wset.specs.InOrder.{IsNextFrom, IsLowestFrom}
 use Rattle.mm_life.specs.Frames.{record_at}
 use Rattle.mm_life.specs.Life.{FrameLife, changed, same_key, same_place, set_of, key_of_place, is_shared, is_live, is_dead}
-use Rattle.mm_life.specs.Legal.{IsLegal, may_unmap, unbinds, trims, touches, is_above_min, is_at_max, is_access, is_touch, is_short, is_call, is_unbind, is_unmapped, owner_is, fits_place}
+use Rattle.mm_life.specs.Legal.{IsLegal, may_unmap, unbinds, trims, touches, is_above_min, is_at_max, is_access, is_short, is_call, is_unbind, is_unmapped, owner_is, fits_place}
 use Rattle.mm_life.specs.Effect.{after_unmap_at, dropped_at}
 use Rattle.mm_laws.specs.Sound.{Sound}
 use Rattle.mm_laws.specs.Places.{is_frame}
@@ -33,20 +33,21 @@ use Rattle.mm_laws.proofs.Deduced.{reached_sound}
 use Rattle.mm_laws.proofs.Owners.{changed_here, changed_else, key_or_not}
 use Rattle.mm_laws.proofs.PlaceCounts.{same_place-self}
 use Rattle.mm_world.specs.Failure.{same_key as same_in_world}
-use Rattle.mm_walks.specs.Waits.{wait_of}
+use Rattle.mm_life.specs.Waits.{wait_of}
 use Rattle.mm_pages.specs.Conditions.{AllBound, AreAmong, IsAmong, MayUnbind, MayRemove, IsReleasing, place_at}
 use Rattle.mm_pages.specs.Housekeeping.{Turns, Ends}
+use Rattle.mm_pages.specs.Leaving.{Leaving, page_rank}
 use Rattle.mm_pages.specs.Passing.{Passes, PassesIn}
 use Rattle.mm_pages.specs.Reports.{rearranged}
 use Rattle.mm_pages.specs.Standing.{block_at, backed_by}
-use Rattle.mm_pages.specs.Store.{StoreOf, changed_in, is_place_in, unnamed}
-use Rattle.mm_pages.proofs.Passed.{ends_then, ends_more}
+use Rattle.mm_pages.specs.Store.{StoreOf, changed_in, unnamed}
+use Rattle.mm_pages.proofs.Passed.{ends_then, ends_wider}
 use Rattle.mm_moving.specs.Shown.{StateOf, Made, moved, names_after_drop}
 use Rattle.mm_moving.specs.Holds.{Holds}
 use Rattle.mm_moving.proofs.Doing.{does_one, does_two}
 use Rattle.mm_paged.specs.Pieces.{LifeKept, Thins, LetsGo, LetGo, Still, Gone, OwnLetGo, MayLetGo, MayLetOwnGo, NextGone}
 use Rattle.mm_paged.specs.Shown.{OwnOf, store_of, report_of, behind_of}
-use Rattle.mm_paged.proofs.Unmoved.{turns_still, stands_nowhere}
+use Rattle.mm_paged.proofs.Unmoved.{turns_still}
 use Rattle.mm_paged.proofs.Keeping.{kept_same, kept_then, kept_unmap, blocks_kept, block_same, paging_has_none, dead_has_none}
 use Rattle.mm_paged.proofs.Placing.{unmapped_stands, unmapped_still}
 use Rattle.mm_paged.proofs.Shows.{passes_of, changed_keys}
@@ -103,18 +104,18 @@ thins_then s y z p q = record {
   same = moved_then s y z p.same q.same;
 }
 
-pub lets_one : (s z : StateOf) (p : Place) → Made (move.Unmap p) s z → z ≡ moved s z → (held : Place → Bool) (from to : ℕ) → held p ≡ true → from ≤ p.vpn.0 → p.vpn.0 < to → LetsGo held from to s z
+pub lets_one : (s z : StateOf) (p : Place) → Made (move.Unmap p) s z → z ≡ moved s z → (held : Leaving) (from to : ℕ) → held.places p ≡ true → from ≤ page_rank p.vpn.0 → page_rank p.vpn.0 < to → LetsGo held from to s z
 lets_one s z p m e held from to h low high o u = passes_of (Turns (Ends held from to)) (move.Unmap p ∷ []) s z o u (does_one (move.Unmap p) s z m)
     (record { turned = record { all = (h, tt); order = (low, high, tt); lowest = (tt, tt) }; moved = record { waits = m.waits; ages = m.ages }; slots = ap (λ (x : StateOf). x.slots) e })
 
-pub lets_none : (s : StateOf) (held : Place → Bool) (from to : ℕ) → LetsGo held from to s s
+pub lets_none : (s : StateOf) (held : Leaving) (from to : ℕ) → LetsGo held from to s s
 lets_none s held from to o u = turns_still s s o u refl refl refl refl refl (Ends held from to)
 
-pub lets_then : (s y z : StateOf) (held : Place → Bool) (from mid to : ℕ) → from ≤ mid → mid ≤ to → LetsGo held from mid s y → LetsGo held mid to y z → LetsGo held from to s z
+pub lets_then : (s y z : StateOf) (held : Leaving) (from mid to : ℕ) → from ≤ mid → mid ≤ to → LetsGo held from mid s y → LetsGo held mid to y z → LetsGo held from to s z
 lets_then s y z held from mid to l h p q o u = ends_then false held from mid to (store_of s o) (store_of y o) (store_of z u) (behind_of s) (behind_of y) (behind_of z) l h (p o o) (q o u)
 
-pub lets_wider : (s z : StateOf) (held : Place → Bool) (from to high : ℕ) → to ≤ high → LetsGo held from to s z → LetsGo held from high s z
-lets_wider s z held from to high h p o u = ends_more false held held from to from high (store_of s o) (store_of z u) (behind_of s) (behind_of z) (λ q e. e) (omega arith) h (p o u)
+pub lets_wider : (s z : StateOf) (held : Leaving) (from to high : ℕ) → to ≤ high → LetsGo held from to s z → LetsGo held from high s z
+lets_wider s z held from to high h p o u = ends_wider false held from to from high (store_of s o) (store_of z u) (behind_of s) (behind_of z) (omega arith) h (p o u)
 
 pub may_still : (p : Place) (s y : StateOf) → Thins s y → MayLetGo p s → MayLetGo p y
 may_still p s y t m f v = t.life.kind ∙ m f (t.valid p f v)
@@ -156,7 +157,7 @@ still_next : (s : StateOf) (pid : Pid) (from end : ℕ) → from < end → ((w :
 still_next s pid from end h none = record {
   more = h;
   within = omega arith;
-  went = λ held e. lets_none s held from end;
+  went = λ held e. lets_none s held (page_rank from) (page_rank end);
   thins = thins_none s;
   invalid = λ page l g. not_valid s (place_at pid page) (λ v. none page v l g);
 }
@@ -178,7 +179,7 @@ pub gone_next : (s z : StateOf) (pid : Pid) (from end v : ℕ) → v < end → I
 gone_next s z pid from end v h next m e = record {
   more = omega (arith, next.low);
   within = omega (arith, h);
-  went = λ held all. lets_one s z (place_at pid v) m e held from (v + 1) (all v next.low h) next.low (omega arith);
+  went = λ held all. lets_one s z (place_at pid v) m e held (page_rank from) (page_rank (v + 1)) (all v next.low h) (omega (arith, next.low)) (omega arith);
   thins = thins_unmap s z (place_at pid v) m e;
   invalid = λ page l g. elim (cases_lt page v) [
     | inl less ↦ (thins_unmap s z (place_at pid v) m e).unmapped (place_at pid page) (not_valid s (place_at pid page) (λ t. absurd (omega (arith, next.least page t l, less))))
@@ -219,13 +220,6 @@ rearranged_by s z o k b told waits e = subst (λ (x : StateOf). store_of x o ≡
     wait = λ tid. wait_of (waits i tid);
   };
 })
-
--- no place of an empty range
-empty_place : (pid : Pid) (first : ℕ) (p : Place) → is_place_in pid (record { first = first; count = 0 }) p ≡ false
-empty_place pid first p = grind arith
-
-pub empty_changed : {V : Type 0} (pid : Pid) (first : ℕ) (f : Place → V) (v : V) → f ≡ changed_in pid (record { first = first; count = 0 }) f v
-empty_changed pid first f v = λ i. λ p. sym (ap (λ (b : Bool). if b then v else f p) (empty_place pid first p)) i
 
 -- ---- a key is no more
 
@@ -393,41 +387,35 @@ removed_contents k s y z w e = ap (λ (x : StateOf). x.contents) e ∙ ap (λ (f
 not_live : (s : StateOf) (k : Key) → Holds s → s.contents k ≡ None → is_live s.life k ≡ false
 not_live s k h e = h.live k ∙ ap is_some e
 
-pub removed_passes : (k : Key) (s y z : StateOf) (o u : OwnOf) → Holds s → OwnLetGo k s y → Made (move.Drop k) y z → IsDropped k y z → (held : Place → Bool) (from to : ℕ) → IsAmong s.contents held from to k
+pub removed_passes : (k : Key) (s y z : StateOf) (o u : OwnOf) → Holds s → OwnLetGo k s y → Made (move.Drop k) y z → IsDropped k y z → (held : Leaving) (from to : ℕ) → IsAmong s.contents held from to k
     → PassesIn false (Turns (Ends held from to)) (store_of s o) (store_of z u) (behind_of s) (behind_of z)
 removed_passes (Private pid vpn) s y z o u g (Still e v) m w held from to h = subst (λ (x : StateOf). PassesIn false (Turns (Ends held from to)) (store_of x o) (store_of z u) (behind_of x) (behind_of z)) e
     (passes_of (Turns (Ends held from to)) (move.Drop (Private pid vpn) ∷ []) y z o u (does_one (move.Drop (Private pid vpn)) y z m)
-    (record { turned = record { all = (refl, tt); order = (h.1, h.2, tt); lowest = (tt, tt) }; moved = record { waits = m.waits; ages = m.ages }; slots = ap (λ (x : StateOf). x.slots) w }))
+    (record { turned = record { all = (h.0, tt); order = (h.1, h.2, tt); lowest = (ap (λ (x : StateOf). x.life.valid (record { pid = pid; vpn = vpn })) e ∙ v, tt) }; moved = record { waits = m.waits; ages = m.ages }; slots = ap (λ (x : StateOf). x.slots) w }))
 removed_passes (Private pid vpn) s y z o u g (Gone n e) m w held from to h =
     let place : Place = record { pid = pid; vpn = vpn } in
     let d = does_two (move.Unmap place) (move.Drop (Private pid vpn)) s y z n m in
     passes_of (Turns (Ends held from to)) (move.Unmap place ∷ move.Drop (Private pid vpn) ∷ []) s z o u d
     (record {
-      turned = record { all = (h.0, (refl, tt)); order = (h.1, h.2, (omega arith, h.2, tt)); lowest = (tt, (tt, tt)) };
+      turned = record {
+        all = (h.0, (h.0, tt));
+        order = (h.1, h.2, (omega arith, h.2, tt));
+        lowest = (tt, (unmapped_gone s.life place (s.life.valid place) refl, tt));
+      };
       moved = record { waits = d.waits; ages = d.ages };
       slots = ap (λ (x : StateOf). x.slots) w ∙ ap (λ (x : StateOf). x.slots) e;
     })
 removed_passes (Shared area index) s y z o u g e m w held from to h = subst (λ (x : StateOf). PassesIn false (Turns (Ends held from to)) (store_of x o) (store_of z u) (behind_of x) (behind_of z)) e
     (passes_of (Turns (Ends held from to)) (move.Drop (Shared area index) ∷ []) y z o u (does_one (move.Drop (Shared area index)) y z m)
     (record {
-      turned = record { all = (refl, tt); order = tt; lowest = ((λ i l. ap (λ (x : StateOf). is_live x.life (Shared area i)) e ∙ not_live s (Shared area i) g (h i l)), tt) };
+      turned = record {
+        all = (refl, tt);
+        order = (h.0, h.1, tt);
+        lowest = ((λ i l. ap (λ (x : StateOf). is_live x.life (Shared area i)) e ∙ not_live s (Shared area i) g (h.2 i l)), tt);
+      };
       moved = record { waits = m.waits; ages = m.ages };
       slots = ap (λ (x : StateOf). x.slots) w;
     }))
-
--- what the store keeps stays, in a line that accesses no page
-pub no_touch : (l : LineKind) → (is_call l || is_unbind l) ≡ true → is_touch l ≡ false
-no_touch (kind.Machine a b c d) h = cc
-no_touch (kind.Process pid min max) h = cc
-no_touch (kind.Unbind pid) h = refl
-no_touch (kind.Access pid) h = cc
-no_touch (kind.Thread pid) h = cc
-no_touch (kind.Trim pid) h = cc
-no_touch kind.Writer h = cc
-no_touch kind.Zeroer h = cc
-no_touch kind.Io h = cc
-no_touch kind.Call h = refl
-no_touch (kind.Grow n) h = cc
 
 -- a page-file key lives
 pub paging_lives : (s : StateOf) (k : Key) → Holds s → s.life.paging k ≡ true → is_live s.life k ≡ true
@@ -469,15 +457,15 @@ pages_open s o pid first n h bound some = h.open_process (place_at pid first) (b
     nth_there first zero q = absurd (q refl)
     nth_there first (suc n) q = grind arith
 
--- a key without bytes stands nowhere, once places were let go
-pub dead_still : (s y : StateOf) (k : Key) → Holds s → Thins s y → s.contents k ≡ None → y.life.stands k ≡ held.Dead
-dead_still s y k h t e = ap (λ (f : Key → Held). f k) t.stands ∙ stands_nowhere s k h e
-
 -- what the state is once pages are given up
 abbrev pub IsUnbound : Pid → Range → StateOf → StateOf → Type 0
 IsUnbound pid range y z = z ≡ record y { bound = changed_in pid range y.bound false; names = changed_in pid range y.names None }
 
-pub unbound_store : (s y z : StateOf) (o : OwnOf) (pid : Pid) (range : Range) → Holds s → Holds y → Thins s y → LetsGo (λ q. true) 0 (range.first + range.count) s y → IsUnbound pid range y z
+-- all places
+abbrev pub all_places : Leaving
+all_places = record { places = λ q. true; rank = λ area. 0 }
+
+pub unbound_store : (s y z : StateOf) (o : OwnOf) (pid : Pid) (range : Range) → Holds s → Holds y → Thins s y → LetsGo all_places 0 (page_rank (range.first + range.count)) s y → IsUnbound pid range y z
     → store_of z o ≡ record (store_of s o) { bound = changed_in pid range s.bound false; names = changed_in pid range s.names None; report = rearranged (report_of s o) (report_of z o) }
 unbound_store s y z o pid range h g t w e =
     ap (λ (x : StateOf). store_of x o) e
@@ -485,10 +473,10 @@ unbound_store s y z o pid range h g t w e =
     (rearranged_by s y o t.life (blocks_kept s y (w o o).moves h g (w o o).replays t.life.paging (ap (λ (x : StateOf). x.contents) t.same)) t.told t.waits t.same)
     ∙ ap (λ (x : StateOf). record (store_of s o) { bound = changed_in pid range s.bound false; names = changed_in pid range s.names None; report = rearranged (report_of s o) (report_of x o) }) (sym e)
 
-pub all_among : (pid : Pid) (range : Range) → AreAmong (λ q. true) 0 (range.first + range.count) pid range
+pub all_among : (pid : Pid) (range : Range) → AreAmong all_places 0 (page_rank (range.first + range.count)) pid range
 all_among pid range = record { each = λ page h. refl; first = omega arith; last = omega arith }
 
-pub unbound_passes : (s y z : StateOf) (o u : OwnOf) (pid : Pid) (range : Range) (held : Place → Bool) (from to : ℕ) → LetsGo held from to s y → IsUnbound pid range y z
+pub unbound_passes : (s y z : StateOf) (o u : OwnOf) (pid : Pid) (range : Range) (held : Leaving) (from to : ℕ) → LetsGo held from to s y → IsUnbound pid range y z
     → PassesIn false (Turns (Ends held from to)) (store_of s o) (store_of z u) (behind_of s) (behind_of z)
 unbound_passes s y z o u pid range held from to w e = subst (λ (x : StateOf). PassesIn false (Turns (Ends held from to)) (store_of s o) (store_of x u) (behind_of s) (behind_of x)) (sym e) (again (changed_in pid range y.bound false) (changed_in pid range y.names None) (w o u))
   where

@@ -17,12 +17,11 @@ use Rattle.mm_life.specs.Legal.{IsLegal, touches, fits_place, is_below_max, is_a
 use Rattle.mm_life.specs.Effect.{after_move, after_unmap_at}
 use Rattle.mm_laws.specs.Places.{residents}
 use Rattle.mm_laws.proofs.Deduced.{reached_sound}
-use Rattle.mm_room.specs.Order.{IsNext, NoneFollows}
-use Rattle.mm_room.proofs.Going.{all_go, next_oldest, set_oldest}
-use Rattle.mm_room.proofs.Unmapping.{sized}
-use Rattle.mm_room.proofs.Writing.{full_legal}
+use Rattle.mm_frame_laws.specs.Order.{IsNext, NoneFollows}
+use Rattle.mm_frame_laws.proofs.Going.{all_go, next_oldest, set_oldest}
+use Rattle.mm_frame_laws.proofs.Unmapping.{sized}
 use Rattle.mm_pages.specs.Accesses.{Aim, FromFull}
-use Rattle.mm_walks.specs.Order.{IsOldest}
+use Rattle.mm_life.specs.Order.{IsOldest}
 use Rattle.mm_moving.specs.Shown.{StateOf, Made, MayMap, called, moved, names_after_map}
 use Rattle.mm_moving.specs.Holds.{Holds}
 use Rattle.mm_parts.specs.Holds.{HasSet}
@@ -104,21 +103,6 @@ went_unmap_map a f place p s y z e q full old u m = record {
 
 -- ---- sets
 
-below_of : (o : Option ResidentSet) (s : ResidentSet) → o ≡ Some s → s.resident ≤ s.max → is_at_max o ≡ false → is_below_max o ≡ true
-below_of None s e w h = cc
-below_of (Some t) s e w h = let r = ap (λ (x : Option ResidentSet). resident_of x) e in let m = ap (λ (x : Option ResidentSet). max_of x) e in grind (arith, r, m, w, h)
-  where
-    resident_of : Option ResidentSet → ℕ
-    resident_of None = 0
-    resident_of (Some t) = t.resident
-
-    max_of : Option ResidentSet → ℕ
-    max_of None = 0
-    max_of (Some t) = t.max
-
-pub not_full : (l : FrameLife) (pid : ℕ) → HasSet l pid → is_at_max (set_of l pid) ≡ false → is_below_max (set_of l pid) ≡ true
-not_full l pid h e = below_of (set_of l pid) h.set h.found h.within e
-
 -- ---- the oldest page of a full set
 
 resident_full : (t : ResidentSet) → 1 ≤ t.max → is_at_max (Some t) ≡ true → 1 ≤ t.resident
@@ -141,9 +125,6 @@ full_oldest s p h = next_oldest s.life s.ages None None p (λ q e g. tt) h (all_
 some_frame : {A : Type 0} (o : Option A) → is_some o ≡ true → (f : A) × (o ≡ Some f)
 some_frame None e = cc
 some_frame (Some f) e = (f, refl)
-
-pub full_unmap : (l : FrameLife) (p : Place) → is_some (l.valid p) ≡ true → touches p.pid.0 l.kind ≡ true → is_at_max (set_of l p.pid.0) ≡ true → IsLegal (move.Unmap p) l
-full_unmap l p v t full = let f = some_frame (l.valid p) v in full_legal l p f.0 f.1 t full
 
 below_fewer : (t : ResidentSet) → 1 ≤ t.max → is_at_max (Some t) ≡ true → is_below_max (Some (record t { resident = t.resident - 1 })) ≡ true
 below_fewer t m e = grind (arith, m, e)
@@ -172,9 +153,6 @@ unmapped_still l p q (Some f) e = at (same_place q p)
     at : (b : Bool) → (if b then None else l.valid q) ≡ None
     at true = refl
     at false = e
-
-pub free_then : (s y : StateOf) (p q : Place) → s.life.valid q ≡ None → y.life ≡ after_move s.life (move.Unmap p) → y.life.valid q ≡ None
-free_then s y p q v e = ap (λ (x : FrameLife). x.valid q) e ∙ unmapped_still s.life p q (s.life.valid p) v
 
 pub unmapped_kind : (l : FrameLife) (p : Place) (o : Option Frame) → (after_unmap_at o l p).kind ≡ l.kind
 unmapped_kind l p None = refl

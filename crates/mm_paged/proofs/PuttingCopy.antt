@@ -13,7 +13,7 @@ use Rattle.mm_life.specs.Life.{FrameLife, changed, same_place, key_of_place, is_
 use Rattle.mm_life.specs.Legal.{IsLegal, touches, is_below_max, shows_shared, owner_is}
 use Rattle.mm_life.specs.Effect.{after_unmap_at}
 use Rattle.mm_laws.proofs.PlaceCounts.{same_place-self}
-use Rattle.mm_room.proofs.Unmapping.{sized}
+use Rattle.mm_frame_laws.proofs.Unmapping.{sized}
 use Rattle.mm_parts.specs.Holds.{HasSet}
 use Rattle.mm_pages.specs.Accesses.{Aim, ByCopy}
 use Rattle.mm_pages.specs.Conditions.{touch}

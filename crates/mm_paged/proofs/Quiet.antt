@@ -17,8 +17,8 @@ use Rattle.mm_life.specs.Replay.{Replays}
 use Rattle.mm_pages.specs.Accesses.{Aim, AccessMove}
 use Rattle.mm_pages.specs.Reports.{no_calls}
 use Rattle.mm_pages.specs.Told.{Told, told_after, told_through, in_slot, in_block, call_of, calls_of}
-use Rattle.mm_walks.specs.Waits.{Waiting, waits_after}
-use Rattle.mm_walks.specs.Walks.{Walk, Through, walked, waits_through}
+use Rattle.mm_life.specs.Waits.{Waiting, waits_after}
+use Rattle.mm_life.specs.Walks.{Walk, Through, walked, waits_through}
 use Rattle.mm_world.specs.Report.{Tally}
 use Rattle.mm_moving.specs.Shown.{StateOf}
 use Rattle.mm_moving.specs.Doing.{Does, walk_of}

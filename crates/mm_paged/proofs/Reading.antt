@@ -2,7 +2,6 @@
 use Rattle.std.proofs.Common.{◌≡◌, ℕ, ◌≤◌, Bool, true, false, List, [], ◌∷◌, Option, Some, None, refl, sym, ap, ◌∙◌, subst, arith, inl, inr, ◌⊎◌}
 use Rattle.std.specs.Prelude.{not, is_some, length, ◌&&◌, ◌||◌, nat_lt, ◌==◌, option_map, unwrap_or, if◌then◌else◌, Ok, Err}
 use Rattle.mm_types.specs.declared.faults.PageFault.{PageFault}
-use Rattle.mm_types.specs.declared.faults.PageFault.TheVariants as fault
 use Rattle.mm_types.specs.declared.frames.Held.{Held}
 use Rattle.mm_types.specs.declared.frames.Held.TheVariants as held
 use Rattle.mm_types.specs.declared.numbers.Frame.{Frame}
@@ -11,21 +10,20 @@ use Rattle.mm_types.specs.declared.numbers.Place.{Place}
 use Rattle.mm_life.specs.Frames.{record_at, is_read, is_empty}
 use Rattle.mm_life.specs.Life.{FrameLife, changed, same_place}
 use Rattle.mm_world.specs.Failure.{same_key, has_frame, still_needs_frame, read_failed, search_failed}
-use Rattle.mm_world.specs.Report.{is_short as report_is_short, Report, Tally, BeingRead, InFrame}
+use Rattle.mm_world.specs.Report.{is_short as report_is_short, Report, BeingRead, InFrame}
 use Rattle.mm_pages.specs.Accesses.{Aim, Touches}
 use Rattle.mm_pages.specs.Conditions.{touch, IsReady}
 use Rattle.mm_blocks.proofs.Holding.{keeps_same}
-use Rattle.mm_pages.specs.Reports.{Ends, IsBegun, HasCauses}
+use Rattle.mm_pages.specs.Reports.{Ends, IsBegun}
 use Rattle.mm_pages.specs.Shortage.{is_framed}
 use Rattle.mm_pages.specs.Standing.{where_of, framed_where}
 use Rattle.mm_pages.specs.Passing.{Passes}
 use Rattle.mm_moving.specs.Shown.{StateOf}
 use Rattle.mm_moving.specs.Holds.{Holds}
-use Rattle.mm_paged.specs.Pieces.{Fails, Went, Stuck, Begins}
+use Rattle.mm_paged.specs.Pieces.{Went, Stuck, Begins}
 use Rattle.mm_paged.specs.Shown.{OwnOf, report_of, store_of, behind_of}
 use Rattle.mm_moving.proofs.Doing.{does_nothing}
 use Rattle.mm_paged.proofs.Shows.{passes_of}
-use Rattle.mm_laws.proofs.Owners.{same_key-self}
 
 pub framed_has : (l : FrameLife) (h : Held) → is_framed h ≡ true → has_frame (where_of l h) ≡ true
 framed_has l (held.Frame f) e = at (is_read (record_at l.frames f.0).request) refl
@@ -70,35 +68,6 @@ short_counts a b c (x ∷ xs) y z h = cc
 
 pub search_failed_by : (f s : ℕ) (still short : Bool) → 1 ≤ f → s ≡ 0 → still ≡ true → short ≡ true → (nat_lt 0 f && (s == 0) && still && short) ≡ true
 search_failed_by f s still short a b c d = grind (arith, a, b, c, d)
-
--- of an access that failed
-pub failed_causes : (why : PageFault) (k : Key) (s z : StateOf) (u : OwnOf) → Fails why k s z → HasCauses {T = Unit {0}} (touch k) (report_of z u) (Err why)
-failed_causes fault.Read k s z u h = record {
-  read = λ e. ap (λ (x : Option Key). unwrap_or (option_map (same_key k) x) false) (h.read refl) ∙ same_key-self k;
-  no_frame = λ e. cc;
-}
-failed_causes fault.NoFrame k s z u h = record {
-  read = λ e. cc;
-  no_frame = λ e. (
-    h.failed refl,
-    ap (λ (x : Bool). not x || false) (unframed_has z.life (z.life.stands k) (h.unframed refl)),
-    short_counts true true true z.life.frames.zeroed z.life.frames.free z.life.frames.standby (h.short refl),
-  );
-}
-
-pub failed_ends : (why : PageFault) (k : Key) (s z : StateOf) (o u : OwnOf) → Fails why k s z → IsBegun (report_of s o) → Ends {T = Unit {0}} (touch k) (report_of z u) (Err why)
-failed_ends fault.Read k s z o u h b = record { ok = tt; had = tt; read = (failed_causes fault.Read k s z u h).read; no_frame = λ e. cc }
-failed_ends fault.NoFrame k s z o u h b =
-    let c = (failed_causes fault.NoFrame k s z u h).no_frame refl in
-    record {
-      ok = tt;
-      had = tt;
-      read = λ e. cc;
-      no_frame = λ e. (
-        nothing_read k (report_of z u) (h.kept refl ∙ b.no_failed_read),
-        search_failed_by z.told.search_writes.failed z.told.search_writes.succeeded _ _ c.0 (h.none refl (ap (λ (t : Tally). t.succeeded) b.no_failed_write)) c.1 c.2,
-      );
-    }
 
 -- ---- an access of a page that is valid
 

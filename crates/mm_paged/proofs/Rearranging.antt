@@ -20,9 +20,9 @@ use Rattle.mm_pages.specs.Passing.{Passes}
 use Rattle.mm_pages.specs.Reports.{rearranged}
 use Rattle.mm_pages.specs.Store.{Ready}
 use Rattle.mm_pages.specs.Told.{Told, told_after, told_through}
-use Rattle.mm_walks.specs.Chores.{TrimMove, frame_of, clearings, target, writes_begun}
-use Rattle.mm_walks.specs.Waits.{Waiting, waits_after}
-use Rattle.mm_walks.specs.Walks.{Walk, Through, walked, waits_through}
+use Rattle.mm_life.specs.Chores.{TrimMove, frame_of, clearings, target, writes_begun}
+use Rattle.mm_life.specs.Waits.{Waiting, waits_after}
+use Rattle.mm_life.specs.Walks.{Walk, Through, walked, waits_through}
 use Rattle.mm_moving.specs.Shown.{StateOf, moved}
 use Rattle.mm_moving.specs.Doing.{Does, walk_of}
 use Rattle.mm_moving.specs.Holds.{Holds}

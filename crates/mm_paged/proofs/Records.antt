@@ -1,30 +1,21 @@
 -- The record of a frame after a move.
-use Rattle.std.proofs.Common.{◌≡◌, ℕ, zero, suc, ◌≤◌, Bool, true, false, cond, List, [], ◌∷◌, ◌++◌, Option, Some, None, refl, sym, ap, ◌∙◌, subst, arith, inl, inr, ◌⊎◌}
-use Rattle.std.specs.Prelude.{not, ◌&&◌, ◌||◌, if◌then◌else◌, is_some, slice_set, slice_index_or}
+use Rattle.std.proofs.Common.{◌≡◌, ℕ, zero, suc, ◌≤◌, Bool, true, false, cond, List, [], ◌∷◌, ◌++◌, Option, Some, None, refl, sym, ap, ◌∙◌, inl, inr, ◌⊎◌}
+use Rattle.std.specs.Prelude.{◌&&◌, ◌||◌, if◌then◌else◌, is_some, slice_set, slice_index_or}
 use Rattle.mm_types.specs.declared.frames.Record.{Record}
-use Rattle.mm_types.specs.declared.frames.Request.{Request}
 use Rattle.mm_types.specs.declared.frames.Request.TheVariants as request
 use Rattle.mm_types.specs.declared.moves.Move.TheVariants as move
 use Rattle.mm_types.specs.declared.numbers.Frame.{Frame}
 use Rattle.mm_types.specs.declared.numbers.Key.{Key}
 use Rattle.mm_types.specs.declared.numbers.Place.{Place}
-use Rattle.mm_life.specs.Frames.{FrameTable, blank, record_at, is_read, is_write, is_again, has_request, is_idle, given, being_read, shared, unshared, soiled, settled, settled_by, with_record, taken_for_read, read_done, to_free}
+use Rattle.mm_life.specs.Frames.{FrameTable, blank, record_at, is_read, is_idle, being_read, shared, unshared, soiled, settled, settled_by, with_record, taken_for_read, read_done, to_free}
 use Rattle.mm_life.specs.Life.{FrameLife}
 use Rattle.mm_life.specs.Effect.{after_move, after_unmap_at, backing_of}
-use Rattle.mm_located.specs.Carried.{IsSoiled}
 
 -- the record is the new one, or no frame has this number
 pub set_there : (xs : List Record) (f : ℕ) (r : Record) → (slice_index_or (slice_set xs f r) f blank ≡ r) ⊎ ((slice_index_or (slice_set xs f r) f blank ≡ blank) × (slice_index_or xs f blank ≡ blank))
 set_there [] f r = inr (refl, refl)
 set_there (x ∷ xs) zero r = inl refl
 set_there (x ∷ xs) (suc f) r = set_there xs f r
-
--- a frame that was given is not being read
-pub given_quiet : (l m : FrameLife) (f : Frame) (k : Key) → m ≡ after_move l (move.Give f k) → is_read (record_at m.frames f.0).request ≡ false
-given_quiet l m f k e = ap (λ (x : FrameLife). is_read (record_at x.frames f.0).request) e ∙ elim (set_there l.frames.records f.0 (given k)) [
-  | inl h ↦ ap (λ (r : Record). is_read r.request) h
-  | inr h ↦ ap (λ (r : Record). is_read r.request) h.0
-]
 
 -- nor is one that was mapped
 pub mapped_quiet : (l m : FrameLife) (f : Frame) (p : Place) → m ≡ after_move l (move.Map f p) → is_read (record_at l.frames f.0).request ≡ false → is_read (record_at m.frames f.0).request ≡ false
@@ -41,40 +32,6 @@ read_begun l m f k j e o = elim (set_there (taken_for_read l.frames).records f.0
 ]
 
 -- ---- a page that is soiled
-
--- the test under which a page is soiled
-abbrev pub to_soil : Bool → Request → Bool
-to_soil changed q = (not changed && not (has_request q)) || (is_write q && not (is_again q))
-
-soiled_by : (r : Record) (c : Bool) (q : Request) → to_soil c q ≡ true → (is_write q ≡ true → c ≡ true) → IsSoiled (soiled (record r { changed = c; request = q }))
-soiled_by r c request.None h w = record { changed = refl; calm = refl }
-soiled_by r true request.Read h w = cc
-soiled_by r false request.Read h w = cc
-soiled_by r true request.Write h w = record { changed = refl; calm = refl }
-soiled_by r false request.Write h w = let bad : false ≡ true = w refl in cc
-soiled_by r true request.WriteAgain h w = cc
-soiled_by r false request.WriteAgain h w = cc
-
--- a page with shares that is soiled can be written
-pub soiled_then : (l m : FrameLife) (f : Frame) → m ≡ after_move l (move.Soil f) → 1 ≤ (record_at l.frames f.0).shares → to_soil (record_at l.frames f.0).changed (record_at l.frames f.0).request ≡ true
-    → (is_write (record_at l.frames f.0).request ≡ true → (record_at l.frames f.0).changed ≡ true) → IsSoiled (record_at m.frames f.0)
-soiled_then l m f e some h w = elim (set_there l.frames.records f.0 (soiled (record_at l.frames f.0))) [
-  | inl q ↦ subst (λ (r : Record). IsSoiled r) (sym (ap (λ (x : FrameLife). record_at x.frames f.0) e ∙ q)) (soiled_by (record_at l.frames f.0) (record_at l.frames f.0).changed (record_at l.frames f.0).request h w)
-  | inr q ↦ let none : (record_at l.frames f.0).shares ≡ 0 = ap (λ (r : Record). r.shares) q.1 in absurd (omega (arith, some, none))
-]
-
--- a page that need not be soiled can be written already
-pub soiled_before : (r : Record) → to_soil r.changed r.request ≡ false → is_read r.request ≡ false → (is_write r.request ≡ true → r.changed ≡ true) → IsSoiled r
-soiled_before r h u w = at r.changed r.request h u w
-  where
-    at : (c : Bool) (q : Request) → to_soil c q ≡ false → is_read q ≡ false → (is_write q ≡ true → c ≡ true) → IsSoiled (record r { changed = c; request = q })
-    at true request.None h u w = record { changed = refl; calm = refl }
-    at false request.None h u w = cc
-    at c request.Read h u w = cc
-    at true request.Write h u w = cc
-    at false request.Write h u w = cc
-    at true request.WriteAgain h u w = record { changed = refl; calm = refl }
-    at false request.WriteAgain h u w = let bad : false ≡ true = w refl in cc
 
 -- ---- a place that is valid no more
 

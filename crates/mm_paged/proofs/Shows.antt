@@ -15,7 +15,7 @@ use Rattle.mm_life.specs.Life.{FrameLife, same_key}
 use Rattle.mm_life.specs.Logs.{Log}
 use Rattle.mm_life.specs.Effect.{after_move}
 use Rattle.mm_world.specs.Failure.{same_key as same_in_world}
-use Rattle.mm_walks.specs.Waits.{Waiting, waits_after, ages_after, wait_of}
+use Rattle.mm_life.specs.Waits.{Waiting, waits_after, ages_after, wait_of}
 use Rattle.mm_types.specs.declared.numbers.Place.{Place}
 use Rattle.mm_pages.specs.Behind.{Behind}
 use Rattle.mm_pages.specs.Conditions.{IsLineKind, pid_after}

@@ -17,9 +17,9 @@ use Rattle.mm_life.specs.Replay.{Replays}
 use Rattle.mm_world.specs.Failure.{Need}
 use Rattle.mm_pages.specs.Accesses.{Aim, AccessMove, InShortage}
 use Rattle.mm_pages.specs.Shortage.{is_framed, is_shortage}
-use Rattle.mm_walks.specs.Walks.{Walk, Through, walked, walked_all}
-use Rattle.mm_walks.specs.Searches.{SearchMove, Starved}
-use Rattle.mm_walks.specs.Order.{IsVictim}
+use Rattle.mm_life.specs.Walks.{Walk, Through, walked, walked_all}
+use Rattle.mm_life.specs.Searches.{SearchMove, Starved}
+use Rattle.mm_life.specs.Order.{IsVictim}
 use Rattle.mm_moving.specs.Shown.{StateOf, called}
 use Rattle.mm_moving.specs.Doing.{Searched, walk_of}
 use Rattle.mm_paged.specs.Pieces.{Sought, Stuck, Begins, Keeps, Fails}

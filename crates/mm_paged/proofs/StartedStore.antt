@@ -25,7 +25,7 @@ use Rattle.mm_pages.specs.declared.outcomes.Need.{Need}
 use Rattle.mm_pages.specs.declared.outcomes.Need.TheVariants as need
 use Rattle.mm_pages.specs.declared.outcomes.Start.{Start}
 use Rattle.mm_pages.specs.declared.outcomes.Start.TheVariants as start
-use Rattle.mm_walks.specs.Waits.{Waiting, wait_of}
+use Rattle.mm_life.specs.Waits.{Waiting, wait_of}
 use Rattle.mm_moving.specs.Shown.{StateOf}
 use Rattle.mm_moving.specs.Holds.{Holds}
 use Rattle.mm_moving.specs.Doing.{walk_of}

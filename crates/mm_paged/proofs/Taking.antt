@@ -4,8 +4,7 @@ use Rattle.std.specs.Bool.{IsTrue}
 use Rattle.std.specs.Cmp.{unsigned_Decides}
 use Rattle.mm_blocks.proofs.Serving.{serves_failed}
 use Rattle.mm_blocks.specs.Devices.{DeviceOf, CallFailed}
-use Rattle.std.specs.Prelude.{◌&&◌, ◌||◌, if◌then◌else◌, Result, Ok, Err, IfOk, IfErr, OnErr}
-use Rattle.mm_types.specs.declared.faults.PageFault.{PageFault}
+use Rattle.std.specs.Prelude.{◌&&◌, ◌||◌, if◌then◌else◌}
 use Rattle.mm_types.specs.declared.devices.Direction.TheVariants as way
 use Rattle.mm_types.specs.declared.frames.Backing.{Backing}
 use Rattle.mm_types.specs.declared.frames.Backing.TheVariants as backing
@@ -23,7 +22,7 @@ use Rattle.mm_life.specs.Frames.{is_empty, is_first, is_read, record_at}
 use Rattle.mm_life.specs.Legal.{IsLegal, is_touch, is_access, is_io, is_zero}
 use Rattle.mm_life.specs.Effect.{after_move, homed}
 use Rattle.mm_pages.specs.Accesses.{Aim, AccessMove}
-use Rattle.mm_walks.specs.Walks.{Walk, Through, walked}
+use Rattle.mm_life.specs.Walks.{Walk, Through, walked}
 use Rattle.mm_moving.specs.Shown.{StateOf, Made, Called, SomeFault, called, moved}
 use Rattle.mm_moving.specs.Holds.{Holds}
 use Rattle.mm_parts.specs.Moves.{read_end, own_after, own_ended, front, front_for_read}
@@ -177,31 +176,6 @@ stuck_steal_read a f k s y z none p e r h =
     }
 
 -- ---- by the result
-
--- what the read of a page answers
-abbrev pub ReadAs : Result Frame PageFault → Key → StateOf → StateOf → Type 0
-ReadAs (Ok f) k s z = (f ≡ front_for_read s.life) × ReadsIn k f true s z
-ReadAs (Err e) k s z = (e ≡ fault.Read) × ReadsIn k (front_for_read s.life) false s z
-
-pub read_as : (r : Result Frame PageFault) (k : Key) (s z : StateOf) → IfOk r (λ f. (f ≡ front_for_read s.life) × ReadsIn k f true s z) → OnErr r (ReadsIn k (front_for_read s.life) false s z) → IfErr r (λ e. e ≡ fault.Read) → ReadAs r k s z
-read_as (Ok f) k s z p q w = p
-read_as (Err e) k s z p q w = (w, q)
-
-pub ok_read : (r : Result Frame PageFault) (k : Key) (s z : StateOf) → ReadAs r k s z → IfOk r (λ f. (a : Aim) → ReadsFor a k → Took a 1 s z)
-ok_read (Ok f) k s z p = λ a h. went_read a f k s z p.1 h
-ok_read (Err e) k s z p = tt
-
-pub err_read : (r : Result Frame PageFault) (k : Key) (s z : StateOf) → ReadAs r k s z → OnErr r ((a : Aim) → ReadsFor a k → Missed a s z)
-err_read (Ok f) k s z p = tt
-err_read (Err e) k s z p = λ a h. stuck_read a (front_for_read s.life) k s z p.1 h
-
-pub ok_steal_read : (r : Result Frame PageFault) (k : Key) (s y z : StateOf) → is_empty s.life.frames.free ≡ true → Made (move.Steal (front s.life.frames.standby)) s y → ReadAs r k y z → IfOk r (λ f. (a : Aim) → ReadsFor a k → Took a 1 s z)
-ok_steal_read (Ok f) k s y z none m p = λ a h. went_steal_read a f k s y z none m p.0 p.1 h
-ok_steal_read (Err e) k s y z none m p = tt
-
-pub err_steal_read : (r : Result Frame PageFault) (k : Key) (s y z : StateOf) → is_empty s.life.frames.free ≡ true → Made (move.Steal (front s.life.frames.standby)) s y → ReadAs r k y z → OnErr r ((a : Aim) → ReadsFor a k → Missed a s z)
-err_steal_read (Ok f) k s y z none m p = tt
-err_steal_read (Err e) k s y z none m p = λ a h. stuck_steal_read a (front_for_read y.life) k s y z none m refl p.1 h
 
 -- ---- a read in flight is completed
 

@@ -30,12 +30,12 @@ use Rattle.mm_pages.specs.Reports.{fetched, eased, IsBegun, Ends}
 use Rattle.mm_pages.specs.Shortage.{is_framed}
 use Rattle.mm_pages.specs.Standing.{where_of, block_at, backed_by, in_backing}
 use Rattle.mm_pages.specs.Told.{Told}
-use Rattle.mm_walks.specs.Waits.{Waiting}
+use Rattle.mm_life.specs.Waits.{Waiting}
 use Rattle.mm_moving.specs.Shown.{StateOf, moved, called}
 use Rattle.mm_moving.specs.Holds.{Holds}
 use Rattle.mm_moving.proofs.Doing.{does_one}
 use Rattle.mm_paged.specs.Pieces.{Soils, Was, Is}
-use Rattle.mm_paged.specs.Shown.{OwnOf, Kept, store_of, report_of, behind_of}
+use Rattle.mm_paged.specs.Shown.{OwnOf, store_of, report_of, behind_of}
 use Rattle.mm_paged.proofs.Reading.{valid_passes, had_ends, framed_at, named_by}
 use Rattle.mm_paged.proofs.Shows.{changed_keys}
 use Rattle.mm_life.proofs.Records.{soiled_shares}
@@ -197,15 +197,6 @@ pub wrote_ends : (k : Key) (f : Frame) (place : Place) (s y z : StateOf) (o : Ow
 wrote_ends k f place s y z o a c h v n p e b =
     had_ends k z o (ap (λ (x : StateOf). x.told.last_failed_read) e ∙ ap (λ (t : Told). t.last_failed_read) (soils_told f s y p) ∙ b.no_failed_read)
     (ap (λ (x : StateOf). is_framed (x.life.stands k)) e ∙ ap (λ (g : Key → Held). is_framed (g k)) (soils_stands f s y p) ∙ framed_at k place s h (s.life.valid place) refl (ap is_some v) n)
-
--- what the store keeps stays
-pub wrote_kept : (f : Frame) (s y z : StateOf) (o : OwnOf) (a : Place → ℕ) (c : Key → Option (List ℕ)) → Kept s o → Soils f s y → z ≡ record y { ages = a; contents = c } → Kept z o
-wrote_kept f s y z o a c k h e =
-    let p = soiled_all f s y h in
-    subst (λ (x : StateOf). Kept x o) (sym e) (subst (λ (x : StateOf). Kept (record x { ages = a; contents = c }) o) (sym p.same)
-    (by_life (λ (l : FrameLife). Kept (record s { life = l; log = y.log; ages = a; contents = c }) o) f s y p
-    (record { own = k.own; aside = k.aside; ready = k.ready; touching = k.touching; room = k.room; fresh = k.fresh; calm = k.calm })
-    (record { own = k.own; aside = k.aside; ready = k.ready; touching = k.touching; room = k.room; fresh = k.fresh; calm = k.calm })))
 
 pub soils_contents : (f : Frame) (s y : StateOf) → Soils f s y → y.contents ≡ s.contents
 soils_contents f s y h = ap (λ (x : StateOf). x.contents) (soiled_all f s y h).same

@@ -13,7 +13,7 @@ use Rattle.mm_life.specs.Frames.{is_empty, record_at}
 use Rattle.mm_life.specs.Life.{FrameLife, changed, same_key, same_place, is_live, is_shared, key_of_place}
 use Rattle.mm_life.specs.Legal.{is_short, shows_shared}
 use Rattle.mm_life.specs.Located.{zero_page}
-use Rattle.mm_located.specs.Carried.{IsSoiled}
+use Rattle.mm_frame_laws.specs.Carried.{IsSoiled}
 use Rattle.mm_pages.specs.Accesses.{Aim}
 use Rattle.mm_pages.specs.Reports.{no_calls}
 use Rattle.mm_pages.specs.Shortage.{is_framed}
@@ -103,14 +103,18 @@ pub record FailsToCopy (why : PageFault) (k : Key) (s z : StateOf) : Type 0 wher
   pub kept : why ≡ fault.NoFrame → z.told.last_failed_read ≡ s.told.last_failed_read
   pub short : why ≡ fault.NoFrame → is_short z.life ≡ true
   pub failed : why ≡ fault.NoFrame → 1 ≤ z.told.search_writes.failed
-  pub none : why ≡ fault.NoFrame → s.told.search_writes ≡ no_calls → z.told.search_writes.succeeded ≡ 0
+  pub none : why ≡ fault.NoFrame → s.told.search_writes ≡ no_calls →
+      z.told.search_writes.succeeded ≡ 0
   pub fault : SomeFault s z
 
--- a frame is zeroed now, where one could be taken: it was before, or the first free one is cleared, or the first on standby is taken and cleared
+-- a frame is zeroed now, where one could be taken: it was before, or the first free one is cleared,
+-- or the first on standby is taken and cleared
 pub data Readies (s z : StateOf) : Type 0 where
   Zeroed : z ≡ s → Readies s z
-  Cleared : is_empty s.life.frames.zeroed ≡ true → Made (move.Clear (front s.life.frames.free)) s z → Readies s z
-  Taken : (x : StateOf) → is_empty s.life.frames.zeroed ≡ true → is_empty s.life.frames.free ≡ true → Made (move.Steal (front s.life.frames.standby)) s x
+  Cleared : is_empty s.life.frames.zeroed ≡ true →
+      Made (move.Clear (front s.life.frames.free)) s z → Readies s z
+  Taken : (x : StateOf) → is_empty s.life.frames.zeroed ≡ true →
+      is_empty s.life.frames.free ≡ true → Made (move.Steal (front s.life.frames.standby)) s x
       → Made (move.Clear (front x.life.frames.free)) x z → Readies s z
 
 -- ---- what is asked
@@ -124,7 +128,8 @@ pub record MayHold (k : Key) (place : Place) (s : StateOf) : Type 0 where
   pub own : s.own ≡ None
   pub aside : s.aside ≡ None
 
--- a page that is not valid at the place yet, or no frame at hand, asks for an access: a thread could not wait there
+-- a page that is not valid at the place yet, or no frame at hand, asks for an access: a thread
+-- could not wait there
 pub record NeedsAccess (place : Place) (s : StateOf) : Type 0 where
   pub access : s.life.valid place ≡ None → s.life.kind ≡ kind.Access place.pid
   pub frame : is_short s.life ≡ true → s.life.kind ≡ kind.Access place.pid

@@ -10,7 +10,7 @@ use Rattle.mm_types.specs.declared.numbers.Place.{Place}
 use Rattle.mm_life.specs.Frames.{FrameTable, record_at, is_empty}
 use Rattle.mm_life.specs.Life.{FrameLife, changed, same_place, is_live, is_shared, key_of_place, set_of}
 use Rattle.mm_life.specs.Legal.{is_access, is_stored, is_short, is_at_max, fits_place}
-use Rattle.mm_located.specs.Carried.{IsSoiled}
+use Rattle.mm_frame_laws.specs.Carried.{IsSoiled}
 use Rattle.mm_pages.specs.Accesses.{Aim}
 use Rattle.mm_pages.specs.Reports.{no_calls}
 use Rattle.mm_pages.specs.Shortage.{is_framed}
@@ -77,7 +77,8 @@ pub record KeepsNames (s z : StateOf) : Type 0 where
 
 -- no search was begun since a frame was taken, and no read failed
 abbrev pub HasRead : StateOf → StateOf → Type 0
-HasRead s z = (z.told.search_writes ≡ no_calls) × (z.told.last_failed_read ≡ s.told.last_failed_read)
+HasRead s z = (z.told.search_writes ≡ no_calls) ×
+    (z.told.last_failed_read ≡ s.told.last_failed_read)
 
 -- a page was read into the frame that a read takes first
 pub record ReadsWell (k : Key) (f : Frame) (s z : StateOf) : Type 0 where

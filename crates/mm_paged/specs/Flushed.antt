@@ -26,14 +26,17 @@ pub record Filed (f : Frame) (s : StateOf) : Type 0 where
   pub block : Block
   pub backed : backing_of_frame s f ≡ backing.Block block
 
--- A block was written to, perhaps more than once: of the devices that of files alone was called, and no other block changed. All of
--- these writes succeeded, or the last failed.
+-- A block was written to, perhaps more than once: of the devices that of files alone was called,
+-- and no other block changed. All of these writes succeeded, or the last failed.
 pub record WritesTo (b : Block) (ok : Bool) (s z : StateOf) : Type 0 where
   pub paging : z.paging ≡ s.paging
   pub slots : z.slots ≡ s.slots
   pub waits : z.waits ≡ s.waits
   pub others : (other : ℕ) → other ≢ b.0 → slice_get z.blocks other ≡ slice_get s.blocks other
-  pub told : z.told ≡ record s.told { file_writes = z.told.file_writes; search_writes = z.told.search_writes }
+  pub told : z.told ≡ record s.told {
+    file_writes = z.told.file_writes;
+    search_writes = z.told.search_writes;
+  }
   pub later : IsLater s.files z.files
   pub quiet : ok ≡ true → z.told.file_writes.failed ≡ s.told.file_writes.failed
   pub failed : ok ≡ false → 0 < z.told.file_writes.failed
@@ -68,7 +71,9 @@ pub record EndsFlight (b : Block) (f : Frame) (ok : Bool) (s z : StateOf) : Type
   pub writes : WritesBack b ok moves s z
   pub backed : backing_of_frame z f ≡ backing.Block b
   pub still : ok ≡ true → is_write (record_at z.life.frames f.0).request ≡ false
-  pub changed : ok ≡ true → (record_at z.life.frames f.0).changed ≡ is_changed_then (record_at s.life.frames f.0).request (record_at s.life.frames f.0).changed
+  pub changed : ok ≡ true →
+      (record_at z.life.frames f.0).changed ≡ is_changed_then (record_at s.life.frames f.0).request
+      (record_at s.life.frames f.0).changed
 
 -- a page that was changed is written
 pub record WritesChanged (b : Block) (f : Frame) (ok : Bool) (s z : StateOf) : Type 0 where

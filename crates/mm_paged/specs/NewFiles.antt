@@ -18,8 +18,9 @@ use Rattle.mm_pages.specs.Tallies.{tallied}
 use Rattle.mm_moving.specs.Shown.{StateOf, moved}
 use Rattle.mm_moving.specs.Doing.{Does}
 
--- The first n blocks of a new file were written in order, block `first + i` with the byte `byte + i` throughout; or they were up to a
--- write that failed. Nothing but the file device was changed, and no other block.
+-- The first n blocks of a new file were written in order, block `first + i` with the byte `byte +
+-- i` throughout; or they were up to a write that failed. Nothing but the file device was changed,
+-- and no other block.
 pub record BlocksWritten (first n byte : ℕ) (ok : Bool) (s z : StateOf) : Type 0 where
   pub whole : ℕ
   pub calls : List Call
@@ -28,10 +29,15 @@ pub record BlocksWritten (first n byte : ℕ) (ok : Bool) (s z : StateOf) : Type
   pub all : ok ≡ true → whole ≡ n
   pub some : ok ≡ false → whole < n
   pub none_read : (t : Tally) → tallied way.Read calls t ≡ t
-  pub told : z.told ≡ record s.told { file_writes = tallied way.Write calls s.told.file_writes; search_writes = tallied way.Write calls s.told.search_writes }
+  pub told : z.told ≡ record s.told {
+    file_writes = tallied way.Write calls s.told.file_writes;
+    search_writes = tallied way.Write calls s.told.search_writes;
+  }
   pub rest : z ≡ record s { told = z.told; files = z.files; blocks = z.blocks }
-  pub written : ok ≡ true → (i : ℕ) → i < n → slice_get z.blocks (first + i) ≡ Some (filled ((byte + i) % 256))
-  pub others : (block : ℕ) → (block < first) ⊎ (first + n ≤ block) → slice_get z.blocks block ≡ slice_get s.blocks block
+  pub written : ok ≡ true → (i : ℕ) → i < n →
+      slice_get z.blocks (first + i) ≡ Some (filled ((byte + i) % 256))
+  pub others : (block : ℕ) → (block < first) ⊎ (first + n ≤ block) →
+      slice_get z.blocks block ≡ slice_get s.blocks block
   pub long : length z.blocks ≡ length s.blocks
   pub later : IsLater s.files z.files
   pub quiet : ok ≡ true → z.told.file_writes.failed ≡ s.told.file_writes.failed
@@ -42,7 +48,8 @@ pub record BlocksWritten (first n byte : ℕ) (ok : Bool) (s z : StateOf) : Type
 -- a function of keys, with these values for the first n pages of an area
 abbrev pub with_pages : {V : Type 0} → ℕ → ℕ → (ℕ → V) → (Key → V) → Key → V
 with_pages area n value f (Private pid vpn) = f (Private pid vpn)
-with_pages area n value f (Shared a i) = if (a.0 == area) && nat_lt i n then value i else f (Shared a i)
+with_pages area n value f (Shared a i) = if (a.0 == area) && nat_lt i n then value i else
+    f (Shared a i)
 
 -- the first n pages of an area came to be, each in its block, the blocks from the first on
 pub record PagesAdded (area first n : ℕ) (s z : StateOf) : Type 0 where
@@ -50,8 +57,11 @@ pub record PagesAdded (area first n : ℕ) (s z : StateOf) : Type 0 where
   pub does : Does moves s z
   pub adds : Turned (MakesFrom 0 n) s.life moves
   pub life : z.life ≡ record s.life { stands = z.life.stands; added = z.life.added }
-  pub stands : (k : Key) → z.life.stands k ≡ with_pages area n (λ i. held.Block (record { 0 = first + i })) s.life.stands k
-  pub contents : (k : Key) → z.contents k ≡ with_pages area n (λ i. slice_get s.blocks (first + i)) s.contents k
+  pub stands : (k : Key) → z.life.stands k ≡ with_pages area n (λ i. held.Block (record {
+    0 = first + i;
+  })) s.life.stands k
+  pub contents : (k : Key) →
+      z.contents k ≡ with_pages area n (λ i. slice_get s.blocks (first + i)) s.contents k
   pub added : (b : ℕ) → first + n ≤ b → z.life.added b ≡ s.life.added b
   pub told : z.told ≡ s.told
   pub waits : z.waits ≡ s.waits

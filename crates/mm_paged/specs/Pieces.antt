@@ -14,9 +14,9 @@ use Rattle.mm_types.specs.declared.numbers.Place.{Place}
 use Rattle.mm_types.specs.declared.numbers.Pid.{Pid}
 use Rattle.mm_life.specs.Frames.{record_at, is_read}
 use Rattle.mm_life.specs.Legal.{is_short}
-use Rattle.mm_walks.specs.Walks.{Walk, Through, walked_all, is_read_move, takes_frame, is_wrote_move}
-use Rattle.mm_walks.specs.Searches.{Starved}
-use Rattle.mm_walks.specs.Chores.{ending}
+use Rattle.mm_life.specs.Walks.{Walk, Through, walked_all, is_read_move, takes_frame, is_wrote_move}
+use Rattle.mm_life.specs.Searches.{Starved}
+use Rattle.mm_life.specs.Chores.{ending}
 use Rattle.mm_blocks.specs.Devices.{IsLater}
 use Rattle.mm_pages.specs.declared.outcomes.Done.{Done}
 use Rattle.mm_pages.specs.declared.outcomes.Done.TheVariants as done
@@ -24,6 +24,7 @@ use Rattle.mm_pages.specs.Accesses.{Aim, AccessMove, is_had}
 use Rattle.mm_life.specs.Life.{FrameLife, changed, same_place}
 use Rattle.mm_pages.specs.Conditions.{place_at}
 use Rattle.mm_pages.specs.Housekeeping.{Turns, Ends}
+use Rattle.mm_pages.specs.Leaving.{Leaving, page_rank}
 use Rattle.mm_pages.specs.Passing.{PassesIn}
 use Rattle.mm_paged.specs.Shown.{OwnOf, store_of, behind_of}
 use Rattle.mm_life.specs.Legal.{fits_place}
@@ -108,7 +109,8 @@ pub record Calm (s z : StateOf) : Type 0 where
 
 -- the names differ at most at the page's own place
 abbrev pub NamesFor : Key → StateOf → StateOf → Type 0
-NamesFor k s z = (place : Place) (v : Option Key) → fits_place place k ≡ true → changed same_place z.names place v ≡ changed same_place s.names place v
+NamesFor k s z = (place : Place) (v : Option Key) → fits_place place k ≡ true →
+    changed same_place z.names place v ≡ changed same_place s.names place v
 
 -- what failed, by the report: the read of the key, or a search
 pub record Fails (why : PageFault) (k : Key) (s z : StateOf) : Type 0 where
@@ -116,7 +118,8 @@ pub record Fails (why : PageFault) (k : Key) (s z : StateOf) : Type 0 where
   pub kept : why ≡ fault.NoFrame → z.told.last_failed_read ≡ s.told.last_failed_read
   pub short : why ≡ fault.NoFrame → is_short z.life ≡ true
   pub failed : why ≡ fault.NoFrame → 1 ≤ z.told.search_writes.failed
-  pub none : why ≡ fault.NoFrame → s.told.search_writes.succeeded ≡ 0 → z.told.search_writes.succeeded ≡ 0
+  pub none : why ≡ fault.NoFrame → s.told.search_writes.succeeded ≡ 0 →
+      z.told.search_writes.succeeded ≡ 0
   pub unframed : why ≡ fault.NoFrame → is_framed (z.life.stands k) ≡ false
   pub fault : SomeFault s z
   pub same : z ≡ called s z
@@ -173,7 +176,10 @@ pub data LetGo (p : Place) (s z : StateOf) : Type 0 where
 
 -- the own place of a private key can be let go, and is
 abbrev pub MayLetOwnGo : Key → StateOf → Type 0
-MayLetOwnGo (Private pid vpn) s = (s.bound (record { pid = pid; vpn = vpn }) ≡ true) × MayLetGo (record { pid = pid; vpn = vpn }) s
+MayLetOwnGo (Private pid vpn) s = (s.bound (record {
+  pid = pid;
+  vpn = vpn;
+}) ≡ true) × MayLetGo (record { pid = pid; vpn = vpn }) s
 MayLetOwnGo (Shared area index) s = Unit {0}
 
 abbrev pub OwnLetGo : Key → StateOf → StateOf → Type 0
@@ -190,9 +196,11 @@ pub record Thins (s z : StateOf) : Type 0 where
   pub waits : z.waits ≡ s.waits
   pub same : z ≡ moved s z
 
--- so places among these are, page by page, from one page number to before another
-abbrev pub LetsGo : (Place → Bool) → ℕ → ℕ → StateOf → StateOf → Type 0
-LetsGo held from to s z = (o u : OwnOf) → PassesIn false (Turns (Ends held from to)) (store_of s o) (store_of z u) (behind_of s) (behind_of z)
+-- so places among these are, page by page, from one rank to before another
+abbrev pub LetsGo : Leaving → ℕ → ℕ → StateOf → StateOf → Type 0
+LetsGo held from to s z = (o u : OwnOf) →
+    PassesIn false (Turns (Ends held from to)) (store_of s o) (store_of z u) (behind_of s)
+    (behind_of z)
 
 -- the i-th oldest request, counted from 1, has ended, well or not
 pub record EndsOne (i : ℕ) (ok : Bool) (s z : StateOf) : Type 0 where
@@ -207,10 +215,13 @@ EndsAs i done.None s z = (length s.life.flight < i) × (z ≡ s)
 EndsAs i done.Ok s z = EndsOne i true s z
 EndsAs i done.Failed s z = EndsOne i false s z
 
--- the lowest valid page of a process from `from` up to `end`, if there is one, is valid no more; `next` is the page to go on from
+-- the lowest valid page of a process from `from` up to `end`, if there is one, is valid no more;
+-- `next` is the page to go on from
 pub record NextGone (pid : Pid) (from end next : ℕ) (s z : StateOf) : Type 0 where
   pub more : from < next
   pub within : next ≤ end
-  pub went : (held : Place → Bool) → ((page : ℕ) → from ≤ page → page < end → held (place_at pid page) ≡ true) → LetsGo held from next s z
+  pub went : (held : Leaving)
+      → ((page : ℕ) → from ≤ page → page < end → held.places (place_at pid page) ≡ true)
+      → LetsGo held (page_rank from) (page_rank next) s z
   pub thins : Thins s z
   pub invalid : (page : ℕ) → from ≤ page → page < next → z.life.valid (place_at pid page) ≡ None

@@ -3,7 +3,7 @@ use Rattle.std.specs.Prelude.{◌≡◌, ◌≤◌, ℕ, Bool, true, false, leng
 use Rattle.mm_types.specs.Machine.{limit_of}
 use Rattle.mm_life.specs.Life.{counts_of}
 use Rattle.mm_life.specs.Legal.{is_touch, is_short, is_thread}
-use Rattle.mm_walks.specs.Waits.{wait_of}
+use Rattle.mm_life.specs.Waits.{wait_of}
 use Rattle.mm_world.specs.Report.{Report}
 use Rattle.mm_pages.specs.Behind.{Behind}
 use Rattle.mm_pages.specs.Store.{StoreOf, Ready}
@@ -63,7 +63,11 @@ ready_at None = None
 ready_at (Some w) = Some (record { place = w.place; need = need_for w.need w.key w.place })
 
 abbrev pub own_of : Option Bool → Option Wanted → ℕ → OwnOf
-own_of extended ready used = record { extended = extended; ready = ready_at ready; blocks_used = used }
+own_of extended ready used = record {
+  extended = extended;
+  ready = ready_at ready;
+  blocks_used = used;
+}
 
 -- what the store keeps of them at all times
 pub record Kept (s : StateOf) (o : OwnOf) : Type 0 where

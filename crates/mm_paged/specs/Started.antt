@@ -42,10 +42,12 @@ is_copy need.Copy = true
 
 -- a read of the page is in flight
 abbrev pub IsBeingRead : Key → StateOf → Type 0
-IsBeingRead k s = (f : Frame) × (s.life.stands k ≡ held.Frame f) × (is_read (record_at s.life.frames f.0).request ≡ true)
+IsBeingRead k s = (f : Frame) × (s.life.stands k ≡ held.Frame f) ×
+    (is_read (record_at s.life.frames f.0).request ≡ true)
 
 -- the access has begun so far as its moves go, and this is its answer
-pub record Begun (n : Need) (k : Key) (place : Place) (result : Start) (s z : StateOf) : Type 0 where
+pub record Begun (n : Need) (k : Key) (place : Place) (result : Start) (s z : StateOf) :
+    Type 0 where
   pub went : (a : Aim) → AimsAt a k place s → Went a 1 s z
   pub names : (z.names ≡ s.names) ⊎ (z.names ≡ changed same_place s.names place (Some k))
   pub slots : z.slots ≡ s.slots
@@ -55,10 +57,12 @@ pub record Begun (n : Need) (k : Key) (place : Place) (result : Start) (s z : St
   pub valid : result ≡ start.Ready → is_some (z.life.valid place) ≡ true
   pub room : result ≡ start.Ready → is_copy n ≡ true → is_short z.life ≡ false
   -- why it waits
-  pub at_once : (o : OwnOf) → waits_at_once s.life.machine.depth k (report_of s o) ≡ reason_at_once result
+  pub at_once : (o : OwnOf) →
+      waits_at_once s.life.machine.depth k (report_of s o) ≡ reason_at_once result
   pub reading : result ≡ start.Pending why.Read → IsBeingRead k z
   pub short : result ≡ start.Pending why.Frame → is_short z.life ≡ true
-  pub wanting : result ≡ start.Pending why.Frame → (is_framed (z.life.stands k) ≡ false) ⊎ (is_copy n ≡ true)
+  pub wanting : result ≡ start.Pending why.Frame → (is_framed (z.life.stands k) ≡ false) ⊎
+      (is_copy n ≡ true)
 
 -- what is ready then
 abbrev pub ready_after : Start → Need → Key → Place → Option Ready

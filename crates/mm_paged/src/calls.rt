@@ -8,9 +8,8 @@ use crate::making::build_file;
 use crate::paged::{Paged, Wanted};
 use crate::releasing::{let_all_go, let_own_go};
 use crate::starting::{ready_for, set_wait, start_key};
-use mm_flushing::FlushesMoves;
 use mm_moving::Moving;
-use mm_pages::{Done, Need, Pages, Start};
+use mm_pages::{Done, FlushesMoves, Need, Pages, Start};
 use mm_reclaim::{trim, write_out, zero};
 use mm_types::{
     Area, Block, Counts, Device, Direction, Failed, GrowFault, Key, LineKind, MakeFault, NoMemory,

@@ -7,7 +7,7 @@ ghost use Rattle.mm_pages.specs.Accesses.{Aim};
 ghost use Rattle.mm_pages.specs.Shortage.{is_framed};
 ghost use Rattle.mm_moving.specs.Shown.{Made};
 ghost use Rattle.mm_types.specs.declared.numbers.Place.{Place};
-ghost use Rattle.mm_located.specs.Carried.{IsSoiled};
+ghost use Rattle.mm_frame_laws.specs.Carried.{IsSoiled};
 ghost use Rattle.mm_parts.specs.Moves.{front};
 ghost use Rattle.mm_types.specs.declared.moves.Move.TheVariants as move;
 ghost use Rattle.mm_paged.specs.Pieces.{Went, InFrame, Soils};

@@ -2,6 +2,7 @@ ghost use Rattle.std.specs.Prelude.{◌≡◌, ◌≤◌, ◌<◌, ◌+◌, ◌-
 ghost use Rattle.mm_types.specs.declared.numbers.Key.TheVariants.{Private};
 ghost use Rattle.mm_types.specs.declared.numbers.Place.{Place};
 ghost use Rattle.mm_pages.specs.Conditions.{AreAmong, place_at};
+ghost use Rattle.mm_pages.specs.Leaving.{Leaving};
 ghost use Rattle.mm_paged.specs.Pieces.{LetGo, LetsGo, MayLetGo, MayLetOwnGo, NextGone, OwnLetGo, Thins};
 
 use mm_moving::Moving;
@@ -62,7 +63,7 @@ pub(crate) fn let_all_go<T: Moving>(state: &mut T, pid: Pid, first: Vpn, n: u32)
     requires may { (page : ℕ) → first.0 ≤ page → page < first.0 + n
         → MayLetGo (place_at pid page) (T.shown state.old) }
     requires low { first.0 + n < 2 ^ 32 }
-    ensures went { (held : Place → Bool) (from to : ℕ)
+    ensures went { (held : Leaving) (from to : ℕ)
         → AreAmong held from to pid (record { first = first.0; count = n })
         → LetsGo held from to (T.shown state.old) (T.shown state.new) }
     ensures thins { Thins (T.shown state.old) (T.shown state.new) }

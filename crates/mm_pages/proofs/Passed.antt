@@ -1,9 +1,10 @@
 -- What two calls of a store did, one after another.
-use Rattle.std.proofs.Common.{append-nil, ◌+◌, ◌≡◌, ℕ, ◌≤◌, List, [], ◌∷◌, ◌++◌, Bool, true, false, Option, Some, None, refl, sym, ap, ◌∙◌, subst, append_assoc, arith, ◌^◌}
+use Rattle.std.proofs.Common.{append-nil, ◌+◌, ◌≡◌, ℕ, ◌≤◌, ◌<◌, List, [], ◌∷◌, ◌++◌, Bool, true, false, Option, Some, None, refl, sym, ap, ◌∙◌, subst, append_assoc, arith, ◌^◌}
 use Rattle.mm_types.specs.declared.devices.Direction.{Direction}
 use Rattle.mm_types.specs.declared.frames.Backing.{Backing}
 use Rattle.mm_types.specs.declared.moves.Move.{Move}
 use Rattle.mm_types.specs.declared.moves.Move.TheVariants as move
+use Rattle.mm_types.specs.declared.numbers.Key.TheVariants as key
 use Rattle.mm_types.specs.declared.numbers.Place.{Place}
 use Rattle.mm_blocks.specs.declared.device_calls.DeviceCall.{DeviceCall}
 use Rattle.mm_life.specs.Life.{FrameLife}
@@ -14,10 +15,11 @@ use Rattle.mm_life.proofs.Replays.{replays_then, spelled-append, moves-append}
 use Rattle.mm_life.proofs.Noting.{grew_then, grew_nothing}
 use Rattle.mm_pages.specs.Store.{StoreOf}
 use Rattle.mm_pages.specs.Behind.{Behind}
-use Rattle.mm_walks.specs.Waits.{Waiting, waits_after, ages_after}
-use Rattle.mm_walks.specs.Walks.{waits_through, ages_through}
+use Rattle.mm_pages.specs.Leaving.{Leaving}
+use Rattle.mm_life.specs.Waits.{Waiting, waits_after, ages_after}
+use Rattle.mm_life.specs.Walks.{waits_through, ages_through}
 use Rattle.mm_pages.specs.Told.{Told, told_of, told_after, told_through, call_of, calls_of, in_slot, in_block}
-use Rattle.mm_pages.specs.Housekeeping.{Turn, MakesFrom, MakesStack, Ends, is_turn, AllTurn, with_some, number_made, numbers_made, Climbs, page_gone, pages_gone, Rises, LowestFirst, IsInOrder, Turned, ByMoves, Turns}
+use Rattle.mm_pages.specs.Housekeeping.{Turn, MakesFrom, MakesStack, Ends, is_turn, AllTurn, with_some, number_made, numbers_made, Climbs, rank_gone, ranks_gone, Rises, LowestFirst, IsInOrder, Turned, ByMoves, Turns}
 use Rattle.mm_pages.specs.Passing.{Passes, PassesIn}
 use Rattle.mm_blocks.proofs.Serving.{all_served_then, map-logged}
 use Rattle.mm_blocks.specs.Devices.{KeepsOthers}
@@ -32,11 +34,6 @@ waits_then (x ∷ xs) ys w = waits_then xs ys (waits_after x w)
 pub ages_then : (xs ys : List Move) (a : Place → ℕ) → ages_through (xs ++ ys) a ≡ ages_through ys (ages_through xs a)
 ages_then [] ys a = refl
 ages_then (x ∷ xs) ys a = ages_then xs ys (ages_after x a)
-
--- the state behind the first list
-pub replayed : (xs : List Move) (l : FrameLife) → FrameLife
-replayed [] l = l
-replayed (x ∷ xs) l = replayed xs (after_move l x)
 
 pub told_then : (xs ys : List Move) (l m : FrameLife) (r : Told) → Replays xs l m → told_through l (xs ++ ys) r ≡ told_through m ys (told_through l xs r)
 told_then [] ys l m r e = ap (λ (k : FrameLife). told_through k ys r) (sym e)
@@ -78,10 +75,11 @@ passes_then false P Q R s y z b c d j p q = passes_both P Q R s y z b c d j p q
 
 -- ---- more places, in a wider range
 
-is_turn_more : (held more : Place → Bool) (from to low high : ℕ) → ((p : Place) → held p ≡ true → more p ≡ true) → (m : Move) → is_turn (Ends held from to) m ≡ true → is_turn (Ends more low high) m ≡ true
+is_turn_more : (held more : Leaving) (from to low high : ℕ) → ((p : Place) → held.places p ≡ true → more.places p ≡ true) → (m : Move) → is_turn (Ends held from to) m ≡ true → is_turn (Ends more low high) m ≡ true
 is_turn_more held more from to low high h (move.At n k) e = e
 is_turn_more held more from to low high h (move.Add k b) e = e
-is_turn_more held more from to low high h (move.Drop k) e = e
+is_turn_more held more from to low high h (move.Drop (key.Private pid vpn)) e = h (record { pid = pid; vpn = vpn }) e
+is_turn_more held more from to low high h (move.Drop (key.Shared area index)) e = e
 is_turn_more held more from to low high h (move.Clear f) e = e
 is_turn_more held more from to low high h (move.Steal f) e = e
 is_turn_more held more from to low high h (move.Give f k) e = e
@@ -95,7 +93,7 @@ is_turn_more held more from to low high h (move.Write f s) e = e
 is_turn_more held more from to low high h (move.Wrote f) e = e
 is_turn_more held more from to low high h (move.Lost f) e = e
 
-all_turn_more : (held more : Place → Bool) (from to low high : ℕ) → ((p : Place) → held p ≡ true → more p ≡ true) → (ms : List Move) → AllTurn (Ends held from to) ms → AllTurn (Ends more low high) ms
+all_turn_more : (held more : Leaving) (from to low high : ℕ) → ((p : Place) → held.places p ≡ true → more.places p ≡ true) → (ms : List Move) → AllTurn (Ends held from to) ms → AllTurn (Ends more low high) ms
 all_turn_more held more from to low high h [] a = tt
 all_turn_more held more from to low high h (m ∷ ms) a = (is_turn_more held more from to low high h m a.0, all_turn_more held more from to low high h ms a.1)
 
@@ -119,9 +117,11 @@ pub made_then : (xs ys : List Move) → numbers_made (xs ++ ys) ≡ numbers_made
 made_then [] ys = refl
 made_then (x ∷ xs) ys = ap (with_some (number_made x)) (made_then xs ys) ∙ with-some-then (number_made x) (numbers_made xs) (numbers_made ys)
 
-pub gone_then : (xs ys : List Move) → pages_gone (xs ++ ys) ≡ pages_gone xs ++ pages_gone ys
-gone_then [] ys = refl
-gone_then (x ∷ xs) ys = ap (with_some (page_gone x)) (gone_then xs ys) ∙ with-some-then (page_gone x) (pages_gone xs) (pages_gone ys)
+pub gone_then : (rank : ℕ → ℕ) (xs ys : List Move) → ranks_gone rank (xs ++ ys) ≡ ranks_gone rank xs ++ ranks_gone rank ys
+gone_then rank [] ys = refl
+gone_then rank (x ∷ xs) ys =
+    ap (with_some (rank_gone rank x)) (gone_then rank xs ys)
+    ∙ with-some-then (rank_gone rank x) (ranks_gone rank xs) (ranks_gone rank ys)
 
 pub climbs_wider : (from low to high : ℕ) (ns : List ℕ) → low ≤ from → to ≤ high → Climbs from to ns → Climbs low high ns
 climbs_wider from low to high [] l h c = tt
@@ -171,7 +171,7 @@ all_of_stack : (guard from to : ℕ) (xs : List Move) → AllTurn (MakesFrom fro
 all_of_stack guard from to [] a = tt
 all_of_stack guard from to (x ∷ xs) a = (a.0, all_of_stack guard from to xs a.1)
 
-all_ends : (held : Place → Bool) (from to low high : ℕ) (xs : List Move) → AllTurn (Ends held from to) xs → AllTurn (Ends held low high) xs
+all_ends : (held : Leaving) (from to low high : ℕ) (xs : List Move) → AllTurn (Ends held from to) xs → AllTurn (Ends held low high) xs
 all_ends held from to low high xs a = all_turn_more held held from to low high (λ p e. e) xs a
 
 pub made_behind : (from mid to : ℕ) → from ≤ mid → mid ≤ to → (l m : FrameLife) (xs ys : List Move) → Replays xs l m → Turned (MakesFrom from mid) l xs → Turned (MakesFrom mid to) m ys → Turned (MakesFrom from to) l (xs ++ ys)
@@ -194,12 +194,12 @@ stack_then u guard s y z b c d p q =
     (λ xs ys v w. record { pages = numbers_made xs; last = numbers_made ys; whole = made_then xs ys; above = v; below = w }))) p q
 
 -- pages go in both calls
-pub ends_then : (u : Bool) (held : Place → Bool) (from mid to : ℕ) (s y z : StoreOf) (b c d : Behind) → from ≤ mid → mid ≤ to → PassesIn u (Turns (Ends held from mid)) s y b c → PassesIn u (Turns (Ends held mid to)) y z c d → PassesIn u (Turns (Ends held from to)) s z b d
+pub ends_then : (u : Bool) (held : Leaving) (from mid to : ℕ) (s y z : StoreOf) (b c d : Behind) → from ≤ mid → mid ≤ to → PassesIn u (Turns (Ends held from mid)) s y b c → PassesIn u (Turns (Ends held mid to)) y z c d → PassesIn u (Turns (Ends held from to)) s z b d
 ends_then u held from mid to s y z b c d l h p q =
     passes_then u (Turns (Ends held from mid)) (Turns (Ends held mid to)) (Turns (Ends held from to)) s y z b c d
     (turns_join (Ends held from mid) (Ends held mid to) (Ends held from to)
     (turned_then (Ends held from mid) (Ends held mid to) (Ends held from to) (all_ends held from mid from to) (all_ends held mid to from to)
-    (λ xs ys v w. subst (Rises from to) (sym (gone_then xs ys)) (rises_then from mid to (pages_gone xs) (pages_gone ys) l h v w)))) p q
+    (λ xs ys v w. subst (Rises from to) (sym (gone_then held.rank xs ys)) (rises_then from mid to (ranks_gone held.rank xs) (ranks_gone held.rank ys) l h v w)))) p q
 
 -- what is told of the moves, told otherwise
 turned_as : (u : Bool) (t v : Turn) (s z : StoreOf) (b c : Behind) → ((ms : List Move) → Turned t b.life ms → Turned v b.life ms) → PassesIn u (Turns t) s z b c → PassesIn u (Turns v) s z b c
@@ -229,16 +229,6 @@ pub makes_wider : (u : Bool) (from to low high : ℕ) (s z : StoreOf) (b c : Beh
 makes_wider u from to low high s z b c l h p =
     turned_as u (MakesFrom from to) (MakesFrom low high) s z b c
     (made_wider b.life from to low high l h) p
-
--- where no page goes, none goes from anywhere to anywhere
-none_rises : (from to : ℕ) (ps : List ℕ) → Rises 0 0 ps → Rises from to ps
-none_rises from to [] r = tt
-none_rises from to (p ∷ ps) r = absurd (omega (arith, r.1))
-
-pub ends_anywhere : (u : Bool) (held : Place → Bool) (from to : ℕ) (s z : StoreOf) (b c : Behind) → PassesIn u (Turns (Ends held 0 0)) s z b c → PassesIn u (Turns (Ends held from to)) s z b c
-ends_anywhere u held from to s z b c p =
-    turned_as u (Ends held 0 0) (Ends held from to) s z b c
-    (λ ms t. record { all = all_ends held 0 0 from to ms t.all; order = none_rises from to (pages_gone ms) t.order; lowest = t.lowest }) p
 
 -- ---- calls that make no move
 
@@ -315,8 +305,32 @@ turns_nothing false t s z b c e r p f k =
 pub turns_same : (u : Bool) (t : Turn) (s : StoreOf) (b : Behind) → PassesIn u (Turns t) s s b b
 turns_same u t s b = turns_nothing u t s s b b refl refl refl refl refl
 
--- more places, in a wider range
-pub ends_more : (u : Bool) (held more : Place → Bool) (from to low high : ℕ) (s z : StoreOf) (b c : Behind) → ((p : Place) → held p ≡ true → more p ≡ true) → low ≤ from → to ≤ high → PassesIn u (Turns (Ends held from to)) s z b c → PassesIn u (Turns (Ends more low high)) s z b c
-ends_more u held more from to low high s z b c h l e p =
-    turned_as u (Ends held from to) (Ends more low high) s z b c
-    (λ ms t. record { all = all_turn_more held more from to low high h ms t.all; order = rises_wider from low to high (pages_gone ms) l e t.order; lowest = t.lowest }) p
+-- in a wider range
+pub ends_wider : (u : Bool) (held : Leaving) (from to low high : ℕ) (s z : StoreOf) (b c : Behind)
+    → low ≤ from → to ≤ high
+    → PassesIn u (Turns (Ends held from to)) s z b c → PassesIn u (Turns (Ends held low high)) s z b c
+ends_wider u held from to low high s z b c l e p =
+    turned_as u (Ends held from to) (Ends held low high) s z b c
+    (λ ms t. record {
+      all = all_ends held from to low high ms t.all;
+      order = rises_wider from low to high (ranks_gone held.rank ms) l e t.order;
+      lowest = t.lowest;
+    }) p
+
+-- the last rank of one call is the first of the next
+rises_meet : (from rank to : ℕ) (ps qs : List ℕ) → from ≤ rank → rank < to
+    → Rises from (rank + 1) ps → Rises rank to qs → Rises from to (ps ++ qs)
+rises_meet from rank to [] qs l h p q = rises_wider rank from to to qs l (omega arith) q
+rises_meet from rank to (x ∷ ps) qs l h p q =
+    (p.0, omega (arith, h, p.1), rises_meet x rank to ps qs (omega (arith, p.1)) h p.2 q)
+
+pub ends_meet : (u : Bool) (held : Leaving) (from rank to : ℕ) (s y z : StoreOf) (b c d : Behind)
+    → from ≤ rank → rank < to → PassesIn u (Turns (Ends held from (rank + 1))) s y b c
+    → PassesIn u (Turns (Ends held rank to)) y z c d → PassesIn u (Turns (Ends held from to)) s z b d
+ends_meet u held from rank to s y z b c d l h p q =
+    passes_then u (Turns (Ends held from (rank + 1))) (Turns (Ends held rank to)) (Turns (Ends held from to)) s y z b c d
+    (turns_join (Ends held from (rank + 1)) (Ends held rank to) (Ends held from to)
+    (turned_then (Ends held from (rank + 1)) (Ends held rank to) (Ends held from to)
+    (all_ends held from (rank + 1) from to) (all_ends held rank to from to)
+    (λ xs ys v w. subst (Rises from to) (sym (gone_then held.rank xs ys))
+    (rises_meet from rank to (ranks_gone held.rank xs) (ranks_gone held.rank ys) l h v w)))) p q

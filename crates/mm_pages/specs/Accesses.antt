@@ -19,13 +19,14 @@ use Rattle.mm_types.specs.declared.answers.Why.TheVariants as why
 use Rattle.mm_pages.specs.declared.outcomes.Start.{Start}
 use Rattle.mm_pages.specs.declared.outcomes.Start.TheVariants as start
 use Rattle.mm_pages.specs.Behind.{Behind}
-use Rattle.mm_walks.specs.Waits.{Waiting, Idle, ForFrame}
-use Rattle.mm_walks.specs.Walks.{Walk, Through, walked_all, waits_through, ages_through, is_read_move, takes_frame, is_wrote_move}
-use Rattle.mm_walks.specs.Order.{IsOldest, IsVictim}
-use Rattle.mm_walks.specs.Searches.{IsWriteEnded, Starved, next_writable}
+use Rattle.mm_life.specs.Waits.{Waiting, Idle, ForFrame}
+use Rattle.mm_life.specs.Walks.{Walk, Through, walked_all, waits_through, ages_through, is_read_move, takes_frame, is_wrote_move}
+use Rattle.mm_life.specs.Order.{IsOldest, IsVictim}
+use Rattle.mm_life.specs.Searches.{IsWriteEnded, Starved, next_writable}
 use Rattle.mm_pages.specs.Shortage.{is_shortage}
 
--- what an access is about: its place, what it needs, whether it writes, and how the frames stood when its line began
+-- what an access is about: its place, what it needs, whether it writes, and how the frames stood
+-- when its line began
 pub record Aim : Type 0 where
   pub place : Place
   pub need : Need
@@ -65,12 +66,14 @@ IsMapped p (m ∷ ms) = (f : Frame) × (m ≡ move.Map f p)
 abbrev pub is_copied : Need → FrameLife → Bool
 is_copied n l = unwrap_or (option_map (λ k. is_live l k) n.copy) false
 
--- a page goes in an access: by a copy, of the access's own place; the oldest of a full set right before the map into it; or in shortage, where
--- each frame that can be written was tried
+-- a page goes in an access: by a copy, of the access's own place; the oldest of a full set right
+-- before the map into it; or in shortage, where each frame that can be written was tried
 pub data Goes (a : Aim) (w : Walk) (p : Place) (rest : List Move) : Type 0 where
   ByCopy : p ≡ a.place → is_copied a.need w.life ≡ true → Goes a w p rest
-  FromFull : p.pid ≡ a.place.pid → is_at_max (set_of w.life p.pid.0) ≡ true → IsOldest w.life w.ages None p → IsMapped a.place rest → Goes a w p rest
-  InShortage : is_shortage a.need w.life ≡ true → next_writable w ≡ None → IsVictim w.life w.ages (w.life.valid a.place) p → Goes a w p rest
+  FromFull : p.pid ≡ a.place.pid → is_at_max (set_of w.life p.pid.0) ≡ true →
+      IsOldest w.life w.ages None p → IsMapped a.place rest → Goes a w p rest
+  InShortage : is_shortage a.need w.life ≡ true → next_writable w ≡ None →
+      IsVictim w.life w.ages (w.life.valid a.place) p → Goes a w p rest
 
 -- what each move of an access is
 abbrev pub AccessMove : Aim → Walk → Move → List Move → Type 0
@@ -82,13 +85,15 @@ AccessMove a w (move.Clear f) rest = IsTaken f rest
 AccessMove a w (move.Steal f) rest = IsTaken f rest
 AccessMove a w (move.Give f k) rest = (k ≡ a.need.key) ⊎ (a.need.copy ≡ Some k)
 AccessMove a w (move.Read f k) rest =
-    (k ≡ a.need.key) × (is_had a.start (a.start.stands k) ≡ false) × (is_access w.life.kind ≡ true → IsReadEnded f rest)
+    (k ≡ a.need.key) × (is_had a.start (a.start.stands k) ≡ false) ×
+    (is_access w.life.kind ≡ true → IsReadEnded f rest)
 AccessMove a w (move.Got f) rest = (record_at w.life.frames f.0).owner ≡ Some a.need.key
 AccessMove a w (move.Bad f) rest = (record_at w.life.frames f.0).owner ≡ Some a.need.key
 AccessMove a w (move.Map f p) rest = p ≡ a.place
 AccessMove a w (move.Unmap p) rest = Goes a w p rest
 AccessMove a w (move.Soil f) rest = (a.writes ≡ true) × (w.life.valid a.place ≡ Some f)
-AccessMove a w (move.Write f s) rest = (is_shortage a.need w.life ≡ true) × (next_writable w ≡ Some f.0) × IsWriteEnded f rest
+AccessMove a w (move.Write f s) rest = (is_shortage a.need w.life ≡ true) ×
+    (next_writable w ≡ Some f.0) × IsWriteEnded f rest
 AccessMove a w (move.Wrote f) rest = is_on f.0 a.start.flight ≡ false
 AccessMove a w (move.Lost f) rest = is_on f.0 a.start.flight ≡ false
 
@@ -101,7 +106,8 @@ pub record AccessMoves (a : Aim) (b : Behind) (moves : List Move) : Type 0 where
   pub one_read : count_by is_read_move moves ≤ 1
   pub few_writes : count_by is_wrote_move moves ≤ count_by takes_frame moves
 
--- of an access answered with its bytes: its place is valid and as young as can be, and no thread waits but by its moves
+-- of an access answered with its bytes: its place is valid and as young as can be, and no thread
+-- waits but by its moves
 pub record Had (a : Aim) (b : Behind) (moves : List Move) (c : Behind) : Type 0 where
   pub made : AccessMoves a b moves
   pub waits : c.waits ≡ waits_through moves b.waits
@@ -109,29 +115,35 @@ pub record Had (a : Aim) (b : Behind) (moves : List Move) (c : Behind) : Type 0 
   pub ages : c.ages ≡ changed same_place (ages_through moves b.ages) a.place 0
 
 -- of an access that failed
-pub record Failed (a : Aim) (why : PageFault) (b : Behind) (moves : List Move) (c : Behind) : Type 0 where
+pub record Failed (a : Aim) (why : PageFault) (b : Behind) (moves : List Move) (c : Behind) :
+    Type 0 where
   pub made : AccessMoves a b moves
   pub waits : c.waits ≡ waits_through moves b.waits
   pub ages : c.ages ≡ ages_through moves b.ages
-  pub starved : why ≡ fault.NoFrame → Starved (c.life.valid a.place) (walked_all (walk_from b) moves)
+  pub starved : why ≡ fault.NoFrame →
+      Starved (c.life.valid a.place) (walked_all (walk_from b) moves)
 
-abbrev pub AccessEnds : {T : Type 0} → Aim → Result T PageFault → Behind → List Move → Behind → Type 0
+abbrev pub AccessEnds : {T : Type 0} → Aim → Result T PageFault → Behind → List Move → Behind →
+    Type 0
 AccessEnds a (Ok v) b moves c = Had a b moves c
 AccessEnds a (Err f) b moves c = Failed a f b moves c
 
 -- of an access at a place that is ready: no move, or the page is soiled
 abbrev pub ReadyMoves : Aim → List Move → Behind → Type 0
 ReadyMoves a [] b = Unit {0}
-ReadyMoves a (m ∷ []) b = (f : Frame) × (m ≡ move.Soil f) × (a.writes ≡ true) × (b.life.valid a.place ≡ Some f)
+ReadyMoves a (m ∷ []) b = (f : Frame) × (m ≡ move.Soil f) × (a.writes ≡ true) ×
+    (b.life.valid a.place ≡ Some f)
 ReadyMoves a (m ∷ n ∷ ms) b = ⊥
 
 -- of a `read` or a `write`, of a place that was ready or not
-pub record Touches {T : Type 0} (a : Aim) (IsReady : Type 0) (result : Result T PageFault) (b : Behind) (moves : List Move) (c : Behind) : Type 0 where
+pub record Touches {T : Type 0} (a : Aim) (IsReady : Type 0) (result : Result T PageFault)
+    (b : Behind) (moves : List Move) (c : Behind) : Type 0 where
   pub ends : AccessEnds a result b moves c
   pub calm : IsReady → ReadyMoves a moves b
 
 -- of a `copy`: where it was ready it reads no page
-pub record Copies {T : Type 0} (a : Aim) (IsReady : Type 0) (result : Result T PageFault) (b : Behind) (moves : List Move) (c : Behind) : Type 0 where
+pub record Copies {T : Type 0} (a : Aim) (IsReady : Type 0) (result : Result T PageFault)
+    (b : Behind) (moves : List Move) (c : Behind) : Type 0 where
   pub ends : AccessEnds a result b moves c
   pub calm : IsReady → count_by is_read_move moves ≡ 0
 
@@ -142,9 +154,11 @@ wait_begun (start.Pending why.Read) (held.Frame f) = ForFrame f.0
 wait_begun _ _ = Idle
 
 -- of an access of a thread, which waits for no device
-pub record Starts (a : Aim) (tid : ℕ) (result : Start) (b : Behind) (moves : List Move) (c : Behind) : Type 0 where
+pub record Starts (a : Aim) (tid : ℕ) (result : Start) (b : Behind) (moves : List Move)
+    (c : Behind) : Type 0 where
   pub made : AccessMoves a b moves
-  pub waits : c.waits ≡ changed ◌==◌ (waits_through moves b.waits) tid (wait_begun result (c.life.stands a.need.key))
+  pub waits : c.waits ≡
+      changed ◌==◌ (waits_through moves b.waits) tid (wait_begun result (c.life.stands a.need.key))
   pub ages : c.ages ≡ ages_through moves b.ages
   pub slots : c.slots ≡ b.slots
   pub valid : result ≡ start.Ready → is_some (c.life.valid a.place) ≡ true

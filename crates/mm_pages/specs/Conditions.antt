@@ -11,6 +11,7 @@ use Rattle.mm_types.specs.Machine.{MachineOf}
 use Rattle.mm_world.specs.World.{Page}
 use Rattle.mm_world.specs.Failure.{Need}
 use Rattle.mm_pages.specs.Store.{StoreOf, own_key, kind_of_machine}
+use Rattle.mm_pages.specs.Leaving.{Leaving, page_rank}
 use Rattle.mm_pages.specs.Reports.{IsBegun}
 use Rattle.mm_types.specs.declared.answers.Wait.{Wait}
 use Rattle.mm_types.specs.declared.answers.Wait.TheVariants as wait
@@ -73,7 +74,8 @@ abbrev pub AllBound : StoreOf → Pid → Range → Bool → Type 0
 AllBound s pid range b = (page : ℕ) → holds_page range page ≡ true → s.bound (place_at pid page) ≡ b
 
 abbrev pub NoneNamed : StoreOf → Pid → Range → Type 0
-NoneNamed s pid range = (page : ℕ) → holds_page range page ≡ true → s.names (place_at pid page) ≡ None
+NoneNamed s pid range = (page : ℕ) → holds_page range page ≡ true →
+    s.names (place_at pid page) ≡ None
 
 -- a place that names a key is given up in a line that unbinds pages of that process
 abbrev pub MayUnbind : StoreOf → Pid → Range → Type 0
@@ -81,14 +83,22 @@ MayUnbind s pid range = (s.kind ≡ kind.Unbind pid) ⊎ (IsReleasing s.kind × 
 
 -- a private key of a bound place that names none, or an index of an open area
 abbrev pub HasHome : StoreOf → Key → Type 0
-HasHome s (key.Private pid vpn) = (s.bound (record { pid = pid; vpn = vpn }) ≡ true) × (s.names (record { pid = pid; vpn = vpn }) ≡ None)
+HasHome s (key.Private pid vpn) = (s.bound (record {
+  pid = pid;
+  vpn = vpn;
+}) ≡ true) × (s.names (record { pid = pid; vpn = vpn }) ≡ None)
 HasHome s (key.Shared area index) = (pages : ℕ) × ((s.areas area.0 ≡ Some pages) × (index < pages))
 
--- a private key that its place names goes in a line that unbinds pages of its process; a shared one is named by no place
+-- a private key that its place names goes in a line that unbinds pages of its process; a shared one
+-- is named by no place
 abbrev pub MayRemove : StoreOf → Key → Type 0
 MayRemove s (key.Private pid vpn) =
-    (s.kind ≡ kind.Unbind pid) ⊎ (IsReleasing s.kind × (s.names (record { pid = pid; vpn = vpn }) ≡ None))
-MayRemove s (key.Shared area index) = IsReleasing s.kind × ((place : Place) → s.names place ≡ Some (key.Shared area index) → ⊥)
+    (s.kind ≡ kind.Unbind pid) ⊎ (IsReleasing s.kind × (s.names (record {
+      pid = pid;
+      vpn = vpn;
+    }) ≡ None))
+MayRemove s (key.Shared area index) = IsReleasing s.kind ×
+    ((place : Place) → s.names place ≡ Some (key.Shared area index) → ⊥)
 
 -- a private key is used at its own place alone, a shared one where the place has no key of its own
 abbrev pub IsHomeAt : (Key → Option Page) → Place → Key → Type 0
@@ -96,7 +106,8 @@ IsHomeAt contents place (key.Private pid vpn) = key.Private pid vpn ≡ own_key 
 IsHomeAt contents place (key.Shared area index) = contents (own_key place) ≡ None
 
 -- a key can be used at a place that is bound and names none or this key
-pub record IsAt (contents : Key → Option Page) (s : StoreOf) (place : Place) (k : Key) : Type 0 where
+pub record IsAt (contents : Key → Option Page) (s : StoreOf) (place : Place) (k : Key) :
+    Type 0 where
   pub live : IsSome (contents k)
   pub home : IsHomeAt contents place k
   pub bound : s.bound place ≡ true
@@ -154,11 +165,13 @@ abbrev pub need_for : Wanted → Key → Place → Need
 need_for wanted.Touch k place = touch k
 need_for wanted.Copy k place = copying k place
 
--- why it waits whatever frames there are: a read of the page that is in flight, or must be begun, or cannot be
+-- why it waits whatever frames there are: a read of the page that is in flight, or must be begun,
+-- or cannot be
 abbrev pub waits_at_once : ℕ → Key → Report → Option Why
 waits_at_once depth k before =
     if is_being_read (before.whereabouts k) then Some why.Read
-    else if is_in_store (before.whereabouts k) && nat_le depth before.counts.requests then Some why.Full
+    else if is_in_store (before.whereabouts k) && nat_le depth before.counts.requests then
+    Some why.Full
     else if is_in_store (before.whereabouts k) && not (is_short before) then Some why.Read
     else None
 
@@ -169,13 +182,17 @@ wait_after _ = wait.None
 
 -- ---- places that pages are taken from
 
--- these pages of the process are among the places, from one page number to before another
-pub record AreAmong (held : Place → Bool) (from to : ℕ) (pid : Pid) (range : Range) : Type 0 where
-  pub each : (page : ℕ) → holds_page range page ≡ true → held (place_at pid page) ≡ true
-  pub first : from ≤ range.first
-  pub last : range.first + range.count ≤ to
+-- these pages of the process are among the places, from one rank to before another
+pub record AreAmong (held : Leaving) (from to : ℕ) (pid : Pid) (range : Range) : Type 0 where
+  pub each : (page : ℕ) → holds_page range page ≡ true → held.places (place_at pid page) ≡ true
+  pub first : from ≤ page_rank range.first
+  pub last : page_rank (range.first + range.count) ≤ to
 
--- so is the page that a key is its own; of a shared key, none of its area below it lives
-abbrev pub IsAmong : (Key → Option Page) → (Place → Bool) → ℕ → ℕ → Key → Type 0
-IsAmong contents held from to (key.Private pid vpn) = (held (record { pid = pid; vpn = vpn }) ≡ true) × (from ≤ vpn.0) × (vpn.0 < to)
-IsAmong contents held from to (key.Shared area index) = (i : ℕ) → i < index → contents (key.Shared area i) ≡ None
+-- so is the page that a key is its own; so is the area of a shared key, of which none below lives
+abbrev pub IsAmong : (Key → Option Page) → Leaving → ℕ → ℕ → Key → Type 0
+IsAmong contents held from to (key.Private pid vpn) =
+    (held.places (record { pid = pid; vpn = vpn }) ≡ true)
+    × (from ≤ page_rank vpn.0) × (page_rank vpn.0 < to)
+IsAmong contents held from to (key.Shared area index) =
+    (from ≤ held.rank area.0) × (held.rank area.0 < to)
+    × ((i : ℕ) → i < index → contents (key.Shared area i) ≡ None)

@@ -14,7 +14,7 @@ use Rattle.mm_types.specs.declared.numbers.Key.{Key}
 use Rattle.mm_life.specs.Frames.{record_at}
 use Rattle.mm_life.specs.Life.{FrameLife}
 use Rattle.mm_life.specs.Effect.{after_move}
-use Rattle.mm_walks.specs.Walks.{is_lost_move}
+use Rattle.mm_life.specs.Walks.{is_lost_move}
 
 -- ---- one page
 
@@ -36,10 +36,12 @@ abbrev pub IsWrittenIf : Bool → Frame → List Move → Type 0
 IsWrittenIf true f ms = IsWrittenNow f ms
 IsWrittenIf false f ms = ms ≡ []
 
--- its write that is in flight is ended; where that was made and the page was written to meanwhile, it is written now
+-- its write that is in flight is ended; where that was made and the page was written to meanwhile,
+-- it is written now
 abbrev pub IsEndedFirst : Bool → Frame → List Move → Type 0
 IsEndedFirst again f [] = ⊥
-IsEndedFirst again f (x ∷ ms) = ((x ≡ move.Wrote f) × IsWrittenIf again f ms) ⊎ ((x ≡ move.Lost f) × (ms ≡ []))
+IsEndedFirst again f (x ∷ ms) = ((x ≡ move.Wrote f) × IsWrittenIf again f ms) ⊎
+    ((x ≡ move.Lost f) × (ms ≡ []))
 
 -- of a page in a frame, by what is kept of the frame
 abbrev pub FlushesBy : Request → Bool → Frame → List Move → Type 0
@@ -72,5 +74,7 @@ life_through l (m ∷ ms) = life_through (after_move l m) ms
 abbrev pub Flushing : FrameLife → List Key → List Move → Type 0
 Flushing l [] ms = ms ≡ []
 Flushing l (k ∷ ks) ms =
-    (front : List Move) × ((behind : List Move) × ((ms ≡ front ++ behind) × FlushedAt l (l.stands k) front
-    × (ends_lost front ≡ true → behind ≡ []) × (ends_lost front ≡ false → Flushing (life_through l front) ks behind)))
+    (front : List Move) ×
+    ((behind : List Move) × ((ms ≡ front ++ behind) × FlushedAt l (l.stands k) front
+    × (ends_lost front ≡ true → behind ≡ []) ×
+    (ends_lost front ≡ false → Flushing (life_through l front) ks behind)))

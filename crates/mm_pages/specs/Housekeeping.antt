@@ -6,7 +6,7 @@ use Rattle.mm_types.specs.declared.faults.GrowFault.{GrowFault}
 use Rattle.mm_types.specs.declared.faults.GrowFault.TheVariants as grow_fault
 use Rattle.mm_types.specs.declared.answers.Answer.{Answer}
 use Rattle.mm_types.specs.declared.answers.Answer.TheVariants as answer
-use Rattle.mm_types.specs.Address.{page_of}
+use Rattle.mm_types.specs.Address.{page_of, end_of_user_pages}
 use Rattle.mm_world.specs.World.{filled}
 use Rattle.mm_pages.specs.declared.outcomes.Done.{Done}
 use Rattle.mm_pages.specs.declared.outcomes.Done.TheVariants as done
@@ -20,8 +20,9 @@ use Rattle.mm_life.specs.Frames.{record_at}
 use Rattle.mm_life.specs.Effect.{after_move}
 use Rattle.mm_life.specs.Life.{FrameLife, set_of, is_live}
 use Rattle.mm_pages.specs.Behind.{Behind}
-use Rattle.mm_walks.specs.Walks.{Through, waits_through, ages_through}
-use Rattle.mm_walks.specs.Chores.{TrimMove, spare_of, all_aged, frame_of, clearings, writes_begun, ending}
+use Rattle.mm_pages.specs.Leaving.{Leaving, page_rank}
+use Rattle.mm_life.specs.Walks.{Through, waits_through, ages_through}
+use Rattle.mm_life.specs.Chores.{TrimMove, spare_of, all_aged, frame_of, clearings, writes_begun, ending}
 use Rattle.mm_pages.specs.Accesses.{walk_from}
 use Rattle.mm_pages.specs.Flushing.{FlushedAt, ends_lost, Flushing}
 
@@ -32,16 +33,20 @@ pub record ByMoves (b : Behind) (moves : List Move) (c : Behind) : Type 0 where
 
 -- ---- calls that make pages and calls that end them
 
--- pages come to be, from the first number to before the last; or those of a new stack with this guard page do; or pages go: places among these are valid no more, page by
--- page, from the first number to before the last
+-- pages come to be, from the first number to before the last; or those of a new stack with this
+-- guard page do; or these go, from the first rank to before the last
 pub data Turn : Type 0 where
   MakesFrom : ℕ → ℕ → Turn
   MakesStack : ℕ → Turn
-  Ends : (Place → Bool) → ℕ → ℕ → Turn
+  Ends : Leaving → ℕ → ℕ → Turn
 
 -- whatever the number: pages and indices are below 2^32
 abbrev pub Makes : Turn
 Makes = MakesFrom 0 (2 ^ 32)
+
+-- whatever the rank: none of a page or of an area that goes is 0
+abbrev pub Goes : Leaving → Turn
+Goes held = Ends held 1 (page_rank end_of_user_pages)
 
 abbrev pub is_add : Move → Bool
 is_add (move.Add k b) = true
@@ -50,8 +55,12 @@ is_add _ = false
 abbrev pub is_turn : Turn → Move → Bool
 is_turn (MakesFrom from to) m = is_add m
 is_turn (MakesStack guard) m = is_add m
-is_turn (Ends held from to) (move.Unmap p) = held p
-is_turn (Ends held from to) (move.Drop k) = true
+is_turn (Ends held from to) (move.Unmap p) = held.places p
+is_turn (Ends held from to) (move.Drop (key.Private pid vpn)) = held.places (record {
+  pid = pid;
+  vpn = vpn;
+})
+is_turn (Ends held from to) (move.Drop (key.Shared area index)) = true
 is_turn (Ends held from to) _ = false
 
 abbrev pub AllTurn : Turn → List Move → Type 0
@@ -97,27 +106,33 @@ pub record IsStack (guard : ℕ) (ns : List ℕ) : Type 0 where
 
 -- ---- the order in which pages go
 
--- the page of a process that a move takes away: a place's, or that of a private key
-abbrev pub page_gone : Move → Option ℕ
-page_gone (move.Unmap p) = Some p.vpn.0
-page_gone (move.Drop (key.Private pid vpn)) = Some vpn.0
-page_gone _ = None
+-- of a place and of a private key its page's rank, of a key of an area the area's
+abbrev pub rank_gone : (ℕ → ℕ) → Move → Option ℕ
+rank_gone rank (move.Unmap p) = Some (page_rank p.vpn.0)
+rank_gone rank (move.Drop (key.Private pid vpn)) = Some (page_rank vpn.0)
+rank_gone rank (move.Drop (key.Shared area index)) = Some (rank area.0)
+rank_gone rank _ = None
 
-abbrev pub pages_gone : List Move → List ℕ
-pages_gone [] = []
-pages_gone (m ∷ ms) = with_some (page_gone m) (pages_gone ms)
+abbrev pub ranks_gone : (ℕ → ℕ) → List Move → List ℕ
+ranks_gone rank [] = []
+ranks_gone rank (m ∷ ms) = with_some (rank_gone rank m) (ranks_gone rank ms)
 
--- in rising order, the same page perhaps twice (its place, then its key), from one number to before another
+-- in rising order, the same rank perhaps again (of a page's place, then its key; of the keys of an
+-- area), from one rank to before another
 abbrev pub Rises : ℕ → ℕ → List ℕ → Type 0
 Rises from to [] = Unit {0}
-Rises from to (page ∷ pages) = (from ≤ page) × (page < to) × Rises page to pages
+Rises from to (rank ∷ ranks) = (from ≤ rank) × (rank < to) × Rises rank to ranks
 
--- where a key of an area goes, none below it lives
+-- where a private key goes, its place is valid no more; where a key of an area goes, none below it
+-- lives
 abbrev pub IsLowest : FrameLife → Move → Type 0
-IsLowest l (move.Drop (key.Shared area index)) = (i : ℕ) → i < index → is_live l (key.Shared area i) ≡ false
+IsLowest l (move.Drop (key.Private pid vpn)) = l.valid (record { pid = pid; vpn = vpn }) ≡ None
+IsLowest l (move.Drop (key.Shared area index)) = (i : ℕ) → i < index →
+    is_live l (key.Shared area i) ≡ false
 IsLowest l _ = Unit {0}
 
--- of each area the lowest key that lives goes first
+-- each page goes with its place before its key, and of each area the lowest key that lives goes
+-- first
 abbrev pub LowestFirst : FrameLife → List Move → Type 0
 LowestFirst l [] = Unit {0}
 LowestFirst l (m ∷ ms) = IsLowest l m × LowestFirst (after_move l m) ms
@@ -127,7 +142,7 @@ LowestFirst l (m ∷ ms) = IsLowest l m × LowestFirst (after_move l m) ms
 abbrev pub IsInOrder : Turn → List Move → Type 0
 IsInOrder (MakesFrom from to) ms = Climbs from to (numbers_made ms)
 IsInOrder (MakesStack guard) ms = IsStack guard (numbers_made ms)
-IsInOrder (Ends held from to) ms = Rises from to (pages_gone ms)
+IsInOrder (Ends held from to) ms = Rises from to (ranks_gone held.rank ms)
 
 pub record Turned (t : Turn) (l : FrameLife) (moves : List Move) : Type 0 where
   pub all : AllTurn t moves
@@ -178,7 +193,8 @@ WritesOut n b moves c = Exactly (writes_begun n b.life b.life.frames.modified) b
 -- ---- `complete`
 
 -- the i-th oldest request, counted from 1, ended
-pub record Completes (i : ℕ) (ok : Bool) (b : Behind) (moves : List Move) (c : Behind) : Type 0 where
+pub record Completes (i : ℕ) (ok : Bool) (b : Behind) (moves : List Move) (c : Behind) :
+    Type 0 where
   pub frame : ℕ
   pub found : slice_get b.life.flight (i - 1) ≡ Some frame
   pub one : moves ≡ ending (record_at b.life.frames frame) (frame_of frame) ok ∷ []
@@ -197,7 +213,8 @@ pub record Grows (line n : ℕ) (b : Behind) (moves : List Move) (c : Behind) : 
   pub moved : ByMoves b moves c
   pub slots : c.slots ≡ b.slots ++ replicate n (filled 0)
 
-abbrev pub GrowsAs : {T : Type 0} → ℕ → ℕ → Result T GrowFault → Behind → List Move → Behind → Type 0
+abbrev pub GrowsAs : {T : Type 0} → ℕ → ℕ → Result T GrowFault → Behind → List Move → Behind →
+    Type 0
 GrowsAs line n (Ok v) b moves c = Grows line n b moves c
 GrowsAs line n (Err grow_fault.Failed) b moves c = OneMove (move.At line kind.Call) b moves c
 GrowsAs line n (Err grow_fault.Memory) b moves c = NoMove b moves c
@@ -205,7 +222,8 @@ GrowsAs line n (Err grow_fault.Memory) b moves c = NoMove b moves c
 -- ---- `flush`
 
 -- of one page: where it failed, its last write was lost
-pub record FlushesPage (k : Key) (ok : Bool) (b : Behind) (moves : List Move) (c : Behind) : Type 0 where
+pub record FlushesPage (k : Key) (ok : Bool) (b : Behind) (moves : List Move) (c : Behind) :
+    Type 0 where
   pub page : FlushedAt b.life (b.life.stands k) moves
   pub ends : ends_lost moves ≡ not ok
   pub moved : ByMoves b moves c

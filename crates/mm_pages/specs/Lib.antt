@@ -1,5 +1,6 @@
 pub mod Tallies
 pub mod Store
+pub mod Leaving
 pub mod Reports
 pub mod Conditions
 pub mod Behind

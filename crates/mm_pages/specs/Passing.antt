@@ -1,4 +1,5 @@
--- What a call of a store did: moves that replay, noted in order, and the device calls that they stand for.
+-- What a call of a store did: moves that replay, noted in order, and the device calls that they
+-- stand for.
 use Rattle.std.specs.Prelude.{◌≡◌, ◌<◌, ℕ, zero, suc, ◌+◌, Bool, true, false, List, [], ◌∷◌, ◌++◌, map, Result, Ok, Err}
 use Rattle.mm_types.specs.declared.devices.Direction.TheVariants as way
 use Rattle.mm_types.specs.declared.faults.MakeFault.{MakeFault}
@@ -15,7 +16,8 @@ use Rattle.mm_pages.specs.Behind.{Behind}
 use Rattle.mm_pages.specs.Told.{told_of, told_through, paging_traffic, file_traffic}
 
 -- moves of which this holds
-pub record Passes (That : Behind → List Move → Behind → Type 0) (s z : StoreOf) (b c : Behind) : Type 0 where
+pub record Passes (That : Behind → List Move → Behind → Type 0) (s z : StoreOf) (b c : Behind) :
+    Type 0 where
   pub moves : List Move
   pub in_range : AreMoves moves
   pub grew : Grew b.log c.log (spelled_moves moves)
@@ -35,11 +37,13 @@ pub record Passes (That : Behind → List Move → Behind → Type 0) (s z : Sto
   pub blocks_kept : KeepsOthers (file_traffic b.life moves) s.file_blocks z.file_blocks
 
 -- of any store: where it pages nothing, what stands behind it is as before
-abbrev pub PassesIn : Bool → (Behind → List Move → Behind → Type 0) → StoreOf → StoreOf → Behind → Behind → Type 0
+abbrev pub PassesIn : Bool → (Behind → List Move → Behind → Type 0) → StoreOf → StoreOf → Behind →
+    Behind → Type 0
 PassesIn true That s z b c = c ≡ b
 PassesIn false That s z b c = Passes That s z b c
 
--- moves of which this holds, in a line that calls devices otherwise: a file is made, or the paging device grows
+-- moves of which this holds, in a line that calls devices otherwise: a file is made, or the paging
+-- device grows
 pub record Notes (That : Behind → List Move → Behind → Type 0) (b c : Behind) : Type 0 where
   pub moves : List Move
   pub in_range : AreMoves moves
@@ -55,7 +59,11 @@ NotesIn false That b c = Notes That b c
 
 abbrev pub writes_from : ℕ → ℕ → List DeviceCall
 writes_from first zero = []
-writes_from first (suc n) = record { direction = way.Write; block = first; succeeded = true } ∷ writes_from (first + 1) n
+writes_from first (suc n) = record {
+  direction = way.Write;
+  block = first;
+  succeeded = true;
+} ∷ writes_from (first + 1) n
 
 abbrev pub last_write : Bool → ℕ → List DeviceCall
 last_write true block = []

@@ -1,4 +1,5 @@
--- How what a store shows stands to what is behind it: live keys, counts, where pages are, what is valid, where bytes stand.
+-- How what a store shows stands to what is behind it: live keys, counts, where pages are, what is
+-- valid, where bytes stand.
 use Rattle.std.specs.Prelude.{◌≡◌, ◌<◌, ℕ, ◌+◌, Bool, true, false, if◌then◌else◌, is_some, List, length, slice_get, Option, Some, None}
 use Rattle.mm_types.specs.declared.frames.Backing.{Backing}
 use Rattle.mm_types.specs.declared.frames.Backing.TheVariants as backing
@@ -15,7 +16,7 @@ use Rattle.mm_world.specs.World.{Page, filled}
 use Rattle.mm_world.specs.Report.{Whereabouts, InFrame, BeingRead, AtZero, InStore}
 use Rattle.mm_pages.specs.Store.{StoreOf}
 use Rattle.mm_pages.specs.Behind.{Behind, nothing_behind}
-use Rattle.mm_walks.specs.Waits.{wait_of}
+use Rattle.mm_life.specs.Waits.{wait_of}
 
 -- where a key's page is
 abbrev pub framed_where : Record → Whereabouts
@@ -28,14 +29,16 @@ where_of l (held.Block b) = Some InStore
 where_of l held.Zero = Some AtZero
 where_of l held.Dead = None
 
--- where the bytes of a key stand on a device: in its home, or, where its frame is not changed, in that frame's backing
+-- where the bytes of a key stand on a device: in its home, or, where its frame is not changed, in
+-- that frame's backing
 abbrev pub in_backing : Backing → Held
 in_backing backing.None = held.Dead
 in_backing (backing.Slot s) = held.Slot s
 in_backing (backing.Block b) = held.Block b
 
 abbrev pub stored_of : FrameLife → Held → Held
-stored_of l (held.Frame f) = if (record_at l.frames f.0).changed then held.Dead else in_backing (record_at l.frames f.0).backing
+stored_of l (held.Frame f) = if (record_at l.frames f.0).changed then held.Dead else
+    in_backing (record_at l.frames f.0).backing
 stored_of l (held.Slot s) = held.Slot s
 stored_of l (held.Block b) = held.Block b
 stored_of l held.Zero = held.Zero
@@ -81,18 +84,22 @@ pub record Stands (contents : Key → Option Page) (s : StoreOf) (b : Behind) : 
   pub paging_keys : b.life.paging_keys ≡ s.paging_keys
   -- a valid place names the owner of its frame
   pub valid : (p : Place) (f : Frame) → b.life.valid p ≡ Some f → is_some (s.names p) ≡ true
-  pub named : (p : Place) (f : Frame) → b.life.valid p ≡ Some f → (record_at b.life.frames f.0).owner ≡ s.names p
+  pub named : (p : Place) (f : Frame) → b.life.valid p ≡ Some f →
+      (record_at b.life.frames f.0).owner ≡ s.names p
   -- the report
   pub counts : s.report.counts ≡ counts_of b.life
   pub whereabouts : (k : Key) → s.report.whereabouts k ≡ where_of b.life (b.life.stands k)
   pub waits : (tid : ℕ) → s.report.wait tid ≡ wait_of (b.waits tid)
   -- a failed call of the line's search, or a read that failed, is one of the line's device calls
-  pub search : 0 < s.report.search_writes.failed → 0 < s.report.paging_writes.failed + s.report.file_writes.failed
-  pub read : is_some s.report.last_failed_read ≡ true → 0 < s.report.paging_reads.failed + s.report.file_reads.failed
+  pub search : 0 < s.report.search_writes.failed →
+      0 < s.report.paging_writes.failed + s.report.file_writes.failed
+  pub read : is_some s.report.last_failed_read ≡ true →
+      0 < s.report.paging_reads.failed + s.report.file_reads.failed
   -- devices
   pub block : (k : Key) → s.block_of k ≡ block_at (backed_by b.life (b.life.stands k))
   pub slots : length b.slots ≡ s.machine.slots
-  pub stored : (k : Key) → is_on_device (stored_of b.life (b.life.stands k)) ≡ true → contents k ≡ bytes_at b.slots s.file_blocks (stored_of b.life (b.life.stands k))
+  pub stored : (k : Key) → is_on_device (stored_of b.life (b.life.stands k)) ≡ true →
+      contents k ≡ bytes_at b.slots s.file_blocks (stored_of b.life (b.life.stands k))
 
 -- where a store pages nothing, nothing stands behind it, and no thread waits
 pub record Rests (s : StoreOf) (b : Behind) : Type 0 where

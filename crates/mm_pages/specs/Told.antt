@@ -51,8 +51,14 @@ with_read ok (backing.Block b) t = record t { file_reads = with_outcome ok t.fil
 
 abbrev pub with_write : Bool → Backing → Told → Told
 with_write ok backing.None t = t
-with_write ok (backing.Slot s) t = record t { paging_writes = with_outcome ok t.paging_writes; search_writes = with_outcome ok t.search_writes }
-with_write ok (backing.Block b) t = record t { file_writes = with_outcome ok t.file_writes; search_writes = with_outcome ok t.search_writes }
+with_write ok (backing.Slot s) t = record t {
+  paging_writes = with_outcome ok t.paging_writes;
+  search_writes = with_outcome ok t.search_writes;
+}
+with_write ok (backing.Block b) t = record t {
+  file_writes = with_outcome ok t.file_writes;
+  search_writes = with_outcome ok t.search_writes;
+}
 
 -- after a move
 abbrev pub told_after : FrameLife → Move → Told → Told
@@ -60,7 +66,11 @@ told_after l (move.At n k) t = none_told
 told_after l (move.Give f k) t = record t { search_writes = no_calls }
 told_after l (move.Read f k) t = record t { search_writes = no_calls }
 told_after l (move.Got f) t = with_read true (record_at l.frames f.0).backing t
-told_after l (move.Bad f) t = record (with_read false (record_at l.frames f.0).backing t) { last_failed_read = (record_at l.frames f.0).owner }
+told_after l (move.Bad f) t =
+    record (with_read false (record_at l.frames f.0).backing t) {
+      last_failed_read =
+          (record_at l.frames f.0).owner;
+    }
 told_after l (move.Wrote f) t = with_write true (record_at l.frames f.0).backing t
 told_after l (move.Lost f) t = with_write false (record_at l.frames f.0).backing t
 told_after l _ t = t

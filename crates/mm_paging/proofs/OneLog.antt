@@ -1,4 +1,4 @@
--- A line has one log: pages that go oldest first, requests that end, pages that come to be.
+-- A line has one log: pages that go oldest first, requests that end, pages that come to be or go.
 use Rattle.std.proofs.Common.{◌≡◌, ◌≤◌, ◌<◌, ◌^◌, ℕ, ◌+◌, ◌-◌, Bool, true, false, cond, List, [], ◌∷◌, ◌++◌, map, Option, Some, None, refl, sym, ap, ◌∙◌, subst, inl, inr, ◌⊎◌, arith}
 use Rattle.std.proofs.lemmas.Bool.{eqb-true, and_parts, cases_lt}
 use Rattle.std.specs.Prelude.{IsTrue, not, ◌&&◌, ◌||◌, ◌==◌, nat_lt, if◌then◌else◌, is_some, length, min, slice_get}
@@ -23,15 +23,17 @@ use Rattle.mm_life.specs.Effect.{after_move, after_add}
 use Rattle.mm_life.specs.Replay.{Replays}
 use Rattle.mm_life.specs.Victims.{Aged, goes_before}
 use Rattle.mm_world.specs.World.{World}
-use Rattle.mm_walks.specs.Chores.{TrimMove, spare_of, ending, frame_of}
-use Rattle.mm_walks.specs.Order.{IsOldest, page_first, may_go}
-use Rattle.mm_walks.specs.Walks.{Walk, walked, Through}
+use Rattle.mm_life.specs.Chores.{TrimMove, spare_of, ending, frame_of}
+use Rattle.mm_life.specs.Order.{IsOldest, page_first, may_go}
+use Rattle.mm_life.specs.Walks.{Walk, walked, Through}
 use Rattle.mm_pages.specs.Behind.{Behind}
 use Rattle.mm_pages.specs.Housekeeping.{Makes, MakesFrom, MakesStack, Turned, AllTurn, number_of, numbers_made, Climbs, IsStack, guard_told, Trims, Completes}
 use Rattle.mm_pages.specs.Standing.{backed_by, block_at}
 use Rattle.mm_paging.specs.Kinds.{lives}
-use Rattle.mm_paging.specs.Lines.{Does, Agrees, Trimming, Completing, flushed_keys}
-use Rattle.mm_paging.specs.OneLog.{has_one_log, AnsweredAlike, Did}
+use Rattle.mm_types.specs.declared.numbers.Frame.{Frame}
+use Rattle.mm_paging.specs.Lines.{Does, Agrees, GivesUp, Trimming, Completing, flushed_keys, is_uncommitted}
+use Rattle.mm_paging.specs.OneLog.{has_one_log, AnsweredAlike, Did, Stands, StandsBefore}
+use Rattle.mm_paging.proofs.OneEnding.{one_end_log}
 use Rattle.mm_paging.proofs.OneFlush.{flushed}
 
 -- ---- the oldest page is one
@@ -276,22 +278,37 @@ module _ (w v : World) (a : Answer) (b c d : Behind) (xs ys : List Move) where
     blocks = λ k. p.agrees.blocks k ∙ sym (q.agrees.blocks k);
   }
 
-  pub one_log : (e : Event) → has_one_log e ≡ true → Did w e a v b xs c → Did w e a v b ys d → AnsweredAlike e xs ys → ys ≡ xs
-  one_log (line.Trim pid n) h p q k = trimmed (lives w pid) pid n b c d xs ys p.does q.does
-  one_log (line.Io i) h p q k = ended i a b c d xs ys p.does q.does
-  one_log (line.Alloc pid addr size type prot) h p q k = made b c d xs ys (alike_by (line.Alloc pid addr size type prot) p q) p.does q.does p.replays q.replays
-  one_log (line.Create pid size flags name) h p q k = made b c d xs ys (alike_by (line.Create pid size flags name) p q) p.does q.does p.replays q.replays
-  one_log (line.File name pages byte) h p q k = made b c d xs ys (alike_by (line.File name pages byte) p q) p.does q.does p.replays q.replays
-  one_log (line.Probe tid addr) h p q k = made b c d xs ys (alike_by (line.Probe tid addr) p q) p.does q.does p.replays q.replays
-  one_log (line.Read pid addr len) h p q k = cc
-  one_log (line.Write pid addr bytes) h p q k = cc
-  one_log (line.Exec pid addr) h p q k = cc
-  one_log (line.Begin tid pid what) h p q k = cc
-  one_log (line.Resume tid) h p q k = cc
-  one_log (line.Flush pid addr size) h p q k = flushed (flushed_keys w pid.0 addr size) b.life c.life d.life xs ys p.began p.does q.does p.replays q.replays k
-  one_log (line.Exit pid) h p q k = cc
-  one_log (line.Free pid addr size type) h p q k = cc
-  one_log (line.Unmap pid addr) h p q k = cc
-  one_log (line.Close pid handle) h p q k = cc
-  one_log (line.Stack tid pid reserve commit) h p q k = stacked (guard_told a) b c d xs ys (alike_by (line.Stack tid pid reserve commit) p q) p.does q.does p.replays q.replays
-  one_log _ h p q k = q.does ∙ sym p.does
+  -- a place without a committed row after the line is not valid then
+  unmapped_by : (e : Event) (x : Behind) (zs : List Move) → Did w e a v b zs x → (p : Place) → is_uncommitted v p ≡ true → x.life.valid p ≡ None
+  unmapped_by e x zs h p free = at (x.life.valid p) refl
+    where
+      at : (o : Option Frame) → x.life.valid p ≡ o → o ≡ None
+      at None f = refl
+      at (Some frame) f =
+          let row = h.agrees.places p frame f in
+          let bad : false ≡ true = sym (ap (λ (o : Option Key). not (is_some o)) row.1.0) ∙ free in cc
+
+  gone_one : (e : Event) (pid : Pid) → Stands w b.life → GivesUp w pid v b.life xs → GivesUp w pid v b.life ys → Did w e a v b xs c → Did w e a v b ys d → ys ≡ xs
+  gone_one e pid s g h p q =
+      one_end_log w pid.0 b.life s (is_uncommitted v) c.life d.life xs ys (alike_by e p q).live (unmapped_by e c xs p) (unmapped_by e d ys q) g h p.replays q.replays
+
+  pub one_log : (e : Event) → has_one_log e ≡ true → StandsBefore e w b.life → Did w e a v b xs c → Did w e a v b ys d → AnsweredAlike e xs ys → ys ≡ xs
+  one_log (line.Trim pid n) h s p q k = trimmed (lives w pid) pid n b c d xs ys p.does q.does
+  one_log (line.Io i) h s p q k = ended i a b c d xs ys p.does q.does
+  one_log (line.Alloc pid addr size type prot) h s p q k = made b c d xs ys (alike_by (line.Alloc pid addr size type prot) p q) p.does q.does p.replays q.replays
+  one_log (line.Create pid size flags name) h s p q k = made b c d xs ys (alike_by (line.Create pid size flags name) p q) p.does q.does p.replays q.replays
+  one_log (line.File name pages byte) h s p q k = made b c d xs ys (alike_by (line.File name pages byte) p q) p.does q.does p.replays q.replays
+  one_log (line.Probe tid addr) h s p q k = made b c d xs ys (alike_by (line.Probe tid addr) p q) p.does q.does p.replays q.replays
+  one_log (line.Read pid addr len) h s p q k = cc
+  one_log (line.Write pid addr bytes) h s p q k = cc
+  one_log (line.Exec pid addr) h s p q k = cc
+  one_log (line.Begin tid pid what) h s p q k = cc
+  one_log (line.Resume tid) h s p q k = cc
+  one_log (line.Flush pid addr size) h s p q k = flushed (flushed_keys w pid.0 addr size) b.life c.life d.life xs ys p.began p.does q.does p.replays q.replays k
+  one_log (line.Exit pid) h s p q k = gone_one (line.Exit pid) pid s p.does q.does p q
+  one_log (line.Free pid addr size type) h s p q k = gone_one (line.Free pid addr size type) pid s p.does q.does p q
+  one_log (line.Unmap pid addr) h s p q k = gone_one (line.Unmap pid addr) pid s p.does q.does p q
+  one_log (line.Close pid handle) h s p q k =
+      one_end_log w pid.0 b.life s (λ _. false) c.life d.life xs ys (alike_by (line.Close pid handle) p q).live (λ z e. cc) (λ z e. cc) p.does q.does p.replays q.replays
+  one_log (line.Stack tid pid reserve commit) h s p q k = stacked (guard_told a) b c d xs ys (alike_by (line.Stack tid pid reserve commit) p q) p.does q.does p.replays q.replays
+  one_log _ h s p q k = q.does ∙ sym p.does

@@ -18,7 +18,7 @@ use Rattle.mm_types.specs.declared.numbers.Place.{Place}
 use Rattle.mm_types.specs.declared.views.View.{View}
 use Rattle.mm_types.specs.declared.views.Kind.{Kind}
 use Rattle.mm_types.specs.declared.views.Kind.TheVariants as view_kind
-use Rattle.mm_types.specs.Address.{Range, end_of_user_pages}
+use Rattle.mm_types.specs.Address.{Range}
 use Rattle.mm_life.specs.Frames.{record_at}
 use Rattle.mm_life.specs.Life.{FrameLife, is_live, numbers_from, counts_of}
 use Rattle.mm_life.specs.Effect.{after_move}
@@ -35,14 +35,15 @@ use Rattle.mm_world.specs.Step.{kept_by}
 use Rattle.mm_blocks.specs.Devices.{DeviceOf, Call, AllServed, logged_call, KeepsOthers}
 use Rattle.mm_pages.specs.Store.{changed, same_place}
 use Rattle.mm_pages.specs.Behind.{Behind}
-use Rattle.mm_walks.specs.Waits.{Waiting, Idle, ForFrame, wait_of}
-use Rattle.mm_walks.specs.Walks.{waits_through, ages_through, walked_all}
+use Rattle.mm_life.specs.Waits.{Waiting, Idle, ForFrame, wait_of}
+use Rattle.mm_life.specs.Walks.{waits_through, ages_through, walked_all}
 use Rattle.mm_pages.specs.Told.{told_of, told_through, paging_traffic, file_traffic}
-use Rattle.mm_walks.specs.Searches.{is_valid, Starved}
+use Rattle.mm_life.specs.Searches.{is_valid, Starved}
 use Rattle.mm_pages.specs.Accesses.{Aim, AccessMoves, walk_from}
-use Rattle.mm_walks.specs.Chores.{all_aged, clearings, writes_begun}
+use Rattle.mm_life.specs.Chores.{all_aged, clearings, writes_begun}
 use Rattle.mm_pages.specs.Flushing.{Flushing}
-use Rattle.mm_pages.specs.Housekeeping.{Makes, MakesStack, Ends, Turned, guard_told, pages_gone, Trims, Completes}
+use Rattle.mm_pages.specs.Housekeeping.{Makes, MakesStack, Goes, Turned, guard_told, Trims, Completes}
+use Rattle.mm_pages.specs.Leaving.{leaving}
 use Rattle.mm_pages.specs.Standing.{where_of, block_at, backed_by}
 use Rattle.mm_paging.specs.Kinds.{row_key, file_block_of, kind_of_line, aim_of, lives}
 
@@ -53,7 +54,8 @@ pub record Agrees (v : World) (after : Report) (c : Behind) : Type 0 where
   -- the keys of the world are those that live
   pub keys : (k : Key) → is_live c.life k ≡ is_some (content_of v k)
   -- a valid place is a committed row, and its frame is that of the row's key
-  pub places : (p : Place) (f : Frame) → c.life.valid p ≡ Some f → (k : Key) × ((row_key v p ≡ Some k) × ((record_at c.life.frames f.0).owner ≡ Some k))
+  pub places : (p : Place) (f : Frame) → c.life.valid p ≡ Some f → (k : Key) ×
+      ((row_key v p ≡ Some k) × ((record_at c.life.frames f.0).owner ≡ Some k))
   -- the report tells of the frames
   pub counts : after.counts ≡ counts_of c.life
   pub whereabouts : (k : Key) → after.whereabouts k ≡ where_of c.life (c.life.stands k)
@@ -66,7 +68,8 @@ pub record Agrees (v : World) (after : Report) (c : Behind) : Type 0 where
 
 -- ---- keys
 
--- each `add` is of a key that the world has after the line and not before it, and each `drop` the reverse
+-- each `add` is of a key that the world has after the line and not before it, and each `drop` the
+-- reverse
 abbrev pub TurnsOne : World → World → Move → Type 0
 TurnsOne w v (move.Add k b) = (content_of w k ≡ None) × (is_some (content_of v k) ≡ true)
 TurnsOne w v (move.Drop k) = (is_some (content_of w k) ≡ true) × (content_of v k ≡ None)
@@ -92,12 +95,15 @@ abbrev pub is_pending_read : Answer → Bool
 is_pending_read (answer.Pending why.Read) = true
 is_pending_read _ = false
 
--- what it leaves: a place that was had is valid; one that found no frame leaves hardly a place valid; one that waits for a read has its page being read
-pub record Accesses (plain : Bool) (a : Aim) (r : Answer) (after : Report) (b : Behind) (moves : List Move) (c : Behind) : Type 0 where
+-- what it leaves: a place that was had is valid; one that found no frame leaves hardly a place
+-- valid; one that waits for a read has its page being read
+pub record Accesses (plain : Bool) (a : Aim) (r : Answer) (after : Report) (b : Behind)
+    (moves : List Move) (c : Behind) : Type 0 where
   pub made : AccessMoves a b moves
   pub valid : is_had r ≡ true → is_valid c.life a.place ≡ true
   pub awaited : is_pending_read r ≡ true → after.whereabouts a.need.key ≡ Some BeingRead
-  pub starved : plain ≡ true → is_failed r ≡ true → after.last_failed_read ≡ None → Starved (c.life.valid a.place) (walked_all (walk_from b) moves)
+  pub starved : plain ≡ true → is_failed r ≡ true → after.last_failed_read ≡ None →
+      Starved (c.life.valid a.place) (walked_all (walk_from b) moves)
 
 -- an access that is not permitted makes no move
 abbrev pub AccessesBy : Bool → Option Aim → Answer → Report → Behind → List Move → Behind → Type 0
@@ -106,29 +112,35 @@ AccessesBy plain (Some a) r after b moves c = Accesses plain a r after b moves c
 
 -- ---- calls
 
--- of a line that takes pages away: places among these are valid no more, and keys go, page by page in rising order, of each area from the lowest on
-abbrev pub GivesUp : (Place → Bool) → FrameLife → List Move → Type 0
-GivesUp held l moves = Turned (Ends held 0 end_of_user_pages) l moves
-
 -- each place that is unmapped is no committed row after the line
 abbrev pub is_uncommitted : World → Place → Bool
 is_uncommitted v p = not (is_some (row_key v p))
+
+-- of a line that takes pages away: places of the process are valid no more, and keys go, page by
+-- page in rising order; a section's pages, from the lowest on, go with the last handle to it,
+-- before all others, or right behind the last view of it
+abbrev pub GivesUp : World → Pid → World → FrameLife → List Move → Type 0
+GivesUp w pid v l moves = Turned (Goes (leaving w pid.0 (is_uncommitted v))) l moves
 
 -- the shared pages of the range of a flush, in rising order, where the section is a file
 abbrev pub file_pages : World → View → ℕ → Range → List Key
 file_pages w v base range =
     if is_some (area_at w v.area.0).file_block
-    then map (λ page. shared_key v.area.0 (v.first + (page - base))) (numbers_from range.first range.count)
+    then map (λ page. shared_key v.area.0 (v.first + (page - base)))
+    (numbers_from range.first range.count)
     else []
 
 abbrev pub flushed_in : World → ℕ → ℕ → Kind → Found (RegionOf Page) → List Key
 flushed_in w addr size view_kind.Private r = []
-flushed_in w addr size (view_kind.View v) r = file_pages w v r.thing.base (flushed_range r.thing addr size)
+flushed_in w addr size (view_kind.View v) r =
+    file_pages w v r.thing.base (flushed_range r.thing addr size)
 
 abbrev pub flushed_keys : World → ℕ → ℕ → ℕ → List Key
 flushed_keys w pid addr size =
     unwrap_or
-    (option_and_then (λ p. option_map (λ r. flushed_in w addr size r.thing.kind r) (flushed_view p.regions addr size)) (process_of w pid))
+    (option_and_then
+    (λ p. option_map (λ r. flushed_in w addr size r.thing.kind r)
+    (flushed_view p.regions addr size)) (process_of w pid))
     []
 
 -- ---- what the moves after a line's `at` are
@@ -144,24 +156,30 @@ Completing i _ b moves c = moves ≡ []
 
 -- each form of line, from what stood behind the store once its `at` was noted
 abbrev pub Does : World → Event → Answer → World → Report → Behind → List Move → Behind → Type 0
-Does w (line.Read pid addr len) a v r b ms c = AccessesBy true (aim_of w b.life (line.Read pid addr len)) a r b ms c
-Does w (line.Write pid addr bytes) a v r b ms c = AccessesBy true (aim_of w b.life (line.Write pid addr bytes)) a r b ms c
-Does w (line.Exec pid addr) a v r b ms c = AccessesBy true (aim_of w b.life (line.Exec pid addr)) a r b ms c
-Does w (line.Begin tid pid what) a v r b ms c = AccessesBy false (aim_of w b.life (line.Begin tid pid what)) a r b ms c
-Does w (line.Resume tid) a v r b ms c = AccessesBy false (aim_of w b.life (line.Resume tid)) a r b ms c
+Does w (line.Read pid addr len) a v r b ms c =
+    AccessesBy true (aim_of w b.life (line.Read pid addr len)) a r b ms c
+Does w (line.Write pid addr bytes) a v r b ms c =
+    AccessesBy true (aim_of w b.life (line.Write pid addr bytes)) a r b ms c
+Does w (line.Exec pid addr) a v r b ms c = AccessesBy true (aim_of w b.life (line.Exec pid addr)) a
+    r b ms c
+Does w (line.Begin tid pid what) a v r b ms c =
+    AccessesBy false (aim_of w b.life (line.Begin tid pid what)) a r b ms c
+Does w (line.Resume tid) a v r b ms c = AccessesBy false (aim_of w b.life (line.Resume tid)) a r b
+    ms c
 Does w (line.Trim pid n) a v r b ms c = Trimming (lives w pid) pid n b ms c
 Does w (line.Writer n) a v r b ms c = ms ≡ writes_begun n b.life b.life.frames.modified
 Does w (line.Zeroer n) a v r b ms c = ms ≡ clearings n b.life
 Does w (line.Io i) a v r b ms c = Completing i a b ms c
 Does w (line.Flush pid addr size) a v r b ms c = Flushing b.life (flushed_keys w pid.0 addr size) ms
-Does w (line.Exit pid) a v r b ms c = GivesUp (is_uncommitted v) b.life ms
-Does w (line.Free pid addr size type) a v r b ms c = GivesUp (is_uncommitted v) b.life ms
-Does w (line.Unmap pid addr) a v r b ms c = GivesUp (is_uncommitted v) b.life ms
-Does w (line.Close pid handle) a v r b ms c = GivesUp (λ _. false) b.life ms × (pages_gone ms ≡ [])
+Does w (line.Exit pid) a v r b ms c = GivesUp w pid v b.life ms
+Does w (line.Free pid addr size type) a v r b ms c = GivesUp w pid v b.life ms
+Does w (line.Unmap pid addr) a v r b ms c = GivesUp w pid v b.life ms
+Does w (line.Close pid handle) a v r b ms c = Turned (Goes (leaving w pid.0 (λ _. false))) b.life ms
 Does w (line.Alloc pid addr size type prot) a v r b ms c = Turned Makes b.life ms
 Does w (line.Create pid size flags name) a v r b ms c = Turned Makes b.life ms
 Does w (line.File name pages byte) a v r b ms c = Turned Makes b.life ms
-Does w (line.Stack tid pid reserve commit) a v r b ms c = Turned (MakesStack (guard_told a)) b.life ms
+Does w (line.Stack tid pid reserve commit) a v r b ms c =
+    Turned (MakesStack (guard_told a)) b.life ms
 Does w (line.Probe tid addr) a v r b ms c = Turned Makes b.life ms
 Does w _ a v r b ms c = ms ≡ []
 
@@ -172,7 +190,8 @@ place_had None r ages p = ages p
 place_had (Some a) r ages p = if is_had r then changed same_place ages a.place 0 p else ages p
 
 abbrev pub ages_of_line : World → Event → Answer → Behind → List Move → Place → ℕ
-ages_of_line w (line.Age pid) a b ms p = if lives w pid then all_aged pid b.life b.ages p else b.ages p
+ages_of_line w (line.Age pid) a b ms p = if lives w pid then all_aged pid b.life b.ages p else
+    b.ages p
 ages_of_line w e a b ms p = place_had (aim_of w b.life e) a (ages_through ms b.ages) p
 
 -- the frame that a read brings the access's page into
@@ -193,21 +212,27 @@ keeps_for (Some k) pid = k.pid == pid.0
 
 abbrev pub wait_of_begin : Option Aim → ℕ → Answer → (ℕ → Waiting) → FrameLife → ℕ → Waiting
 wait_of_begin None tid a waits l t = waits t
-wait_of_begin (Some aim) tid a waits l t = changed ◌==◌ waits tid (if is_pending_read a then awaited (Some aim) l else Idle) t
+wait_of_begin (Some aim) tid a waits l t =
+    changed ◌==◌ waits tid (if is_pending_read a then awaited (Some aim) l else Idle) t
 
--- a thread waits from a `pending read` on; any other answer of its `resume`, and the end of its process, end that
+-- a thread waits from a `pending read` on; any other answer of its `resume`, and the end of its
+-- process, end that
 abbrev pub waits_of_line : World → Event → Answer → Behind → (ℕ → Waiting) → FrameLife → ℕ → Waiting
-waits_of_line w (line.Begin tid pid what) a b waits l t = wait_of_begin (aim_of w b.life (line.Begin tid pid what)) tid.0 a waits l t
+waits_of_line w (line.Begin tid pid what) a b waits l t =
+    wait_of_begin (aim_of w b.life (line.Begin tid pid what)) tid.0 a waits l t
 waits_of_line w (line.Resume tid) a b waits l t =
-    changed ◌==◌ waits tid.0 (if is_pending_read a then awaited (aim_of w b.life (line.Resume tid)) l else Idle) t
-waits_of_line w (line.Exit pid) a b waits l t = if keeps_for (kept_by w t) pid then Idle else waits t
+    changed ◌==◌ waits tid.0
+    (if is_pending_read a then awaited (aim_of w b.life (line.Resume tid)) l else Idle) t
+waits_of_line w (line.Exit pid) a b waits l t = if keeps_for (kept_by w t) pid then Idle else
+    waits t
 waits_of_line w _ a b waits l t = waits t
 
 -- ---- devices
 
--- the calls that the moves stand for are those of the devices: each stands in its device's log, or was named; and a slot or a block that none of them
--- wrote is as before
-pub record Traffic (l : FrameLife) (moves : List Move) (paging paging' files files' : DeviceOf) (slots slots' blocks blocks' : List Page) : Type 0 where
+-- the calls that the moves stand for are those of the devices: each stands in its device's log, or
+-- was named; and a slot or a block that none of them wrote is as before
+pub record Traffic (l : FrameLife) (moves : List Move) (paging paging' files files' : DeviceOf)
+    (slots slots' blocks blocks' : List Page) : Type 0 where
   pub paging_calls : List Call
   pub paging_served : AllServed paging_calls paging paging'
   pub paging_are : map logged_call paging_calls ≡ paging_traffic l moves
@@ -217,19 +242,24 @@ pub record Traffic (l : FrameLife) (moves : List Move) (paging paging' files fil
   pub slots_kept : KeepsOthers (paging_traffic l moves) slots slots'
   pub blocks_kept : KeepsOthers (file_traffic l moves) blocks blocks'
 
--- lines that ask devices for what is no move: a file's blocks are written, the paging device grows, calls are named
+-- lines that ask devices for what is no move: a file's blocks are written, the paging device grows,
+-- calls are named
 abbrev pub asks_beside : Event → Bool
 asks_beside (line.File name pages byte) = true
 asks_beside (line.Grow n) = true
 asks_beside (line.Fail device direction k n) = true
 asks_beside _ = false
 
--- after such a line: no slot was written; where the paging device grew, slots of zeros stand behind those before; blocks are written for a file alone
-abbrev pub HoldsBeside : World → Event → Answer → List Page → List Page → List Page → List Page → Type 0
+-- after such a line: no slot was written; where the paging device grew, slots of zeros stand behind
+-- those before; blocks are written for a file alone
+abbrev pub HoldsBeside : World → Event → Answer → List Page → List Page → List Page → List Page →
+    Type 0
 HoldsBeside w (line.File name pages byte) a slots slots' blocks blocks' = slots' ≡ slots
-HoldsBeside w (line.Grow n) (answer.Limit limit) slots slots' blocks blocks' = (slots' ≡ slots ++ replicate n (filled 0)) × (blocks' ≡ blocks)
+HoldsBeside w (line.Grow n) (answer.Limit limit) slots slots' blocks blocks' =
+    (slots' ≡ slots ++ replicate n (filled 0)) × (blocks' ≡ blocks)
 HoldsBeside w (line.Grow n) _ slots slots' blocks blocks' = (slots' ≡ slots) × (blocks' ≡ blocks)
-HoldsBeside w (line.Fail device direction k n) a slots slots' blocks blocks' = (slots' ≡ slots) × (blocks' ≡ blocks)
+HoldsBeside w (line.Fail device direction k n) a slots slots' blocks blocks' = (slots' ≡ slots) ×
+    (blocks' ≡ blocks)
 HoldsBeside w _ a slots slots' blocks blocks' = Unit {0}
 
 -- ---- a line
@@ -239,20 +269,27 @@ abbrev pub with_line : Move → Behind → Behind
 with_line m b = record b { life = after_move b.life m }
 
 -- A line, with its piece of the log: its `at`, and its moves after it.
-pub record Line (w : World) (before : Report) (b : Behind) (paging files : DeviceOf) (blocks : List Page) (e : Event) (a : Answer) (piece : List Move) (v : World) (after : Report) (c : Behind) (paging' files' : DeviceOf) (blocks' : List Page) : Type 0 where
+pub record Line (w : World) (before : Report) (b : Behind) (paging files : DeviceOf)
+    (blocks : List Page) (e : Event) (a : Answer) (piece : List Move) (v : World) (after : Report)
+    (c : Behind) (paging' files' : DeviceOf) (blocks' : List Page) : Type 0 where
   pub moves : List Move
   pub begins : piece ≡ move.At (b.life.line + 1) (kind_of_line w e a) ∷ moves
   pub agrees : Agrees v after c
   pub keys : TurnsKeys w v moves
-  pub does : Does w e a v after (with_line (move.At (b.life.line + 1) (kind_of_line w e a)) b) moves c
+  pub does : Does w e a v after (with_line (move.At (b.life.line + 1) (kind_of_line w e a)) b) moves
+      c
   pub ages : c.ages ≡ ages_of_line w e a b moves
   pub waits : c.waits ≡ waits_of_line w e a b (waits_through moves b.waits) c.life
   pub told : asks_beside e ≡ false → told_of after ≡ told_through b.life piece (told_of before)
-  pub traffic : asks_beside e ≡ false → Traffic b.life piece paging paging' files files' b.slots c.slots blocks blocks'
+  pub traffic : asks_beside e ≡ false →
+      Traffic b.life piece paging paging' files files' b.slots c.slots blocks blocks'
   pub beside : HoldsBeside w e a b.slots c.slots blocks blocks'
 
--- A line that was decided, of a store that pages: its piece of the log, by which the log grew, and which replays.
-pub record Noted (w : World) (before : Report) (b : Behind) (paging files : DeviceOf) (blocks : List Page) (e : Event) (a : Answer) (v : World) (after : Report) (c : Behind) (paging' files' : DeviceOf) (blocks' : List Page) : Type 0 where
+-- A line that was decided, of a store that pages: its piece of the log, by which the log grew, and
+-- which replays.
+pub record Noted (w : World) (before : Report) (b : Behind) (paging files : DeviceOf)
+    (blocks : List Page) (e : Event) (a : Answer) (v : World) (after : Report) (c : Behind)
+    (paging' files' : DeviceOf) (blocks' : List Page) : Type 0 where
   pub piece : List Move
   pub in_range : AreMoves piece
   pub grew : Grew b.log c.log (spelled_moves piece)

@@ -1,29 +1,29 @@
--- Lines that have one log: each of their moves is determined by the world, what stands behind the store, and the answer.
--- Profile, "Which frame moves, and when".
-use Rattle.std.specs.Prelude.{◌≡◌, Bool, true, false, List, [], ◌∷◌, Option, Some, None}
+-- Lines that have one log: each of their moves is determined by the world, what stands behind the
+-- store, and the answer. Profile, "Which frame moves, and when".
+use Rattle.std.specs.Prelude.{◌≡◌, ◌<◌, ◌^◌, ℕ, Bool, true, false, List, [], ◌∷◌, length, Option, Some, None}
 use Rattle.mm_types.specs.declared.answers.Answer.{Answer}
 use Rattle.mm_types.specs.declared.events.Event.{Event}
 use Rattle.mm_types.specs.declared.events.Event.TheVariants as line
 use Rattle.mm_types.specs.declared.moves.Move.{Move}
 use Rattle.mm_types.specs.declared.moves.Move.TheVariants as move
+use Rattle.mm_types.specs.declared.numbers.Key.{Key}
+use Rattle.mm_life.specs.Life.{FrameLife, is_live}
 use Rattle.mm_life.specs.Replay.{Replays}
-use Rattle.mm_world.specs.World.{World}
+use Rattle.mm_world.specs.World.{World, Page, ProcessOf}
+use Rattle.mm_world.specs.Find.{process_of}
+use Rattle.mm_world.specs.WellFormed.{Spaces}
 use Rattle.mm_world.specs.Report.{Report}
 use Rattle.mm_pages.specs.Behind.{Behind}
 use Rattle.mm_paging.specs.Kinds.{kind_of_line}
 use Rattle.mm_paging.specs.Lines.{Does, Agrees}
 
--- the system's own lines, `flush`, calls that make no move, and calls that make pages
+-- all but accesses: the system's own lines, `flush`, and calls
 abbrev pub has_one_log : Event → Bool
 has_one_log (line.Read pid addr len) = false
 has_one_log (line.Write pid addr bytes) = false
 has_one_log (line.Exec pid addr) = false
 has_one_log (line.Begin tid pid what) = false
 has_one_log (line.Resume tid) = false
-has_one_log (line.Exit pid) = false
-has_one_log (line.Free pid addr size type) = false
-has_one_log (line.Unmap pid addr) = false
-has_one_log (line.Close pid handle) = false
 has_one_log _ = true
 
 -- ---- what devices answered
@@ -53,12 +53,28 @@ AnswerAlike (a ∷ firsts) (b ∷ bs) = (a ≡ b) × AnswerAlike firsts bs
 -- ---- two runs of a line
 
 -- what a line did, from what stood behind the store once its `at` was noted
-pub record Did (w : World) (e : Event) (a : Answer) (v : World) (b : Behind) (moves : List Move) (c : Behind) : Type 0 where
+pub record Did (w : World) (e : Event) (a : Answer) (v : World) (b : Behind) (moves : List Move)
+    (c : Behind) : Type 0 where
   pub report : Report
   pub began : b.life.kind ≡ kind_of_line w e a
   pub does : Does w e a v report b moves c
   pub agrees : Agrees v report c
   pub replays : Replays moves b.life c.life
+
+-- What holds of each world and each state that lines reach: regions are laid out, handles have 32
+-- bits, and page-file keys live.
+pub record Stands (w : World) (l : FrameLife) : Type 0 where
+  pub spaces : Spaces w
+  pub few : (pid : ℕ) (p : ProcessOf Page) → process_of w pid ≡ Some p → length p.handles < 2 ^ 32
+  pub live : (k : Key) → l.paging k ≡ true → is_live l k ≡ true
+
+-- before a line that takes pages away
+abbrev pub StandsBefore : Event → World → FrameLife → Type 0
+StandsBefore (line.Exit pid) w l = Stands w l
+StandsBefore (line.Free pid addr size type) w l = Stands w l
+StandsBefore (line.Unmap pid addr) w l = Stands w l
+StandsBefore (line.Close pid handle) w l = Stands w l
+StandsBefore _ w l = Unit {0}
 
 -- two runs of a `flush`, over devices that answered alike
 abbrev pub AnsweredAlike : Event → List Move → List Move → Type 0

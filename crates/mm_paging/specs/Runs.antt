@@ -17,4 +17,5 @@ first_move m = move.At 1 (kind_of_machine m)
 -- each key that the replay shows unchanged, with a slot or a block, has its bytes there
 abbrev pub DevicesHold : World → FrameLife → List Page → List Page → Type 0
 DevicesHold w l slots blocks =
-    (k : Key) → is_on_device (stored_of l (l.stands k)) ≡ true → content_of w k ≡ bytes_at slots blocks (stored_of l (l.stands k))
+    (k : Key) → is_on_device (stored_of l (l.stands k)) ≡ true →
+    content_of w k ≡ bytes_at slots blocks (stored_of l (l.stands k))

@@ -1,6 +1,6 @@
 -- Worked lines.
 -- Profile, "Logs of moves".
-use Rattle.std.specs.Prelude.{ℕ, true, List, [], ◌∷◌, take, unwrap_or, None}
+use Rattle.std.specs.Prelude.{ℕ, true, false, List, [], ◌∷◌, take, replicate, unwrap_or, Some, None}
 use Rattle.mm_types.specs.declared.numbers.Area.{Area}
 use Rattle.mm_types.specs.declared.numbers.Key.{Key}
 use Rattle.mm_types.specs.declared.numbers.Key.TheVariants.{Shared}
@@ -9,6 +9,8 @@ use Rattle.mm_types.specs.declared.frames.Request.TheVariants as request
 use Rattle.mm_types.specs.declared.moves.LineKind.TheVariants as kind
 use Rattle.mm_types.specs.declared.moves.Move.{Move}
 use Rattle.mm_types.specs.declared.moves.Move.TheVariants as move
+use Rattle.mm_types.specs.declared.views.Kind.TheVariants.{View}
+use Rattle.mm_types.specs.declared.views.ViewAccess.TheVariants.{Write}
 use Rattle.mm_life.specs.Frames.{given}
 use Rattle.mm_life.specs.Life.{FrameLife, unstarted}
 use Rattle.mm_life.specs.Replay.{replay_log}
@@ -16,6 +18,8 @@ use Rattle.mm_life.specs.WorkedLogs.{rewritten_log, smallest_set_log, pid, place
 use Rattle.mm_pages.specs.Conditions.{touch}
 use Rattle.mm_pages.specs.Behind.{Behind, nothing_behind}
 use Rattle.mm_pages.specs.Accesses.{Aim}
+use Rattle.mm_pages.specs.Leaving.{Leaving}
+use Rattle.mm_world.specs.World.{RegionOf, ProcessOf}
 
 abbrev pub area : ℕ → Area
 area a = record { 0 = a }
@@ -32,11 +36,21 @@ behind_after n log = record nothing_behind { life = life_after n log }
 
 -- the second write to the page that is being written, line 8: a soft fault, and the page is soiled
 abbrev pub second_write : Aim
-second_write = record { place = place 1 16; need = touch (private 1 16); writes = true; start = life_after 14 rewritten_log }
+second_write = record {
+  place = place 1 16;
+  need = touch (private 1 16);
+  writes = true;
+  start = life_after 14 rewritten_log;
+}
 
 -- the access of the smallest set's last line: its only page goes for the next
 abbrev pub next_page : Aim
-next_page = record { place = place 1 17; need = touch (private 1 17); writes = true; start = life_after 10 smallest_set_log }
+next_page = record {
+  place = place 1 17;
+  need = touch (private 1 17);
+  writes = true;
+  start = life_after 10 smallest_set_log;
+}
 
 -- a section of two pages, and one page of a process beside it
 abbrev pub section_log : List Move
@@ -51,9 +65,48 @@ section_log =
     ∷ move.At 5 (kind.Unbind (pid 1))
     ∷ []
 
--- what is kept of a frame whose page is changed, and of one whose page was written to during its write
+-- what is kept of a frame whose page is changed, and of one whose page was written to during its
+-- write
 abbrev pub changed_page : Record
 changed_page = given (private 1 16)
 
 abbrev pub page_written_to : Record
 page_written_to = record changed_page { request = request.WriteAgain }
+
+-- all places, and the area of the section with this rank
+abbrev pub going : ℕ → Leaving
+going rank = record { places = λ p. true; rank = λ area. rank }
+
+abbrev pub behind_page : List Move
+behind_page =
+    move.Unmap (place 1 16) ∷ move.Drop (private 1 16) ∷ move.Drop (shared 0 0) ∷
+    move.Drop (shared 0 1)
+    ∷ move.Unmap (place 1 17) ∷ []
+
+abbrev pub before_all : List Move
+before_all =
+    move.Drop (shared 0 0) ∷ move.Drop (shared 0 1) ∷ move.Unmap (place 1 16) ∷
+    move.Drop (private 1 16)
+    ∷ move.Unmap (place 1 17) ∷ []
+
+-- of two pages, from this one on
+abbrev pub viewing : ℕ → ℕ → RegionOf (Unit {0})
+viewing base section = record {
+  base = base;
+  alloc_prot = 4;
+  kind = View (record {
+    section = record { 0 = section };
+    area = area section;
+    first = 0;
+    access = Write;
+  });
+  rows = replicate 2 (record { prot = 4; guard = false; marked = false; own = None });
+  watched = None;
+}
+
+-- a process with two views of section 0 and a handle to it, and two handles to section 1
+abbrev pub with_sections : ProcessOf (Unit {0})
+with_sections = record {
+  regions = viewing 16 0 ∷ viewing 48 0 ∷ [];
+  handles = None ∷ Some 1 ∷ Some 0 ∷ Some 1 ∷ [];
+}

@@ -1,4 +1,5 @@
-//! What lines do to the life of page frames, by the worlds and reports before and after them: definitions, and worked lines.
+//! What lines do to the life of page frames, by the worlds and reports before and after them:
+//! definitions, and worked lines.
 #![tactic(auto)]
 
 mod laws;
@@ -6,5 +7,6 @@ mod worked;
 
 pub use laws::lines_have_one_log;
 pub use worked::{
-    full_set, page_flushed, page_written_out, pages_given_up, pages_made, soft_fault,
+    full_set, page_flushed, page_written_out, pages_given_up, pages_made, sections_given_up,
+    soft_fault,
 };

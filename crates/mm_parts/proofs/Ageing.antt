@@ -9,9 +9,9 @@ use Rattle.mm_wset.specs.Ages.{GoesBefore}
 use Rattle.mm_wset.specs.InOrder.{IsNextFrom}
 use Rattle.mm_words.specs.Words.{place_of, is_valid}
 use Rattle.mm_words.specs.Oldest.{ages_in, GoesBehind, IsOldestOf, NoneBehind}
-use Rattle.mm_walks.specs.Order.{IsOldest}
-use Rattle.mm_room.specs.Order.{Follows, IsNext, NoneFollows}
-use Rattle.mm_room.proofs.Going.{next_oldest, all_go}
+use Rattle.mm_life.specs.Order.{IsOldest}
+use Rattle.mm_frame_laws.specs.Order.{Follows, IsNext, NoneFollows}
+use Rattle.mm_frame_laws.proofs.Going.{next_oldest, all_go}
 use Rattle.mm_parts.specs.Shown.{JoinedParts, life_in, shown_of}
 use Rattle.mm_parts.specs.Moves.{after_page}
 use Rattle.mm_parts.proofs.WordSteps.{valid_is}

@@ -19,8 +19,8 @@ use Rattle.mm_laws.specs.Reached.{Reached}
 use Rattle.mm_laws.proofs.Deduced.{reached_sound}
 use Rattle.mm_laws.proofs.FromSound.{slot_free, slot_has, slot_one, slot_there, places_counted}
 use Rattle.mm_laws.proofs.PlaceCounts.{same_place-true}
-use Rattle.mm_entry.specs.declared.entries.Entry.{Entry}
-use Rattle.mm_entry.specs.declared.entries.Entry.TheVariants as entry
+use Rattle.mm_words.specs.declared.layout.Entry.{Entry}
+use Rattle.mm_words.specs.declared.layout.Entry.TheVariants as entry
 use Rattle.mm_words.specs.declared.aside.Aside.{Aside}
 use Rattle.mm_words.specs.Words.{word_of, own_word, place_of, is_aside, aside_or, is_valid}
 use Rattle.mm_parts.specs.Shown.{JoinedParts, owners, owned_by, held_by, life_in, requests}

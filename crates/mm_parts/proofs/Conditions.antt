@@ -15,15 +15,15 @@ use Rattle.mm_types.specs.declared.frames.Backing.TheVariants as backing
 use Rattle.mm_types.specs.declared.moves.Move.TheVariants as move
 use Rattle.mm_life.specs.Frames.{record_at, is_first, is_empty, slot_of, is_read, has_request}
 use Rattle.mm_life.specs.Life.{set_in, set_of, same_place, key_of_place}
-use Rattle.mm_life.specs.Legal.{IsLegal, owner_is, fits_place, is_below_max, touches, is_touch, is_access, is_thread, is_zero, is_stored, has_depth}
+use Rattle.mm_life.specs.Legal.{IsLegal, owner_is, fits_place, is_below_max, touches, is_touch}
 use Rattle.mm_laws.specs.FileBlocks.{block_of, block_in, block_held}
 use Rattle.mm_laws.proofs.Sights.{kept_inside}
 use Rattle.mm_laws.proofs.Taking.{Standby, first_standby}
 use Rattle.mm_laws.proofs.Sound.{owner_passes}
 use Rattle.mm_laws.proofs.PlaceCounts.{same_place-true}
-use Rattle.mm_entry.specs.Words.{IsEntry}
-use Rattle.mm_entry.specs.declared.entries.Entry.{Entry}
-use Rattle.mm_entry.specs.declared.entries.Entry.TheVariants as entry
+use Rattle.mm_words.specs.Layout.{IsEntry}
+use Rattle.mm_words.specs.declared.layout.Entry.{Entry}
+use Rattle.mm_words.specs.declared.layout.Entry.TheVariants as entry
 use Rattle.mm_words.specs.Words.{WordsOf, word_of, is_valid, is_there, keeps_places, has_word, valid_frame, made_valid, place_of, bare}
 use Rattle.mm_parts.specs.Shown.{JoinedParts, valid_of, owners, owned_by, life_in, requests_in}
 use Rattle.mm_parts.specs.Kept.{Kept}
@@ -32,7 +32,7 @@ use Rattle.mm_parts.specs.Moves.{front, home_entry, entry_backing, CanLeave, Can
 use Rattle.mm_parts.proofs.Tokens.{front_is}
 use Rattle.mm_parts.proofs.Keeping.{known}
 use Rattle.mm_parts.proofs.KeyChanges.{places_kept}
-use Rattle.mm_parts.proofs.StandingWords.{in_frame, resting_word, zero_word, stored_word, away_calm, is_away, backing_bare, backing_held}
+use Rattle.mm_parts.proofs.StandingWords.{in_frame, resting_word, backing_bare, backing_held}
 
 -- ---- numbers that a word has room for
 
@@ -67,31 +67,6 @@ pub record CanSet (t : JoinedParts) (k : Key) (e : Entry) : Type 0 where
   pub there : is_there (word_of t.words k) ≡ true
   pub fits : IsEntry e
   pub places : keeps_places t.words k e ≡ true
-
-pub give_can : (t : JoinedParts) → Kept t → (f : Frame) (k : Key) → IsLegal (move.Give f k) (life_in t) → f.0 < length t.table.records → CanSet t k (entry.Transition f)
-give_can t kept f k legal low =
-    let zero = (and_parts (is_first f.0 t.table.zeroed) (is_zero ((life_in t).stands k)) (and_parts (is_first f.0 t.table.zeroed && is_zero ((life_in t).stands k)) (is_touch t.line.kind) legal).0).1 in
-    let word = zero_word (owned_by (owners t.table) k) (word_of t.words k) zero in
-    record { there = ap is_there word; fits = frame_fits t kept f low; places = places_kept t.words k (entry.Transition f) refl (ap is_valid word) }
-
-away_there : (e : Entry) → is_away e ≡ true → is_there e ≡ true
-away_there entry.Empty h = cc
-away_there entry.Zero h = refl
-away_there (entry.Paged s) h = refl
-away_there (entry.InFile b) h = refl
-away_there (entry.Transition f) h = refl
-away_there (entry.Valid f n) h = refl
-away_there (entry.Proto a i) h = refl
-
-pub read_stored : (t : JoinedParts) (f : Frame) (k : Key) → IsLegal (move.Read f k) (life_in t) → is_stored ((life_in t).stands k) ≡ true
-read_stored t f k legal =
-    let there = is_first f.0 t.table.free || (is_empty t.table.free && is_first f.0 t.table.zeroed) in
-    (and_parts there (is_stored ((life_in t).stands k)) (and_parts (there && is_stored ((life_in t).stands k)) (is_access t.line.kind || (is_thread t.line.kind && has_depth (life_in t))) legal).0).1
-
-pub read_can : (t : JoinedParts) → Kept t → (f : Frame) (k : Key) → IsLegal (move.Read f k) (life_in t) → f.0 < length t.table.records → CanSet t k (entry.Transition f)
-read_can t kept f k legal low =
-    let away = stored_word (owned_by (owners t.table) k) (word_of t.words k) (read_stored t f k legal) in
-    record { there = away_there (word_of t.words k) away; fits = frame_fits t kept f low; places = places_kept t.words k (entry.Transition f) refl (away_calm (word_of t.words k) away) }
 
 home_calm : (b : Backing) → is_valid (home_entry b) ≡ false
 home_calm backing.None = refl

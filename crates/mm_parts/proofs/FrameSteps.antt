@@ -8,7 +8,6 @@ use Rattle.mm_types.specs.declared.numbers.Slot.{Slot}
 use Rattle.mm_types.specs.declared.frames.Record.{Record}
 use Rattle.mm_types.specs.declared.frames.Backing.{Backing}
 use Rattle.mm_types.specs.declared.frames.Backing.TheVariants as backing
-use Rattle.mm_types.specs.declared.frames.Request.{Request}
 use Rattle.mm_types.specs.declared.frames.Request.TheVariants as request
 use Rattle.mm_types.specs.declared.moves.Move.{Move}
 use Rattle.mm_types.specs.declared.moves.Move.TheVariants as move
@@ -25,7 +24,7 @@ use Rattle.mm_laws.proofs.Sound.{owner_passes}
 use Rattle.mm_laws.proofs.Tallies.{times_on}
 use Rattle.mm_laws.proofs.Taking.{idle_is}
 use Rattle.mm_frames.specs.Base.{FramesOf, has_block, slot_after_write, write_ended}
-use Rattle.mm_flight.specs.Requests.{FlightOf, ended}
+use Rattle.mm_flight.specs.Requests.{ended}
 use Rattle.mm_parts.specs.Shown.{JoinedParts, life_in, shown_of, requests_in, own_is, is_own_line}
 use Rattle.mm_parts.specs.Kept.{Kept}
 use Rattle.mm_parts.specs.Moves.{after, own_after, own_ended, flight_begun, flight_ended, write_end, backing_to, slots_to}
@@ -92,9 +91,6 @@ records_ended false new d f = refl
 module _ (t : JoinedParts) (kept : Kept t) (x : Move) (legal : IsLegal x (life_in t)) (d' : FrameTable) (bytes' : List (Option (List ℕ))) (free' : List Bool) (f : ℕ) (r : Record) (ok : Bool)
     (busy : has_request (record_at t.table f).request ≡ true) (records : d'.records ≡ slice_set t.table.records f r) (quiet : Quiet t.table f r)
     (moves : record (life_in t) { frames = d'; free_slots = free'; flight = without f (requests_in t) } ≡ after_move (life_in t) x) where
-  ended_flight : FlightOf
-  ended_flight = flight_ended (own_is t.own f) t.flight f ok
-
   change_ended : Rewrites t.table d' f r
   change_ended = rewrites_by t.table d' f r (held_by_request t kept f busy).low records
 

@@ -23,10 +23,10 @@ use Rattle.mm_life.specs.Legal.{IsLegal, is_touch, is_call, may_copy, touches, s
 use Rattle.mm_life.specs.Effect.{after_move}
 use Rattle.mm_laws.proofs.KeyMoves.{dead_is}
 use Rattle.mm_laws.proofs.Sound.{owner_passes}
-use Rattle.mm_entry.specs.declared.entries.Entry.{Entry}
-use Rattle.mm_entry.specs.declared.entries.Entry.TheVariants as entry
+use Rattle.mm_words.specs.declared.layout.Entry.{Entry}
+use Rattle.mm_words.specs.declared.layout.Entry.TheVariants as entry
 use Rattle.mm_words.specs.declared.aside.Aside.{Aside}
-use Rattle.mm_words.specs.Words.{WordsOf, word_of, aside_or, with_word, with_aside, is_valid, is_aside, keeps_places, place_of, valid_frame}
+use Rattle.mm_words.specs.Words.{word_of, aside_or, with_word, with_aside, is_valid, is_aside, keeps_places, place_of, valid_frame}
 use Rattle.mm_parts.specs.Shown.{JoinedParts, LineOf, owners, owned_by, held_by, stands_of, valid_of, named_by, names_of, is_paging, paging_of, life_of, life_in, shown_of, requests_in}
 use Rattle.mm_parts.specs.Words.{WordsKept, is_aside_entry, names_other}
 use Rattle.mm_parts.specs.Kept.{Kept}
@@ -40,10 +40,6 @@ use Rattle.mm_parts.proofs.KeyLives.{word_only}
 use Rattle.mm_parts.proofs.LineSteps.{no_place}
 
 -- ---- add
-
--- a key that is dead
-dead_key : (l : FrameLife) (k : Key) → not (is_live l k) ≡ true → is_dead (l.stands k) ≡ true
-dead_key l k h = dead_is (l.stands k) h
 
 dead_held : (own : Frame → Bool) (e : Entry) → is_dead (held_by own e) ≡ true → (e ≡ entry.Empty) ⊎ (((f : Frame) × ((n : ℕ) × ((e ≡ entry.Valid f n) × (own f ≡ false)))) ⊎ ((a : Area) × ((i : ℕ) × (e ≡ entry.Proto a i))))
 dead_held own entry.Empty h = inl refl
@@ -261,9 +257,6 @@ module _ (t : JoinedParts) (p : Pid) (v : Vpn) (legal : IsLegal (move.Add (Priva
 
 module _ (t : JoinedParts) (kept : Kept t) (p : Pid) (v : Vpn) (legal : IsLegal (move.Add (Private p v) None) (life_in t)) (touch : is_touch t.line.kind ≡ true)
     (free : t.words.aside ≡ None) (bound : t.words.bound (place_of p v) ≡ true) where
-  abbrev w' : WordsOf
-  w' = with_aside t.words (place_of p v) entry.Zero
-
   word_aside : (q : Key) → word_of (with_aside t.words (place_of p v) entry.Zero) q ≡ changed same_key (word_of t.words) (Private p v) entry.Zero q
   word_aside (Private r u) = ap (λ x. if same_place (place_of r u) (place_of p v) then entry.Zero else x) (sym (ap (λ a. aside_or a (place_of r u) (t.words.at (place_of r u))) free))
   word_aside (Shared a i) = refl

@@ -22,8 +22,8 @@ use Rattle.mm_laws.proofs.Owners.{key_or_not}
 use Rattle.mm_laws.proofs.PlaceCounts.{place_or_not, same_place-true, same_place-self}
 use Rattle.mm_frames.specs.Base.{has_block}
 use Rattle.mm_flight.specs.Requests.{FlightOf}
-use Rattle.mm_entry.specs.declared.entries.Entry.{Entry}
-use Rattle.mm_entry.specs.declared.entries.Entry.TheVariants as entry
+use Rattle.mm_words.specs.declared.layout.Entry.{Entry}
+use Rattle.mm_words.specs.declared.layout.Entry.TheVariants as entry
 use Rattle.mm_words.specs.declared.aside.Aside.{Aside}
 use Rattle.mm_words.specs.Words.{WordsOf, word_of, with_word, with_own, keeps_places, is_valid, is_aside, place_of}
 use Rattle.mm_parts.specs.Shown.{JoinedParts, LineOf, owners, owned_by, held_by, stands_of, valid_of, names_of, is_paging, paging_of, life_of, life_in, shown_of, requests, is_own_line}

@@ -19,8 +19,8 @@ use Rattle.mm_life.specs.Effect.{after_move, freed, dropped_at, unlisted, slot_a
 use Rattle.mm_laws.specs.PagingKeys.{is_home_for}
 use Rattle.mm_laws.proofs.Requests.{read_has}
 use Rattle.mm_laws.proofs.Sights.{kept_inside}
-use Rattle.mm_entry.specs.declared.entries.Entry.{Entry}
-use Rattle.mm_entry.specs.declared.entries.Entry.TheVariants as entry
+use Rattle.mm_words.specs.declared.layout.Entry.{Entry}
+use Rattle.mm_words.specs.declared.layout.Entry.TheVariants as entry
 use Rattle.mm_words.specs.declared.aside.Aside.{Aside}
 use Rattle.mm_words.specs.Words.{word_of, with_word, is_valid, is_there, is_aside, keeps_places, place_of, bare}
 use Rattle.mm_parts.specs.Shown.{JoinedParts, LineOf, owners, owned_by, held_by, names_of, life_in, shown_of, requests_in}
@@ -112,11 +112,6 @@ module _ (t : JoinedParts) (kept : Kept t) (k : Key) (legal : IsLegal (move.Drop
       by : (j : Key) (q : Place) → names_of (owners t.table) (with_word t.words j entry.Empty) q ≡ names_after_drop (shown_of t) j q
       by (Private p v) q = names_gone (owners t.table) t.words p v entry.Empty (not_beside t.words.aside (place_of p v) none_aside) refl q
       by (Shared a i) q = refl
-
-  abbrev DropStep : FrameTable → List Bool → Type 0
-  DropStep d' free' =
-      Step (record t { line = record t.line { paging_keys = t.line.paging_keys - 1 }; table = d'; free = free'; words = with_word t.words k entry.Empty })
-      (record (after (shown_of t) (move.Drop k)) { names = names_after_drop (shown_of t) k })
 
   drop_by : (d' : FrameTable) (f : Frame) (r : Record) (free' : List Bool) → Rewords t d' f r k entry.Empty
       → record (unlisted (life_in t) k) { frames = d'; free_slots = free' } ≡ after_move (life_in t) (move.Drop k)

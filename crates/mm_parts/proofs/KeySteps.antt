@@ -22,7 +22,7 @@ use Rattle.mm_laws.proofs.Taking.{Standby, first_standby, Fresh, fresh_read}
 use Rattle.mm_laws.specs.Sights.{Sight}
 use Rattle.mm_frames.specs.Base.{has_block}
 use Rattle.mm_flight.specs.Requests.{ended}
-use Rattle.mm_entry.specs.declared.entries.Entry.TheVariants as entry
+use Rattle.mm_words.specs.declared.layout.Entry.TheVariants as entry
 use Rattle.mm_words.specs.Words.{WordsOf, word_of, with_word, is_there, has_word, is_valid}
 use Rattle.mm_parts.specs.Shown.{JoinedParts, owners, owned_by, held_by, stands_of, names_of, is_paging, life_of, life_in, shown_of, requests, requests_in, own_is, is_own_line}
 use Rattle.mm_parts.specs.Words.{is_aside_entry}

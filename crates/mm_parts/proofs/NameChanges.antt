@@ -9,8 +9,8 @@ use Rattle.mm_types.specs.declared.numbers.Vpn.{Vpn}
 use Rattle.mm_types.specs.declared.numbers.Place.{Place}
 use Rattle.mm_life.specs.Life.{changed, same_place, key_of_place, is_shared}
 use Rattle.mm_laws.proofs.PlaceCounts.{place_or_not}
-use Rattle.mm_entry.specs.declared.entries.Entry.{Entry}
-use Rattle.mm_entry.specs.declared.entries.Entry.TheVariants as entry
+use Rattle.mm_words.specs.declared.layout.Entry.{Entry}
+use Rattle.mm_words.specs.declared.layout.Entry.TheVariants as entry
 use Rattle.mm_words.specs.declared.aside.Aside.{Aside}
 use Rattle.mm_words.specs.Words.{WordsOf, place_of, is_aside, aside_or, word_of, with_own, with_word, valid_frame}
 use Rattle.mm_parts.specs.Shown.{Owners, named_by, names_of, valid_of}
@@ -86,11 +86,6 @@ names_still o w (Private p v) e now was q = by (is_aside w.aside (place_of p v))
     by false h =
         let here = used_names o (place_of p v) (w.at (place_of p v)) (sym (ap is_used (in_table w.aside (place_of p v) (w.at (place_of p v)) h)) ∙ was) in
         names_at o w (place_of p v) e (Some (Private p v)) (used_names o (place_of p v) e now) q ∙ same_there (names_of o w) (place_of p v) q (Some (Private p v)) here
-
--- a page of a control area has another entry: no place names another for that
-pub names_shared : (o : Owners) (w : WordsOf) (k : Key) (e : Entry) → is_shared k ≡ true → (q : Place) → names_of o (with_word w k e) q ≡ names_of o w q
-names_shared o w (Private p v) e h q = cc
-names_shared o w (Shared a i) e h q = refl
 
 -- a page comes to have a frame
 pub names_used : (o : Owners) (w : WordsOf) (p : Pid) (v : Vpn) (e : Entry) → is_used e ≡ true → (q : Place)

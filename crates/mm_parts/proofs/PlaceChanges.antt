@@ -19,8 +19,8 @@ use Rattle.mm_life.specs.Legal.{IsLegal}
 use Rattle.mm_life.specs.Effect.{after_move, after_unmap_at}
 use Rattle.mm_laws.proofs.PlaceCounts.{place_or_not, same_place-true}
 use Rattle.mm_laws.proofs.Sights.{kept_inside}
-use Rattle.mm_entry.specs.declared.entries.Entry.{Entry}
-use Rattle.mm_entry.specs.declared.entries.Entry.TheVariants as entry
+use Rattle.mm_words.specs.declared.layout.Entry.{Entry}
+use Rattle.mm_words.specs.declared.layout.Entry.TheVariants as entry
 use Rattle.mm_words.specs.declared.aside.Aside.{Aside}
 use Rattle.mm_words.specs.Words.{WordsOf, word_of, own_word, aside_or, is_aside, without_aside, made_valid, made_invalid, place_of, valid_frame, is_valid}
 use Rattle.mm_parts.specs.Shown.{JoinedParts, Owners, owners, owned_by, held_by, stands_of, valid_of, named_by, names_of, is_paging, life_of, life_in, shown_of, requests_in}

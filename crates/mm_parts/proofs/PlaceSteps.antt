@@ -17,8 +17,8 @@ use Rattle.mm_life.specs.Life.{changed, same_key, same_place, key_of_place, is_d
 use Rattle.mm_life.specs.Legal.{IsLegal}
 use Rattle.mm_laws.proofs.Owners.{key_or_not, same_key-self}
 use Rattle.mm_laws.proofs.PlaceCounts.{place_or_not, same_place-self}
-use Rattle.mm_entry.specs.declared.entries.Entry.{Entry}
-use Rattle.mm_entry.specs.declared.entries.Entry.TheVariants as entry
+use Rattle.mm_words.specs.declared.layout.Entry.{Entry}
+use Rattle.mm_words.specs.declared.layout.Entry.TheVariants as entry
 use Rattle.mm_words.specs.declared.aside.Aside.{Aside}
 use Rattle.mm_words.specs.Words.{WordsOf, word_of, own_word, aside_or, is_aside, made_valid, made_invalid, changed_at, place_of, valid_frame}
 use Rattle.mm_parts.specs.Shown.{JoinedParts, owners, owned_by, has_owner, held_by, stands_of, valid_of, life_in, shown_of}
@@ -218,9 +218,6 @@ module _ (t : JoinedParts) (kept : Kept t) (f : Frame) (place : Place) (legal : 
 -- ---- of a shared page
 
 module _ (t : JoinedParts) (kept : Kept t) (f : Frame) (place : Place) (a : Area) (i : ℕ) (legal : IsLegal (move.Unmap place) (life_in t)) (there : valid_of t.words place ≡ Some f) (owner : (record_at t.table f.0).owner ≡ Some (Shared a i)) where
-  shared_some : 1 ≤ (record_at t.table f.0).shares
-  shared_some = (known t kept).shares place f there
-
   -- the place's private key is dead, or stands beside the tables
   shared_dead : is_aside t.words.aside place ≡ false → held.Dead ≡ stands_of (owners t.table) t.words (key_of_place place)
   shared_dead h = sym (ap (held_by (owned_by (owners t.table) (key_of_place place))) (in_place t.words.aside h) ∙ by (t.words.at place) refl)

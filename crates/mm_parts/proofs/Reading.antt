@@ -9,12 +9,12 @@ use Rattle.mm_types.specs.declared.numbers.Key.{Key}
 use Rattle.mm_types.specs.declared.numbers.Key.TheVariants.{Private, Shared}
 use Rattle.mm_life.specs.Frames.{record_at, is_empty, has_request}
 use Rattle.mm_laws.proofs.Sights.{kept_inside}
-use Rattle.mm_entry.specs.declared.entries.Entry.{Entry}
-use Rattle.mm_entry.specs.declared.entries.Entry.TheVariants as entry
+use Rattle.mm_words.specs.declared.layout.Entry.{Entry}
+use Rattle.mm_words.specs.declared.layout.Entry.TheVariants as entry
 use Rattle.mm_words.specs.Words.{word_of, has_word, place_of, valid_frame, bare}
 use Rattle.mm_parts.specs.Shown.{JoinedParts, owners, owned_by, held_by, has_owner, valid_of, life_in, shown_of}
 use Rattle.mm_parts.specs.Kept.{Kept}
-use Rattle.mm_parts.specs.Moves.{HasHome, front}
+use Rattle.mm_parts.specs.Moves.{HasHome}
 use Rattle.mm_parts.specs.Reading.{first_of, is_private, is_own_page}
 use Rattle.mm_parts.proofs.Keeping.{known}
 use Rattle.mm_parts.proofs.Stands.{held_same, at_place}
@@ -27,11 +27,6 @@ first_is [] None e = refl
 first_is [] (Some f) e = cc
 first_is (x ∷ xs) None e = cc
 first_is (x ∷ xs) (Some f) e = let same : f.0 ≡ x = cc in λ i. Some (record { 0 = same i })
-
--- where a move takes the first of a list, the list has one
-pub first_front : (xs : List ℕ) (f : Frame) → first_of xs ≡ Some f → f ≡ front xs
-first_front [] f e = cc
-first_front (x ∷ xs) f e = cc
 
 pub none_first : (xs : List ℕ) → is_none (first_of xs) ≡ is_empty xs
 none_first [] = refl

@@ -1,7 +1,6 @@
 -- The requests as one list, those in flight and behind them the line's own, and the waits for them.
 use Rattle.std.proofs.Common.{◌≡◌, ◌≢◌, ℕ, zero, suc, ◌+◌, ◌≤◌, Bool, true, false, not, List, [], ◌∷◌, ◌++◌, Option, Some, None, refl, sym, ap, ◌∙◌, arith}
 use Rattle.std.specs.Prelude.{◌==◌, map, is_some, if◌then◌else◌, slice_get}
-use Rattle.std.proofs.lemmas.List.Elements.{filter-append}
 use Rattle.std.proofs.lemmas.Bool.{eqb-true, eq-eqb}
 use Rattle.mm_types.specs.declared.numbers.Frame.{Frame}
 use Rattle.mm_types.specs.declared.moves.LineKind.{LineKind}
@@ -17,10 +16,6 @@ use Rattle.mm_parts.specs.Kept.{AreWaits}
 use Rattle.mm_parts.specs.Moves.{own_after, own_ended, flight_begun, flight_ended}
 use Rattle.mm_parts.proofs.FrameChanges.{Rewrites}
 use Rattle.mm_laws.proofs.Lists.{without_append, without_none}
-
-absent_head : (f x : ℕ) (xs : List ℕ) (b : Bool) → (x == f) ≡ b → times f (x ∷ xs) ≡ 0 → without f xs ≡ xs → without f (x ∷ xs) ≡ x ∷ xs
-absent_head f x xs true h e rest = let one = ap one_if h in absurd (omega (arith, e, one))
-absent_head f x xs false h e rest = ap (λ b. if not b then x ∷ without f xs else without f xs) h ∙ ap (λ zs. x ∷ zs) rest
 
 pub times-append : (f : ℕ) (xs ys : List ℕ) → times f (xs ++ ys) ≡ times f xs + times f ys
 times-append f [] ys = omega arith

@@ -16,10 +16,10 @@ use Rattle.mm_life.specs.Legal.{is_zero, is_stored}
 use Rattle.mm_life.specs.Effect.{home_at, backing_of}
 use Rattle.mm_laws.specs.Fits.{is_backed}
 use Rattle.mm_laws.proofs.PlaceCounts.{same_place-true, same_place-self}
-use Rattle.mm_laws.specs.PagingKeys.{is_home_for, is_backing_for}
+use Rattle.mm_laws.specs.PagingKeys.{is_home_for}
 use Rattle.mm_frames.specs.Base.{has_block}
-use Rattle.mm_entry.specs.declared.entries.Entry.{Entry}
-use Rattle.mm_entry.specs.declared.entries.Entry.TheVariants as entry
+use Rattle.mm_words.specs.declared.layout.Entry.{Entry}
+use Rattle.mm_words.specs.declared.layout.Entry.TheVariants as entry
 use Rattle.mm_words.specs.declared.aside.Aside.{Aside}
 use Rattle.mm_words.specs.Words.{word_of, is_valid, place_of, bare, aside_or}
 use Rattle.mm_parts.specs.Shown.{JoinedParts, owners, owned_by, held_by, stands_of, valid_of, is_paging, life_in}
@@ -91,19 +91,6 @@ zero_word own (entry.Valid f n) h = by (own f) h
     by true h = cc
     by false h = cc
 zero_word own (entry.Proto a i) h = cc
-
-pub slot_word : (own : Frame → Bool) (e : Entry) (s : Slot) → held_by own e ≡ held.Slot s → e ≡ entry.Paged s
-slot_word own entry.Empty s h = cc
-slot_word own entry.Zero s h = cc
-slot_word own (entry.Paged t) s h = let same : t ≡ s = cc in ap entry.Paged same
-slot_word own (entry.InFile b) s h = cc
-slot_word own (entry.Transition f) s h = cc
-slot_word own (entry.Valid f n) s h = by (own f) h
-  where
-    by : (b : Bool) → (if b then held.Frame f else held.Dead) ≡ held.Slot s → entry.Valid f n ≡ entry.Paged s
-    by true h = cc
-    by false h = cc
-slot_word own (entry.Proto a i) s h = cc
 
 -- an entry of a page on a device
 abbrev pub is_away : Entry → Bool

@@ -14,10 +14,10 @@ use Rattle.mm_life.specs.Life.{FrameLife, changed, same_key, same_place}
 use Rattle.mm_laws.proofs.Owners.{key_or_not}
 use Rattle.mm_laws.proofs.PlaceCounts.{place_or_not, same_place-true}
 use Rattle.mm_frames.specs.Base.{has_block}
-use Rattle.mm_entry.specs.declared.entries.Entry.{Entry}
-use Rattle.mm_entry.specs.declared.entries.Entry.TheVariants as entry
+use Rattle.mm_words.specs.declared.layout.Entry.{Entry}
+use Rattle.mm_words.specs.declared.layout.Entry.TheVariants as entry
 use Rattle.mm_words.specs.declared.aside.Aside.{Aside}
-use Rattle.mm_words.specs.Words.{WordsOf, place_of, is_aside, aside_or, own_word, word_of, is_valid, valid_frame, changed_at, with_own, with_word, keeps_places}
+use Rattle.mm_words.specs.Words.{WordsOf, place_of, is_aside, aside_or, own_word, word_of, is_valid, valid_frame, with_own, with_word, keeps_places}
 use Rattle.mm_parts.specs.Shown.{Owners, has_owner, held_by, owned_by, stands_of, valid_of, is_paging, LineOf}
 use Rattle.mm_parts.specs.Words.{is_aside_entry}
 
@@ -49,9 +49,6 @@ own_by false w pl q e h = own_unset w.aside w.at pl q e h
 proto_by : (b : Bool) (w : WordsOf) (pl : Place) (e : Entry) (a i : ℕ) → (with_own b w pl e).proto a i ≡ w.proto a i
 proto_by true w pl e a i = refl
 proto_by false w pl e a i = refl
-
-own_proto : (w : WordsOf) (a i : ℕ) (e : Entry) (q : Place) → own_word (record w { proto = changed_at w.proto a i e }) q ≡ own_word w q
-own_proto w a i e q = refl
 
 pub word_set : (w : WordsOf) (k : Key) (e : Entry) (q : Key) → word_of (with_word w k e) q ≡ changed same_key (word_of w) k e q
 word_set w (Private p v) e (Private q u) = own_by (is_aside w.aside (place_of p v)) w (place_of p v) (place_of q u) e refl

@@ -14,7 +14,7 @@ use Rattle.mm_life.specs.Effect.{after_move}
 use Rattle.mm_laws.specs.Reached.{Reached}
 use Rattle.mm_laws.proofs.Deduced.{reached_start, reached_next}
 use Rattle.mm_flight.specs.declared.flights.Waiting.TheVariants as waiting
-use Rattle.mm_entry.specs.declared.entries.Entry.TheVariants as entry
+use Rattle.mm_words.specs.declared.layout.Entry.TheVariants as entry
 use Rattle.mm_words.specs.Words.{word_of}
 use Rattle.mm_words.specs.Shown.{no_words}
 use Rattle.mm_parts.specs.Shown.{owners, stands_of, is_paging, life_in}

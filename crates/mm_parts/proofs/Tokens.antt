@@ -4,7 +4,7 @@ use Rattle.std.specs.Prelude.{slice_get, if◌then◌else◌}
 use Rattle.mm_types.specs.declared.numbers.Frame.{Frame}
 use Rattle.mm_life.specs.Frames.{FrameTable, is_empty, rest, after_steal, taken_for_read}
 use Rattle.mm_frames.specs.Base.{FramesOf, standby_taken, free_put, emptied}
-use Rattle.mm_parts.specs.Moves.{front, front_or}
+use Rattle.mm_parts.specs.Moves.{front}
 
 pub front_is : (xs : List ℕ) (b : ℕ) (f : Frame) → slice_get xs 0 ≡ Some b → f.0 ≡ b → f ≡ front xs
 front_is [] b f e h = cc
@@ -17,15 +17,6 @@ some_front (x ∷ xs) b e = refl
 pub no_front : (xs : List ℕ) → slice_get xs 0 ≡ None → is_empty xs ≡ true
 no_front [] e = refl
 no_front (x ∷ xs) e = cc
-
-pub first_number : (xs ys : List ℕ) (b : ℕ) → slice_get xs 0 ≡ Some b → b ≡ (front_or xs ys).0
-first_number [] ys b e = cc
-first_number (x ∷ xs) ys b e = cc
-
-pub second_number : (xs ys : List ℕ) (b : ℕ) → slice_get xs 0 ≡ None → slice_get ys 0 ≡ Some b → b ≡ (front_or xs ys).0
-second_number [] [] b e h = cc
-second_number [] (y ∷ ys) b e h = cc
-second_number (x ∷ xs) ys b e h = cc
 
 pub taken_free : (d : FrameTable) (b : ℕ) → slice_get d.free 0 ≡ Some b → record d { free = rest d.free } ≡ taken_for_read d
 taken_free d b e = by (is_empty d.free) (some_front d.free b e)

@@ -1,9 +1,9 @@
 -- The requests as one list, looked up by age and by frame, and the waits for them.
-use Rattle.std.proofs.Common.{◌≡◌, ℕ, zero, suc, ◌+◌, ◌<◌, ◌≤◌, ◌^◌, Bool, true, false, cond, List, [], ◌∷◌, ◌++◌, Option, Some, None, refl, sym, ap, ◌∙◌, subst, inl, inr, arith, length, length-append}
+use Rattle.std.proofs.Common.{◌≡◌, ℕ, ◌+◌, ◌<◌, ◌≤◌, ◌^◌, Bool, true, false, cond, List, [], ◌∷◌, ◌++◌, Option, Some, None, refl, sym, ap, ◌∙◌, subst, inl, inr, arith, length}
 use Rattle.std.specs.Prelude.{◌==◌, ◌||◌, option_map, slice_get, slice_set, map, if◌then◌else◌}
 use Rattle.std.specs.List.{list_any, position_from}
 use Rattle.std.proofs.lemmas.Iterator.Adapters.{position_from-zero}
-use Rattle.std.proofs.lemmas.Option.{slice_get_past, slice_get-map}
+use Rattle.std.proofs.lemmas.Option.{slice_get-map}
 use Rattle.std.proofs.lemmas.Bool.{eqb-true, eq-eqb}
 use Rattle.mm_types.proofs.Bytes.{append_nil}
 use Rattle.mm_types.proofs.Cells.{same_or_not, set_cases, get_set_same, get_set_other}
@@ -13,11 +13,11 @@ use Rattle.mm_types.specs.declared.answers.Wait.{Wait}
 use Rattle.mm_life.specs.Frames.{record_at, is_read, has_request}
 use Rattle.mm_life.specs.Life.{changed}
 use Rattle.mm_laws.specs.Tally.{one_if, times}
-use Rattle.mm_flight.specs.Requests.{is_in, nth_oldest, place_in, ended, wait_of}
+use Rattle.mm_flight.specs.Requests.{is_in, place_in, ended, wait_of}
 use Rattle.mm_flight.specs.declared.flights.Waiting.{Waiting}
 use Rattle.mm_flight.specs.declared.flights.Waiting.TheVariants as waiting
-use Rattle.mm_walks.specs.Waits.{ForFrame, Ended, ended_by}
-use Rattle.mm_walks.specs.Waits.{wait_of as walked_wait}
+use Rattle.mm_life.specs.Waits.{ForFrame, Ended, ended_by}
+use Rattle.mm_life.specs.Waits.{wait_of as walked_wait}
 use Rattle.mm_parts.specs.Shown.{JoinedParts, shown_of, requests, own_request, own_is}
 use Rattle.mm_parts.specs.Kept.{Kept, AreWaits}
 use Rattle.mm_parts.specs.Reading.{walked, walked_or, waits_of}
@@ -31,50 +31,7 @@ use Rattle.mm_laws.proofs.Sums.{one_most}
 pub few_requests : (t : JoinedParts) → Kept t → length t.flight.frames ≤ t.flight.depth → length t.flight.frames + 1 < 2 ^ 32
 few_requests t kept few = let depth = kept.depth in let most = kept.line.machine.most_depth in omega (arith, few, depth, most)
 
-pub number_some : (xs : List ℕ) (own : Option Frame) (g : Frame) → own ≡ Some g → length (requests xs own) ≡ length xs + 1
-number_some xs own g e = ap (λ o. length (requests xs o)) e ∙ length-append xs (g.0 ∷ [])
-
-pub number_none : (xs : List ℕ) (own : Option Frame) → own ≡ None → length (requests xs own) ≡ length xs
-number_none xs own e = ap (λ o. length (requests xs o)) e ∙ ap length (append_nil xs)
-
 -- ---- by age
-
-get_left : {A : Type 0} (xs ys : List A) (k : ℕ) → k < length xs → slice_get (xs ++ ys) k ≡ slice_get xs k
-get_left [] ys k h = absurd (omega (arith, h))
-get_left (x ∷ xs) ys zero h = refl
-get_left (x ∷ xs) ys (suc k) h = get_left xs ys k (omega (arith, h))
-
-get_seam : {A : Type 0} (xs ys : List A) (k : ℕ) → k ≡ length xs → slice_get (xs ++ ys) k ≡ slice_get ys 0
-get_seam [] ys zero h = refl
-get_seam [] ys (suc k) h = absurd (omega (arith, h))
-get_seam (x ∷ xs) ys zero h = absurd (omega (arith, h))
-get_seam (x ∷ xs) ys (suc k) h = get_seam xs ys k (omega (arith, h))
-
--- one in flight
-pub nth_flies : (i : ℕ) (xs : List ℕ) (own : Option Frame) → i ≤ length xs → nth_oldest i (requests xs own) ≡ nth_oldest i xs
-nth_flies zero xs own h = refl
-nth_flies (suc k) xs own h = get_left xs (own_request own) k (omega (arith, h))
-
-own_front : (own : Option Frame) → slice_get (own_request own) 0 ≡ option_map (λ (f : Frame). f.0) own
-own_front None = refl
-own_front (Some f) = refl
-
--- the line's own
-pub nth_own : (i : ℕ) (xs : List ℕ) (own : Option Frame) → i ≡ length xs + 1 → option_map (λ (f : Frame). f.0) own ≡ nth_oldest i (requests xs own)
-nth_own zero xs own h = absurd (omega (arith, h))
-nth_own (suc k) xs own h = sym (get_seam xs (own_request own) k (omega (arith, h)) ∙ own_front own)
-
-own_short : (own : Option Frame) → length (own_request own) ≤ 1
-own_short None = omega arith
-own_short (Some f) = omega arith
-
--- past the last
-pub nth_past : (i : ℕ) (xs : List ℕ) (own : Option Frame) → length xs + 2 ≤ i → nth_oldest i (requests xs own) ≡ None
-nth_past zero xs own h = absurd (omega (arith, h))
-nth_past (suc k) xs own h =
-    let size = length-append xs (own_request own) in
-    let short = own_short own in
-    slice_get_past (requests xs own) k (omega (arith, h, size, short))
 
 -- ---- by frame
 

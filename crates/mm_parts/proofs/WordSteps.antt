@@ -11,8 +11,8 @@ use Rattle.mm_types.specs.declared.numbers.Place.{Place}
 use Rattle.mm_types.specs.declared.frames.Held.TheVariants as held
 use Rattle.mm_life.specs.Life.{FrameLife, changed, same_place}
 use Rattle.mm_laws.specs.Reached.{Reached}
-use Rattle.mm_entry.specs.declared.entries.Entry.{Entry}
-use Rattle.mm_entry.specs.declared.entries.Entry.TheVariants as entry
+use Rattle.mm_words.specs.declared.layout.Entry.{Entry}
+use Rattle.mm_words.specs.declared.layout.Entry.TheVariants as entry
 use Rattle.mm_words.specs.declared.aside.Aside.{Aside}
 use Rattle.mm_words.specs.Words.{WordsOf, word_of, own_word, aside_or, place_of, valid_frame, changed_in, is_valid}
 use Rattle.mm_parts.specs.Shown.{JoinedParts, owners, owned_by, held_by, stands_of, valid_of, named_by, names_of, is_paging, life_of, life_in, shown_of, requests_in}
@@ -22,7 +22,7 @@ use Rattle.mm_life.specs.Victims.{aged}
 use Rattle.mm_wset.specs.Ages.{older}
 use Rattle.mm_parts.specs.Moves.{ages_older}
 use Rattle.mm_parts.proofs.Keeping.{Step}
-use Rattle.mm_radix.specs.Pages.{pages}
+use Rattle.mm_words.specs.Pages.{pages}
 use Rattle.mm_parts.proofs.Conditions.{invalid_entry}
 use Rattle.mm_parts.proofs.LineSteps.{no_place}
 use Rattle.mm_parts.proofs.Stands.{same_life}
@@ -103,9 +103,6 @@ area_clear t kept a i dead = by (t.words.proto a.0 i) refl dead
     by (entry.Proto b j) g h = absurd (kept.words.no_proto a.0 i b j g)
 
 -- ---- places are given up
-
-in_range : Place → ℕ → Range → Bool
-in_range x pid r = (x.pid.0 == pid) && holds_page r x.vpn.0
 
 -- no page of the range is valid, and none has a live private key; and nothing stands beside the tables
 pub record Givable (t : JoinedParts) (pid : ℕ) (r : Range) : Type 0 where

@@ -1,5 +1,5 @@
--- How the parts agree, over plain lists and maps: entries, prototype words and frames; slots and what holds them; requests; and
--- working sets.
+-- How the parts agree, over plain lists and maps: entries, prototype words and frames; slots and
+-- what holds them; requests; and working sets.
 use Rattle.std.specs.Prelude.{◌≡◌, ◌≢◌, ◌≤◌, ◌<◌, ◌+◌, ◌⊎◌, ℕ, true, false, List, length, Option, Some, is_some, slice_get}
 use Rattle.mm_types.specs.declared.numbers.Area.{Area}
 use Rattle.mm_types.specs.declared.numbers.Frame.{Frame}
@@ -14,8 +14,8 @@ use Rattle.mm_life.specs.Legal.{owner_is}
 use Rattle.mm_laws.specs.Holders.{Holder, holding}
 use Rattle.mm_laws.specs.Places.{CountsPlaces}
 use Rattle.mm_laws.specs.Tally.{one_if, times}
-use Rattle.mm_entry.specs.declared.entries.Entry.{Entry}
-use Rattle.mm_entry.specs.declared.entries.Entry.TheVariants as entry
+use Rattle.mm_words.specs.declared.layout.Entry.{Entry}
+use Rattle.mm_words.specs.declared.layout.Entry.TheVariants as entry
 use Rattle.mm_words.specs.declared.aside.Aside.{Aside}
 use Rattle.mm_words.specs.Words.{WordsOf, word_of, place_of, valid_frame}
 use Rattle.mm_parts.specs.Shown.{requests, is_own_line}
@@ -34,8 +34,8 @@ pub record IsValidFor (l : FrameLife) (p : Place) (f : Frame) : Type 0 where
   pub shared : 1 ≤ (record_at l.frames f.0).shares
   pub page : (owner_is is_shared (record_at l.frames f.0) ≡ true) ⊎ InFrame l (key_of_place p) f
 
--- What the one entry of a key says of where the key stands. The word of a private key is that of its place, which may be valid
--- for a shared page, or name one: then the private key is not live.
+-- What the one entry of a key says of where the key stands. The word of a private key is that of
+-- its place, which may be valid for a shared page, or name one: then the private key is not live.
 abbrev pub Says : FrameLife → Key → Entry → Type 0
 Says l k entry.Empty = l.stands k ≡ held.Dead
 Says l k entry.Zero = l.stands k ≡ held.Zero
@@ -44,43 +44,52 @@ Says l (Private p v) (entry.InFile b) = ⊥
 Says l (Shared a i) (entry.InFile b) = l.stands (Shared a i) ≡ held.Block b
 Says l k (entry.Transition f) = InFrame l k f × ((record_at l.frames f.0).shares ≡ 0)
 Says l (Private p v) (entry.Valid f n) = IsValidFor l (place_of p v) f
-Says l (Shared a i) (entry.Valid f n) = InFrame l (Shared a i) f × (1 ≤ (record_at l.frames f.0).shares)
+Says l (Shared a i) (entry.Valid f n) = InFrame l (Shared a i) f ×
+    (1 ≤ (record_at l.frames f.0).shares)
 Says l (Private p v) (entry.Proto a i) = l.stands (Private p v) ≡ held.Dead
 Says l (Shared a i) (entry.Proto b j) = ⊥
 
--- the one key beside the tables: a live private key of a bound place, whose word is that of a shared page meanwhile
+-- the one key beside the tables: a live private key of a bound place, whose word is that of a
+-- shared page meanwhile
 pub record IsBeside (l : FrameLife) (w : WordsOf) (x : Aside) : Type 0 where
   pub bound : w.bound x.place ≡ true
   pub entry : is_aside_entry x.entry ≡ true
   pub says : Says l (key_of_place x.place) x.entry
   pub named : names_other (w.at x.place) ≡ true
-  pub other : (f : Frame) → l.valid x.place ≡ Some f → owner_is is_shared (record_at l.frames f.0) ≡ true
+  pub other : (f : Frame) → l.valid x.place ≡ Some f →
+      owner_is is_shared (record_at l.frames f.0) ≡ true
 
 pub record EntriesAgree (l : FrameLife) (w : WordsOf) : Type 0 where
-  -- Each key has one entry: in its page table, in its prototype word, or, of the one key that is being made by a copy, beside the
-  -- tables. It says where the key stands.
+  -- Each key has one entry: in its page table, in its prototype word, or, of the one key that is
+  -- being made by a copy, beside the tables. It says where the key stands.
   pub says : (k : Key) → Says l k (word_of w k)
   -- a place is valid where its word names a frame
   pub valid : (p : Place) → l.valid p ≡ valid_frame (w.at p)
   pub page : (p : Place) (f : Frame) → l.valid p ≡ Some f → IsValidFor l p f
   -- where that is the frame of a shared page, its prototype word names it too
-  pub prototype : (p : Place) (f : Frame) (a : Area) (i : ℕ) → l.valid p ≡ Some f → (record_at l.frames f.0).owner ≡ Some (Shared a i) → w.proto a.0 i ≡ entry.Valid f 0
+  pub prototype : (p : Place) (f : Frame) (a : Area) (i : ℕ) → l.valid p ≡ Some f →
+      (record_at l.frames f.0).owner ≡ Some (Shared a i) → w.proto a.0 i ≡ entry.Valid f 0
   -- a frame's shares are the places that are valid for it
   pub shares : ∥ CountsPlaces l ∥₁
   pub beside : (x : Aside) → w.aside ≡ Some x → IsBeside l w x
 
 -- ---- slots
 
--- a free slot has no holder, each other slot one, a key or a frame; and nothing holds a slot that is not there
+-- a free slot has no holder, each other slot one, a key or a frame; and nothing holds a slot that
+-- is not there
 pub record SlotsAgree (l : FrameLife) : Type 0 where
-  pub free : (s : ℕ) (h : Holder) → slice_get l.free_slots s ≡ Some true → holding l.frames l.stands h ≢ Some s
-  pub held : (s : ℕ) → slice_get l.free_slots s ≡ Some false → ∥ ((h : Holder) × (holding l.frames l.stands h ≡ Some s)) ∥₁
-  pub one : (s : ℕ) (g h : Holder) → holding l.frames l.stands g ≡ Some s → holding l.frames l.stands h ≡ Some s → g ≡ h
+  pub free : (s : ℕ) (h : Holder) → slice_get l.free_slots s ≡ Some true →
+      holding l.frames l.stands h ≢ Some s
+  pub held : (s : ℕ) → slice_get l.free_slots s ≡ Some false →
+      ∥ ((h : Holder) × (holding l.frames l.stands h ≡ Some s)) ∥₁
+  pub one : (s : ℕ) (g h : Holder) → holding l.frames l.stands g ≡ Some s →
+      holding l.frames l.stands h ≡ Some s → g ≡ h
   pub there : (s : ℕ) (h : Holder) → holding l.frames l.stands h ≡ Some s → s < length l.free_slots
 
 -- ---- requests
 
--- the requests are the frames whose record has one, each once: at most depth in flight, and after them the line's own
+-- the requests are the frames whose record has one, each once: at most depth in flight, and after
+-- them the line's own
 pub record RequestsAgree (l : FrameLife) (flight : List ℕ) (own : Option Frame) : Type 0 where
   pub one_list : l.flight ≡ requests flight own
   pub once : (f : ℕ) → times f l.flight ≡ one_if (has_request (record_at l.frames f).request)
@@ -90,7 +99,8 @@ pub record RequestsAgree (l : FrameLife) (flight : List ℕ) (own : Option Frame
 
 -- ---- working sets
 
--- A working set holds exactly the valid places of its process, each with an age of at most 7. It has at most its greatest size.
+-- A working set holds exactly the valid places of its process, each with an age of at most 7. It
+-- has at most its greatest size.
 pub record SetsAgree (l : FrameLife) (ages : Place → Option ℕ) : Type 0 where
   pub aged : (p : Place) → is_some (ages p) ≡ is_some (l.valid p)
   pub young : (p : Place) (age : ℕ) → ages p ≡ Some age → age ≤ 7

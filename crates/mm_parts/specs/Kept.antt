@@ -18,7 +18,8 @@ use Rattle.mm_parts.specs.Words.{WordsKept}
 
 -- a thread waits for reads that are in flight alone
 abbrev pub AreWaits : FrameTable → FlightOf → Type 0
-AreWaits d q = (t : ℕ) (f : Frame) → slice_get q.waits t ≡ Some (waiting.For f) → (is_in f.0 q.frames ≡ true) × (is_read (record_at d f.0).request ≡ true)
+AreWaits d q = (t : ℕ) (f : Frame) → slice_get q.waits t ≡ Some (waiting.For f) →
+    (is_in f.0 q.frames ≡ true) × (is_read (record_at d f.0).request ≡ true)
 
 -- the numbers are in range, and a line has begun
 pub record LineKept (n : LineOf) : Type 0 where
@@ -31,10 +32,12 @@ pub record WithinLine (k : LineKind) (own : Option Frame) (w : WordsOf) : Type 0
   pub requesting : is_some own ≡ true → is_own_line k ≡ true
   pub copying : is_some w.aside ≡ true → is_touch k ≡ true
 
--- areas have numbers that a word has room for, working sets are of these sizes, and user pages alone are bound
+-- areas have numbers that a word has room for, working sets are of these sizes, and user pages
+-- alone are bound
 pub record RangesKept (w : WordsOf) : Type 0 where
   pub areas : (a : ℕ) → is_some (w.sizes a) ≡ true → a < 2 ^ 28
-  pub sets : (pid : ℕ) (s : ResidentSet) → set_in w.sets pid ≡ Some s → (1 ≤ s.max) × (s.max ≤ 65536)
+  pub sets : (pid : ℕ) (s : ResidentSet) → set_in w.sets pid ≡ Some s → (1 ≤ s.max) ×
+      (s.max ≤ 65536)
   pub user : (p : Place) → w.bound p ≡ true → p.vpn.0 < end_of_user_pages
 
 pub record Kept (t : JoinedParts) : Type 0 where

@@ -16,13 +16,13 @@ use Rattle.mm_types.specs.declared.moves.Stored.{Stored}
 use Rattle.mm_types.specs.declared.moves.Stored.TheVariants as stored
 use Rattle.mm_life.specs.Frames.{FrameTable, record_at, after_drop, slot_after_drop}
 use Rattle.mm_life.specs.Legal.{is_touch, owner_is}
-use Rattle.mm_entry.specs.declared.entries.Entry.{Entry}
-use Rattle.mm_entry.specs.declared.entries.Entry.TheVariants as entry
+use Rattle.mm_words.specs.declared.layout.Entry.{Entry}
+use Rattle.mm_words.specs.declared.layout.Entry.TheVariants as entry
 use Rattle.mm_life.specs.Life.{FrameLife, changed, same_place, key_of_place, is_shared, is_dead}
 use Rattle.mm_life.specs.Effect.{after_move}
 use Rattle.mm_life.specs.Victims.{aged}
 use Rattle.mm_ram.specs.Ram.{with_page}
-use Rattle.mm_entry.specs.Words.{IsEntry}
+use Rattle.mm_words.specs.Layout.{IsEntry}
 use Rattle.mm_words.specs.Words.{WordsOf, with_word, has_word, keeps_places, made_invalid}
 use Rattle.mm_flight.specs.Requests.{FlightOf, without, ended}
 use Rattle.mm_parts.specs.Shown.{PartsOf, is_own_line}
@@ -34,7 +34,8 @@ abbrev pub front : List ℕ → Frame
 front [] = record { 0 = 0 }
 front (x ∷ xs) = record { 0 = x }
 
--- the frame that a page is read into: the first free one, or where none is free the first zeroed one
+-- the frame that a page is read into: the first free one, or where none is free the first zeroed
+-- one
 abbrev pub front_or : List ℕ → List ℕ → Frame
 front_or [] zeroed = front zeroed
 front_or (x ∷ xs) zeroed = record { 0 = x }
@@ -89,7 +90,10 @@ aside_added None aside place = aside
 aside_added (Some k) aside place = Some place
 
 abbrev pub aside_after_add : PartsOf → Key → Option Place
-aside_after_add s (Private p v) = aside_added (s.names (record { pid = p; vpn = v })) s.aside (record { pid = p; vpn = v })
+aside_after_add s (Private p v) = aside_added (s.names (record {
+  pid = p;
+  vpn = v;
+})) s.aside (record { pid = p; vpn = v })
 aside_after_add s (Shared a i) = s.aside
 
 -- it stands there no more once its place is valid for it
@@ -97,10 +101,12 @@ abbrev pub left_by : Option Place → Place → Option Place
 left_by None place = None
 left_by (Some q) place = if same_place place q then None else Some q
 
--- the key last used at each place: a private page is used at its own place once it has a frame, unless it stands beside the tables
+-- the key last used at each place: a private page is used at its own place once it has a frame,
+-- unless it stands beside the tables
 abbrev pub names_given : Option Place → (Place → Option Key) → Place → Place → Option Key
 names_given None names place = changed same_place names place (Some (key_of_place place))
-names_given (Some q) names place = if same_place place q then names else changed same_place names place (Some (key_of_place place))
+names_given (Some q) names place = if same_place place q then names else
+    changed same_place names place (Some (key_of_place place))
 
 abbrev pub names_after_give : PartsOf → Key → Place → Option Key
 names_after_give s (Private p v) = names_given s.aside s.names (record { pid = p; vpn = v })
@@ -121,7 +127,10 @@ flight_begun own q f = if own then q else record q { frames = q.frames ++ f.0 �
 
 -- one ends, well or not, and with it the waits for it; nobody waits for the line's own
 abbrev pub flight_ended : Bool → FlightOf → ℕ → Bool → FlightOf
-flight_ended own q f ok = if own then q else record q { frames = without f q.frames; waits = map (ended f ok) q.waits }
+flight_ended own q f ok = if own then q else record q {
+  frames = without f q.frames;
+  waits = map (ended f ok) q.waits;
+}
 
 -- ---- keys
 
@@ -130,9 +139,13 @@ abbrev pub HasHome : PartsOf → Key → Type 0
 HasHome s (Private p v) = s.bound (record { pid = p; vpn = v }) ≡ true
 HasHome s (Shared a i) = (n : ℕ) × ((s.areas a.0 ≡ Some n) × (i < n))
 
--- a private key comes to be at a place that names none, or in an access beside the tables, where nothing stands there
+-- a private key comes to be at a place that names none, or in an access beside the tables, where
+-- nothing stands there
 abbrev pub IsClear : PartsOf → Key → Type 0
-IsClear s (Private p v) = (s.names (record { pid = p; vpn = v }) ≡ None) ⊎ ((is_touch s.life.kind ≡ true) × (s.aside ≡ None))
+IsClear s (Private p v) = (s.names (record {
+  pid = p;
+  vpn = v;
+}) ≡ None) ⊎ ((is_touch s.life.kind ≡ true) × (s.aside ≡ None))
 IsClear s (Shared a i) = Unit {0}
 
 -- the page of an entry is no more: its frame goes, or its slot
@@ -192,13 +205,15 @@ IsReleased entry.Empty d = Unit {0}
 IsReleased entry.Zero d = Unit {0}
 IsReleased (entry.Paged s) d = Unit {0}
 IsReleased (entry.InFile b) d = Unit {0}
-IsReleased (entry.Transition f) d = (is_some (record_at d f.0).owner ≡ true) × ((record_at d f.0).shares ≡ 0)
+IsReleased (entry.Transition f) d = (is_some (record_at d f.0).owner ≡ true) ×
+    ((record_at d f.0).shares ≡ 0)
 IsReleased (entry.Valid f n) d = Unit {0}
 IsReleased (entry.Proto a i) d = Unit {0}
 
 -- a shared page becomes valid where the place's own private key is dead
 abbrev pub MayMap : PartsOf → Frame → Place → Type 0
-MayMap s f place = owner_is is_shared (record_at s.life.frames f.0) ≡ true → is_dead (s.life.stands (key_of_place place)) ≡ true
+MayMap s f place = owner_is is_shared (record_at s.life.frames f.0) ≡ true →
+    is_dead (s.life.stands (key_of_place place)) ≡ true
 
 -- the bytes of the frames once a read has ended, with the page's bytes or without
 abbrev pub page_filled : Option (List ℕ) → List (Option (List ℕ)) → ℕ → List (Option (List ℕ))
@@ -207,7 +222,8 @@ page_filled (Some page) bytes f = with_page bytes f page
 
 -- ---- lines
 
--- the kinds that `at` makes: a process's working set has room for 1 to 65,536 pages; `grow` has a call of its own
+-- the kinds that `at` makes: a process's working set has room for 1 to 65,536 pages; `grow` has a
+-- call of its own
 abbrev pub IsPlainLine : LineKind → Type 0
 IsPlainLine (kind.Process pid min max) = (1 ≤ max) × (max ≤ 65536)
 IsPlainLine (kind.Grow n) = ⊥
@@ -237,19 +253,24 @@ words_named None f w = w
 words_named (Some (Private p v)) f w = w
 words_named (Some (Shared a i)) f w = with_word w (Shared a i) (entry.Valid f 0)
 
--- a place is valid no more: it names the shared page, whose prototype word is in transition after the last, or is in transition itself
+-- a place is valid no more: it names the shared page, whose prototype word is in transition after
+-- the last, or is in transition itself
 abbrev pub CanLeave : WordsOf → Key → Frame → Type 0
 CanLeave w (Private p v) f = IsEntry (entry.Transition f)
-CanLeave w (Shared a i) f = (has_word w (Shared a i) ≡ true) × IsEntry (entry.Transition f) × (a.0 < 268435456)
+CanLeave w (Shared a i) f = (has_word w (Shared a i) ≡ true) × IsEntry (entry.Transition f) ×
+    (a.0 < 268435456)
 
 abbrev pub words_left : Key → Frame → Bool → Place → WordsOf → WordsOf
 words_left (Private p v) f last place w = made_invalid w place (entry.Transition f)
 words_left (Shared a i) f last place w =
-    if last then with_word (made_invalid w place (entry.Proto a i)) (Shared a i) (entry.Transition f) else made_invalid w place (entry.Proto a i)
+    if last then with_word (made_invalid w place (entry.Proto a i)) (Shared a i)
+    (entry.Transition f) else made_invalid w place (entry.Proto a i)
 
 -- the words once a line has begun: a process has a working set
 abbrev pub words_begun : LineKind → WordsOf → WordsOf
-words_begun (kind.Process pid min max) w = record w { sets = w.sets ++ record { min = min; max = max; resident = 0 } ∷ [] }
+words_begun (kind.Process pid min max) w = record w {
+  sets = w.sets ++ record { min = min; max = max; resident = 0 } ∷ [];
+}
 words_begun _ w = w
 
 -- there is room for the working set of another process

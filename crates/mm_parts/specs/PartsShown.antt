@@ -8,7 +8,13 @@ use Rattle.mm_parts.specs.Shown.{JoinedParts, PartsOf, shown_of}
 
 abbrev pub joined : Parts → JoinedParts
 joined s = record {
-  line = record { machine = s.machine; line = s.line; kind = s.kind; paging_keys = s.paging_keys; added = s.added.items };
+  line = record {
+    machine = s.machine;
+    line = s.line;
+    kind = s.kind;
+    paging_keys = s.paging_keys;
+    added = s.added.items;
+  };
   table = s.frames.table;
   bytes = s.frames.bytes;
   free = s.slots.free;

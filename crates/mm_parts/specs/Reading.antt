@@ -5,7 +5,7 @@ use Rattle.mm_types.specs.declared.numbers.Key.{Key}
 use Rattle.mm_types.specs.declared.numbers.Key.TheVariants.{Private, Shared}
 use Rattle.mm_flight.specs.declared.flights.Waiting.{Waiting}
 use Rattle.mm_flight.specs.declared.flights.Waiting.TheVariants as waiting
-use Rattle.mm_walks.specs.Waits.{Waiting as Walked, Idle, ForFrame, Ended}
+use Rattle.mm_life.specs.Waits.{Waiting as Walked, Idle, ForFrame, Ended}
 
 -- the first of a list of frames, if it has one
 abbrev pub first_of : List ℕ → Option Frame
@@ -17,8 +17,8 @@ is_private None = false
 is_private (Some (Private p v)) = true
 is_private (Some (Shared a i)) = false
 
--- A frame that the entry of a key is valid for is that of the key itself, by the frame's owner: the place of a private key may
--- be valid for a shared page.
+-- A frame that the entry of a key is valid for is that of the key itself, by the frame's owner: the
+-- place of a private key may be valid for a shared page.
 abbrev pub is_own_page : Key → Option Key → Bool
 is_own_page (Private p v) owner = is_private owner
 is_own_page (Shared a i) owner = true

@@ -14,8 +14,8 @@ use Rattle.mm_life.specs.Legal.{is_access, is_call}
 use Rattle.mm_flight.specs.Requests.{FlightOf}
 use Rattle.mm_flight.specs.declared.flights.Waiting.{Waiting}
 use Rattle.mm_frames.specs.Base.{has_block}
-use Rattle.mm_entry.specs.declared.entries.Entry.{Entry}
-use Rattle.mm_entry.specs.declared.entries.Entry.TheVariants as entry
+use Rattle.mm_words.specs.declared.layout.Entry.{Entry}
+use Rattle.mm_words.specs.declared.layout.Entry.TheVariants as entry
 use Rattle.mm_words.specs.Words.{WordsOf, word_of, valid_frame}
 
 -- the owner of each frame
@@ -29,7 +29,8 @@ abbrev pub has_owner : Option Key → Key → Bool
 has_owner None k = false
 has_owner (Some j) k = same_key j k
 
--- Where an entry says that its key stands. A valid entry of a place is that of the private key where the frame is its own.
+-- Where an entry says that its key stands. A valid entry of a place is that of the private key
+-- where the frame is its own.
 abbrev pub held_by : (Frame → Bool) → Entry → Held
 held_by own entry.Empty = held.Dead
 held_by own entry.Zero = held.Zero
@@ -124,7 +125,8 @@ life_in t = life_of t.line t.table t.free t.words (requests_in t)
 
 -- ---- the key that a place names
 
--- the key that the entry of a place says was last used there: none before the page first had a frame
+-- the key that the entry of a place says was last used there: none before the page first had a
+-- frame
 abbrev pub named_by : Owners → Place → Entry → Option Key
 named_by o place entry.Empty = None
 named_by o place entry.Zero = None

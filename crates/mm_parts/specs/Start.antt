@@ -17,7 +17,8 @@ first_kind m = kind.Machine m.frames m.slots m.depth m.blocks
 abbrev pub first_move : MachineOf → Move
 first_move m = move.At 1 (first_kind m)
 
--- the first move was made: all frames are free, no key lives, no process and no area is there, and nobody waits
+-- the first move was made: all frames are free, no key lives, no process and no area is there, and
+-- nobody waits
 abbrev pub started : MachineOf → PartsOf
 started m = record {
   life = after_move unstarted (first_move m);
@@ -34,7 +35,13 @@ started m = record {
 
 abbrev pub started_parts : MachineOf → JoinedParts
 started_parts m = record {
-  line = record { machine = m; line = 1; kind = first_kind m; paging_keys = 0; added = replicate m.blocks false };
+  line = record {
+    machine = m;
+    line = 1;
+    kind = first_kind m;
+    paging_keys = 0;
+    added = replicate m.blocks false;
+  };
   table = free_table m.frames;
   bytes = replicate m.frames None;
   free = replicate m.slots true;

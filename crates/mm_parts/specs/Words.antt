@@ -6,8 +6,8 @@ use Rattle.mm_types.specs.declared.numbers.Frame.{Frame}
 use Rattle.mm_types.specs.declared.numbers.Key.{Key}
 use Rattle.mm_types.specs.declared.numbers.Place.{Place}
 use Rattle.mm_life.specs.Frames.{FrameTable, record_at}
-use Rattle.mm_entry.specs.declared.entries.Entry.{Entry}
-use Rattle.mm_entry.specs.declared.entries.Entry.TheVariants as entry
+use Rattle.mm_words.specs.declared.layout.Entry.{Entry}
+use Rattle.mm_words.specs.declared.layout.Entry.TheVariants as entry
 use Rattle.mm_words.specs.declared.aside.Aside.{Aside}
 use Rattle.mm_words.specs.Words.{WordsOf, word_of}
 
@@ -32,8 +32,10 @@ names_other (entry.Valid f n) = true
 names_other (entry.Proto a i) = true
 
 pub record WordsKept (d : FrameTable) (w : WordsOf) : Type 0 where
-  pub transition : (k : Key) (f : Frame) → word_of w k ≡ entry.Transition f → (record_at d f.0).shares ≡ 0
-  pub valid_shared : (a : Area) (i : ℕ) (f : Frame) (n : ℕ) → w.proto a.0 i ≡ entry.Valid f n → (1 ≤ (record_at d f.0).shares) × (n ≡ 0)
+  pub transition : (k : Key) (f : Frame) → word_of w k ≡ entry.Transition f →
+      (record_at d f.0).shares ≡ 0
+  pub valid_shared : (a : Area) (i : ℕ) (f : Frame) (n : ℕ) → w.proto a.0 i ≡ entry.Valid f n →
+      (1 ≤ (record_at d f.0).shares) × (n ≡ 0)
   pub no_file : (p : Place) (b : Block) → w.at p ≢ entry.InFile b
   pub no_proto : (a i : ℕ) (b : Area) (j : ℕ) → w.proto a i ≢ entry.Proto b j
   pub beside : (x : Aside) → w.aside ≡ Some x → is_aside_entry x.entry ≡ true

@@ -2,9 +2,9 @@ ghost use Rattle.std.specs.Prelude.{◌≡◌, ℕ, Some, false, option_map, sli
 ghost use Rattle.mm_life.specs.Effect.{freed};
 ghost use Rattle.mm_parts.specs.Moves.{home_entry, entry_backing, backing_to};
 
-use mm_entry::Entry;
 use mm_slots::Slots;
 use mm_types::{Backing, Slot, Stored};
+use mm_words::Entry;
 
 /// The entry of a page that is in no frame, by where its bytes stand.
 pub(crate) fn home(backing: Backing) -> Entry
@@ -40,7 +40,8 @@ pub(crate) fn target(to: Stored) -> Backing
 
 /// A slot, if any, is free again.
 pub(crate) fn give_back(slots: &mut Slots, slot: Option<Slot>)
-    requires { (s : ℕ) → option_map (λ t. t.0) slot ≡ Some s → slice_get slots.old.free s ≡ Some false }
+    requires { (s : ℕ) → option_map (λ t. t.0) slot ≡ Some s →
+        slice_get slots.old.free s ≡ Some false }
     ensures { slots.new.free ≡ freed slots.old.free (option_map (λ t. t.0) slot) }
 {
     if let Some(s) = slot {

@@ -6,19 +6,22 @@ ghost use Rattle.mm_parts.specs.Moves.{front, after, names_after_give};
 
 use crate::backings::home;
 use crate::parts::Parts;
-use mm_entry::Entry;
 use mm_frames::Stolen;
 use mm_types::{Frame, Key};
+use mm_words::Entry;
 
 impl Parts {
     ghost use Rattle.mm_parts.specs.PartsShown.{shown};
 
     /// The first free frame is cleared, and goes to the end of zeroed.
     pub fn clear(&mut self)
-        requires legal { IsLegal (move.Clear (front (shown self.old).life.frames.free)) (shown self.old).life }
-        ensures made { shown self.new ≡ record (after (shown self.old) (move.Clear (front (shown self.old).life.frames.free))) {
-          bytes = with_page (shown self.old).bytes (front (shown self.old).life.frames.free).0 zero_page;
-        } }
+        requires legal { IsLegal (move.Clear (front (shown self.old).life.frames.free))
+            (shown self.old).life }
+        ensures made { shown self.new ≡
+            record (after (shown self.old) (move.Clear (front (shown self.old).life.frames.free))) {
+              bytes = with_page (shown self.old).bytes (front (shown self.old).life.frames.free).0
+                  zero_page;
+            } }
     {
         match self.frames.take_free() {
             Some(dirty) => {
@@ -31,10 +34,15 @@ impl Parts {
 
     /// The first zeroed frame is that of a page that reads as zero and has none.
     pub fn give(&mut self, key: Key) -> Frame
-        requires legal { IsLegal (move.Give (front (shown self.old).life.frames.zeroed) key) (shown self.old).life }
+        requires legal { IsLegal (move.Give (front (shown self.old).life.frames.zeroed) key)
+            (shown self.old).life }
         ensures frame { result ≡ front (shown self.old).life.frames.zeroed }
         ensures zero { page_at (shown self.new).bytes result.0 ≡ Some zero_page }
-        ensures made { shown self.new ≡ record (after (shown self.old) (move.Give result key)) { names = names_after_give (shown self.old) key } }
+        ensures made { shown self.new ≡
+            record (after (shown self.old) (move.Give result key)) {
+              names =
+                  names_after_give (shown self.old) key;
+            } }
     {
         self.words.words_hold();
         match self.frames.take_zeroed() {
@@ -47,10 +55,13 @@ impl Parts {
         }
     }
 
-    /// The first frame on standby is taken from its page, and is free: the page is where it was read from or written to.
+    /// The first frame on standby is taken from its page, and is free: the page is where it was
+    /// read from or written to.
     pub fn steal(&mut self)
-        requires legal { IsLegal (move.Steal (front (shown self.old).life.frames.standby)) (shown self.old).life }
-        ensures made { shown self.new ≡ after (shown self.old) (move.Steal (front (shown self.old).life.frames.standby)) }
+        requires legal { IsLegal (move.Steal (front (shown self.old).life.frames.standby))
+            (shown self.old).life }
+        ensures made { shown self.new ≡
+            after (shown self.old) (move.Steal (front (shown self.old).life.frames.standby)) }
     {
         self.words.words_hold();
         match self.frames.take_standby() {

@@ -3,7 +3,7 @@ ghost use Rattle.mm_types.specs.Address.{first_user_page, end_of_user_pages};
 ghost use Rattle.mm_types.specs.declared.numbers.Key.TheVariants.{Private, Shared};
 ghost use Rattle.mm_types.specs.declared.frames.Held.TheVariants as held;
 ghost use Rattle.mm_life.specs.Life.{changed, set_of};
-ghost use Rattle.mm_radix.specs.Pages.{pages};
+ghost use Rattle.mm_words.specs.Pages.{pages};
 ghost use Rattle.mm_words.specs.Words.{changed_in, place_of};
 
 use crate::parts::Parts;
@@ -12,10 +12,13 @@ use mm_types::{Area, NoMemory, Pid, Vpn};
 impl Parts {
     ghost use Rattle.mm_parts.specs.PartsShown.{shown};
 
-    /// Opens a process that has begun, and takes the room of its working set. After `NoMemory` nothing has changed.
+    /// Opens a process that has begun, and takes the room of its working set. After `NoMemory`
+    /// nothing has changed.
     pub fn open_process(&mut self, pid: Pid) -> Result<(), NoMemory>
         requires { is_some (set_of (shown self.old).life pid.0) ≡ true }
-        ensures ok { OnOk result (shown self.new ≡ record (shown self.old) { is_open = changed ◌==◌ (shown self.old).is_open pid.0 true }) }
+        ensures ok { OnOk result (shown self.new ≡ record (shown self.old) {
+          is_open = changed ◌==◌ (shown self.old).is_open pid.0 true;
+        }) }
         ensures err { OnErr result (shown self.new ≡ shown self.old) }
     {
         self.words.open_process(pid)
@@ -24,31 +27,46 @@ impl Parts {
     /// Closes an open process that has no bound place, and gives the room of its working set back.
     pub fn close_process(&mut self, pid: Pid)
         requires open { (shown self.old).is_open pid.0 ≡ true }
-        requires unbound { (v : ℕ) → (shown self.old).bound (place_of pid (record { 0 = v })) ≡ false }
-        ensures made { shown self.new ≡ record (shown self.old) { is_open = changed ◌==◌ (shown self.old).is_open pid.0 false } }
+        requires unbound { (v : ℕ) → (shown self.old).bound (place_of pid (record {
+          0 = v;
+        })) ≡ false }
+        ensures made { shown self.new ≡ record (shown self.old) {
+          is_open = changed ◌==◌ (shown self.old).is_open pid.0 false;
+        } }
     {
         self.words.close_process(pid);
     }
 
-    /// Binds `n` user pages of an open process from `first` on; those that were bound keep what they name. After `NoMemory`
-    /// nothing has changed.
+    /// Binds `n` user pages of an open process from `first` on; those that were bound keep what
+    /// they name. After `NoMemory` nothing has changed.
     pub fn bind(&mut self, pid: Pid, first: Vpn, n: u32) -> Result<(), NoMemory>
         requires open { (shown self.old).is_open pid.0 ≡ true }
         requires low { first_user_page ≤ first.0 }
         requires high { first.0 + n ≤ end_of_user_pages }
-        ensures ok { OnOk result (shown self.new ≡ record (shown self.old) { bound = changed_in (shown self.old).bound pid.0 (pages first.0 n) true }) }
+        ensures ok { OnOk result (shown self.new ≡ record (shown self.old) {
+          bound = changed_in (shown self.old).bound pid.0 (pages first.0 n) true;
+        }) }
         ensures err { OnErr result (shown self.new ≡ shown self.old) }
     {
         self.words.bind(pid, first, n)
     }
 
-    /// Gives up `n` bound pages of a process from `first` on, none of which is valid or has a live private key. Nothing stands
-    /// beside the tables. They name nothing from then on.
+    /// Gives up `n` bound pages of a process from `first` on, none of which is valid or has a live
+    /// private key. Nothing stands beside the tables. They name nothing from then on.
     pub fn unbind(&mut self, pid: Pid, first: Vpn, n: u32)
         requires open { (shown self.old).is_open pid.0 ≡ true }
-        requires bound { (v : ℕ) → first.0 ≤ v → v < first.0 + n → (shown self.old).bound (place_of pid (record { 0 = v })) ≡ true }
-        requires invalid { (v : ℕ) → first.0 ≤ v → v < first.0 + n → (shown self.old).life.valid (place_of pid (record { 0 = v })) ≡ None }
-        requires dead { (v : ℕ) → first.0 ≤ v → v < first.0 + n → (shown self.old).life.stands (Private pid (record { 0 = v })) ≡ held.Dead }
+        requires bound { (v : ℕ) → first.0 ≤ v → v < first.0 + n →
+            (shown self.old).bound (place_of pid (record {
+              0 = v;
+            })) ≡ true }
+        requires invalid { (v : ℕ) → first.0 ≤ v → v < first.0 + n →
+            (shown self.old).life.valid (place_of pid (record {
+              0 = v;
+            })) ≡ None }
+        requires dead { (v : ℕ) → first.0 ≤ v → v < first.0 + n →
+            (shown self.old).life.stands (Private pid (record {
+              0 = v;
+            })) ≡ held.Dead }
         requires alone { (shown self.old).aside ≡ None }
         ensures made { shown self.new ≡ record (shown self.old) {
           bound = changed_in (shown self.old).bound pid.0 (pages first.0 n) false;
@@ -58,12 +76,14 @@ impl Parts {
         self.words.unbind(pid, first, n);
     }
 
-    /// Opens an area that is not open, of `n` pages, none of which is live. An area's number is below 2^28. After `NoMemory`
-    /// nothing has changed.
+    /// Opens an area that is not open, of `n` pages, none of which is live. An area's number is
+    /// below 2^28. After `NoMemory` nothing has changed.
     pub fn open_area(&mut self, area: Area, n: u32) -> Result<(), NoMemory>
         requires new { (shown self.old).areas area.0 ≡ None }
         requires few { area.0 < 2 ^ 28 }
-        ensures ok { OnOk result (shown self.new ≡ record (shown self.old) { areas = changed ◌==◌ (shown self.old).areas area.0 (Some n) }) }
+        ensures ok { OnOk result (shown self.new ≡ record (shown self.old) {
+          areas = changed ◌==◌ (shown self.old).areas area.0 (Some n);
+        }) }
         ensures err { OnErr result (shown self.new ≡ shown self.old) }
     {
         self.words.open_area(area, n)
@@ -73,7 +93,9 @@ impl Parts {
     pub fn close_area(&mut self, area: Area)
         requires open { is_some ((shown self.old).areas area.0) ≡ true }
         requires dead { (i : ℕ) → (shown self.old).life.stands (Shared area i) ≡ held.Dead }
-        ensures made { shown self.new ≡ record (shown self.old) { areas = changed ◌==◌ (shown self.old).areas area.0 None } }
+        ensures made { shown self.new ≡ record (shown self.old) {
+          areas = changed ◌==◌ (shown self.old).areas area.0 None;
+        } }
     {
         self.words.close_area(area);
     }

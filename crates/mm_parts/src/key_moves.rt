@@ -7,11 +7,12 @@ ghost use Rattle.mm_parts.specs.Moves.{after, HasHome, IsClear, aside_after_add,
 
 use crate::backings::give_back;
 use crate::parts::Parts;
-use mm_entry::Entry;
 use mm_frames::Frames;
 use mm_types::{Block, Key, LineKind, Place, Slot};
+use mm_words::Entry;
 
-/// The page of an entry is no more: its frame goes, unless a request holds it. Answers the slot to give back.
+/// The page of an entry is no more: its frame goes, unless a request holds it. Answers the slot to
+/// give back.
 fn release(frames: &mut Frames, entry: Entry) -> Option<Slot>
     requires { IsReleased entry frames.old.table }
     ensures table { frames.new.table ≡ table_released entry frames.old.table }
@@ -41,13 +42,17 @@ fn copy_place(key: Key, kind: LineKind) -> Option<Place>
 impl Parts {
     ghost use Rattle.mm_parts.specs.PartsShown.{shown};
 
-    /// A page-file key comes to be, and reads as zero. In an access it is that of a copy, and stands beside the tables, since its
-    /// place names the page that is copied.
+    /// A page-file key comes to be, and reads as zero. In an access it is that of a copy, and
+    /// stands beside the tables, since its place names the page that is copied.
     pub fn add_zero(&mut self, key: Key)
         requires legal { IsLegal (move.Add key None) (shown self.old).life }
         requires home { HasHome (shown self.old) key }
         requires clear { IsClear (shown self.old) key }
-        ensures made { shown self.new ≡ record (after (shown self.old) (move.Add key None)) { aside = aside_after_add (shown self.old) key } }
+        ensures made { shown self.new ≡
+            record (after (shown self.old) (move.Add key None)) {
+              aside =
+                  aside_after_add (shown self.old) key;
+            } }
     {
         self.paging_keys += 1;
         match copy_place(key, self.kind) {
@@ -69,7 +74,11 @@ impl Parts {
     /// A page-file key is no more: its slot is free, and so is its frame unless a request holds it.
     pub fn drop_key(&mut self, key: Key)
         requires legal { IsLegal (move.Drop key) (shown self.old).life }
-        ensures made { shown self.new ≡ record (after (shown self.old) (move.Drop key)) { names = names_after_drop (shown self.old) key } }
+        ensures made { shown self.new ≡
+            record (after (shown self.old) (move.Drop key)) {
+              names =
+                  names_after_drop (shown self.old) key;
+            } }
     {
         self.words.words_hold();
         let slot = release(&mut self.frames, self.words.word(key));

@@ -5,7 +5,7 @@ ghost use Rattle.mm_ram.specs.Ram.{page_at, bytes_of, zero_page};
 ghost use Rattle.mm_frames.specs.Placing.{is_bound};
 ghost use Rattle.mm_flight.specs.Requests.{ended};
 ghost use Rattle.mm_flight.specs.declared.flights.Waiting.{Waiting};
-ghost use Rattle.mm_walks.specs.Waits.{ended_by};
+ghost use Rattle.mm_life.specs.Waits.{ended_by};
 ghost use Rattle.mm_parts.specs.Agree.{EntriesAgree, SlotsAgree, RequestsAgree, SetsAgree};
 ghost use Rattle.mm_parts.specs.Holds.{LinesHold, PagesHold, StorageHolds};
 ghost use Rattle.mm_parts.specs.Reading.{waits_of};
@@ -15,8 +15,8 @@ use crate::parts::Parts;
 impl Parts {
     ghost use Rattle.mm_parts.specs.PartsShown.{shown, words_of, ages_of, flight_of};
 
-    /// Each key has one entry, which says where it stands, and the words of places name the frames that they are valid for.
-    /// It does nothing.
+    /// Each key has one entry, which says where it stands, and the words of places name the frames
+    /// that they are valid for. It does nothing.
     pub fn entries_agree(&self)
         ensures { EntriesAgree (shown self.now).life (words_of self.now) }
     {
@@ -30,8 +30,8 @@ impl Parts {
         let _slots = &self.slots;
     }
 
-    /// The requests are those of the frames' records, at most one more than the depth: those in flight, and the line's own.
-    /// It does nothing.
+    /// The requests are those of the frames' records, at most one more than the depth: those in
+    /// flight, and the line's own. It does nothing.
     pub fn requests_agree(&self)
         ensures { RequestsAgree (shown self.now).life (flight_of self.now) (shown self.now).own }
     {
@@ -56,11 +56,14 @@ impl Parts {
         self.flight.requests_hold();
     }
 
-    /// A frame that was written has 4,096 bytes; one that has an owner or a write request, and no read request, was written. It
-    /// does nothing.
+    /// A frame that was written has 4,096 bytes; one that has an owner or a write request, and no
+    /// read request, was written. It does nothing.
     pub fn bytes_hold(&self)
-        ensures whole { (f : ℕ) (page : List ℕ) → page_at (shown self.now).bytes f ≡ Some page → length page ≡ 4096 }
-        ensures written { (f : ℕ) → is_bound (record_at (shown self.now).life.frames f) ≡ true → is_read (record_at (shown self.now).life.frames f).request ≡ false → page_at (shown self.now).bytes f ≡ Some (bytes_of (shown self.now).bytes f) }
+        ensures whole { (f : ℕ) (page : List ℕ) → page_at (shown self.now).bytes f ≡ Some page →
+            length page ≡ 4096 }
+        ensures written { (f : ℕ) → is_bound (record_at (shown self.now).life.frames f) ≡ true →
+            is_read (record_at (shown self.now).life.frames f).request ≡ false →
+            page_at (shown self.now).bytes f ≡ Some (bytes_of (shown self.now).bytes f) }
     {
         self.frames.written_frames_are_whole();
     }
@@ -68,5 +71,6 @@ impl Parts {
 
 /// The end of a read ends the waits for it as walks through moves have it. It does nothing.
 pub fn waits_end_as_walks_have_it()
-    ensures { (waits : List Waiting) (f t : ℕ) (ok : Bool) → waits_of (map (ended f ok) waits) t ≡ ended_by f ok (waits_of waits t) }
+    ensures { (waits : List Waiting) (f t : ℕ) (ok : Bool) →
+        waits_of (map (ended f ok) waits) t ≡ ended_by f ok (waits_of waits t) }
 {}

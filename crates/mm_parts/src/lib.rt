@@ -1,6 +1,8 @@
-//! The joined state's middle layer: page frames, words, slots and requests, which name one another, and one call for each move.
+//! The joined state's middle layer: page frames, words, slots and requests, which name one another,
+//! and one call for each move.
 //!
-//! Its parts show a state of the replay (`mm_life`); each call has the move's condition and the move's effect there.
+//! Its parts show a state of the replay (`mm_life`); each call has the move's condition and the
+//! move's effect there.
 #![tactic(auto)]
 
 mod backings;

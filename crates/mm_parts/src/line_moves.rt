@@ -61,7 +61,8 @@ fn begin_set(words: &mut Words, kind: LineKind)
 impl Parts {
     ghost use Rattle.mm_parts.specs.PartsShown.{shown, spare_slots};
 
-    /// A machine at rest, whose first line has begun. It takes the memory of all frames, slots, blocks and requests.
+    /// A machine at rest, whose first line has begun. It takes the memory of all frames, slots,
+    /// blocks and requests.
     pub fn new(alloc: Global, machine: Machine) -> Result<Parts, NoMemory>
         ensures { IfOk result (λ p. shown p ≡ started machine) }
     {
@@ -85,8 +86,9 @@ impl Parts {
         })
     }
 
-    /// A line begins, of any kind but one in which the paging file grows. The last line's own request is done, and nothing
-    /// stands beside the tables. A process's working set has room for 1 to 65,536 pages.
+    /// A line begins, of any kind but one in which the paging file grows. The last line's own
+    /// request is done, and nothing stands beside the tables. A process's working set has room for
+    /// 1 to 65,536 pages.
     pub fn at(&mut self, line: u32, kind: LineKind)
         requires legal { IsLegal (move.At line kind) (shown self.old).life }
         requires plain { IsPlainLine kind }

@@ -59,7 +59,8 @@ impl Parts {
     pub fn front_modified(&self) -> Option<Frame>
         ensures first { result ≡ first_of (shown self.now).life.frames.modified }
         ensures there { IfSome result (λ f. f.0 < (shown self.now).life.machine.frames) }
-        ensures rests { IfSome result (λ f. IsAtRest true (record_at (shown self.now).life.frames f.0)) }
+        ensures rests { IfSome result
+            (λ f. IsAtRest true (record_at (shown self.now).life.frames f.0)) }
     {
         self.frames.front_modified()
     }
@@ -75,8 +76,10 @@ impl Parts {
     pub fn front_modified_with_block(&self) -> Option<Frame>
         ensures first { result ≡ first_of (modified_with_block (shown self.now).life.frames) }
         ensures there { IfSome result (λ f. f.0 < (shown self.now).life.machine.frames) }
-        ensures rests { IfSome result (λ f. IsAtRest true (record_at (shown self.now).life.frames f.0)) }
-        ensures block { IfSome result (λ f. has_block (record_at (shown self.now).life.frames f.0).backing ≡ true) }
+        ensures rests { IfSome result
+            (λ f. IsAtRest true (record_at (shown self.now).life.frames f.0)) }
+        ensures block { IfSome result
+            (λ f. has_block (record_at (shown self.now).life.frames f.0).backing ≡ true) }
     {
         self.frames.front_modified_with_block()
     }
@@ -88,7 +91,8 @@ impl Parts {
         self.slots.free_count()
     }
 
-    /// How many frames stand where, how many slots are free, and how many requests there are, the line's own among them.
+    /// How many frames stand where, how many slots are free, and how many requests there are, the
+    /// line's own among them.
     pub fn counts(&self) -> Counts
         ensures { result ≡ counts_of (shown self.now).life }
     {

@@ -7,9 +7,9 @@ ghost use Rattle.mm_parts.specs.Moves.{HasHome};
 ghost use Rattle.mm_parts.specs.Reading.{is_own_page, is_private};
 
 use crate::parts::Parts;
-use mm_entry::Entry;
 use mm_frames::Frames;
 use mm_types::{Frame, Held, Key, LineKind, Machine, Pid, Place, Record};
+use mm_words::Entry;
 
 /// The frame of a valid entry.
 fn frame_of(entry: Entry) -> Option<Frame>
@@ -45,10 +45,12 @@ fn is_private(owner: Option<Key>) -> bool
     }
 }
 
-/// Whether the frame of a valid entry of a key is the key's own: the place of a private key may be valid for a shared page.
+/// Whether the frame of a valid entry of a key is the key's own: the place of a private key may be
+/// valid for a shared page.
 fn is_own_page(frames: &Frames, key: Key, entry: Entry) -> bool
     requires { (f : Frame) → valid_frame entry ≡ Some f → f.0 < length frames.now.table.records }
-    ensures { (f : Frame) → valid_frame entry ≡ Some f → result ≡ is_own_page key (record_at frames.now.table f.0).owner }
+    ensures { (f : Frame) → valid_frame entry ≡ Some f →
+        result ≡ is_own_page key (record_at frames.now.table f.0).owner }
 {
     match key {
         Key::Private(_, _) => match entry {
@@ -90,7 +92,8 @@ impl Parts {
         self.words.is_open(pid)
     }
 
-    /// Where the bytes of a key stand, or that it is not live. Its place is bound, or its index is one of an open area.
+    /// Where the bytes of a key stand, or that it is not live. Its place is bound, or its index is
+    /// one of an open area.
     pub fn stands(&self, key: Key) -> Held
         requires { HasHome (shown self.now) key }
         ensures { result ≡ (shown self.now).life.stands key }
@@ -108,7 +111,8 @@ impl Parts {
         frame_of(self.words.at(place))
     }
 
-    /// The entry of a bound place, whatever stands beside the tables; the number of a valid one is its place in the working set.
+    /// The entry of a bound place, whatever stands beside the tables; the number of a valid one is
+    /// its place in the working set.
     pub fn entry(&self, place: Place) -> Entry
         requires { (shown self.now).bound place ≡ true }
         ensures { bare result ≡ (words_of self.now).at place }

@@ -6,8 +6,8 @@ ghost use Rattle.mm_ram.specs.Ram.{bytes_of, bytes_from, overwritten, with_page,
 ghost use Rattle.mm_parts.specs.Moves.{ages_older};
 
 use crate::parts::Parts;
-use mm_entry::Entry;
 use mm_types::{Frame, Pid, Place};
+use mm_words::Entry;
 
 impl Parts {
     ghost use Rattle.mm_parts.specs.PartsShown.{shown};
@@ -30,8 +30,11 @@ impl Parts {
     pub fn read(&mut self, place: Place, off: u16, out: &mut [u8])
         requires valid { IsSome ((shown self.old).life.valid place) }
         requires inside { off + length out.old ≤ 4096 }
-        ensures bytes { (f : Frame) → (shown self.old).life.valid place ≡ Some f → out.new ≡ bytes_from (bytes_of (shown self.old).bytes f.0) off (length out.old) }
-        ensures made { shown self.new ≡ record (shown self.old) { ages = changed same_place (shown self.old).ages place 0 } }
+        ensures bytes { (f : Frame) → (shown self.old).life.valid place ≡ Some f →
+            out.new ≡ bytes_from (bytes_of (shown self.old).bytes f.0) off (length out.old) }
+        ensures made { shown self.new ≡ record (shown self.old) {
+          ages = changed same_place (shown self.old).ages place 0;
+        } }
     {
         let f = self.frame_at(place);
         self.frames.read(f, off, out);
@@ -42,25 +45,31 @@ impl Parts {
     pub fn write(&mut self, place: Place, off: u16, bytes: &[u8])
         requires valid { IsSome ((shown self.old).life.valid place) }
         requires inside { off + length bytes.now ≤ 4096 }
-        ensures made { (f : Frame) → (shown self.old).life.valid place ≡ Some f → shown self.new ≡ record (shown self.old) {
-          ages = changed same_place (shown self.old).ages place 0;
-          bytes = with_page (shown self.old).bytes f.0 (overwritten (bytes_of (shown self.old).bytes f.0) off bytes.now);
-        } }
+        ensures made { (f : Frame) → (shown self.old).life.valid place ≡ Some f →
+            shown self.new ≡ record (shown self.old) {
+              ages = changed same_place (shown self.old).ages place 0;
+              bytes = with_page (shown self.old).bytes f.0
+                  (overwritten (bytes_of (shown self.old).bytes f.0) off bytes.now);
+            } }
     {
         let f = self.frame_at(place);
         self.frames.write(f, off, bytes);
         self.words.touch(place);
     }
 
-    /// Copies the bytes of one frame to another; both have an owner, and no page is being read into them.
+    /// Copies the bytes of one frame to another; both have an owner, and no page is being read into
+    /// them.
     pub fn copy(&mut self, from: Frame, to: Frame)
         requires from_owned { IsSome (record_at (shown self.old).life.frames from.0).owner }
-        requires from_calm { is_read (record_at (shown self.old).life.frames from.0).request ≡ false }
+        requires from_calm { is_read (record_at (shown self.old).life.frames from.0).request ≡
+            false }
         requires to_owned { IsSome (record_at (shown self.old).life.frames to.0).owner }
         requires to_calm { is_read (record_at (shown self.old).life.frames to.0).request ≡ false }
         requires other { from.0 ≢ to.0 }
         ensures page { page_at (shown self.new).bytes to.0 ≡ page_at (shown self.old).bytes from.0 }
-        ensures made { shown self.new ≡ record (shown self.old) { bytes = with_page (shown self.old).bytes to.0 (bytes_of (shown self.old).bytes from.0) } }
+        ensures made { shown self.new ≡ record (shown self.old) {
+          bytes = with_page (shown self.old).bytes to.0 (bytes_of (shown self.old).bytes from.0);
+        } }
     {
         self.frames.copy(from, to);
     }
@@ -68,7 +77,9 @@ impl Parts {
     /// Each valid page of an open process is one older, up to 7.
     pub fn age_all(&mut self, pid: Pid)
         requires { (shown self.old).is_open pid.0 ≡ true }
-        ensures made { shown self.new ≡ record (shown self.old) { ages = ages_older (shown self.old).life (shown self.old).ages pid.0 } }
+        ensures made { shown self.new ≡ record (shown self.old) {
+          ages = ages_older (shown self.old).life (shown self.old).ages pid.0;
+        } }
     {
         self.words.working_sets_hold();
         self.words.age_all(pid);

@@ -9,7 +9,8 @@ use mm_words::Words;
 
 /// Frames, words, slots and requests, joined.
 ///
-/// Contracts see what they show: the state of the replay, the bytes of the frames, ages, waits, and which place names which key.
+/// Contracts see what they show: the state of the replay, the bytes of the frames, ages, waits, and
+/// which place names which key.
 #[derive(Drop)]
 pub struct Parts {
     pub(crate) machine: Machine,

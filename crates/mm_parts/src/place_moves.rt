@@ -8,9 +8,8 @@ ghost use Rattle.mm_words.specs.Shown as tables;
 ghost use Rattle.mm_words.specs.Words.{is_valid};
 
 use crate::parts::Parts;
-use mm_entry::Entry;
 use mm_types::{Frame, Key, Place};
-use mm_words::Words;
+use mm_words::{Entry, Words};
 
 /// The prototype word of a shared page is valid for its frame.
 fn name_frame(words: &mut Words, owner: Option<Key>, f: Frame)
@@ -23,7 +22,8 @@ fn name_frame(words: &mut Words, owner: Option<Key>, f: Frame)
     }
 }
 
-/// A place is valid no more for the frame of a key: for the last place of a shared page its prototype word is in transition.
+/// A place is valid no more for the frame of a key: for the last place of a shared page its
+/// prototype word is in transition.
 fn leave_place(words: &mut Words, place: Place, key: Key, f: Frame, last: bool)
     requires valid { is_valid ((tables.words words.old).at place) ≡ true }
     requires can { CanLeave (tables.words words.old) key f }
@@ -44,7 +44,8 @@ fn leave_place(words: &mut Words, place: Place, key: Key, f: Frame, last: bool)
 impl Parts {
     ghost use Rattle.mm_parts.specs.PartsShown.{shown};
 
-    /// The page of a frame becomes valid at a place, and has age 0 there. For a shared page the place's own private key is dead.
+    /// The page of a frame becomes valid at a place, and has age 0 there. For a shared page the
+    /// place's own private key is dead.
     pub fn map(&mut self, f: Frame, place: Place)
         requires legal { IsLegal (move.Map f place) (shown self.old).life }
         requires bound { (shown self.old).bound place ≡ true }
@@ -62,10 +63,15 @@ impl Parts {
         name_frame(&mut self.words, owner, f);
     }
 
-    /// A place is valid no more. Without shares and without a request the page's frame goes to standby or modified.
+    /// A place is valid no more. Without shares and without a request the page's frame goes to
+    /// standby or modified.
     pub fn unmap(&mut self, place: Place)
         requires legal { IsLegal (move.Unmap place) (shown self.old).life }
-        ensures made { shown self.new ≡ record (after (shown self.old) (move.Unmap place)) { ages = changed same_place (shown self.old).ages place 0 } }
+        ensures made { shown self.new ≡
+            record (after (shown self.old) (move.Unmap place)) {
+              ages =
+                  changed same_place (shown self.old).ages place 0;
+            } }
     {
         self.words.words_hold();
         match self.words.at(place) {
@@ -79,8 +85,8 @@ impl Parts {
         }
     }
 
-    /// A page that is valid somewhere differs from its backing from now on: a slot that backed it is free. While it is being
-    /// written, it is to be written again.
+    /// A page that is valid somewhere differs from its backing from now on: a slot that backed it
+    /// is free. While it is being written, it is to be written again.
     #[tactic(auto, using(mm_laws::proofs::Facts::facts_of))]
     pub fn soil(&mut self, f: Frame)
         requires legal { IsLegal (move.Soil f) (shown self.old).life }

@@ -12,13 +12,13 @@ ghost use Rattle.mm_slots.specs.Slots.{free_count};
 use crate::backings::{backing_of, give_back, home, target};
 use crate::parts::Parts;
 use crate::requests::{begin_request, end_request};
-use mm_entry::Entry;
 use mm_frames::{Dirty, Frames};
 use mm_slots::Slots;
 use mm_types::{Backing, Frame, Key, Stored};
-use mm_words::Words;
+use mm_words::{Entry, Words};
 
-/// The frame that a page is read into is taken: the first free one, or where none is free the first zeroed one.
+/// The frame that a page is read into is taken: the first free one, or where none is free the first
+/// zeroed one.
 #[tactic(auto, using(crate::proofs::Tokens::taken_free, crate::proofs::Tokens::taken_zeroed))]
 fn take_for_read(frames: &mut Frames) -> Dirty
     requires { is_empty frames.old.table.free ≡ true → is_empty frames.old.table.zeroed ≡ false }
@@ -47,7 +47,8 @@ fn send_home(words: &mut Words, owner: Option<Key>, backing: Backing)
     }
 }
 
-/// Where a page is written to: the block that backs its frame, else the lowest free slot, which is taken.
+/// Where a page is written to: the block that backs its frame, else the lowest free slot, which is
+/// taken.
 #[tactic(auto, using(crate::proofs::Requesting::lowest_is))]
 fn take_target(slots: &mut Slots, backing: Backing) -> Stored
     requires { has_block backing ≡ false → free_count slots.old.free ≢ 0 }
@@ -66,12 +67,18 @@ fn take_target(slots: &mut Slots, backing: Backing) -> Stored
 impl Parts {
     ghost use Rattle.mm_parts.specs.PartsShown.{shown};
 
-    /// A read of a page begins, into the first free frame, or where none is free the first zeroed one.
+    /// A read of a page begins, into the first free frame, or where none is free the first zeroed
+    /// one.
     pub fn start_read(&mut self, key: Key) -> Frame
-        requires legal { IsLegal (move.Read (front_for_read (shown self.old).life) key) (shown self.old).life }
+        requires legal { IsLegal (move.Read (front_for_read (shown self.old).life) key)
+            (shown self.old).life }
         requires room { CanBegin (shown self.old) }
         ensures frame { result ≡ front_for_read (shown self.old).life }
-        ensures made { shown self.new ≡ record (after (shown self.old) (move.Read result key)) { own = own_after (shown self.old).life.kind (shown self.old).own result } }
+        ensures made { shown self.new ≡
+            record (after (shown self.old) (move.Read result key)) {
+              own =
+                  own_after (shown self.old).life.kind (shown self.old).own result;
+            } }
     {
         self.words.words_hold();
         let backing = backing_of(self.words.word(key));
@@ -85,11 +92,12 @@ impl Parts {
     /// A read has ended: well, with the bytes of the page, or not. The waits for it have ended too.
     pub fn end_read(&mut self, f: Frame, page: Option<&[u8; 4096]>)
         requires legal { IsLegal (read_end (is_some page) f) (shown self.old).life }
-        ensures made { shown self.new ≡ record (after (shown self.old) (read_end (is_some page.entry) f)) {
-          bytes = page_filled (option_map (λ p. p.now) page.entry) (shown self.old).bytes f.0;
-          waits = map (ended f.0 (is_some page.entry)) (shown self.old).waits;
-          own = own_ended (shown self.old).own f.0;
-        } }
+        ensures made { shown self.new ≡
+            record (after (shown self.old) (read_end (is_some page.entry) f)) {
+              bytes = page_filled (option_map (λ p. p.now) page.entry) (shown self.old).bytes f.0;
+              waits = map (ended f.0 (is_some page.entry)) (shown self.old).waits;
+              own = own_ended (shown self.old).own f.0;
+            } }
     {
         self.words.words_hold();
         let ok = page.is_some();
@@ -101,12 +109,18 @@ impl Parts {
         }
     }
 
-    /// A write of a page begins: to the block that backs its frame, or for a page of the paging file to the lowest free slot.
+    /// A write of a page begins: to the block that backs its frame, or for a page of the paging
+    /// file to the lowest free slot.
     pub fn start_write(&mut self, f: Frame) -> Stored
-        requires legal { IsLegal (move.Write f (write_target (shown self.old).life f)) (shown self.old).life }
+        requires legal { IsLegal (move.Write f (write_target (shown self.old).life f))
+            (shown self.old).life }
         requires room { CanBegin (shown self.old) }
         ensures to { result ≡ write_target (shown self.old).life f }
-        ensures made { shown self.new ≡ record (after (shown self.old) (move.Write f result)) { own = own_after (shown self.old).life.kind (shown self.old).own f } }
+        ensures made { shown self.new ≡
+            record (after (shown self.old) (move.Write f result)) {
+              own =
+                  own_after (shown self.old).life.kind (shown self.old).own f;
+            } }
     {
         let to = take_target(&mut self.slots, self.frames.look(f).backing);
         self.frames.start_write(f, target(to));
@@ -125,7 +139,11 @@ impl Parts {
     /// A write has ended, well or not.
     pub fn end_write(&mut self, f: Frame, ok: bool)
         requires legal { IsLegal (write_end ok f) (shown self.old).life }
-        ensures made { shown self.new ≡ record (after (shown self.old) (write_end ok f)) { own = own_ended (shown self.old).own f.0 } }
+        ensures made { shown self.new ≡
+            record (after (shown self.old) (write_end ok f)) {
+              own =
+                  own_ended (shown self.old).own f.0;
+            } }
     {
         let ended = self.frames.end_write(f, ok);
         give_back(&mut self.slots, ended.slot);

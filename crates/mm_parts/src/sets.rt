@@ -2,10 +2,10 @@ ghost use Rattle.std.specs.Prelude.{◌≡◌, true, Some, None, IfSome, MatchOp
 ghost use Rattle.std.specs.Option.{ForSome};
 ghost use Rattle.mm_life.specs.Life.{set_of};
 ghost use Rattle.mm_life.specs.Legal.{is_at_max, is_above_min};
-ghost use Rattle.mm_walks.specs.Order.{IsOldest};
+ghost use Rattle.mm_life.specs.Order.{IsOldest};
 ghost use Rattle.mm_wset.specs.InOrder.{IsNextFrom};
 ghost use Rattle.mm_words.specs.Words.{place_of};
-ghost use Rattle.mm_room.specs.Order.{IsNext, NoneFollows};
+ghost use Rattle.mm_frame_laws.specs.Order.{IsNext, NoneFollows};
 ghost use Rattle.mm_parts.specs.Moves.{after_page};
 
 use crate::parts::Parts;
@@ -56,13 +56,19 @@ impl Parts {
         set.min < set.resident
     }
 
-    /// The oldest page of an open process, or with a valid page the one that goes next after it; none where there is none.
-    /// Among equal ages the lowest page goes first.
+    /// The oldest page of an open process, or with a valid page the one that goes next after it;
+    /// none where there is none. Among equal ages the lowest page goes first.
     pub fn oldest(&self, pid: Pid, after: Option<Vpn>) -> Option<Vpn>
         requires open { (shown self.now).is_open pid.0 ≡ true }
-        requires held { ForSome after (λ v. is_some ((shown self.now).life.valid (place_of pid v)) ≡ true) }
-        ensures next { MatchOption result (NoneFollows (shown self.now).life (shown self.now).ages pid.0 (after_page pid after)) (λ v. IsNext (shown self.now).life (shown self.now).ages (after_page pid after) (place_of pid v)) }
-        ensures first { after ≡ None → IfSome result (λ v. IsOldest (shown self.now).life (shown self.now).ages None (place_of pid v)) }
+        requires held { ForSome after
+            (λ v. is_some ((shown self.now).life.valid (place_of pid v)) ≡ true) }
+        ensures next { MatchOption result
+            (NoneFollows (shown self.now).life (shown self.now).ages pid.0 (after_page pid after))
+            (λ v. IsNext (shown self.now).life (shown self.now).ages (after_page pid after)
+            (place_of pid v)) }
+        ensures first { after ≡ None →
+            IfSome result
+            (λ v. IsOldest (shown self.now).life (shown self.now).ages None (place_of pid v)) }
     {
         self.words.working_sets_hold();
         self.words.oldest(pid, after)
@@ -71,7 +77,9 @@ impl Parts {
     /// The lowest valid page of an open process at `from` or above; none where there is none.
     pub fn next_valid(&self, pid: Pid, from: Vpn) -> Option<Vpn>
         requires { (shown self.now).is_open pid.0 ≡ true }
-        ensures { IsNextFrom (λ v. is_some ((shown self.now).life.valid (place_of pid (record { 0 = v })))) from.0 result }
+        ensures { IsNextFrom (λ v. is_some ((shown self.now).life.valid (place_of pid (record {
+          0 = v;
+        })))) from.0 result }
     {
         self.words.working_sets_hold();
         self.words.next_from(pid, from)

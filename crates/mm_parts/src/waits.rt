@@ -4,7 +4,7 @@ ghost use Rattle.mm_life.specs.Life.{changed};
 ghost use Rattle.mm_life.specs.Legal.{has_depth};
 ghost use Rattle.mm_flight.specs.Requests.{is_in, nth_oldest, place_in};
 ghost use Rattle.mm_flight.specs.declared.flights.Waiting.TheVariants as waiting;
-ghost use Rattle.mm_walks.specs.Waits.{Idle, ForFrame, wait_of as walked_wait};
+ghost use Rattle.mm_life.specs.Waits.{Idle, ForFrame, wait_of as walked_wait};
 ghost use Rattle.mm_parts.specs.Shown.{requests, own_is};
 ghost use Rattle.mm_parts.specs.Reading.{waits_of};
 
@@ -24,7 +24,8 @@ fn number_of(flight: &Flight, own: Option<Frame>) -> u32
     }
 }
 
-/// The frame of the i-th oldest request, counted from 1: those in flight, and behind them the line's own.
+/// The frame of the i-th oldest request, counted from 1: those in flight, and behind them the
+/// line's own.
 fn nth_request(flight: &Flight, own: Option<Frame>, i: u32) -> Option<Frame>
     ensures { option_map (λ f. f.0) result ≡ nth_oldest i (requests flight.now.frames own) }
 {
@@ -35,7 +36,8 @@ fn nth_request(flight: &Flight, own: Option<Frame>, i: u32) -> Option<Frame>
     flight.nth(i)
 }
 
-/// How old the request of a frame is: 1 is the oldest, and behind those in flight is the line's own.
+/// How old the request of a frame is: 1 is the oldest, and behind those in flight is the line's
+/// own.
 fn place_of_request(flight: &Flight, own: Option<Frame>, f: Frame) -> Option<u32>
     requires few { length flight.now.frames + 1 < 2 ^ 32 }
     requires apart { own_is own f.0 ≡ true → is_in f.0 flight.now.frames ≡ false }
@@ -72,7 +74,8 @@ impl Parts {
         self.requests() < self.machine.depth()
     }
 
-    /// The frame of the i-th oldest request, counted from 1, the line's own among them. `None` comes at 0 and past the last.
+    /// The frame of the i-th oldest request, counted from 1, the line's own among them. `None`
+    /// comes at 0 and past the last.
     pub fn nth(&self, i: u32) -> Option<Frame>
         ensures { option_map (λ f. f.0) result ≡ nth_oldest i (shown self.now).life.flight }
     {
@@ -91,8 +94,11 @@ impl Parts {
     pub fn wait(&mut self, t: Tid, f: Frame)
         requires read { is_read (record_at (shown self.old).life.frames f.0).request ≡ true }
         requires other { own_is (shown self.old).own f.0 ≡ false }
-        ensures made { shown self.new ≡ record (shown self.old) { waits = slice_set (shown self.old).waits t.0 (waiting.For f) } }
-        ensures walked { (u : ℕ) → waits_of (shown self.new).waits u ≡ changed ◌==◌ (waits_of (shown self.old).waits) t.0 (ForFrame f.0) u }
+        ensures made { shown self.new ≡ record (shown self.old) {
+          waits = slice_set (shown self.old).waits t.0 (waiting.For f);
+        } }
+        ensures walked { (u : ℕ) → waits_of (shown self.new).waits u ≡
+            changed ◌==◌ (waits_of (shown self.old).waits) t.0 (ForFrame f.0) u }
     {
         self.flight.wait(t, f);
     }
@@ -106,8 +112,11 @@ impl Parts {
 
     /// A thread waits for nothing from now on.
     pub fn forget(&mut self, t: Tid)
-        ensures made { shown self.new ≡ record (shown self.old) { waits = slice_set (shown self.old).waits t.0 waiting.Nothing } }
-        ensures walked { (u : ℕ) → waits_of (shown self.new).waits u ≡ changed ◌==◌ (waits_of (shown self.old).waits) t.0 Idle u }
+        ensures made { shown self.new ≡ record (shown self.old) {
+          waits = slice_set (shown self.old).waits t.0 waiting.Nothing;
+        } }
+        ensures walked { (u : ℕ) → waits_of (shown self.new).waits u ≡
+            changed ◌==◌ (waits_of (shown self.old).waits) t.0 Idle u }
     {
         self.flight.forget(t);
     }

@@ -83,30 +83,6 @@ module _ (areas : ℕ → Option AreaPages) (pages : List FilePage) (blocks : Li
     few = fit.few;
   }
 
-  -- a page was changed
-  pub files_fit_written : (after : List FilePage) (block : ℕ) (page : Page) → block < length pages → after ≡ slice_set pages block (record { page = page; changed = true }) → FilesFit areas after blocks count
-  files_fit_written after block page near is =
-      let new : FilePage = record { page = page; changed = true } in
-      let long : length after ≡ length pages = ap length is ∙ length-set pages block new in
-      record {
-        near = λ a i b e. (let n = fit.near a i b e in omega (arith, n, long));
-        alone = fit.alone;
-        kept = λ b p e clean. elim (same_or_not b block) [
-          | inl same ↦
-              let here : Some new ≡ Some p = sym (ap (λ ps. slice_get ps b) is ∙ ap (λ (n : ℕ). slice_get (slice_set pages block new) n) same ∙ get_set_same pages block new near) ∙ e in
-              let bad : Some true ≡ Some false = ap (λ o. flag o) here ∙ ap Some clean in
-              cc
-          | inr other ↦ fit.kept b p (sym (ap (λ ps. slice_get ps b) is ∙ get_set_other pages block b new other) ∙ e) clean
-        ];
-        device = fit.device;
-        used = omega (arith, fit.used, long);
-        few = fit.few;
-      }
-    where
-      flag : Option FilePage → Option Bool
-      flag None = None
-      flag (Some p) = Some p.changed
-
   -- the block of a page holds it now
   pub files_fit_settled : (after : List FilePage) (stored : List Page) (block : ℕ) (page : Page) → block < length pages → after ≡ slice_set pages block (record { page = page; changed = false }) → stored ≡ slice_set blocks block page → FilesFit areas after stored count
   files_fit_settled after stored block page near is put =

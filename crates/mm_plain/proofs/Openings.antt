@@ -1,6 +1,6 @@
 -- An area is opened or closed, or a file is made.
 use Rattle.std.proofs.Common.{◌≡◌, ◌⊎◌, ℕ, zero, suc, ◌+◌, ◌-◌, ◌<◌, ◌≤◌, ◌%◌, Bool, true, false, List, [], ◌∷◌, ◌++◌, length, replicate, Option, Some, None, Result, Ok, Err, refl, sym, ap, ◌∙◌, inl, inr, arith}
-use Rattle.std.specs.Prelude.{◌==◌, ◌&&◌, nat_lt, is_some, IsSome, if◌then◌else◌, slice_get, slice_set, slice_index_or, OnOk, OnErr}
+use Rattle.std.specs.Prelude.{◌==◌, ◌&&◌, nat_lt, is_some, if◌then◌else◌, slice_get, slice_set, slice_index_or, OnOk, OnErr}
 use Rattle.std.specs.List.{sum_by}
 use Rattle.std.proofs.lemmas.Bool.{eqb-true, ltb-true, cases_lt}
 use Rattle.std.proofs.lemmas.List.{length-append}
@@ -29,10 +29,6 @@ pub closed_of : (o : Option AreaPages) → size_of o ≡ None → o ≡ None
 closed_of None e = refl
 closed_of (Some (Paged pages)) e = cc
 closed_of (Some (Filed first count)) e = cc
-
-pub open_of : (o : Option AreaPages) → IsSome (size_of o) → IsSome o
-open_of None e = cc
-open_of (Some o) e = refl
 
 -- the number of areas apart, an area is another one or as before
 pub at_area : {V : Type 0} (areas : ℕ → Option AreaPages) (a : ℕ) (new : Option AreaPages) (b : ℕ) (g : Option AreaPages → V) → g (changed ◌==◌ areas a new b) ≡ (if b == a then g new else g (areas b))

@@ -17,13 +17,6 @@ use Rattle.mm_plain.specs.Files.{Wrote, Stored}
 
 -- ---- what stands in the blocks
 
-pub stored_none : (first : ℕ) (pages : List FilePage) (old : List Page) → Stored first 0 pages old old
-stored_none first pages old = record {
-  long = refl;
-  done = λ i page h e. absurd (omega arith);
-  others = λ block h. refl;
-}
-
 module _ (first i : ℕ) (pages : List FilePage) (old mid new : List Page) (page : Page) where
   pub stored_more : Stored first i pages old mid → new ≡ slice_set mid (first + i) page → first + i < length mid → ((p : FilePage) → slice_get pages i ≡ Some p → p.page ≡ page) → Stored first (i + 1) pages old new
   stored_more s e near is = record {
@@ -49,14 +42,7 @@ module _ (first i : ℕ) (pages : List FilePage) (old mid new : List Page) (page
           ap (λ ps. slice_get ps block) e ∙ get_set_other mid (first + i) block page apart
           ∙ s.others block (elim h [ inl low ↦ inl low | inr high ↦ inr (omega (arith, high)) ])
 
--- where the writes stopped early, the blocks behind the file are as before too
-pub others_of : (first i n : ℕ) (pages : List FilePage) (old new : List Page) (block : ℕ) → Stored first i pages old new → i ≤ n → (block < first) ⊎ (first + n ≤ block) → slice_get new block ≡ slice_get old block
-others_of first i n pages old new block s le h = s.others block (elim h [ inl low ↦ inl low | inr high ↦ inr (omega (arith, high, le)) ])
-
 -- ---- which calls were made
-
-pub wrote_none : (d : DeviceOf) (t : Tally) → Wrote d d t t
-wrote_none d t = record { calls = []; served = refl; counted = refl; none_read = λ r. refl }
 
 -- a write that did not succeed
 pub failed_write : {T E : Type 0} (r : Result T E) (block : ℕ) (named : Bool) (a b : DeviceOf) → Serves (record { way = way.Write; block = block; succeeded = is_ok r; named = named }) a b → OnErr r (CallFailed a b)
@@ -84,7 +70,3 @@ wrote_then a b c t u v p q = record {
 pub none_failed : (t u : Tally) (ok : Bool) → ok ≡ true → u ≡ with_outcome ok t → u.failed ≡ t.failed
 none_failed t u true is e = ap (λ (x : Tally). x.failed) e
 none_failed t u false is e = cc
-
-pub one_failed : (t u : Tally) (ok : Bool) → ok ≡ false → u ≡ with_outcome ok t → 0 < u.failed
-one_failed t u false is e = let n = ap (λ (x : Tally). x.failed) e in omega (arith, n)
-one_failed t u true is e = cc

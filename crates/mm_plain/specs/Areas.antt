@@ -29,7 +29,8 @@ page_at area index = slice_index_or (pages_of area) index None
 abbrev pub block_at : Option AreaPages → ℕ → Option ℕ
 block_at None index = None
 block_at (Some (Paged pages)) index = None
-block_at (Some (Filed first count)) index = if nat_lt index count then Some (first + index) else None
+block_at (Some (Filed first count)) index = if nat_lt index count then Some (first + index) else
+    None
 
 abbrev pub one_if_live : Option Page → ℕ
 one_if_live page = if is_some page then 1 else 0

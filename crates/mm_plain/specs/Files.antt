@@ -35,8 +35,11 @@ pub record Wrote (old new : DeviceOf) (before after : Tally) : Type 0 where
   pub counted : after ≡ tallied way.Write calls before
   pub none_read : (reads : Tally) → tallied way.Read calls reads ≡ reads
 
--- the first `count` of these pages stand in the blocks from `first` on, and each other block is as before
+-- the first `count` of these pages stand in the blocks from `first` on, and each other block is as
+-- before
 pub record Stored (first count : ℕ) (pages : List FilePage) (old new : List Page) : Type 0 where
   pub long : length new ≡ length old
-  pub done : (i : ℕ) (page : FilePage) → i < count → slice_get pages i ≡ Some page → slice_get new (first + i) ≡ Some page.page
-  pub others : (block : ℕ) → (block < first) ⊎ (first + count ≤ block) → slice_get new block ≡ slice_get old block
+  pub done : (i : ℕ) (page : FilePage) → i < count → slice_get pages i ≡ Some page →
+      slice_get new (first + i) ≡ Some page.page
+  pub others : (block : ℕ) → (block < first) ⊎ (first + count ≤ block) →
+      slice_get new block ≡ slice_get old block

@@ -19,13 +19,17 @@ pub record Fits (places : Places) (areas : Areas) (stock : StockOf) : Type 0 whe
   pub low : (place : Place) → bound_in places place ≡ true → place.vpn.0 < end_of_user_pages
 
 -- the files, their pages in memory, and the blocks of the device
-pub record FilesFit (areas : ℕ → Option AreaPages) (pages : List FilePage) (blocks : List Page) (count : ℕ) : Type 0 where
+pub record FilesFit (areas : ℕ → Option AreaPages) (pages : List FilePage) (blocks : List Page)
+    (count : ℕ) : Type 0 where
   -- each page of a file has a block with a page
-  pub near : (area index block : ℕ) → block_at (areas area) index ≡ Some block → block < length pages
+  pub near : (area index block : ℕ) → block_at (areas area) index ≡ Some block →
+      block < length pages
   -- no two pages of files have the same block
-  pub alone : (a i b j block : ℕ) → block_at (areas a) i ≡ Some block → block_at (areas b) j ≡ Some block → (a ≡ b) × (i ≡ j)
+  pub alone : (a i b j block : ℕ) → block_at (areas a) i ≡ Some block →
+      block_at (areas b) j ≡ Some block → (a ≡ b) × (i ≡ j)
   -- where a page was not changed, its block holds it
-  pub kept : (block : ℕ) (page : FilePage) → slice_get pages block ≡ Some page → page.changed ≡ false → slice_get blocks block ≡ Some page.page
+  pub kept : (block : ℕ) (page : FilePage) → slice_get pages block ≡ Some page →
+      page.changed ≡ false → slice_get blocks block ≡ Some page.page
   pub device : length blocks ≡ count
   pub used : length pages ≤ count
   pub few : count < 2 ^ 32

@@ -22,9 +22,11 @@ shared_page files None page = page
 shared_page files (Some block) page = page_of (slice_get files block)
 
 -- the page of a private key stands at its own place
-abbrev pub contents_of : (Place → Option Page) → (ℕ → Option AreaPages) → List FilePage → Key → Option Page
+abbrev pub contents_of : (Place → Option Page) → (ℕ → Option AreaPages) → List FilePage → Key →
+    Option Page
 contents_of places areas files (key.Private pid vpn) = places (record { pid = pid; vpn = vpn })
-contents_of places areas files (key.Shared area index) = shared_page files (block_at (areas area.0) index) (page_at (areas area.0) index)
+contents_of places areas files (key.Shared area index) =
+    shared_page files (block_at (areas area.0) index) (page_at (areas area.0) index)
 
 -- the live keys that no file has
 abbrev pub paging_of : (Place → Option Page) → (ℕ → Option AreaPages) → Key → Bool
@@ -43,12 +45,22 @@ ready_at None = None
 ready_at (Some w) = Some (record { place = w.place; need = need_for w.need w.key w.place })
 
 abbrev pub no_counts : Counts
-no_counts = record { zeroed = 0; free = 0; standby = 0; modified = 0; active = 0; transition = 0; free_slots = 0; requests = 0 }
+no_counts = record {
+  zeroed = 0;
+  free = 0;
+  standby = 0;
+  modified = 0;
+  active = 0;
+  transition = 0;
+  free_slots = 0;
+  requests = 0;
+}
 
 abbrev pub whereabouts_of : (Key → Option Page) → Key → Option Whereabouts
 whereabouts_of contents k = option_map (λ _. InFrame) (contents k)
 
--- the file device was called in writing alone; nothing is counted, each live key has its page at hand, and no thread waits
+-- the file device was called in writing alone; nothing is counted, each live key has its page at
+-- hand, and no thread waits
 abbrev pub unpaged_report : Tally → (Key → Option Page) → Report
 unpaged_report writes contents = record {
   paging_reads = no_calls;

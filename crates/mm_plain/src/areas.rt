@@ -71,7 +71,9 @@ fn take_page(area: &mut Option<AreaPages>, index: u32) -> PageBox
 fn write_page(area: &mut Option<AreaPages>, index: u32, off: u16, bytes: &[u8])
     requires live { IsSome (page_at area.old index) }
     requires inside { off + length bytes.now ≤ 4096 }
-    ensures { area.new ≡ Some (Paged (slice_set (pages_of area.old) index (Some (written (unwrap_or (page_at area.old index) (filled 0)) off bytes.now)))) }
+    ensures { area.new ≡ Some
+        (Paged (slice_set (pages_of area.old) index
+        (Some (written (unwrap_or (page_at area.old index) (filled 0)) off bytes.now)))) }
 {
     match area {
         Some(AreaPages::Paged(segment)) => segment.write(index, off, bytes),
@@ -109,17 +111,20 @@ impl Areas {
     fn set(&mut self, area: Area, pages: Option<AreaPages>)
         requires place { area.0 < vec_len self.old.areas }
         ensures areas { area_in self.new ≡ changed ◌==◌ (area_in self.old) area.0 pages }
-        ensures count { count_in self.new + count_of (area_in self.old area.0) ≡ count_in self.old + count_of pages }
+        ensures count { count_in self.new + count_of (area_in self.old area.0) ≡
+            count_in self.old + count_of pages }
         ensures place { vec_len self.new.areas ≡ vec_len self.old.areas }
     {
         self.areas[area.0 as usize] = pages;
     }
 
-    /// Opens an area of `n` pages of a page-file section, of which none is live. After `NoMemory` nothing has changed.
+    /// Opens an area of `n` pages of a page-file section, of which none is live. After `NoMemory`
+    /// nothing has changed.
     pub(crate) fn open(&mut self, alloc: Global, area: Area, n: u32) -> Result<(), NoMemory>
         requires few { area.0 < 2 ^ 28 }
         requires new { area_in self.old area.0 ≡ None }
-        ensures ok { OnOk result (area_in self.new ≡ changed ◌==◌ (area_in self.old) area.0 (Some (Paged (replicate n None)))) }
+        ensures ok { OnOk result (area_in self.new ≡
+            changed ◌==◌ (area_in self.old) area.0 (Some (Paged (replicate n None)))) }
         ensures err { OnErr result (area_in self.new ≡ area_in self.old) }
         ensures count { count_in self.new ≡ count_in self.old }
     {
@@ -129,11 +134,13 @@ impl Areas {
         Ok(())
     }
 
-    /// Opens an area of the `n` pages of a file, in the blocks from `first` on. There is a place for it.
+    /// Opens an area of the `n` pages of a file, in the blocks from `first` on. There is a place
+    /// for it.
     pub(crate) fn open_file(&mut self, area: Area, first: u32, n: u32)
         requires place { area.0 < vec_len self.old.areas }
         requires new { area_in self.old area.0 ≡ None }
-        ensures areas { area_in self.new ≡ changed ◌==◌ (area_in self.old) area.0 (Some (Filed first n)) }
+        ensures areas { area_in self.new ≡ changed ◌==◌ (area_in self.old) area.0
+            (Some (Filed first n)) }
         ensures count { count_in self.new ≡ count_in self.old }
     {
         self.set(area, Some(AreaPages::Filed(first, n)));
@@ -151,7 +158,8 @@ impl Areas {
 
     /// The block of a page of a file; none where the area is no file or has fewer pages.
     pub(crate) fn block(&self, area: Area, index: u32) -> Option<u32>
-        requires small { (block : ℕ) → block_at (area_in self.now area.0) index ≡ Some block → block < 2 ^ 32 }
+        requires small { (block : ℕ) → block_at (area_in self.now area.0) index ≡ Some block →
+            block < 2 ^ 32 }
         ensures { result ≡ block_at (area_in self.now area.0) index }
     {
         match self.areas.get(area.0 as usize) {
@@ -175,7 +183,8 @@ impl Areas {
     pub(crate) fn put(&mut self, area: Area, index: u32, page: PageBox)
         requires place { index < length (pages_of (area_in self.old area.0)) }
         requires dead { page_at (area_in self.old area.0) index ≡ None }
-        ensures areas { area_in self.new ≡ changed ◌==◌ (area_in self.old) area.0 (Some (Paged (slice_set (pages_of (area_in self.old area.0)) index (Some page)))) }
+        ensures areas { area_in self.new ≡ changed ◌==◌ (area_in self.old) area.0
+            (Some (Paged (slice_set (pages_of (area_in self.old area.0)) index (Some page)))) }
         ensures count { count_in self.new ≡ count_in self.old + 1 }
     {
         put_page(&mut self.areas[area.0 as usize], index, page);
@@ -184,7 +193,8 @@ impl Areas {
     /// A live page of a page-file section is no more; its box.
     pub(crate) fn take(&mut self, area: Area, index: u32) -> PageBox
         requires { IsSome (page_at (area_in self.old area.0) index) }
-        ensures areas { area_in self.new ≡ changed ◌==◌ (area_in self.old) area.0 (Some (Paged (slice_set (pages_of (area_in self.old area.0)) index None))) }
+        ensures areas { area_in self.new ≡ changed ◌==◌ (area_in self.old) area.0
+            (Some (Paged (slice_set (pages_of (area_in self.old area.0)) index None))) }
         ensures count { count_in self.new + 1 ≡ count_in self.old }
     {
         take_page(&mut self.areas[area.0 as usize], index)
@@ -194,7 +204,11 @@ impl Areas {
     pub(crate) fn write(&mut self, area: Area, index: u32, off: u16, bytes: &[u8])
         requires live { IsSome (page_at (area_in self.old area.0) index) }
         requires inside { off + length bytes.now ≤ 4096 }
-        ensures areas { area_in self.new ≡ changed ◌==◌ (area_in self.old) area.0 (Some (Paged (slice_set (pages_of (area_in self.old area.0)) index (Some (written (unwrap_or (page_at (area_in self.old area.0) index) (filled 0)) off bytes.now))))) }
+        ensures areas { area_in self.new ≡ changed ◌==◌ (area_in self.old) area.0
+            (Some (Paged
+            (slice_set (pages_of (area_in self.old area.0)) index
+            (Some (written (unwrap_or (page_at (area_in self.old area.0) index) (filled 0)) off
+            bytes.now))))) }
         ensures count { count_in self.new ≡ count_in self.old }
     {
         write_page(&mut self.areas[area.0 as usize], index, off, bytes);

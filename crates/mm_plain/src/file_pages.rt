@@ -65,7 +65,8 @@ impl FilePages {
 
     /// The pages of a new file stand in the next blocks. There is room for them.
     pub(crate) fn append(&mut self, made: FilePages)
-        requires { length self.old.pages.items + length made.pages.items ≤ vec_capacity self.old.pages }
+        requires { length self.old.pages.items + length made.pages.items ≤ vec_capacity
+            self.old.pages }
         ensures { self.new.pages.items ≡ self.old.pages.items ++ made.pages.items }
     {
         let FilePages { mut pages } = made;
@@ -93,7 +94,10 @@ impl FilePages {
     /// The block holds its page now.
     pub(crate) fn settle(&mut self, block: u32)
         requires { block < length self.old.pages.items }
-        ensures { self.new.pages.items ≡ slice_set self.old.pages.items block (record { page = page_in self.old.pages.items block; changed = false }) }
+        ensures { self.new.pages.items ≡ slice_set self.old.pages.items block (record {
+          page = page_in self.old.pages.items block;
+          changed = false;
+        }) }
     {
         self.pages[block as usize].changed = false;
     }
@@ -102,7 +106,10 @@ impl FilePages {
     pub(crate) fn write(&mut self, block: u32, off: u16, bytes: &[u8])
         requires near { block < length self.old.pages.items }
         requires inside { off + length bytes.now ≤ 4096 }
-        ensures { self.new.pages.items ≡ slice_set self.old.pages.items block (record { page = written (page_in self.old.pages.items block) off bytes.now; changed = true }) }
+        ensures { self.new.pages.items ≡ slice_set self.old.pages.items block (record {
+          page = written (page_in self.old.pages.items block) off bytes.now;
+          changed = true;
+        }) }
     {
         write_page(&mut self.pages[block as usize], off, bytes);
     }

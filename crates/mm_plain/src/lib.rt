@@ -1,7 +1,8 @@
 //! The unpaged store: each page stands in a box of its own, and no access ever fails or waits.
 //!
-//! The page of a private key is kept at the key's own place, beside the key that the place names. So a page comes and
-//! goes without a change of the map, and `add` takes no memory. The page of a file is kept by its block.
+//! The page of a private key is kept at the key's own place, beside the key that the place names.
+//! So a page comes and goes without a change of the map, and `add` takes no memory. The page of a
+//! file is kept by its block.
 #![tactic(auto)]
 
 mod areas;

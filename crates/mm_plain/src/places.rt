@@ -28,7 +28,10 @@ pub(crate) struct Places {
 fn write_page(place: &mut BoundPlace, off: u16, bytes: &[u8])
     requires live { IsSome place.old.page }
     requires inside { off + length bytes.now ≤ 4096 }
-    ensures { place.new ≡ record { named = place.old.named; page = Some (written (unwrap_or place.old.page (filled 0)) off bytes.now) } }
+    ensures { place.new ≡ record {
+      named = place.old.named;
+      page = Some (written (unwrap_or place.old.page (filled 0)) off bytes.now);
+    } }
 {
     let Some(page) = &mut place.page else {
         unreachable!()
@@ -102,13 +105,23 @@ impl Places {
         let _ = self.map.remove(&place);
     }
 
-    /// Binds `n` places of a process from page `first` on; they name nothing. After `NoMemory` nothing has changed.
+    /// Binds `n` places of a process from page `first` on; they name nothing. After `NoMemory`
+    /// nothing has changed.
     #[tactic(auto, using(crate::proofs::Ranges::paging))]
     pub(crate) fn bind_all(&mut self, pid: Pid, first: Vpn, n: u32) -> Result<(), NoMemory>
         requires inside { first.0 + n ≤ 2 ^ 32 }
-        requires unbound { (page : ℕ) → holds_page (record { first = first.0; count = n }) page ≡ true → bound_in self.old (place_at pid page) ≡ false }
-        ensures bound { OnOk result (bound_in self.new ≡ changed_in pid (record { first = first.0; count = n }) (bound_in self.old) true) }
-        ensures names { OnOk result (names_in self.new ≡ changed_in pid (record { first = first.0; count = n }) (names_in self.old) None) }
+        requires unbound { (page : ℕ) → holds_page (record {
+          first = first.0;
+          count = n;
+        }) page ≡ true → bound_in self.old (place_at pid page) ≡ false }
+        ensures bound { OnOk result (bound_in self.new ≡ changed_in pid (record {
+          first = first.0;
+          count = n;
+        }) (bound_in self.old) true) }
+        ensures names { OnOk result (names_in self.new ≡ changed_in pid (record {
+          first = first.0;
+          count = n;
+        }) (names_in self.old) None) }
         ensures still_bound { OnErr result (bound_in self.new ≡ bound_in self.old) }
         ensures same_names { OnErr result (names_in self.new ≡ names_in self.old) }
         ensures pages { pages_at self.new ≡ pages_at self.old }
@@ -128,9 +141,16 @@ impl Places {
     #[tactic(auto, using(crate::proofs::Ranges::paging))]
     pub(crate) fn unbind_all(&mut self, pid: Pid, first: Vpn, n: u32)
         requires inside { first.0 + n ≤ 2 ^ 32 }
-        requires dead { (page : ℕ) → first.0 ≤ page → page < first.0 + n → pages_at self.old (place_at pid page) ≡ None }
-        ensures bound { bound_in self.new ≡ changed_in pid (record { first = first.0; count = n }) (bound_in self.old) false }
-        ensures names { names_in self.new ≡ changed_in pid (record { first = first.0; count = n }) (names_in self.old) None }
+        requires dead { (page : ℕ) → first.0 ≤ page → page < first.0 + n →
+            pages_at self.old (place_at pid page) ≡ None }
+        ensures bound { bound_in self.new ≡ changed_in pid (record {
+          first = first.0;
+          count = n;
+        }) (bound_in self.old) false }
+        ensures names { names_in self.new ≡ changed_in pid (record {
+          first = first.0;
+          count = n;
+        }) (names_in self.old) None }
         ensures pages { pages_at self.new ≡ pages_at self.old }
         ensures count { pages_in self.new ≡ pages_in self.old }
     {
@@ -208,7 +228,8 @@ impl Places {
         requires inside { off + length bytes.now ≤ 4096 }
         ensures bound { bound_in self.new ≡ bound_in self.old }
         ensures names { names_in self.new ≡ names_in self.old }
-        ensures pages { pages_at self.new ≡ changed same_place (pages_at self.old) place (Some (written (unwrap_or (pages_at self.old place) (filled 0)) off bytes.now)) }
+        ensures pages { pages_at self.new ≡ changed same_place (pages_at self.old) place
+            (Some (written (unwrap_or (pages_at self.old place) (filled 0)) off bytes.now)) }
         ensures count { pages_in self.new ≡ pages_in self.old }
     {
         let Some(here) = self.map.get_mut(&place) else {

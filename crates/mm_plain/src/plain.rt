@@ -39,8 +39,8 @@ pub(crate) struct Wanted {
 
 /// A store that pages nothing: the page of each live key is in a box of its own.
 ///
-/// It never waits, and its counts are all 0. It calls a device of blocks for files alone, and only in writing: when a file
-/// is made, and when a page that was changed is flushed.
+/// It never waits, and its counts are all 0. It calls a device of blocks for files alone, and only
+/// in writing: when a file is made, and when a page that was changed is flushed.
 #[derive(Drop)]
 pub struct Plain<F: Inject> {
     alloc: Global,
@@ -74,10 +74,13 @@ fn pid_after(last: u8, kind: LineKind) -> u8
 
 /// The page of a live key of an area.
 fn shared_page<'a>(areas: &'a Areas, files: &'a FilePages, area: Area, index: u32) -> &'a PageBox
-    requires near { (block : ℕ) → block_at (area_in areas.now area.0) index ≡ Some block → block < length files.now.pages.items }
+    requires near { (block : ℕ) → block_at (area_in areas.now area.0) index ≡ Some block →
+        block < length files.now.pages.items }
     requires few { length files.now.pages.items < 2 ^ 32 }
-    requires live { IsSome (shared_page files.now.pages.items (block_at (area_in areas.now area.0) index) (page_at (area_in areas.now area.0) index)) }
-    ensures { shared_page files.now.pages.items (block_at (area_in areas.now area.0) index) (page_at (area_in areas.now area.0) index) ≡ Some result.now }
+    requires live { IsSome (shared_page files.now.pages.items
+        (block_at (area_in areas.now area.0) index) (page_at (area_in areas.now area.0) index)) }
+    ensures { shared_page files.now.pages.items (block_at (area_in areas.now area.0) index)
+        (page_at (area_in areas.now area.0) index) ≡ Some result.now }
 {
     match areas.block(area, index) {
         Some(block) => files.page(block),
@@ -85,7 +88,8 @@ fn shared_page<'a>(areas: &'a Areas, files: &'a FilePages, area: Area, index: u3
     }
 }
 
-/// Takes all memory that a new file of `n` pages wants: its pages, room for them, and a place for its area.
+/// Takes all memory that a new file of `n` pages wants: its pages, room for them, and a place for
+/// its area.
 fn prepare_file(
     alloc: Global,
     areas: &mut Areas,
@@ -111,8 +115,9 @@ fn prepare_file(
 impl<F: Inject> Plain<F> {
     ghost use Rattle.mm_plain.specs.Plain.{contents_in, store_in};
 
-    /// A new store of this machine, in line 1, with no process, no bound place, no key and no file, over a file device that
-    /// was opened with the machine's blocks and names no call. It takes no memory yet.
+    /// A new store of this machine, in line 1, with no process, no bound place, no key and no file,
+    /// over a file device that was opened with the machine's blocks and names no call. It takes no
+    /// memory yet.
     pub fn new(alloc: Global, machine: Machine, files: F) -> Result<Plain<F>, Unmade<F>>
         requires opened { length (F.blocks files) ≡ machine.blocks }
         requires plain { F.named files ≡ [] }
@@ -152,7 +157,12 @@ impl<F: Inject> Plain<F> {
     /// A line begins: nothing is ready, and no device call of it was made.
     fn begin(&mut self, line: u32, kind: LineKind)
         ensures contents { contents_in self.new ≡ contents_in self.old }
-        ensures store { store_in self.new ≡ record (store_in self.old) { line = line; kind = kind; ready = None; report = begun (store_in self.old).report } }
+        ensures store { store_in self.new ≡ record (store_in self.old) {
+          line = line;
+          kind = kind;
+          ready = None;
+          report = begun (store_in self.old).report;
+        } }
         ensures files { self.new.files ≡ self.old.files }
     {
         self.line = line;
@@ -176,7 +186,10 @@ impl<F: Inject> Plain<F> {
     fn write_shared(&mut self, area: Area, index: u32, off: u16, bytes: &[u8])
         requires live { IsSome (contents_in self.old (Shared area index)) }
         requires inside { off + length bytes.now ≤ 4096 }
-        ensures contents { contents_in self.new ≡ changed same_key (contents_in self.old) (Shared area index) (Some (written (unwrap_or (contents_in self.old (Shared area index)) (filled 0)) off bytes.now)) }
+        ensures contents { contents_in self.new ≡ changed same_key (contents_in self.old)
+            (Shared area index)
+            (Some (written (unwrap_or (contents_in self.old (Shared area index)) (filled 0)) off
+            bytes.now)) }
         ensures store { store_in self.new ≡ store_in self.old }
         ensures files { self.new.files ≡ self.old.files }
     {
@@ -190,7 +203,8 @@ impl<F: Inject> Plain<F> {
     fn write_page(&mut self, key: Key, off: u16, bytes: &[u8])
         requires live { IsSome (contents_in self.old key) }
         requires inside { off + length bytes.now ≤ 4096 }
-        ensures contents { contents_in self.new ≡ changed same_key (contents_in self.old) key (Some (written (unwrap_or (contents_in self.old key) (filled 0)) off bytes.now)) }
+        ensures contents { contents_in self.new ≡ changed same_key (contents_in self.old) key
+            (Some (written (unwrap_or (contents_in self.old key) (filled 0)) off bytes.now)) }
         ensures store { store_in self.new ≡ store_in self.old }
         ensures files { self.new.files ≡ self.old.files }
     {
@@ -204,7 +218,9 @@ impl<F: Inject> Plain<F> {
     fn name_place(&mut self, place: Place, key: Key)
         requires { (store_in self.old).bound place ≡ true }
         ensures contents { contents_in self.new ≡ contents_in self.old }
-        ensures store { store_in self.new ≡ record (store_in self.old) { names = changed same_place (store_in self.old).names place (Some key) } }
+        ensures store { store_in self.new ≡ record (store_in self.old) {
+          names = changed same_place (store_in self.old).names place (Some key);
+        } }
         ensures files { self.new.files ≡ self.old.files }
     {
         self.places.name(place, key);
@@ -214,7 +230,10 @@ impl<F: Inject> Plain<F> {
     fn write_private(&mut self, pid: Pid, vpn: Vpn, off: u16, bytes: &[u8])
         requires live { IsSome (contents_in self.old (Private pid vpn)) }
         requires inside { off + length bytes.now ≤ 4096 }
-        ensures contents { contents_in self.new ≡ changed same_key (contents_in self.old) (Private pid vpn) (Some (written (unwrap_or (contents_in self.old (Private pid vpn)) (filled 0)) off bytes.now)) }
+        ensures contents { contents_in self.new ≡ changed same_key (contents_in self.old)
+            (Private pid vpn)
+            (Some (written (unwrap_or (contents_in self.old (Private pid vpn)) (filled 0)) off
+            bytes.now)) }
         ensures store { store_in self.new ≡ store_in self.old }
         ensures files { self.new.files ≡ self.old.files }
     {

@@ -86,7 +86,9 @@ impl Segment {
     pub(crate) fn write(&mut self, index: u32, off: u16, bytes: &[u8])
         requires live { IsSome (slice_index_or self.old index None) }
         requires inside { off + length bytes.now ≤ 4096 }
-        ensures { self.new ≡ slice_set self.old index (Some (written (unwrap_or (slice_index_or self.old index None) (filled 0)) off bytes.now)) }
+        ensures { self.new ≡ slice_set self.old index
+            (Some (written (unwrap_or (slice_index_or self.old index None) (filled 0)) off
+            bytes.now)) }
     {
         write_live(&mut self.pages[index as usize], off, bytes);
     }

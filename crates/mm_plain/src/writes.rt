@@ -12,8 +12,8 @@ use mm_blocks::Inject;
 use mm_types::Failed;
 use std::marker::Model;
 
-/// How many writes of the file device succeeded, and how many failed, since the line began. Each count stands still at
-/// its type's end.
+/// How many writes of the file device succeeded, and how many failed, since the line began. Each
+/// count stands still at its type's end.
 #[derive(Drop)]
 pub(crate) struct Writes {
     succeeded: u64,
@@ -61,9 +61,17 @@ pub(crate) fn write_block<F: Inject>(
     requires { block < length (F.blocks device.old) }
     ensures ok { OnOk result (F.blocks device.new ≡ slice_set (F.blocks device.old) block page.now) }
     ensures err { OnErr result (F.blocks device.new ≡ F.blocks device.old) }
-    ensures serves { Serves (record { way = way.Write; block = block; succeeded = is_ok result; named = is_named way.Write (F.named device.old) }) (device_with (F.log device.old) (F.named device.old) (F.faults device.old)) (device_with (F.log device.new) (F.named device.new) (F.faults device.new)) }
+    ensures serves { Serves (record {
+      way = way.Write;
+      block = block;
+      succeeded = is_ok result;
+      named = is_named way.Write (F.named device.old);
+    }) (device_with (F.log device.old) (F.named device.old) (F.faults device.old))
+        (device_with (F.log device.new) (F.named device.new) (F.faults device.new)) }
     ensures writes { writes.new ≡ with_outcome (is_ok result) writes.old }
-    ensures blamed { OnErr result (CallFailed (device_with (F.log device.old) (F.named device.old) (F.faults device.old)) (device_with (F.log device.new) (F.named device.new) (F.faults device.new))) }
+    ensures blamed { OnErr result
+        (CallFailed (device_with (F.log device.old) (F.named device.old) (F.faults device.old))
+        (device_with (F.log device.new) (F.named device.new) (F.faults device.new))) }
     ensures loans { F.loans device.new ≡ F.loans device.old }
 {
     let done = device.write(block, page.bytes());
@@ -71,7 +79,8 @@ pub(crate) fn write_block<F: Inject>(
     done
 }
 
-/// Writes the `n` pages of a new file to the blocks from `first` on, in order, up to the first write that fails.
+/// Writes the `n` pages of a new file to the blocks from `first` on, in order, up to the first
+/// write that fails.
 pub(crate) fn write_file<F: Inject>(
     device: &mut F,
     writes: &mut Writes,
@@ -82,13 +91,20 @@ pub(crate) fn write_file<F: Inject>(
     requires pages { length made.now.pages.items ≡ n }
     requires inside { first + n ≤ length (F.blocks device.old) }
     requires few { length (F.blocks device.old) < 2 ^ 32 }
-    ensures ok { OnOk result (Stored first n made.now.pages.items (F.blocks device.old) (F.blocks device.new)) }
+    ensures ok { OnOk result (Stored first n made.now.pages.items (F.blocks device.old)
+        (F.blocks device.new)) }
     ensures long { length (F.blocks device.new) ≡ length (F.blocks device.old) }
-    ensures others { (block : ℕ) → (block < first) ⊎ (first + n ≤ block) → slice_get (F.blocks device.new) block ≡ slice_get (F.blocks device.old) block }
-    ensures wrote { Wrote (device_with (F.log device.old) (F.named device.old) (F.faults device.old)) (device_with (F.log device.new) (F.named device.new) (F.faults device.new)) writes.old writes.new }
+    ensures others { (block : ℕ) → (block < first) ⊎ (first + n ≤ block) →
+        slice_get (F.blocks device.new) block ≡ slice_get (F.blocks device.old) block }
+    ensures wrote { Wrote (device_with (F.log device.old) (F.named device.old)
+        (F.faults device.old))
+        (device_with (F.log device.new) (F.named device.new) (F.faults device.new)) writes.old
+        writes.new }
     ensures quiet { OnOk result (writes.new.failed ≡ writes.old.failed) }
     ensures failed { OnErr result (0 < writes.new.failed) }
-    ensures blamed { OnErr result (CallFailed (device_with (F.log device.old) (F.named device.old) (F.faults device.old)) (device_with (F.log device.new) (F.named device.new) (F.faults device.new))) }
+    ensures blamed { OnErr result
+        (CallFailed (device_with (F.log device.old) (F.named device.old) (F.faults device.old))
+        (device_with (F.log device.new) (F.named device.new) (F.faults device.new))) }
     ensures loans { F.loans device.new ≡ F.loans device.old }
 {
     for i in 0..n {

@@ -1,11 +1,11 @@
 -- The places of frames and their flags, as one is written or emptied.
 use Rattle.std.proofs.Common.{◌≡◌, ℕ, zero, suc, ◌+◌, ◌-◌, ◌<◌, ◌≤◌, Bool, true, false, List, [], ◌∷◌, ◌++◌, length, get_or, set, map, take, drop, replicate, Option, Some, None, refl, sym, ap, ◌∙◌, subst, inl, inr, arith, length-set, get_or-set_same, get_or-set_other, length-append, length-drop}
-use Rattle.std.specs.Prelude.{unwrap_or, IsSome}
+use Rattle.std.specs.Prelude.{IsSome}
 use Rattle.std.proofs.Math.ListN.{get_or-map}
 use Rattle.std.proofs.Math.Seq.{map-set_same}
 use Rattle.std.proofs.lemmas.List.{ext_get_or, length-map, map-set, length-replicate, get_or_past, length-take-le}
 use Rattle.mm_types.proofs.Cells.{same_or_not}
-use Rattle.mm_ram.specs.Ram.{page_at, bytes_of, overwritten}
+use Rattle.mm_ram.specs.Ram.{page_at, overwritten}
 use Rattle.mm_ram.specs.Places.{IsFilled}
 use Rattle.mm_ram.specs.Frames.{is_written, IsRam}
 use Rattle.mm_types.specs.Address.{page_size}
@@ -13,10 +13,6 @@ use Rattle.mm_types.specs.Address.{page_size}
 filled_if : (o : Option (List ℕ)) → is_written o ≡ true → (x : List ℕ) × (o ≡ Some x)
 filled_if None e = cc
 filled_if (Some x) e = (x, refl)
-
-empty_if : (o : Option (List ℕ)) → is_written o ≡ false → o ≡ None
-empty_if None e = refl
-empty_if (Some x) e = cc
 
 some_if : (o : Option (List ℕ)) → IsSome o → (x : List ℕ) × (o ≡ Some x)
 some_if None s = let bad : false ≡ true = s in cc
@@ -33,9 +29,6 @@ module _ (slots : List (Option (List ℕ))) (written : List Bool) (flags : writt
   pub filled_at : (i : ℕ) → get_or written i false ≡ true → IsFilled slots i
   filled_at i e = filled_if (page_at slots i) (sym (flag_is i) ∙ e)
 
-  pub empty_at : (i : ℕ) → get_or written i false ≡ false → page_at slots i ≡ None
-  empty_at i e = empty_if (page_at slots i) (sym (flag_is i) ∙ e)
-
 pub some_filled : (slots : List (Option (List ℕ))) (i : ℕ) → IsSome (page_at slots i) → IsFilled slots i
 some_filled slots i s = some_if (page_at slots i) s
 
@@ -47,9 +40,6 @@ filled_low slots i x e = elim (same_or_not (length slots - i) 0) [
       cc
   | inr long ↦ omega arith
 ]
-
-pub bytes_are : (slots : List (Option (List ℕ))) (i : ℕ) (x : List ℕ) → page_at slots i ≡ Some x → bytes_of slots i ≡ x
-bytes_are slots i x e = ap (λ (o : Option (List ℕ)). unwrap_or o []) e
 
 module _ (slots : List (Option (List ℕ))) (f : ℕ) (x : List ℕ) (whole : (j : ℕ) (page : List ℕ) → page_at slots j ≡ Some page → length page ≡ page_size) (there : f < length slots) (long : length x ≡ page_size) where
   pub whole_after : (j : ℕ) (page : List ℕ) → page_at (set slots f (Some x)) j ≡ Some page → length page ≡ page_size
@@ -101,34 +91,7 @@ pub record Emptied (old slots : List (Option (List ℕ))) (i : ℕ) : Type 0 whe
   pub empty : (k : ℕ) → k < i → page_at slots k ≡ None
   pub kept : (k : ℕ) → i ≤ k → page_at slots k ≡ page_at old k
 
-pub emptied_none : (old : List (Option (List ℕ))) → Emptied old old 0
-emptied_none old = record {
-  long = refl;
-  empty = λ k h. absurd (omega arith);
-  kept = λ k h. refl;
-}
-
 module _ (old slots : List (Option (List ℕ))) (i : ℕ) (s : Emptied old slots i) where
-  pub emptied_read : i < length slots → Emptied old (set slots i None) (i + 1)
-  emptied_read there = record {
-    long = length-set slots i None ∙ s.long;
-    empty = λ k h. elim (same_or_not k i) [
-      | inl e ↦ ap (λ (q : ℕ). page_at (set slots i None) q) e ∙ get_or-set_same slots i None None there
-      | inr d ↦ get_or-set_other slots i k None None d ∙ s.empty k (omega arith)
-    ];
-    kept = λ k h. get_or-set_other slots i k None None (λ e. absurd (omega arith)) ∙ s.kept k (omega arith);
-  }
-
-  pub emptied_skip : page_at old i ≡ None → Emptied old slots (i + 1)
-  emptied_skip none = record {
-    long = s.long;
-    empty = λ k h. elim (same_or_not k i) [
-      | inl e ↦ s.kept k (omega arith) ∙ ap (λ (q : ℕ). page_at old q) e ∙ none
-      | inr d ↦ s.empty k (omega arith)
-    ];
-    kept = λ k h. s.kept k (omega arith);
-  }
-
   pub emptied_all : length old ≤ i → slots ≡ replicate (length old) None
   emptied_all all =
       ext_get_or None slots (replicate (length old) None) (s.long ∙ sym (long_nones (length old) None))

@@ -8,4 +8,5 @@ abbrev pub with_slots : {X : Type 0} → Cells X → List (Option X) → Cells X
 with_slots c cs = record { mark = c.mark; at = c.at; slots = cs }
 
 abbrev pub lends_slot : (R : RattleType) → MutBor (Cells R.Denot) → ℕ → MutBor R.Denot → Fml
-lends_slot R c i r = Lends (the_row R) R c r (λ w. with_slots c.now (slice_set c.now.slots i (Some w)))
+lends_slot R c i r =
+    Lends (the_row R) R c r (λ w. with_slots c.now (slice_set c.now.slots i (Some w)))

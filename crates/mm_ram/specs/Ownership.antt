@@ -1,4 +1,5 @@
--- What a row of places owns and lends, at values of the row R, and what the right to give it back owns.
+-- What a row of places owns and lends, at values of the row R, and what the right to give it back
+-- owns.
 use Rattle.std.specs.Prelude.{ℕ, ◌+◌, ◌*◌, ◌^◌, List, [], ◌∷◌, length, Option, Some, None}
 use Rattle.std.specs.Mem.{type_size}
 use base.Fraction.{full_share}

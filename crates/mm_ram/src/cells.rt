@@ -1,4 +1,5 @@
-//! A block of raw memory: a row of places, each empty or holding a value. The functions here alone name a pointer.
+//! A block of raw memory: a row of places, each empty or holding a value. The functions here alone
+//! name a pointer.
 ghost use Rattle.std.specs.Prelude.{◌≡◌, ℕ, ◌<◌, List, Option, Some, None, length, replicate, get_or, slice_set, IfOk, ⊤};
 ghost use Rattle.std.specs.Borrow.{sem};
 ghost use Rattle.std.specs.Vec.Ownership.{FitsInBlock};
@@ -28,7 +29,8 @@ impl<T> Clone for Base<T> {
 
 impl<T> Copy for Base<T> {}
 
-/// The owner of the places, and which of them hold what. It takes no space: its owner holds the pointer.
+/// The owner of the places, and which of them hold what. It takes no space: its owner holds the
+/// pointer.
 pub struct Cells<T> {
     mark: PhantomData<*const T>,
     ghost at: { Ptr },
@@ -55,13 +57,15 @@ impl<T, A: Allocator> Model for Deed<T, A> {
     ghost also_shares = { λ _ _ _. ftrue };
 }
 
-/// A row of `len` empty places, and the right to give it back. The memory is left as the allocator gave it.
+/// A row of `len` empty places, and the right to give it back. The memory is left as the allocator
+/// gave it.
 pub(crate) fn allocate<T, A: Allocator>(
     alloc: &A,
     len: usize,
 ) -> Result<(Base<T>, Cells<T>, Deed<T, A>), AllocError>
     requires { FitsInBlock T.row len }
-    ensures { IfOk result (λ r. (r.1.at ≡ r.0.ptr) × (r.1.slots ≡ replicate len None) × (r.2.at ≡ r.0.ptr) × (r.2.len ≡ len) × (r.2.alloc ≡ alloc.now)) }
+    ensures { IfOk result (λ r. (r.1.at ≡ r.0.ptr) × (r.1.slots ≡ replicate len None) ×
+        (r.2.at ≡ r.0.ptr) × (r.2.len ≡ len) × (r.2.alloc ≡ alloc.now)) }
 {
     match alloc.allocate(len * size_of::<T>(), align_of::<T>()) {
         Ok(block) => {
@@ -86,7 +90,8 @@ pub(crate) fn deallocate<T, A: Allocator>(
     cells: Cells<T>,
     deed: Deed<T, A>,
 )
-    requires { (cells.at ≡ base.ptr) × (cells.slots ≡ replicate len None) × (deed.at ≡ base.ptr) × (deed.len ≡ len) × (deed.alloc ≡ alloc.now) }
+    requires { (cells.at ≡ base.ptr) × (cells.slots ≡ replicate len None) × (deed.at ≡ base.ptr) ×
+        (deed.len ≡ len) × (deed.alloc ≡ alloc.now) }
 {
     let Cells { mark: _ } = cells;
     let Deed { mark: _ } = deed;
@@ -100,8 +105,10 @@ impl<T> Cells<T> {
 
     /// Fills an empty place.
     pub(crate) fn write(&mut self, base: Base<T>, index: usize, item: T)
-        requires { (base.ptr ≡ self.old.at) × (index < length self.old.slots) × (get_or self.old.slots index None ≡ None) }
-        ensures { (self.new.at ≡ self.old.at) × (self.new.slots ≡ slice_set self.old.slots index (Some item)) }
+        requires { (base.ptr ≡ self.old.at) × (index < length self.old.slots) ×
+            (get_or self.old.slots index None ≡ None) }
+        ensures { (self.new.at ≡ self.old.at) ×
+            (self.new.slots ≡ slice_set self.old.slots index (Some item)) }
     {
         unsafe { base.ptr.add(index).write(item) }
     }
@@ -110,7 +117,8 @@ impl<T> Cells<T> {
     pub(crate) fn read(&mut self, base: Base<T>, index: usize) -> T
         requires { (base.ptr ≡ self.old.at) × IsFilled self.old.slots index }
         ensures value { get_or self.old.slots index None ≡ Some result }
-        ensures slots { (self.new.at ≡ self.old.at) × (self.new.slots ≡ slice_set self.old.slots index None) }
+        ensures slots { (self.new.at ≡ self.old.at) ×
+            (self.new.slots ≡ slice_set self.old.slots index None) }
     {
         unsafe { base.ptr.add(index).read() }
     }

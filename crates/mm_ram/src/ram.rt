@@ -140,7 +140,8 @@ impl Ram {
 
     /// A law, which does nothing: each frame that was written has 4,096 bytes.
     pub fn pages_are_whole(&self)
-        ensures { (f : ℕ) (page : List ℕ) → page_at self.now f ≡ Some page → length page ≡ page_size }
+        ensures { (f : ℕ) (page : List ℕ) → page_at self.now f ≡ Some page →
+            length page ≡ page_size }
     {
         let _ = &self.written;
     }

@@ -175,7 +175,8 @@ pub fn run_names<S: Source, O: Sink, E: Sink>(
     out: &mut O,
     err: &mut E,
 ) -> u8
-    ensures ran { RanAs (form_of (map string_bytes words.now)) (S.left source.old) (S.left source.new)
+    ensures ran { RanAs (form_of (map string_bytes words.now)) (S.left source.old)
+        (S.left source.new)
         (O.taken out.old) (O.taken out.new) result }
 
     // A fault is blamed only where its count rose.

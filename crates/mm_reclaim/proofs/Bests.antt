@@ -10,10 +10,10 @@ use Rattle.mm_life.specs.Legal.{is_above_min}
 use Rattle.mm_words.specs.Words.{place_of}
 use Rattle.mm_laws.proofs.Deduced.{reached_sound}
 use Rattle.mm_laws.proofs.Machines.{in_range}
-use Rattle.mm_walks.specs.Order.{Ages, may_go, IsOldest, IsVictim}
-use Rattle.mm_room.specs.Room.{NoneMayGo}
-use Rattle.mm_room.specs.Order.{BestBelow, takes_over}
-use Rattle.mm_room.proofs.Going.{best_kept, best_victim, best_none, best_begins, best_same, best_now, goes_valid}
+use Rattle.mm_life.specs.Order.{Ages, may_go, IsOldest, IsVictim}
+use Rattle.mm_frame_laws.specs.Room.{NoneMayGo}
+use Rattle.mm_frame_laws.specs.Order.{BestBelow, takes_over}
+use Rattle.mm_frame_laws.proofs.Going.{best_kept, best_victim, best_none, best_begins, best_same, best_now, goes_valid}
 use Rattle.mm_moving.specs.Shown.{StateOf}
 use Rattle.mm_moving.specs.Holds.{Holds}
 use Rattle.mm_reclaim.specs.Choosing.{NoneIn}

@@ -8,7 +8,7 @@ use Rattle.mm_types.specs.declared.moves.Move.TheVariants as move
 use Rattle.mm_life.specs.Frames.{is_empty, is_first, rest}
 use Rattle.mm_life.specs.Life.{FrameLife}
 use Rattle.mm_life.specs.Legal.{IsLegal, is_zeroer, is_touch}
-use Rattle.mm_walks.specs.Chores.{frame_of, clearings}
+use Rattle.mm_life.specs.Chores.{frame_of, clearings}
 use Rattle.mm_parts.specs.Moves.{front}
 use Rattle.mm_moving.specs.Shown.{StateOf, Made, moved}
 use Rattle.mm_reclaim.specs.Chores.{Rounds}

@@ -1,5 +1,4 @@
 pub mod Props
-pub mod Ranks
 pub mod Bests
 pub mod Steps
 pub mod Writables

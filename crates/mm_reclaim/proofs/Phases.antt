@@ -18,25 +18,25 @@ use Rattle.mm_life.specs.Victims.{can_be_written}
 use Rattle.mm_laws.specs.Tally.{one_if, times}
 use Rattle.mm_laws.specs.Reached.{Reached}
 use Rattle.mm_laws.specs.Sound.{Sound}
-use Rattle.mm_laws.specs.Settling.{joined}
+use Rattle.mm_laws.specs.Settling.{at_end_if}
 use Rattle.mm_laws.proofs.Tallies.{tally-append, times_on}
 use Rattle.mm_laws.proofs.Deduced.{reached_sound}
 use Rattle.mm_laws.proofs.Kept.{kept_along}
 use Rattle.mm_laws.proofs.Machines.{in_range}
 use Rattle.mm_laws.proofs.PlaceCounts.{has_shares}
 use Rattle.mm_laws.proofs.FromSound.{modified_frame}
-use Rattle.mm_room.specs.Room.{IsWithinDepth}
-use Rattle.mm_room.specs.Steps.{walked, is_last, Unmapped, after_failed, put_last}
-use Rattle.mm_room.specs.Searches.{failed_write, lost_in, Walking, first_passing, is_untried, next_try}
-use Rattle.mm_room.proofs.Unmapping.{unmapped}
-use Rattle.mm_room.proofs.Writing.{failed}
-use Rattle.mm_room.proofs.Walks.{walk_begins, walk_on, walk_passes_all, walk_fails, writes_same, writers_same, on_append, on_last, on_left, lost_still}
-use Rattle.mm_room.proofs.Turns.{walk_then, turn_kept, turn_failed}
+use Rattle.mm_frame_laws.specs.Room.{IsWithinDepth}
+use Rattle.mm_frame_laws.specs.Steps.{walked, is_last, Unmapped, after_failed, put_last}
+use Rattle.mm_frame_laws.specs.Searches.{failed_write, lost_in, Walking, first_passing, is_untried, next_try}
+use Rattle.mm_frame_laws.proofs.Unmapping.{unmapped}
+use Rattle.mm_frame_laws.proofs.Writing.{failed}
+use Rattle.mm_frame_laws.proofs.Walks.{walk_begins, walk_on, walk_passes_all, walk_fails, writes_same, writers_same, on_append, on_last, on_left, lost_still}
+use Rattle.mm_frame_laws.proofs.Turns.{walk_then, turn_kept, turn_failed}
 use Rattle.mm_types.proofs.Bytes.{append_nil}
 use Rattle.mm_reclaim.specs.Seeking.{writable_modified, WalkedTo, SoughtTo}
 use Rattle.mm_reclaim.proofs.Writables.{FirstOf, first_of, front_behind, none_passes}
 use Rattle.mm_types.proofs.Booleans.{untried_not, not_true}
-use Rattle.mm_room.proofs.InOrder.{passes_first, passes_none, lost_more, not_lost}
+use Rattle.mm_frame_laws.proofs.InOrder.{passes_first, passes_none, lost_more, not_lost}
 
 -- ---- the walk
 
@@ -167,7 +167,7 @@ module _ (start l : FrameLife) (moves : List Move) (begun : Sound start) (o : So
     stays_on : (g : ℕ) → is_on g l.frames.modified ≡ true → is_on g m.frames.modified ≡ true
     stays_on g h = ap (is_on g) u.lists.modified ∙ at (is_last (record_at l.frames f.0) && (record_at l.frames f.0).changed)
       where
-        at : (b : Bool) → is_on g (joined b f.0 l.frames.modified) ≡ true
+        at : (b : Bool) → is_on g (at_end_if b f.0 l.frames.modified) ≡ true
         at true = on_append g l.frames.modified (f.0 ∷ []) ∙ or_left (is_on g l.frames.modified) (is_on g (f.0 ∷ [])) h
         at false = h
 
@@ -182,7 +182,7 @@ module _ (start l : FrameLife) (moves : List Move) (begun : Sound start) (o : So
       list_now : m.frames.modified ≡ l.frames.modified ++ f.0 ∷ []
       list_now = u.lists.modified ∙ at (is_last (record_at l.frames f.0) && (record_at l.frames f.0).changed) (sym (ap (is_on f.0) u.lists.modified) ∙ on)
         where
-          at : (b : Bool) → is_on f.0 (joined b f.0 l.frames.modified) ≡ true → joined b f.0 l.frames.modified ≡ l.frames.modified ++ f.0 ∷ []
+          at : (b : Bool) → is_on f.0 (at_end_if b f.0 l.frames.modified) ≡ true → at_end_if b f.0 l.frames.modified ≡ l.frames.modified ++ f.0 ∷ []
           at true h = refl
           at false h = let bad : true ≡ false = sym h ∙ off_list in cc
 

@@ -16,14 +16,14 @@ use Rattle.mm_types.proofs.Naturals.{same_number}
 use Rattle.mm_life.specs.Legal.{is_short, is_access, is_call}
 use Rattle.mm_types.specs.Machine.{MachineOf}
 use Rattle.mm_life.specs.Victims.{can_be_written}
-use Rattle.mm_walks.specs.Walks.{Walk, Through, walked_all, is_wrote_move, is_read_move}
-use Rattle.mm_walks.specs.Searches.{SearchMove, writable_in, next_writable, Starved}
-use Rattle.mm_walks.specs.Order.{IsVictim, is_frame, is_unpinned}
+use Rattle.mm_life.specs.Walks.{Walk, Through, walked_all, is_wrote_move, is_read_move}
+use Rattle.mm_life.specs.Searches.{SearchMove, writable_in, next_writable, Starved}
+use Rattle.mm_life.specs.Order.{IsVictim, is_frame, is_unpinned}
 use Rattle.mm_pages.proofs.Walking.{through_then, walked_then}
-use Rattle.mm_pages.specs.Told.{Told, told_after}
-use Rattle.mm_room.specs.Room.{NoneMayGo}
-use Rattle.mm_room.specs.Searches.{lost_in, is_lost_of, failed_write, first_passing, is_untried, next_try}
-use Rattle.mm_room.proofs.Walks.{any_append, or_none}
+use Rattle.mm_pages.specs.Told.{Told}
+use Rattle.mm_frame_laws.specs.Room.{NoneMayGo}
+use Rattle.mm_frame_laws.specs.Searches.{lost_in, is_lost_of, failed_write, first_passing, is_untried, next_try}
+use Rattle.mm_frame_laws.proofs.Walks.{any_append, or_none}
 use Rattle.mm_parts.specs.Moves.{write_end, own_after, own_ended}
 use Rattle.mm_moving.specs.Shown.{StateOf, Made, Called, called, moved, backing_of_frame, SomeFault}
 use Rattle.mm_moving.specs.Holds.{Holds}
@@ -38,8 +38,8 @@ use Rattle.mm_types.specs.declared.moves.Stored.TheVariants as stored
 use Rattle.mm_blocks.specs.Devices.{DeviceOf, CallFailed}
 use Rattle.mm_laws.specs.Reached.{Reached}
 use Rattle.mm_laws.proofs.Deduced.{reached_sound}
-use Rattle.mm_room.specs.Steps.{backing_to}
-use Rattle.mm_room.proofs.Writing.{write_record}
+use Rattle.mm_frame_laws.specs.Steps.{backing_to}
+use Rattle.mm_frame_laws.proofs.Writing.{write_record}
 use Rattle.mm_blocks.proofs.Serving.{serves_failed, failed_later, all_served_later}
 
 -- ---- which frame is next
@@ -197,9 +197,6 @@ module _ (pin : Option Frame) (s z : StateOf) (moves : List Move) (k : Seeks pin
   module _ (y : StateOf) (tries : Tries f false z y) (stays : Stays z y) (target : (g : Frame) → pin ≡ Some g → 1 ≤ (record_at y.life.frames g.0).shares) (short : is_short y.life ≡ true) where
     made_two : Does (failed_write f tries.home) z y
     made_two = does_two (move.Write f tries.home) (move.Lost f) z tries.mid y tries.begins tries.ends
-
-    told_now : y.told ≡ told_after tries.mid.life (move.Lost f) z.told
-    told_now = tries.ends.told ∙ ap (told_after tries.mid.life (move.Lost f)) tries.begins.told
 
     pub seeks_failed : 0 < y.told.search_writes.failed → y.told.search_writes.succeeded ≡ z.told.search_writes.succeeded → y.told.last_failed_read ≡ z.told.last_failed_read
         → Seeks pin s y (moves ++ failed_write f tries.home)

@@ -24,9 +24,9 @@ use Rattle.mm_laws.proofs.Lowest.{lowest_is, free_counted}
 use Rattle.mm_laws.proofs.Tallies.{times_on}
 use Rattle.mm_laws.specs.Lowest.{IsLowest}
 use Rattle.mm_slots.specs.Slots.{IsLowest as LowestSlot}
-use Rattle.mm_room.specs.Room.{Writable}
-use Rattle.mm_room.proofs.Counting.{on_times}
-use Rattle.mm_room.proofs.Writing.{which_writes, store_there, wrote_legal, slot_parts, slot_backing, block_is}
+use Rattle.mm_frame_laws.specs.Room.{Writable}
+use Rattle.mm_frame_laws.proofs.Counting.{on_times}
+use Rattle.mm_frame_laws.proofs.Writing.{which_writes, store_there, wrote_legal, slot_parts, slot_backing, block_is}
 use Rattle.mm_parts.specs.Moves.{goes_to, lowest_free, write_target}
 use Rattle.mm_parts.proofs.Requesting.{lowest_is as lowest_number}
 use Rattle.mm_moving.specs.Shown.{StateOf, Made}

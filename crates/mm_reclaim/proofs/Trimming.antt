@@ -22,12 +22,12 @@ use Rattle.mm_laws.specs.Sound.{Sound}
 use Rattle.mm_laws.specs.Tally.{one_if, tally}
 use Rattle.mm_laws.proofs.Deduced.{reached_sound}
 use Rattle.mm_laws.proofs.PlaceCounts.{same_place-self}
-use Rattle.mm_walks.specs.Chores.{TrimMove, spare_of}
-use Rattle.mm_walks.specs.Order.{Ages, IsOldest}
-use Rattle.mm_walks.specs.Walks.{Walk, Through, walked, walked_all}
-use Rattle.mm_room.specs.Order.{IsNext, NoneFollows}
-use Rattle.mm_room.proofs.Going.{next_oldest, all_go}
-use Rattle.mm_room.proofs.Unmapping.{sized}
+use Rattle.mm_life.specs.Chores.{TrimMove, spare_of}
+use Rattle.mm_life.specs.Order.{Ages, IsOldest}
+use Rattle.mm_life.specs.Walks.{Walk, Through, walked, walked_all}
+use Rattle.mm_frame_laws.specs.Order.{IsNext, NoneFollows}
+use Rattle.mm_frame_laws.proofs.Going.{next_oldest, all_go}
+use Rattle.mm_frame_laws.proofs.Unmapping.{sized}
 use Rattle.mm_words.specs.Words.{place_of}
 use Rattle.mm_moving.specs.Shown.{StateOf, Made, moved}
 use Rattle.mm_moving.specs.Doing.{Does, walk_of}

@@ -21,9 +21,9 @@ use Rattle.mm_laws.proofs.Deduced.{reached_sound}
 use Rattle.mm_laws.proofs.FromSound.{modified_frame}
 use Rattle.mm_laws.proofs.Lists.{begun_ended}
 use Rattle.mm_laws.proofs.Tallies.{times_on}
-use Rattle.mm_room.specs.Steps.{after_written, after_failed, put_last}
-use Rattle.mm_room.specs.Searches.{failed_write, next_try}
-use Rattle.mm_room.proofs.Writing.{failed, written_found}
+use Rattle.mm_frame_laws.specs.Steps.{after_written, after_failed, put_last}
+use Rattle.mm_frame_laws.specs.Searches.{failed_write, next_try}
+use Rattle.mm_frame_laws.proofs.Writing.{failed, written_found}
 use Rattle.mm_pages.specs.Told.{Told, with_write}
 use Rattle.mm_moving.specs.Shown.{StateOf}
 use Rattle.mm_moving.specs.Doing.{Searched}

@@ -19,14 +19,14 @@ use Rattle.mm_life.specs.Victims.{can_be_written}
 use Rattle.mm_laws.specs.Reached.{Reached}
 use Rattle.mm_laws.specs.Places.{valid_places}
 use Rattle.mm_laws.proofs.Deduced.{reached_sound, reached_along, reached_next}
-use Rattle.mm_walks.specs.Walks.{walked_all}
-use Rattle.mm_walks.specs.Order.{IsVictim, may_go, is_unpinned, is_frame}
-use Rattle.mm_room.specs.Room.{NoneMayGo}
-use Rattle.mm_room.specs.Steps.{after_failed, Unmapped}
-use Rattle.mm_room.specs.Searches.{failed_write, lost_in, next_try}
-use Rattle.mm_room.proofs.Unmapping.{unmapped}
-use Rattle.mm_room.proofs.Writing.{unmap_legal, failed}
-use Rattle.mm_room.proofs.Turns.{turns_end}
+use Rattle.mm_life.specs.Walks.{walked_all}
+use Rattle.mm_life.specs.Order.{IsVictim, may_go, is_unpinned, is_frame}
+use Rattle.mm_frame_laws.specs.Room.{NoneMayGo}
+use Rattle.mm_frame_laws.specs.Steps.{after_failed, Unmapped}
+use Rattle.mm_frame_laws.specs.Searches.{failed_write, lost_in, next_try}
+use Rattle.mm_frame_laws.proofs.Unmapping.{unmapped}
+use Rattle.mm_frame_laws.proofs.Writing.{unmap_legal, failed}
+use Rattle.mm_frame_laws.proofs.Turns.{turns_end}
 use Rattle.mm_moving.specs.Shown.{StateOf, Made, moved}
 use Rattle.mm_moving.specs.Holds.{Holds}
 use Rattle.mm_moving.specs.Doing.{Searched, walk_of}

@@ -6,8 +6,8 @@ use Rattle.std.proofs.Math.Bool.{Bool-set}
 use Rattle.mm_types.specs.declared.numbers.Frame.{Frame}
 use Rattle.mm_life.specs.Frames.{record_at, is_on}
 use Rattle.mm_life.specs.Legal.{is_short}
-use Rattle.mm_room.specs.Room.{Writable}
-use Rattle.mm_room.specs.Searches.{failed_write, next_try}
+use Rattle.mm_frame_laws.specs.Room.{Writable}
+use Rattle.mm_frame_laws.specs.Searches.{failed_write, next_try}
 use Rattle.mm_moving.specs.Shown.{StateOf}
 use Rattle.mm_moving.specs.Holds.{Holds}
 use Rattle.mm_moving.specs.Doing.{Searched}

@@ -30,13 +30,6 @@ filter_all p (x ∷ xs) all =
     ap (λ (b : Bool). cond b (x ∷ filter p xs) (filter p xs)) (all x (or_left (x == x) (is_on x xs) ((unsigned_Decides x x).1 refl)))
     ∙ ap (λ (ys : List ℕ). x ∷ ys) (filter_all p xs (λ y h. all y (or_right (x == y) (is_on y xs) h)))
 
--- none passes
-pub filter_none : (p : ℕ → Bool) (xs : List ℕ) → ((x : ℕ) → is_on x xs ≡ true → p x ≡ false) → filter p xs ≡ []
-filter_none p [] none = refl
-filter_none p (x ∷ xs) none =
-    ap (λ (b : Bool). cond b (x ∷ filter p xs) (filter p xs)) (none x (or_left (x == x) (is_on x xs) ((unsigned_Decides x x).1 refl)))
-    ∙ filter_none p xs (λ y h. none y (or_right (x == y) (is_on y xs) h))
-
 -- where none is left none passes
 pub none_passes : (p : ℕ → Bool) (xs : List ℕ) → length (filter p xs) ≡ 0 → (x : ℕ) → is_on x xs ≡ true → p x ≡ false
 none_passes p [] none x h = cc

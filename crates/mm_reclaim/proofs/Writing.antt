@@ -29,9 +29,9 @@ use Rattle.mm_laws.proofs.FromSound.{modified_frame}
 use Rattle.mm_laws.proofs.Lists.{without_none, without_append, without_self}
 use Rattle.mm_laws.proofs.Lowest.{free_counted}
 use Rattle.mm_laws.proofs.Tallies.{tally-append}
-use Rattle.mm_walks.specs.Chores.{frame_of, lowest_free as lowest_from, target, writes_begun}
-use Rattle.mm_room.specs.Searches.{first_passing}
-use Rattle.mm_room.proofs.Writing.{which_writes, store_in_writer, write_others}
+use Rattle.mm_life.specs.Chores.{frame_of, lowest_free as lowest_from, target, writes_begun}
+use Rattle.mm_frame_laws.specs.Searches.{first_passing}
+use Rattle.mm_frame_laws.proofs.Writing.{which_writes, store_in_writer, write_others}
 use Rattle.mm_parts.specs.Moves.{goes_to, lowest_free, write_target, own_after}
 use Rattle.mm_moving.specs.Shown.{StateOf, Made, moved}
 use Rattle.mm_moving.specs.Holds.{Holds}

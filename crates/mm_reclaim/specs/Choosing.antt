@@ -6,7 +6,7 @@ use Rattle.mm_types.specs.declared.numbers.Pid.{Pid}
 use Rattle.mm_types.specs.declared.numbers.Vpn.{Vpn}
 use Rattle.mm_types.specs.declared.numbers.Place.{Place}
 use Rattle.mm_life.specs.Life.{FrameLife}
-use Rattle.mm_walks.specs.Order.{Ages, may_go}
+use Rattle.mm_life.specs.Order.{Ages, may_go}
 use Rattle.mm_words.specs.Words.{place_of}
 
 -- no page of the process may go

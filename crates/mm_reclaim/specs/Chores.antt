@@ -7,9 +7,9 @@ use Rattle.mm_types.specs.declared.numbers.Pid.{Pid}
 use Rattle.mm_types.specs.declared.numbers.Place.{Place}
 use Rattle.mm_life.specs.Life.{FrameLife, set_of}
 use Rattle.mm_life.specs.Legal.{is_above_min}
-use Rattle.mm_walks.specs.Chores.{TrimMove, spare_of, writes_begun}
-use Rattle.mm_walks.specs.Order.{IsOldest}
-use Rattle.mm_walks.specs.Walks.{Through}
+use Rattle.mm_life.specs.Chores.{TrimMove, spare_of, writes_begun}
+use Rattle.mm_life.specs.Order.{IsOldest}
+use Rattle.mm_life.specs.Walks.{Through}
 use Rattle.mm_moving.specs.Shown.{StateOf, Made, moved}
 use Rattle.mm_moving.specs.Doing.{Does, walk_of}
 

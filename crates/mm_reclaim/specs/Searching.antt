@@ -16,13 +16,17 @@ use Rattle.mm_reclaim.specs.Seeking.{Tried}
 abbrev pub IsFirst : Found → FrameLife → Type 0
 IsFirst found.Zeroed l = is_empty l.frames.zeroed ≡ false
 IsFirst found.Free l = (is_empty l.frames.zeroed ≡ true) × (is_empty l.frames.free ≡ false)
-IsFirst found.Standby l = (is_empty l.frames.zeroed ≡ true) × ((is_empty l.frames.free ≡ true) × (is_empty l.frames.standby ≡ false))
+IsFirst found.Standby l = (is_empty l.frames.zeroed ≡ true) ×
+    ((is_empty l.frames.free ≡ true) × (is_empty l.frames.standby ≡ false))
 
--- after the unmap the lists have a frame, or the place's own frame is not modified, or it is and is tried
+-- after the unmap the lists have a frame, or the place's own frame is not modified, or it is and is
+-- tried
 pub data AfterUnmap (f : Frame) (found : Bool) (m z : StateOf) : Type 0 where
   Freed : is_short m.life ≡ false → found ≡ true → z ≡ m → AfterUnmap f found m z
-  Unchanged : is_short m.life ≡ true → is_on f.0 m.life.frames.modified ≡ false → found ≡ false → z ≡ m → AfterUnmap f found m z
-  Changed : is_short m.life ≡ true → is_on f.0 m.life.frames.modified ≡ true → Tried f found m z → AfterUnmap f found m z
+  Unchanged : is_short m.life ≡ true → is_on f.0 m.life.frames.modified ≡ false → found ≡ false →
+      z ≡ m → AfterUnmap f found m z
+  Changed : is_short m.life ≡ true → is_on f.0 m.life.frames.modified ≡ true → Tried f found m z →
+      AfterUnmap f found m z
 
 pub record Turned (place : Place) (f : Frame) (found : Bool) (s z : StateOf) : Type 0 where
   pub mid : StateOf

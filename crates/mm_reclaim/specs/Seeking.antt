@@ -9,15 +9,16 @@ use Rattle.mm_life.specs.Frames.{record_at, is_on}
 use Rattle.mm_life.specs.Life.{FrameLife}
 use Rattle.mm_life.specs.Legal.{is_access, is_short}
 use Rattle.mm_life.specs.Victims.{can_be_written}
-use Rattle.mm_walks.specs.Walks.{Through, walked_all, is_wrote_move, is_read_move}
-use Rattle.mm_walks.specs.Searches.{SearchMove}
+use Rattle.mm_life.specs.Walks.{Through, walked_all, is_wrote_move, is_read_move}
+use Rattle.mm_life.specs.Searches.{SearchMove}
 use Rattle.mm_laws.specs.Reached.{Reached}
-use Rattle.mm_room.specs.Searches.{lost_in, Walking, Emptying}
+use Rattle.mm_frame_laws.specs.Searches.{lost_in, Walking, Emptying}
 use Rattle.mm_parts.specs.Moves.{write_end}
 use Rattle.mm_moving.specs.Shown.{StateOf, Made, called, SomeFault}
 use Rattle.mm_moving.specs.Doing.{Does, walk_of, IsFlightOf}
 
--- a plain access is under way, without a request of its own, and at most depth requests are in flight
+-- a plain access is under way, without a request of its own, and at most depth requests are in
+-- flight
 pub record Begun (s : StateOf) : Type 0 where
   pub access : is_access s.life.kind ≡ true
   pub few : length s.life.flight ≤ s.life.machine.depth
@@ -37,11 +38,12 @@ pub data Tried (f : Frame) (ok : Bool) (s z : StateOf) : Type 0 where
   Over : can_be_written s.life f.0 ≡ false → ok ≡ false → z ≡ s → Tried f ok s z
   Wrote : can_be_written s.life f.0 ≡ true → Tries f ok s z → Tried f ok s z
 
--- A search that has made these moves and has no frame yet: they are a search's, each failed write is told, and at most depth requests are in flight, those
--- from before.
+-- A search that has made these moves and has no frame yet: they are a search's, each failed write
+-- is told, and at most depth requests are in flight, those from before.
 pub record Seeks (pin : Option Frame) (s z : StateOf) (moves : List Move) : Type 0 where
   pub does : Does moves s z
-  pub each : (flight : List ℕ) → IsFlightOf flight pin s.life → Through (SearchMove pin flight) (walk_of s) moves
+  pub each : (flight : List ℕ) → IsFlightOf flight pin s.life →
+      Through (SearchMove pin flight) (walk_of s) moves
   pub tried : (g : ℕ) → is_on g (walked_all (walk_of s) moves).tried ≡ lost_in moves g
   pub wrote : count_by is_wrote_move moves ≡ 0
   pub reads : count_by is_read_move moves ≡ 0

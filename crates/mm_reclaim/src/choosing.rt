@@ -1,9 +1,9 @@
 ghost use Rattle.std.specs.Prelude.{◌≡◌, ◌+◌, ℕ, true, false, Some, None, MatchOption};
 ghost use Rattle.std.specs.Option.{ForSome};
 ghost use Rattle.mm_types.specs.declared.numbers.Place.{Place};
-ghost use Rattle.mm_walks.specs.Order.{may_go as goes, IsOldest, IsVictim};
-ghost use Rattle.mm_room.specs.Room.{NoneMayGo};
-ghost use Rattle.mm_room.specs.Order.{takes_over as takes, BestBelow};
+ghost use Rattle.mm_life.specs.Order.{may_go as goes, IsOldest, IsVictim};
+ghost use Rattle.mm_frame_laws.specs.Room.{NoneMayGo};
+ghost use Rattle.mm_frame_laws.specs.Order.{takes_over as takes, BestBelow};
 ghost use Rattle.mm_reclaim.specs.Choosing.{NoneIn};
 
 use mm_moving::Moving;
@@ -26,7 +26,8 @@ fn may_go<T: Moving>(state: &T, pinned: Option<Frame>, place: Place) -> bool
 /// The oldest page of an open process that may go.
 fn oldest_to_go<T: Moving>(state: &T, pinned: Option<Frame>, pid: Pid) -> Option<Place>
     requires { (T.shown state.now).is_open pid.0 ≡ true }
-    ensures oldest { MatchOption result (NoneIn (T.shown state.now).life pinned pid.0) (λ v. IsOldest (T.shown state.now).life (T.shown state.now).ages pinned v) }
+    ensures oldest { MatchOption result (NoneIn (T.shown state.now).life pinned pid.0)
+        (λ v. IsOldest (T.shown state.now).life (T.shown state.now).ages pinned v) }
     ensures of { ForSome result (λ v. v.pid ≡ pid) }
 {
     state.sound();
@@ -59,7 +60,8 @@ fn takes_over<T: Moving>(state: &T, pid: Pid, best: Option<Place>) -> bool
     }
 }
 
-/// The first page to go of the processes up to a pid, from that of those below it. A process that cannot take over is not looked through.
+/// The first page to go of the processes up to a pid, from that of those below it. A process that
+/// cannot take over is not looked through.
 #[tactic(auto, using(crate::proofs::Bests::closed_same, crate::proofs::Bests::none_same, crate::proofs::Bests::best_stays, crate::proofs::Bests::best_taken))]
 fn better<T: Moving>(
     state: &T,
@@ -69,7 +71,8 @@ fn better<T: Moving>(
 ) -> Option<Place>
     requires below { BestBelow (T.shown state.now).life (T.shown state.now).ages pinned pid.0 best }
     requires open { ForSome best (λ v. (T.shown state.now).is_open v.pid.0 ≡ true) }
-    ensures below { BestBelow (T.shown state.now).life (T.shown state.now).ages pinned (pid.0 + 1) result }
+    ensures below { BestBelow (T.shown state.now).life (T.shown state.now).ages pinned (pid.0 + 1)
+        result }
     ensures open { ForSome result (λ v. (T.shown state.now).is_open v.pid.0 ≡ true) }
 {
     state.sound();
@@ -98,11 +101,12 @@ fn is_settled<T: Moving>(state: &T, best: Option<Place>) -> bool
     }
 }
 
-/// The page that a search unmaps: the oldest that may go in the first process that holds one, those above their minimum first,
-/// then the lowest pid. None exactly where no page may go.
+/// The page that a search unmaps: the oldest that may go in the first process that holds one, those
+/// above their minimum first, then the lowest pid. None exactly where no page may go.
 #[tactic(auto, using(crate::proofs::Bests::begins, crate::proofs::Bests::best_answer))]
 pub fn victim<T: Moving>(state: &T, pinned: Option<Frame>) -> Option<Place>
-    ensures { MatchOption result (NoneMayGo (T.shown state.now).life pinned) (λ v. IsVictim (T.shown state.now).life (T.shown state.now).ages pinned v) }
+    ensures { MatchOption result (NoneMayGo (T.shown state.now).life pinned)
+        (λ v. IsVictim (T.shown state.now).life (T.shown state.now).ages pinned v) }
 {
     state.sound();
     let mut best = None;

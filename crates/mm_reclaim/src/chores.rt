@@ -1,8 +1,8 @@
 ghost use Rattle.std.specs.Prelude.{◌≡◌, true, option_map};
 ghost use Rattle.mm_types.specs.declared.moves.LineKind.TheVariants as kind;
 ghost use Rattle.mm_life.specs.Victims.{can_be_written as writable};
-ghost use Rattle.mm_walks.specs.Chores.{clearings, writes_begun};
-ghost use Rattle.mm_room.specs.Searches.{first_passing};
+ghost use Rattle.mm_life.specs.Chores.{clearings, writes_begun};
+ghost use Rattle.mm_frame_laws.specs.Searches.{first_passing};
 ghost use Rattle.mm_moving.specs.Shown.{moved};
 ghost use Rattle.mm_moving.specs.Doing.{Does};
 ghost use Rattle.mm_reclaim.specs.Chores.{TrimsOne, Trimmed, Rounds, writings};
@@ -10,7 +10,8 @@ ghost use Rattle.mm_reclaim.specs.Chores.{TrimsOne, Trimmed, Rounds, writings};
 use mm_moving::Moving;
 use mm_types::{Frame, Pid, Place};
 
-/// Unmaps the oldest page of an open process that has more than its minimum. Answers whether it had.
+/// Unmaps the oldest page of an open process that has more than its minimum. Answers whether it
+/// had.
 #[tactic(auto, using(crate::proofs::Trimming::some_page, crate::proofs::Trimming::trim_legal, crate::proofs::Trimming::unmaps))]
 fn trim_one<T: Moving>(state: &mut T, pid: Pid) -> bool
     requires open { (T.shown state.old).is_open pid.0 ≡ true }
@@ -31,7 +32,8 @@ fn trim_one<T: Moving>(state: &mut T, pid: Pid) -> bool
     }
 }
 
-/// Unmaps at most `n` places of an open process, the oldest first, and leaves the least number of its working set.
+/// Unmaps at most `n` places of an open process, the oldest first, and leaves the least number of
+/// its working set.
 #[tactic(auto, using(crate::proofs::Trimming::trims_none, crate::proofs::Trimming::trims_more, crate::proofs::Trimming::trims_over, crate::proofs::Trimming::trims_all))]
 pub fn trim<T: Moving>(state: &mut T, pid: Pid, n: u32)
     requires open { (T.shown state.old).is_open pid.0 ≡ true }
@@ -64,7 +66,8 @@ fn clear_one<T: Moving>(state: &mut T) -> bool
 #[tactic(auto, using(crate::proofs::Chained::chain_none, crate::proofs::Chained::chain_more, crate::proofs::Chained::chain_over, crate::proofs::Chained::chain_all))]
 pub fn zero<T: Moving>(state: &mut T, n: u32)
     requires kind { (T.shown state.old).life.kind ≡ kind.Zeroer }
-    ensures cleared { Does (clearings n (T.shown state.old).life) (T.shown state.old) (T.shown state.new) }
+    ensures cleared { Does (clearings n (T.shown state.old).life) (T.shown state.old)
+        (T.shown state.new) }
     ensures rest { T.shown state.new ≡ moved (T.shown state.old) (T.shown state.new) }
     ensures loans { T.loans state.new ≡ T.loans state.old }
 {
@@ -75,10 +78,12 @@ pub fn zero<T: Moving>(state: &mut T, n: u32)
     }
 }
 
-/// The first modified frame that can be written: any where a slot is free, else one whose page has a block.
+/// The first modified frame that can be written: any where a slot is free, else one whose page has
+/// a block.
 #[tactic(auto, using(crate::proofs::Writing::first_of_all, crate::proofs::Writing::first_with_block))]
 fn first_to_write<T: Moving>(state: &T) -> Option<Frame>
-    ensures { option_map (λ f. f.0) result ≡ first_passing (writable (T.shown state.now).life) (T.shown state.now).life.frames.modified }
+    ensures { option_map (λ f. f.0) result ≡ first_passing (writable (T.shown state.now).life)
+        (T.shown state.now).life.frames.modified }
 {
     state.sound();
     if state.free_slots() != 0 {
@@ -87,8 +92,8 @@ fn first_to_write<T: Moving>(state: &T) -> Option<Frame>
     state.front_modified_with_block()
 }
 
-/// The write of the first modified frame that can be written begins, while fewer requests than the depth are in flight. Answers
-/// whether it did.
+/// The write of the first modified frame that can be written begins, while fewer requests than the
+/// depth are in flight. Answers whether it did.
 #[tactic(auto, using(crate::proofs::Writing::writer_legal, crate::proofs::Writing::writes, crate::proofs::Writing::writes_none, crate::proofs::Writing::writes_full))]
 fn write_one<T: Moving>(state: &mut T) -> bool
     requires kind { (T.shown state.old).life.kind ≡ kind.Writer }
@@ -108,12 +113,13 @@ fn write_one<T: Moving>(state: &mut T) -> bool
     }
 }
 
-/// Begins writes of at most `n` modified frames, from the front of their list, while fewer requests than the depth are in flight.
-/// Each goes to its block, or to the lowest free slot.
+/// Begins writes of at most `n` modified frames, from the front of their list, while fewer requests
+/// than the depth are in flight. Each goes to its block, or to the lowest free slot.
 #[tactic(auto, using(crate::proofs::Chained::chain_none, crate::proofs::Chained::chain_more, crate::proofs::Chained::chain_over, crate::proofs::Chained::chain_all))]
 pub fn write_out<T: Moving>(state: &mut T, n: u32)
     requires kind { (T.shown state.old).life.kind ≡ kind.Writer }
-    ensures begun { Does (writes_begun n (T.shown state.old).life (T.shown state.old).life.frames.modified) (T.shown state.old) (T.shown state.new) }
+    ensures begun { Does (writes_begun n (T.shown state.old).life
+        (T.shown state.old).life.frames.modified) (T.shown state.old) (T.shown state.new) }
     ensures rest { T.shown state.new ≡ moved (T.shown state.old) (T.shown state.new) }
     ensures loans { T.loans state.new ≡ T.loans state.old }
 {

@@ -1,4 +1,5 @@
-//! Reclaim over the joined state: a page frame is found, working sets are trimmed, frames are cleared, and write-outs begin.
+//! Reclaim over the joined state: a page frame is found, working sets are trimmed, frames are
+//! cleared, and write-outs begin.
 #![tactic(auto)]
 
 mod choosing;

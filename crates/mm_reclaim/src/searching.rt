@@ -3,7 +3,7 @@ ghost use Rattle.std.specs.Bool.{OnTrue, OnFalse};
 ghost use Rattle.mm_types.specs.declared.numbers.Frame.{Frame};
 ghost use Rattle.mm_life.specs.Frames.{record_at, is_on, has_request};
 ghost use Rattle.mm_life.specs.Legal.{is_access, is_short as lists_are_empty};
-ghost use Rattle.mm_walks.specs.Order.{may_go as goes};
+ghost use Rattle.mm_life.specs.Order.{may_go as goes};
 ghost use Rattle.mm_moving.specs.Doing.{Searched};
 ghost use Rattle.mm_reclaim.specs.Seeking.{Begun, Seeking, writable_modified};
 ghost use Rattle.mm_reclaim.specs.Searching.{IsFirst, Turned};
@@ -13,7 +13,8 @@ use crate::seeking::{try_frame, write_frame};
 use mm_moving::Moving;
 use mm_types::{Frame, Place, Record, Request};
 
-/// No frame was found: a device write failed in the search, none succeeded, and no page may go but those of the pinned frame.
+/// No frame was found: a device write failed in the search, none succeeded, and no page may go but
+/// those of the pinned frame.
 #[derive(Clone, Copy, PartialEq, Eq, Debug)]
 pub struct NoFrame;
 
@@ -42,9 +43,11 @@ fn is_quiet(request: Request) -> bool
     }
 }
 
-/// Whether a record is that of a modified frame: of a page, changed, without shares and without a request.
+/// Whether a record is that of a modified frame: of a page, changed, without shares and without a
+/// request.
 fn is_of_modified(r: &Record) -> bool
-    ensures { result ≡ (is_some r.now.owner && ((r.now.shares == 0) && not (has_request r.now.request) && r.now.changed)) }
+    ensures { result ≡ (is_some r.now.owner &&
+        ((r.now.shares == 0) && not (has_request r.now.request) && r.now.changed)) }
 {
     r.owner.is_some() && r.shares == 0 && is_quiet(r.request) && r.changed
 }
@@ -60,7 +63,8 @@ fn is_modified<T: Moving>(state: &T, f: Frame) -> bool
     is_of_modified(&r)
 }
 
-/// How many modified frames can be written: all of them where a slot is free, else those that have a block.
+/// How many modified frames can be written: all of them where a slot is free, else those that have
+/// a block.
 #[tactic(auto, using(crate::proofs::Writables::all_writable, crate::proofs::Writables::blocks_writable))]
 fn writable_count<T: Moving>(state: &T) -> u32
     ensures { result ≡ length (writable_modified (T.shown state.now).life) }
@@ -76,7 +80,8 @@ fn writable_count<T: Moving>(state: &T) -> u32
 /// The first of them.
 #[tactic(auto, using(crate::proofs::Writables::all_writable, crate::proofs::Writables::blocks_writable))]
 fn first_writable<T: Moving>(state: &T) -> Option<Frame>
-    ensures { option_map (λ f. f.0) result ≡ slice_get (writable_modified (T.shown state.now).life) 0 }
+    ensures { option_map (λ f. f.0) result ≡ slice_get (writable_modified (T.shown state.now).life)
+        0 }
 {
     state.sound();
     if state.free_slots() != 0 {
@@ -86,12 +91,13 @@ fn first_writable<T: Moving>(state: &T) -> Option<Frame>
     }
 }
 
-/// Each modified frame that can be written is, from the front on, until a write succeeds: a frame whose write fails goes to the
-/// list's end. Answers whether one did.
+/// Each modified frame that can be written is, from the front on, until a write succeeds: a frame
+/// whose write fails goes to the list's end. Answers whether one did.
 fn walk<T: Moving>(state: &mut T, pinned: Option<Frame>) -> bool
     requires begun { Begun (T.shown state.old) }
     requires short { lists_are_empty (T.shown state.old).life ≡ true }
-    requires pinned { (f : Frame) → pinned ≡ Some f → 1 ≤ (record_at (T.shown state.old).life.frames f.0).shares }
+    requires pinned { (f : Frame) → pinned ≡ Some f →
+        1 ≤ (record_at (T.shown state.old).life.frames f.0).shares }
     ensures found { OnTrue result (Searched pinned true (T.shown state.old) (T.shown state.new)) }
     ensures rest { OnFalse result (Seeking pinned (T.shown state.old) (T.shown state.new)) }
     ensures loans { T.loans state.new ≡ T.loans state.old }
@@ -162,7 +168,8 @@ fn first_list<T: Moving>(state: &T) -> Found
 /// The modified list and then pages are gone through until there is a frame.
 fn search<T: Moving>(state: &mut T, pinned: Option<Frame>) -> bool
     requires begun { Begun (T.shown state.old) }
-    requires pinned { (f : Frame) → pinned ≡ Some f → 1 ≤ (record_at (T.shown state.old).life.frames f.0).shares }
+    requires pinned { (f : Frame) → pinned ≡ Some f →
+        1 ≤ (record_at (T.shown state.old).life.frames f.0).shares }
     ensures searched { Searched pinned result (T.shown state.old) (T.shown state.new) }
     ensures loans { T.loans state.new ≡ T.loans state.old }
 {
@@ -187,15 +194,18 @@ fn search<T: Moving>(state: &mut T, pinned: Option<Frame>) -> bool
     }
 }
 
-/// A frame for a page, in a plain access without a request of its own: afterwards zeroed, free or standby has one, and the answer says
-/// which. Else each modified frame that can be written was tried, and no page may go but those of the pinned frame.
+/// A frame for a page, in a plain access without a request of its own: afterwards zeroed, free or
+/// standby has one, and the answer says which. Else each modified frame that can be written was
+/// tried, and no page may go but those of the pinned frame.
 ///
-/// The modified frames that can be written are, from the first on, until a write succeeds; then pages go, the oldest of the first
-/// process each time, and a frame that this leaves modified is written where it can be. Takes no memory.
+/// The modified frames that can be written are, from the first on, until a write succeeds; then
+/// pages go, the oldest of the first process each time, and a frame that this leaves modified is
+/// written where it can be. Takes no memory.
 pub fn find_frame<T: Moving>(state: &mut T, pinned: Option<Frame>) -> Result<Found, NoFrame>
     requires access { is_access (T.shown state.old).life.kind ≡ true }
     requires few { length (T.shown state.old).life.flight ≤ (T.shown state.old).life.machine.depth }
-    requires pinned { (f : Frame) → pinned ≡ Some f → 1 ≤ (record_at (T.shown state.old).life.frames f.0).shares }
+    requires pinned { (f : Frame) → pinned ≡ Some f →
+        1 ≤ (record_at (T.shown state.old).life.frames f.0).shares }
     requires done { (T.shown state.old).own ≡ None }
     ensures searched { Searched pinned (is_ok result) (T.shown state.old) (T.shown state.new) }
     ensures first { IfOk result (λ found. IsFirst found (T.shown state.new).life) }

@@ -2,7 +2,7 @@ ghost use Rattle.std.specs.Prelude.{◌≡◌, ◌||◌, ◌==◌, not, is_some,
 ghost use Rattle.mm_life.specs.Frames.{is_on};
 ghost use Rattle.mm_life.specs.Victims.{can_be_written as writable};
 ghost use Rattle.mm_laws.specs.FileBlocks.{block_of};
-ghost use Rattle.mm_room.specs.Room.{Writable};
+ghost use Rattle.mm_frame_laws.specs.Room.{Writable};
 ghost use Rattle.mm_reclaim.specs.Seeking.{Begun, Tries, Tried};
 
 use mm_moving::Moving;
@@ -43,8 +43,8 @@ pub(crate) fn write_frame<T: Moving>(state: &mut T, f: Frame) -> bool
     state.end_write(f)
 }
 
-/// A modified frame is written where it can be, in a plain access: to its block, or to the lowest free slot. Answers whether it was written,
-/// and so stands on standby. Takes no memory.
+/// A modified frame is written where it can be, in a plain access: to its block, or to the lowest
+/// free slot. Answers whether it was written, and so stands on standby. Takes no memory.
 #[tactic(auto, using(crate::proofs::Targets::can_write))]
 pub fn try_frame<T: Moving>(state: &mut T, f: Frame) -> bool
     requires begun { Begun (T.shown state.old) }

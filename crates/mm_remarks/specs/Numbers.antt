@@ -38,12 +38,12 @@ has_name x =
     || (lies_in x.value (bits_of (names_at x.place)) && not (x.value == 0))
 
 -- a name, behind a mark where another stands before it
-abbrev pub behind : Text → Bool → Text → Text
-behind mark after text = if after then mark ++ text else text
+abbrev pub name_behind : Text → Bool → Text → Text
+name_behind mark after text = if after then mark ++ text else text
 
 -- the name of one bit, where the number has it
 abbrev pub bit_text : Bool → Text × ℕ → ℕ → Text
-bit_text after x n = if lies_in x.1 n then behind (codes "|") after x.0 else []
+bit_text after x n = if lies_in x.1 n then name_behind (codes "|") after x.0 else []
 
 -- the names of the bits of a number, between them `|`; one stands before them or none
 abbrev pub union_text : Bool → List (Text × ℕ) → ℕ → Text

@@ -10,7 +10,7 @@ use Rattle.mm_text.specs.Field.{number_of}
 use Rattle.mm_text.specs.Word.{Word, words_of}
 use Rattle.mm_script.specs.declared.faults.LineFault.{LineFault}
 use Rattle.mm_script.specs.Reading.{parse}
-use Rattle.mm_remarks.specs.Numbers.{has_name, name_text, behind}
+use Rattle.mm_remarks.specs.Numbers.{has_name, name_text, name_behind}
 use Rattle.mm_remarks.specs.Failures.{failure_name}
 use Rattle.mm_remarks.specs.declared.numbers.NumberPlace.{NumberPlace}
 use Rattle.mm_remarks.specs.declared.numbers.NumberPlace.TheVariants as place
@@ -22,7 +22,7 @@ use Rattle.mm_remarks.specs.declared.numbers.Number.{Number}
 abbrev pub listed : Bool → List Number → Text
 listed after [] = []
 listed after (x ∷ xs) =
-    (if has_name x then behind (codes ", ") after (name_text x) else [])
+    (if has_name x then name_behind (codes ", ") after (name_text x) else [])
     ++ listed (after || has_name x) xs
 
 -- they stand in brackets, behind this; nothing where no number has a name

@@ -1,7 +1,7 @@
 ghost use Rattle.std.specs.Prelude.{◌≡◌, ◌++◌, ◌∷◌, ℕ, List, OnOk, IfOk, false};
 ghost use Rattle.mm_names.specs.Numbers.{memory_names, page_names};
 ghost use Rattle.mm_remarks.specs.Numbers.{names_at, bits_of, lies_in, is_all_access, has_name};
-ghost use Rattle.mm_remarks.specs.Numbers.{behind, union_text, name_text};
+ghost use Rattle.mm_remarks.specs.Numbers.{name_behind, union_text, name_text};
 
 use mm_types::NoMemory;
 
@@ -67,7 +67,7 @@ pub(crate) fn has_name(number: Number) -> bool
 
 /// Writes a name, behind a mark where another stands before it.
 fn put_behind(mark: &[u8], after: bool, name: &[u8], text: &mut Vec<u8>) -> Result<(), NoMemory>
-    ensures { OnOk result (text.new.items ≡ text.old.items ++ behind mark.now after name.now) }
+    ensures { OnOk result (text.new.items ≡ text.old.items ++ name_behind mark.now after name.now) }
 {
     if after {
         text.extend_from_slice(mark)?;

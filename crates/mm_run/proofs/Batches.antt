@@ -1,8 +1,8 @@
 -- Events decided one after another.
-use Rattle.std.proofs.Common.{◌≡◌, ◌⊎◌, ℕ, zero, suc, ◌+◌, take, drop, get_or, length-drop, ◌<◌, ◌≤◌, Bool, true, cond, List, [], ◌∷◌, ◌++◌, length, refl, sym, ap, ◌∙◌, subst, inl, inr, arith}
+use Rattle.std.proofs.Common.{◌≡◌, ◌⊎◌, ℕ, ◌+◌, take, drop, get_or, length-drop, ◌<◌, ◌≤◌, Bool, true, cond, List, [], ◌∷◌, ◌++◌, length, refl, sym, ap, ◌∙◌, subst, inl, inr, arith}
 use Rattle.std.specs.Prelude.{count_by, Result, Ok, Err, MatchResult}
-use Rattle.std.proofs.lemmas.List.{take_more, take-append-drop, take_all}
-use Rattle.std.proofs.lemmas.List.Sums.{sum_by_push, sum_by-cons, count_by-le-length}
+use Rattle.std.proofs.lemmas.List.{take_more, take-append-drop}
+use Rattle.std.proofs.lemmas.List.Sums.{sum_by_push, sum_by-cons}
 use Rattle.mm_types.specs.Machine.{MachineOf, limit_of}
 use Rattle.mm_types.specs.declared.answers.Answer.{Answer}
 use Rattle.mm_types.specs.declared.answers.Answer.TheVariants as answer
@@ -19,7 +19,7 @@ use Rattle.mm_run.specs.Answered.{DecidedLine, last_stage, answers_of}
 use Rattle.mm_run.specs.Ends.{BreaksOff}
 use Rattle.mm_run.specs.Bulk.{AreDecided, IsEventNext, ClosesEvents, Stops, events_of, begins_ok, is_none}
 use Rattle.mm_run.specs.Story.{Counts, IsBlamed}
-use Rattle.mm_run.specs.Batch.{Handled, Stopped, IsLater, AreLater}
+use Rattle.mm_run.specs.Batch.{Handled, Stopped}
 use Rattle.mm_run.proofs.Stories.{follows_here, last-append, line_answers-append}
 use Rattle.mm_run.proofs.Firsts.{first_answered}
 use Rattle.mm_run.proofs.Ends.{blamed_beside}
@@ -65,17 +65,6 @@ handled_more s z end es ok none e a h m noted =
       end_is = sym (last-append s h.lines (l ∷ []));
     }
 
--- so many are counted at most
-pub handled_few : (s z : Stage) (es : List Event) (ok none : ℕ) → Handled s es ok none z → (ok ≤ length es) × (none ≤ length es)
-handled_few s z es ok none h =
-    let many = events_many h.lines in
-    let answers = answers_many h.lines in
-    let are = ap length h.events_are in
-    let o = h.ok_is in let n = h.none_is in (
-      omega (arith, count_by-le-length begins_ok (answers_of h.lines)),
-      omega (arith, count_by-le-length is_none (answers_of h.lines)),
-    )
-
 some_left : (e : Ending) (left : List Event) → (e ≡ ending.NoMemory) ⊎ ((e ≡ ending.MovesFault) ⊎ (e ≡ ending.SetupFault)) → 0 < length left → Stops e left
 some_left e left (inl q) some = subst (λ (k : Ending). Stops k left) (sym q) some
 some_left e left (inr (inl q)) some = subst (λ (k : Ending). Stops k left) (sym q) some
@@ -118,9 +107,6 @@ stopped_next s z y es left ok none event e h some (inr m) =
     (stopped_moves s (Running z) es left ok none h some (Running y) event m.1.0 m.1.1 m.2)
 
 -- ---- the first event
-
-limit_ok : (n : ℕ) → begins_ok (answer.Limit n) ≡ true
-limit_ok n = refl
 
 module _ (m : MachineOf) (o : Outset) (s : Scene) (made : IsMade m o s) where
   abbrev first_line : DecidedLine
@@ -185,14 +171,6 @@ pub stopped_on : (s : Stage) (z y : Scene) (events : List Event) (i ok none : �
 stopped_on s z y events i ok none event e within h why =
     subst (λ (es : List Event). Stopped s es e (Running y)) (take-append-drop i events)
     (stopped_next s z y (take i events) (drop i events) ok none event e h (omega (arith, length-drop i events)) why)
-
-pub handled_all : (s z : Stage) (events : List Event) (i ok none : ℕ) → length events ≤ i → Handled s (take i events) ok none z → Handled s events ok none z
-handled_all s z events i ok none all h = subst (λ (es : List Event). Handled s es ok none z) (take_all i events all) h
-
-pub later_at : (events : List Event) (i : ℕ) (e : Event) → AreLater events → i < length events → IsLater (get_or events i e)
-later_at [] i e h within = absurd (omega arith)
-later_at (x ∷ xs) zero e h within = h.0
-later_at (x ∷ xs) (suc i) e h within = later_at xs i e h.1 (omega arith)
 
 -- with devices that were opened beside
 pub blamed_opened : {A : Type 0} (r : Result A Ending) (opening : Type 0) (c d : Counts) → MatchResult r (λ _. d ≡ c) (λ e. IsBlamed e ⊥ c d) → MatchResult r (λ _. d ≡ c) (λ e. IsBlamed e opening c d)

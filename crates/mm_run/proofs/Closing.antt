@@ -3,7 +3,7 @@ use Rattle.std.proofs.Common.{◌≡◌, ◌≢◌, ◌≤◌, ℕ, ◌+◌, tru
 use Rattle.mm_types.specs.Outside.{Appended}
 use Rattle.mm_types.specs.Spelling.{Text}
 use Rattle.mm_types.specs.AnswerText.{spelled}
-use Rattle.mm_types.proofs.Bytes.{append_nil, appended_then}
+use Rattle.mm_types.proofs.Bytes.{append_nil, appended_then, rose_later}
 use Rattle.mm_life.specs.Logs.{Log, IsFrontOf}
 use Rattle.mm_life.proofs.Noting.{front_of_then, gave_nothing}
 use Rattle.mm_run.specs.declared.endings.Ending.{Ending}
@@ -21,7 +21,6 @@ use Rattle.mm_run.proofs.Ends.{stands_whole, out_stands, moves_stand, accounted_
 use Rattle.mm_run.proofs.Logs.{all_logged, bytes_left, log_ran, log_left, holds_at_end}
 use Rattle.mm_run.proofs.Failures.{faultless}
 use Rattle.mm_run.proofs.WatchesTold.{watches_told}
-use Rattle.mm_types.proofs.Bytes.{rose_later}
 
 follows_done : (e : Ending) (n : ℕ) (front : Text) (last end : Stage) → e ≡ ending.Done → Closes e n front last end → Follows last end
 follows_done ending.Done n front last end q h = h

@@ -1,5 +1,5 @@
 -- The events of a generated script: a machine first, and then other lines alone.
-use Rattle.std.proofs.Common.{◌≡◌, ℕ, zero, suc, ◌+◌, ◌%◌, ◌-◌, ◌<◌, ◌≤◌, ◌^◌, Bool, true, false, List, [], ◌∷◌, ◌++◌, length, take, drop, get_or, length-drop, Some, None, codes, refl, sym, ap, ◌∙◌, subst, arith}
+use Rattle.std.proofs.Common.{◌≡◌, ℕ, zero, suc, ◌+◌, ◌%◌, ◌-◌, ◌<◌, ◌≤◌, ◌^◌, Bool, true, false, List, [], ◌∷◌, ◌++◌, length, take, drop, length-drop, Some, None, codes, refl, sym, ap, ◌∙◌, subst, arith}
 use Rattle.std.specs.Prelude.{if◌then◌else◌, IsTrue, nat_le, ◌==◌}
 use Rattle.std.specs.List.{AllByRecursion}
 use Rattle.std.proofs.lemmas.Nat.{mod_below}
@@ -10,7 +10,7 @@ use Rattle.mm_types.specs.declared.events.Event.{Event}
 use Rattle.mm_types.specs.declared.events.Event.TheVariants as line
 use Rattle.mm_script.specs.Printed.{IsInRange}
 use Rattle.mm_script.specs.Grammar.{fields_of, are_joined}
-use Rattle.mm_make.specs.Outputs.{outputs, seeded, behind}
+use Rattle.mm_make.specs.Outputs.{outputs, seeded, outputs_from}
 use Rattle.mm_make.specs.Generated.{Drawn, drawn, drawn_events, drawn_of_kind, write_drawn, read_drawn, address_drawn, script_of}
 use Rattle.mm_core.specs.Built.{is_machine}
 use Rattle.mm_run.specs.Batch.{IsLater, AreLater}
@@ -34,9 +34,6 @@ fixed_later =
 -- the events after the first one
 abbrev pub later_events : ℕ → ℕ → List Event
 later_events seed count = fixed_later ++ drawn_events count (outputs (seeded seed))
-
-pub script_begins : (seed count : ℕ) → script_of seed count ≡ line.Machine small_machine ∷ later_events seed count
-script_begins seed count = refl
 
 later_of : (e : Event) → AllByRecursion IsInRange (fields_of e) → IsTrue (are_joined e) → is_machine e ≡ false → IsLater e
 later_of e fields joined later = record { well_formed = record { fields = fields; joined = joined }; later = later }
@@ -110,7 +107,7 @@ of_kind_later kind words =
 all_drawn_later : (n : ℕ) (words : ℕ → ℕ) → AreLater (drawn_events n words)
 unfolding drawn_events
 all_drawn_later zero words = tt
-all_drawn_later (suc n) words = (of_kind_later (words 0 % 8) words, all_drawn_later n (behind (drawn words).taken words))
+all_drawn_later (suc n) words = (of_kind_later (words 0 % 8) words, all_drawn_later n (outputs_from (drawn words).taken words))
 
 pub are_later : (seed count : ℕ) → AreLater (later_events seed count)
 are_later seed count =
@@ -119,7 +116,7 @@ are_later seed count =
 drawn_many : (n : ℕ) (words : ℕ → ℕ) → length (drawn_events n words) ≡ n
 unfolding drawn_events
 drawn_many zero words = refl
-drawn_many (suc n) words = ap suc (drawn_many n (behind (drawn words).taken words))
+drawn_many (suc n) words = ap suc (drawn_many n (outputs_from (drawn words).taken words))
 
 pub later_many : (seed count : ℕ) → length (later_events seed count) ≡ 10 + count
 later_many seed count = let many = drawn_many count (outputs (seeded seed)) in omega (arith, many)
@@ -129,13 +126,7 @@ later_many seed count = let many = drawn_many count (outputs (seeded seed)) in o
 tail_of : {X : Type 0} (xs : List X) (x : X) (ys : List X) → xs ≡ x ∷ ys → drop 1 xs ≡ ys
 tail_of xs x ys q = ap (drop 1) q
 
-head_of : {X : Type 0} (xs : List X) (x d : X) (ys : List X) → xs ≡ x ∷ ys → get_or xs 0 d ≡ x
-head_of xs x d ys q = ap (λ zs. get_or zs 0 d) q
-
 module _ (seed count : ℕ) (events : List Event) (are : events ≡ script_of seed count) where
-  pub script_first : (d : Event) → get_or events 0 d ≡ line.Machine small_machine
-  script_first d = head_of events (line.Machine small_machine) d (later_events seed count) are
-
   pub script_rest : drop 1 events ≡ later_events seed count
   script_rest = tail_of events (line.Machine small_machine) (later_events seed count) are
 
@@ -145,12 +136,6 @@ module _ (seed count : ℕ) (events : List Event) (are : events ≡ script_of se
   pub rest_later : AreLater (drop 1 events)
   rest_later = subst AreLater (sym script_rest) (are_later seed count)
 
-  -- its first event and the others
-  pub script_whole : (m : MachineOf) (e : Event) → e ≡ get_or events 0 e → e ≡ line.Machine m → line.Machine m ∷ drop 1 events ≡ script_of seed count
-  script_whole m e at is =
-      let first : line.Machine m ≡ line.Machine small_machine = sym is ∙ at ∙ script_first e in
-      (λ i. first i ∷ script_rest i)
-
   slice_is : take (length events - 1) (drop 1 events) ≡ drop 1 events
   slice_is = take_all (length events - 1) (drop 1 events) (omega (arith, length-drop 1 events))
 
@@ -159,6 +144,3 @@ module _ (seed count : ℕ) (events : List Event) (are : events ≡ script_of se
 
   pub slice_few : count ≤ 100000 → length (take (length events - 1) (drop 1 events)) < 1000000
   slice_few few = omega (arith, ap length slice_is, length-drop 1 events, script_many)
-
-  pub slice_whole : (m : MachineOf) (e : Event) → e ≡ get_or events 0 e → e ≡ line.Machine m → line.Machine m ∷ take (length events - 1) (drop 1 events) ≡ script_of seed count
-  slice_whole m e at is = ap (λ xs. line.Machine m ∷ xs) slice_is ∙ script_whole m e at is

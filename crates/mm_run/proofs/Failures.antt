@@ -12,7 +12,7 @@ use Rattle.mm_laws.specs.Sound.{Sound}
 use Rattle.mm_laws.proofs.Kept.{kept_along, replay_sound}
 use Rattle.mm_blocks.specs.Devices.{DeviceOf}
 use Rattle.mm_world.specs.Failure.{wait_failed}
-use Rattle.mm_walks.specs.Waits.{wait_of}
+use Rattle.mm_life.specs.Waits.{wait_of}
 use Rattle.mm_core.specs.Serving.{IsFailure, OneFailed, HasFailed, resumed_thread}
 use Rattle.mm_run.specs.declared.endings.Ending.{Ending}
 use Rattle.mm_run.specs.declared.endings.Ending.TheVariants as ending

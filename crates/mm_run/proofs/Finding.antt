@@ -1,31 +1,48 @@
--- A line is found in front, and then decided.
-use Rattle.std.specs.Prelude.{MatchOption, MatchResult, Result, Ok, Err, Some, None}
-use Rattle.std.proofs.Common.{◌≡◌, ℕ, Option, subst, ◌∙◌}
+-- Steps of a run, one after another.
+use Rattle.std.specs.Prelude.{Result, Ok, Err, Some, None}
+use Rattle.std.proofs.Common.{◌≡◌, ℕ, Option, refl, subst, ◌∙◌, arith}
+use Rattle.mm_types.specs.Spelling.{Text}
 use Rattle.mm_run.specs.declared.endings.Ending.{Ending}
-use Rattle.mm_run.specs.Scenes.{Stage}
-use Rattle.mm_run.specs.Story.{Went, Came, Counts, IsBlamed, Outside, Stand}
-use Rattle.mm_run.proofs.Stories.{went_then, went_came}
+use Rattle.mm_run.specs.Story.{Counts, IsBlamed, stand}
+use Rattle.mm_run.specs.Moments.{Moment, GoesOn, EndsRun, Steps, FindsLine, outside_of, counts_of}
+use Rattle.mm_run.proofs.Stories.{went_none, went_then, went_came}
 
--- what went on first, and then a line that is found, or what makes the run end
-pub found_after : (a b c : Outside) (x y z : Stand) (end : Stage) → Went a b x y → (r : Result ℕ Ending) → MatchResult r (λ _. Went b c y z) (λ e. Came b c y e end)
-    → MatchResult r (λ _. Went a c x z) (λ e. Came a c x e end)
-found_after a b c x y z end g (Ok len) h = went_then a b c x y z g h
-found_after a b c x y z end g (Err e) h = went_came a b c x y end e g h
-
--- the line that was found is decided, or makes the run end
-pub found_either : (a b c : Outside) (x y z : Stand) (end : Stage) → Went a b x y → (r : Option Ending) → MatchOption r (Went b c y z) (λ e. Came b c y e end) → MatchOption r (Went a c x z) (λ e. Came a c x e end)
-found_either a b c x y z end g None h = went_then a b c x y z g h
-found_either a b c x y z end g (Some e) h = went_came a b c x y end e g h
-
--- ---- the counts of faults that stayed before
+-- ---- counts of faults that stayed before
 
 pub blamed_then : (e : Ending) (opening : Type 0) (c m d : Counts) → m ≡ c → IsBlamed e opening m d → IsBlamed e opening c d
 blamed_then e opening c m d same b = subst (λ (k : Counts). IsBlamed e opening k d) same b
 
-pub counted_then : (opening : Type 0) (c m d : Counts) → m ≡ c → (r : Option Ending) → MatchOption r (d ≡ m) (λ e. IsBlamed e opening m d) → MatchOption r (d ≡ c) (λ e. IsBlamed e opening c d)
-counted_then opening c m d same None h = h ∙ same
-counted_then opening c m d same (Some e) h = blamed_then e opening c m d same h
+-- ---- a step, and then another
 
-pub read_then : {A : Type 0} (opening : Type 0) (c m d : Counts) → m ≡ c → (r : Result A Ending) → MatchResult r (λ _. d ≡ m) (λ e. IsBlamed e opening m d) → MatchResult r (λ _. d ≡ c) (λ e. IsBlamed e opening c d)
-read_then opening c m d same (Ok x) h = h ∙ same
-read_then opening c m d same (Err e) h = blamed_then e opening c m d same h
+pub goes_here : (held : Text) (n : ℕ) (a : Moment) → GoesOn held n held n a a
+goes_here held n a = record {
+  went = went_none (outside_of a) (stand held n a.stage) (stand held n a.stage) refl;
+  faults = refl;
+  idle = omega arith;
+}
+
+module _ {held mid held' : Text} {n m n' : ℕ} {a b c : Moment} (first : GoesOn held n mid m a b) where
+  pub goes_then : GoesOn mid m held' n' b c → GoesOn held n held' n' a c
+  goes_then h = record {
+    went = went_then (outside_of a) (outside_of b) (outside_of c) (stand held n a.stage) (stand mid m b.stage) (stand held' n' c.stage) first.went h.went;
+    faults = h.faults ∙ first.faults;
+    idle = let i = first.idle in let j = h.idle in omega arith;
+  }
+
+module _ {held mid : Text} {n m : ℕ} {a b : Moment} (first : GoesOn held n mid m a b) where
+  pub goes_ends : {c : Moment} (e : Ending) → EndsRun mid m b c e → EndsRun held n a c e
+  goes_ends {c} e h = record {
+    came = went_came (outside_of a) (outside_of b) (outside_of c) (stand held n a.stage) (stand mid m b.stage) c.stage e first.went h.came;
+    faults = blamed_then e ⊥ (counts_of a) (counts_of b) (counts_of c) first.faults h.faults;
+    idle = let i = first.idle in let j = h.idle in omega arith;
+    form = h.form;
+  }
+
+  pub steps_then : (c : Moment) (held' : Text) (n' : ℕ) (r : Option Ending) → Steps r mid m held' n' b c → Steps r held n held' n' a c
+  steps_then c held' n' None h = goes_then first h
+  steps_then c held' n' (Some e) h = goes_ends e h
+
+module _ {held mid : Text} {n : ℕ} {a b : Moment} (first : GoesOn held n mid n a b) where
+  pub finds_then : (c : Moment) (held' : Text) (r : Result ℕ Ending) → FindsLine r mid n held' b c → FindsLine r held n held' a c
+  finds_then c held' (Ok len) h = goes_then first h
+  finds_then c held' (Err e) h = goes_ends first e h

@@ -1,13 +1,10 @@
 -- The first line, and lines after it.
-use Rattle.std.proofs.Common.{◌≡◌, ◌<◌, ◌≤◌, ℕ, zero, suc, ◌+◌, List, [], ◌∷◌, ◌++◌, take, drop, length, refl, sym, ap, ◌∙◌, subst, arith}
-use Rattle.std.specs.Prelude.{Option, Result, Ok, Err, Bool, true, false}
+use Rattle.std.proofs.Common.{◌≡◌, ◌<◌, ◌≤◌, ℕ, ◌+◌, List, [], ◌∷◌, ◌++◌, take, drop, length, refl, sym, ap, ◌∙◌, subst, arith}
+use Rattle.std.specs.Prelude.{Option, Ok, true}
 use Rattle.mm_types.specs.Spelling.{Text}
 use Rattle.mm_types.specs.AnswerText.{spelling}
-use Rattle.mm_lines.specs.Looking.{HasLine}
-use Rattle.mm_script.specs.declared.faults.LineFault.{LineFault}
+use Rattle.mm_io.specs.Looking.{HasLine}
 use Rattle.mm_script.specs.Grammar.{IsLine as IsLineFor}
-use Rattle.mm_script.specs.Place.{without_return}
-use Rattle.mm_script.specs.Reading.{parse}
 use Rattle.mm_types.specs.declared.events.Event.{Event}
 use Rattle.mm_types.specs.declared.answers.Answer.{Answer}
 use Rattle.mm_types.specs.declared.answers.Answer.TheVariants as answer
@@ -19,8 +16,7 @@ use Rattle.mm_world.specs.Step.{first_world}
 use Rattle.mm_paging.specs.Runs.{first_move}
 use Rattle.mm_types.specs.declared.moves.Move.{Move}
 use Rattle.mm_run.specs.declared.endings.Ending.TheVariants as ending
-use Rattle.mm_core.specs.Built.{is_machine}
-use Rattle.mm_run.specs.Reading.{reading, read_first, read_later, is_machine_word}
+use Rattle.mm_run.specs.Reading.{reading}
 use Rattle.mm_core.specs.Promise.{Scene}
 use Rattle.mm_run.specs.Scenes.{Outset, Stage, NotBegun, Running, HasNoted, log_of}
 use Rattle.mm_run.specs.Steps.{IsDecided, IsMade}
@@ -28,28 +24,6 @@ use Rattle.mm_run.specs.Answered.{DecidedLine, IsNext}
 use Rattle.mm_run.specs.Story.{Went, Came, outside, stand}
 use Rattle.mm_run.proofs.Stories.{follows_here}
 use Rattle.mm_run.proofs.Stops.{is_line, went_to, came_muted}
-
-later_is : (b : Bool) (r : Result Event LineFault) (e : Event) → read_later b r ≡ Ok e → is_machine e ≡ false
-later_is b (Err f) e q = cc
-later_is b (Ok x) e q = elim (is_machine x) as (λ m. is_machine x ≡ m → is_machine e ≡ false) [
-  | true ↦ λ p. (let bad : Err 1 ≡ Ok e = rw p at q in cc)
-  | false ↦ λ p. (let good : Ok x ≡ Ok e = rw p at q in let same : x ≡ e = cc in ap is_machine (sym same) ∙ p)
-] refl
-
--- no line but the first is a `machine` line
-pub later_machine : (n : ℕ) (text : Text) (e : Event) → 0 < n → reading n text ≡ Ok e → is_machine e ≡ false
-later_machine zero text e some q = absurd (omega arith)
-later_machine (suc n) text e some q = later_is (is_machine_word (without_return text)) (parse text) e q
-
-first_is : (b : Bool) (r : Result Event LineFault) (e : Event) → read_first b r ≡ Ok e → is_machine e ≡ true
-first_is b (Err f) e q = cc
-first_is b (Ok x) e q = elim (is_machine x) as (λ m. is_machine x ≡ m → is_machine e ≡ true) [
-  | true ↦ λ p. (let good : Ok x ≡ Ok e = rw p at q in let same : x ≡ e = cc in ap is_machine (sym same) ∙ p)
-  | false ↦ λ p. (let bad : Err 1 ≡ Ok e = rw p at q in cc)
-] refl
-
-pub first_machine : (text : Text) (e : Event) → reading 0 text ≡ Ok e → is_machine e ≡ true
-first_machine text e q = first_is (is_machine_word (without_return text)) (parse text) e q
 
 -- nothing is charged before the first line
 within_first : (m : MachineOf) (s : Scene) → s.world ≡ first_world m → charge s.world ≤ limit s.world

@@ -26,8 +26,8 @@ use Rattle.mm_world.specs.Failure.{wait_failed}
 use Rattle.mm_blocks.specs.declared.device_calls.DeviceCall.{DeviceCall}
 use Rattle.mm_blocks.specs.Devices.{DeviceOf, Call, AllServed, logged_call, CallFailed}
 use Rattle.mm_blocks.proofs.Serving.{all_served_failed}
-use Rattle.mm_walks.specs.Waits.{Waiting, Idle, ForFrame, Ended, wait_of, ended_by, waits_after}
-use Rattle.mm_walks.specs.Walks.{waits_through}
+use Rattle.mm_life.specs.Waits.{Waiting, Idle, ForFrame, Ended, wait_of, ended_by, waits_after}
+use Rattle.mm_life.specs.Walks.{waits_through}
 use Rattle.mm_pages.specs.Told.{in_slot, in_block, call_of, calls_of, paging_traffic, file_traffic}
 use Rattle.mm_pages.specs.Housekeeping.{AllTurn, Makes}
 use Rattle.mm_pages.specs.Behind.{Behind}

@@ -1,11 +1,11 @@
 -- A script comes to one thing.
 use Rattle.std.proofs.Common.{◌≡◌, ◌≢◌, ◌⊎◌, ℕ, ◌+◌, ◌<◌, ◌≤◌, suc, List, [], ◌∷◌, ◌++◌, length, Option, Some, None, refl, sym, ap, ◌∙◌, subst, inl, inr, arith, append_assoc, length-append}
-use Rattle.std.specs.Prelude.{Result, Ok, Err, map}
+use Rattle.std.specs.Prelude.{Ok, Err, map}
 use Rattle.mm_types.specs.Outside.{Appended, Took}
 use Rattle.mm_types.specs.Spelling.{Text}
 use Rattle.mm_types.specs.AnswerText.{spelled}
 use Rattle.mm_types.proofs.Bytes.{append_nil}
-use Rattle.mm_lines.specs.Lines.{NoFeed, IsLine, ended, joined}
+use Rattle.mm_io.specs.Lines.{NoFeed, IsLine, with_line_feed, text_of_lines}
 use Rattle.mm_types.specs.declared.events.Event.{Event}
 use Rattle.mm_run.specs.declared.endings.Ending.{Ending}
 use Rattle.mm_run.specs.declared.endings.Ending.TheVariants as ending
@@ -37,29 +37,25 @@ one_line (x ∷ l) (y ∷ k) r s u v e =
     (ap (λ z. z ∷ l) head ∙ ap (λ zs. y ∷ zs) both.0, both.1)
 
 -- the same of a line with its feed, and what follows
-feed_then : (l r : Text) → ended l ++ r ≡ l ++ 10 ∷ r
+feed_then : (l r : Text) → with_line_feed l ++ r ≡ l ++ 10 ∷ r
 feed_then l r = append_assoc l (10 ∷ []) r
 
 -- the first line of two texts that are the same, one of them a whole line and more
-same_line : (l k front r more : Text) → NoFeed l → NoFeed k → front ≡ ended k → ended l ++ r ≡ front ++ more → l ≡ k
+same_line : (l k front r more : Text) → NoFeed l → NoFeed k → front ≡ with_line_feed k → with_line_feed l ++ r ≡ front ++ more → l ≡ k
 same_line l k front r more u v w q =
     let both = one_line l k r more u v (sym (feed_then l r) ∙ q ∙ ap (λ xs. xs ++ more) w ∙ feed_then k more) in both.0
 
-column_of : Result Event ℕ → ℕ
-column_of (Ok e) = 0
-column_of (Err column) = column
-
 -- A line in the grammar settles nothing.
-goes_on : (n : ℕ) (l r front more : Text) (e : Ending) (event : Event) → n < 1000000 → IsLine l → reading n l ≡ Ok event → IsVerdict e → Settles n front more (Some []) e → ended l ++ r ≡ front ++ more → ⊥
+goes_on : (n : ℕ) (l r front more : Text) (e : Ending) (event : Event) → n < 1000000 → IsLine l → reading n l ≡ Ok event → IsVerdict e → Settles n front more (Some []) e → with_line_feed l ++ r ≡ front ++ more → ⊥
 goes_on n l r front more ending.Done event few line p v s q =
     let len = ap length q in
-    omega (arith, len, length-append (ended l) r, length-append l (10 ∷ []), length-append front more, ap length s.1, ap length s.2)
+    omega (arith, len, length-append (with_line_feed l) r, length-append l (10 ∷ []), length-append front more, ap length s.1, ap length s.2)
 goes_on n l r front more (ending.Script number column) event few line p v s q = elim s.2 [
   | inl bad ↦ (let same = same_line l bad.line front r more line.no_feed bad.is_line.no_feed bad.whole q in
       let clash : Ok event ≡ Err column = sym p ∙ ap (reading n) same ∙ bad.place in cc)
   | inr open_ ↦ (let le = front_short l front r more open_.is_line.no_feed (sym (feed_then l r) ∙ q) in
       let len = ap length q in
-      omega (arith, len, length-append (ended l) r, length-append l (10 ∷ []), length-append front more, ap length open_.last))
+      omega (arith, len, length-append (with_line_feed l) r, length-append l (10 ∷ []), length-append front more, ap length open_.last))
 ]
 goes_on n l r front more (ending.TooLong number) event few line p v s q = elim s.1 [
   | inl long ↦ (let le = front_short l front r more long.1 (sym (feed_then l r) ∙ q) in let short = line.short in let many = long.0 in omega arith)
@@ -83,13 +79,13 @@ bad_and_long n front more front' more' column q few (inr o) (inl long) =
 bad_and_long n front more front' more' column q few b (inr full) = let all = full.0 in omega arith
 
 -- a whole line, and bytes without one up to the end
-whole_and_open : (n : ℕ) (line front more front' more' : Text) (column : ℕ) → front ++ more ≡ front' ++ more' → front ≡ ended line → IsOpen n front' more' (Some []) column → ⊥
+whole_and_open : (n : ℕ) (line front more front' more' : Text) (column : ℕ) → front ++ more ≡ front' ++ more' → front ≡ with_line_feed line → IsOpen n front' more' (Some []) column → ⊥
 whole_and_open n line front more front' more' column q w o =
     let le = front_short line front' more more' o.is_line.no_feed (sym (feed_then line more) ∙ ap (λ xs. xs ++ more) (sym w) ∙ q) in
     omega (arith, ap length q, length-append front more, length-append front' more', ap length o.last, ap length w, length-append line (10 ∷ []))
 
 -- two whole lines at the same place
-two_whole : (line line' front more front' more' : Text) → front ++ more ≡ front' ++ more' → IsLine line → IsLine line' → front ≡ ended line → front' ≡ ended line' → line ≡ line'
+two_whole : (line line' front more front' more' : Text) → front ++ more ≡ front' ++ more' → IsLine line → IsLine line' → front ≡ with_line_feed line → front' ≡ with_line_feed line' → line ≡ line'
 two_whole line line' front more front' more' q u v w w' =
     same_line line line' front' more more' u.no_feed v.no_feed w' (ap (λ xs. xs ++ more) (sym w) ∙ q)
 
@@ -142,23 +138,23 @@ one_ending n x y x' y' e ending.SetupFault q v w s t = absurd w
 
 -- From n decided lines on there is one reading.
 one_from : (n : ℕ) (ls ks : List Text) (es gs : List Event) (x y x' y' : Text) (e f : Ending)
-    → joined ls ++ (x ++ y) ≡ joined ks ++ (x' ++ y') → Each n ls es → Each n ks gs → n + length ls ≤ 1000000 → n + length ks ≤ 1000000
+    → text_of_lines ls ++ (x ++ y) ≡ text_of_lines ks ++ (x' ++ y') → Each n ls es → Each n ks gs → n + length ls ≤ 1000000 → n + length ks ≤ 1000000
     → Settles (n + length ls) x y (Some []) e → Settles (n + length ks) x' y' (Some []) f → IsVerdict e → IsVerdict f → (ls ≡ ks) × (e ≡ f)
 one_from n [] [] es gs x y x' y' e f q u v a b s r p w =
     (refl, one_ending (n + 0) x y x' y' e f q p w s r)
 one_from n [] (k ∷ ks) es (g ∷ gs) x y x' y' e f q u v a b s r p w =
     let here : n + 0 ≡ n = omega arith in
-    absurd (goes_on n k (joined ks ++ (x' ++ y')) x y e g (omega arith) v.0.is_line v.0.says p (subst (λ (m : ℕ). Settles m x y (Some []) e) here s) (sym (q ∙ append_assoc (ended k) (joined ks) (x' ++ y'))))
+    absurd (goes_on n k (text_of_lines ks ++ (x' ++ y')) x y e g (omega arith) v.0.is_line v.0.says p (subst (λ (m : ℕ). Settles m x y (Some []) e) here s) (sym (q ∙ append_assoc (with_line_feed k) (text_of_lines ks) (x' ++ y'))))
 one_from n [] (k ∷ ks) es [] x y x' y' e f q u v a b s r p w = absurd v
 one_from n (l ∷ ls) [] (g ∷ es) gs x y x' y' e f q u v a b s r p w =
     let here : n + 0 ≡ n = omega arith in
-    absurd (goes_on n l (joined ls ++ (x ++ y)) x' y' f g (omega arith) u.0.is_line u.0.says w (subst (λ (m : ℕ). Settles m x' y' (Some []) f) here r) (sym (append_assoc (ended l) (joined ls) (x ++ y)) ∙ q))
+    absurd (goes_on n l (text_of_lines ls ++ (x ++ y)) x' y' f g (omega arith) u.0.is_line u.0.says w (subst (λ (m : ℕ). Settles m x' y' (Some []) f) here r) (sym (append_assoc (with_line_feed l) (text_of_lines ls) (x ++ y)) ∙ q))
 one_from n (l ∷ ls) [] [] gs x y x' y' e f q u v a b s r p w = absurd u
 one_from n (l ∷ ls) (k ∷ ks) [] gs x y x' y' e f q u v a b s r p w = absurd u
 one_from n (l ∷ ls) (k ∷ ks) (h ∷ es) [] x y x' y' e f q u v a b s r p w = absurd v
 one_from n (l ∷ ls) (k ∷ ks) (h ∷ es) (g ∷ gs) x y x' y' e f q u v a b s r p w =
-    let split = one_line l k (joined ls ++ (x ++ y)) (joined ks ++ (x' ++ y')) u.0.is_line.no_feed v.0.is_line.no_feed
-    (sym (feed_then l (joined ls ++ (x ++ y))) ∙ sym (append_assoc (ended l) (joined ls) (x ++ y)) ∙ q ∙ append_assoc (ended k) (joined ks) (x' ++ y') ∙ feed_then k (joined ks ++ (x' ++ y'))) in
+    let split = one_line l k (text_of_lines ls ++ (x ++ y)) (text_of_lines ks ++ (x' ++ y')) u.0.is_line.no_feed v.0.is_line.no_feed
+    (sym (feed_then l (text_of_lines ls ++ (x ++ y))) ∙ sym (append_assoc (with_line_feed l) (text_of_lines ls) (x ++ y)) ∙ q ∙ append_assoc (with_line_feed k) (text_of_lines ks) (x' ++ y') ∙ feed_then k (text_of_lines ks ++ (x' ++ y'))) in
     let i : n + suc (length ls) ≡ suc n + length ls = omega arith in
     let j : n + suc (length ks) ≡ suc n + length ks = omega arith in
     let rest = one_from (suc n) ls ks es gs x y x' y' e f split.1 u.1 v.1 (omega arith) (omega arith)
@@ -234,7 +230,7 @@ module _ (a b : Around) (form : Type 0) (status : ℕ) (ran : Ran a b form statu
         events = events_of ran.lines;
         front = ran.front;
         more = ran.more ++ rest;
-        whole = sym same ∙ r ∙ ap (λ xs. xs ++ rest) ran.whole ∙ append_assoc (joined (texts_of ran.lines)) (ran.front ++ ran.more) rest ∙ ap (λ xs. joined (texts_of ran.lines) ++ xs) (append_assoc ran.front ran.more rest);
+        whole = sym same ∙ r ∙ ap (λ xs. xs ++ rest) ran.whole ∙ append_assoc (text_of_lines (texts_of ran.lines)) (ran.front ++ ran.more) rest ∙ ap (λ xs. text_of_lines (texts_of ran.lines) ++ xs) (append_assoc ran.front ran.more rest);
         each = each_of 0 (begun_at a.beside) ran.lines ran.answered;
         limit = omega (arith, many, l);
         settled = subst (λ (k : ℕ). Settles k ran.front (ran.more ++ rest) (Some []) ran.e) here (settles_all (length ran.lines) ran.front ran.more rest ran.e v s);

@@ -12,10 +12,9 @@ use Rattle.mm_blocks.specs.declared.device_calls.DeviceCall.{DeviceCall}
 use Rattle.mm_blocks.specs.declared.device_calls.NamedCalls.{NamedCalls}
 use Rattle.mm_blocks.specs.Devices.{DeviceOf, device_with}
 use Rattle.mm_blocks.specs.Traffic.{NoneLogged, empty_block}
-use Rattle.mm_world.specs.World.{Page}
-use Rattle.mm_world.specs.World.{World}
+use Rattle.mm_world.specs.World.{Page, World}
 use Rattle.mm_world.specs.Step.{first_world}
-use Rattle.mm_walks.specs.Waits.{Idle, wait_of}
+use Rattle.mm_life.specs.Waits.{Idle, wait_of}
 use Rattle.mm_flight.specs.declared.flights.Waiting.TheVariants as waiting
 use Rattle.mm_parts.specs.Reading.{walked_or}
 use Rattle.mm_parts.specs.Start.{started}

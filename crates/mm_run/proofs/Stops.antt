@@ -7,10 +7,10 @@ use Rattle.mm_life.specs.MoveText.{spelled_moves}
 use Rattle.mm_types.specs.Spelling.{Text}
 use Rattle.mm_types.specs.AnswerText.{spelling}
 use Rattle.mm_types.proofs.Bytes.{append_nil, took_none, appended_none}
-use Rattle.mm_lines.specs.Lines.{IsLine, ended, joined}
-use Rattle.mm_lines.specs.Looking.{HasLine, IsLong}
-use Rattle.mm_lines.specs.Filling.{Filled}
-use Rattle.mm_lines.proofs.Fillings.{filled_none}
+use Rattle.mm_io.specs.Lines.{IsLine, with_line_feed, text_of_lines}
+use Rattle.mm_io.specs.Looking.{HasLine, IsLong}
+use Rattle.mm_io.specs.Filling.{Filled}
+use Rattle.mm_io.proofs.Fillings.{filled_none}
 use Rattle.mm_types.specs.declared.events.Event.{Event}
 use Rattle.mm_core.specs.Promise.{Scene}
 use Rattle.mm_run.specs.Scenes.{Stage, Running, HasNoted, Follows, log_of}
@@ -60,25 +60,25 @@ module _ (held : Text) (len n : ℕ) (h : HasLine held len) (small : n < 1000000
   pub is_line : IsLine (take len held)
   is_line = record { no_feed = h.feed.first; short = let s = h.short in omega (arith, length-take len held) }
 
-  split : held ≡ ended (take len held) ++ drop (len + 1) held
-  split = h.feed.whole ∙ sym (append_assoc (take len held) (10 ∷ []) (drop (suc len) held)) ∙ ap (λ k. ended (take len held) ++ drop k held) (sym (add-one len))
+  split : held ≡ with_line_feed (take len held) ++ drop (len + 1) held
+  split = h.feed.whole ∙ sym (append_assoc (take len held) (10 ∷ []) (drop (suc len) held)) ∙ ap (λ k. with_line_feed (take len held) ++ drop k held) (sym (add-one len))
 
-  few : length (drop (len + 1) held) < 4096
+  pub few : length (drop (len + 1) held) < 4096
   few = let w = h.feed.within in omega (arith, length-drop (len + 1) held)
 
-  width : length (ended (take len held)) ≤ 257
+  width : length (with_line_feed (take len held)) ≤ 257
   width = let s = h.short in omega (arith, length-take len held, length-append (take len held) (10 ∷ []))
 
   pub came_bad : (a t : Option Text) (kept : Text) (w : Stage) (column : ℕ) → reading n (take len held) ≡ Err column → ((e : Event) → IsLineFor (take len held) e → IsMisplaced n e)
       → Came (outside a t kept) (outside a t kept) (stand held n w) (ending.Script (n + 1) column) w
   came_bad a t kept w column p r =
-      came_here a a t kept held held n w w _ (ended (take len held)) _ (filled_none a held) split (omega arith)
+      came_here a a t kept held held n w w _ (with_line_feed (take len held)) _ (filled_none a held) split (omega arith)
       (refl, small, inl (record { line = take len held; is_line = is_line; whole = refl; place = p; refused = r })) few (λ ks. refl) (follows_here w) (grows_here w)
 
   pub came_memory : (a t : Option Text) (kept : Text) (w end : Stage) (event : Event) → reading n (take len held) ≡ Ok event → IsLineFor (take len held) event
       → ((is_machine event ≡ true) × Follows w end) ⊎ (TakesMemory w event × BreaksOff w end) → LogGrows w end → Came (outside a t kept) (outside a t kept) (stand held n w) ending.NoMemory end
   came_memory a t kept w end event says grammar broken grows =
-      came_here a a t kept held held n w end _ (ended (take len held)) _ (filled_none a held) split (omega arith) width few (λ ks. refl)
+      came_here a a t kept held held n w end _ (with_line_feed (take len held)) _ (filled_none a held) split (omega arith) width few (λ ks. refl)
       (record { line = take len held; event = event; whole = refl; says = record { is_line = is_line; says = says; grammar = grammar }; broken = broken }) grows
 
   pub came_broken : (a t : Option Text) (kept : Text) (s z : Scene) (event : Event) → reading n (take len held) ≡ Ok event → IsLineFor (take len held) event → TakesMemory (Running s) event → Breaks s z
@@ -91,15 +91,15 @@ module _ (held : Text) (len n : ℕ) (h : HasLine held len) (small : n < 1000000
   pub came_setup : (a t : Option Text) (kept : Text) (w : Stage) (event : Event) → n ≡ 0 → reading 0 (take len held) ≡ Ok event → is_machine event ≡ true
       → Came (outside a t kept) (outside a t kept) (stand held n w) ending.SetupFault w
   came_setup a t kept w event first p m =
-      came_here a a t kept held held n w w _ (ended (take len held)) _ (filled_none a held) split (omega arith)
+      came_here a a t kept held held n w w _ (with_line_feed (take len held)) _ (filled_none a held) split (omega arith)
       (record { first = first; line = take len held; event = event; whole = refl; says = p; machine = m }) few (λ ks. refl) (follows_here w) (grows_here w)
 
-  whole_line : held ++ [] ≡ joined (take len held ∷ []) ++ drop (len + 1) held
-  whole_line = append_nil held ∙ split ∙ ap (λ xs. xs ++ drop (len + 1) held) (sym (append_nil (ended (take len held))))
+  whole_line : held ++ [] ≡ text_of_lines (take len held ∷ []) ++ drop (len + 1) held
+  whole_line = append_nil held ∙ split ∙ ap (λ xs. xs ++ drop (len + 1) held) (sym (append_nil (with_line_feed (take len held))))
 
   module _ (a t : Option Text) (kept : Text) (w : Stage) (l : DecidedLine) (same : l.text ≡ take len held) (next : IsNext n w l) where
-    whole_text : held ++ [] ≡ joined (l.text ∷ []) ++ drop (len + 1) held
-    whole_text = whole_line ∙ ap (λ (x : Text). joined (x ∷ []) ++ drop (len + 1) held) (sym same)
+    whole_text : held ++ [] ≡ text_of_lines (l.text ∷ []) ++ drop (len + 1) held
+    whole_text = whole_line ∙ ap (λ (x : Text). text_of_lines (x ∷ []) ++ drop (len + 1) held) (sym same)
 
     went_line : (kept' : Text) → HasNoted l.after → kept' ≡ kept ++ spelling l.answer → Went (outside a t kept) (outside a t kept') (stand held n w) (stand (drop (len + 1) held) (n + 1) l.after)
     went_line kept' noted u ks k = record {
@@ -126,8 +126,8 @@ module _ (held : Text) (len n : ℕ) (h : HasLine held len) (small : n < 1000000
     -- its moves were not all written
     pub came_muted : (log_of l.after).failed ≡ true → Came (outside a t kept) (outside a t kept) (stand held n w) ending.MovesFault l.after
     came_muted failed =
-        came_here a a t kept held held n w l.after _ (ended (take len held)) _ (filled_none a held) split (omega arith) width few (λ ks. refl)
-        (inr (record { line = l; whole = ap ended (sym same); muted = record { next = next; failed = failed }; after = refl })) (grows_next n w l next)
+        came_here a a t kept held held n w l.after _ (with_line_feed (take len held)) _ (filled_none a held) split (omega arith) width few (λ ks. refl)
+        (inr (record { line = l; whole = ap with_line_feed (sym same); muted = record { next = next; failed = failed }; after = refl })) (grows_next n w l next)
 
 -- ---- between two lines
 

@@ -5,9 +5,9 @@ use Rattle.mm_types.specs.Outside.{Appended}
 use Rattle.mm_types.specs.Spelling.{Text}
 use Rattle.mm_types.specs.AnswerText.{spelling, spelled}
 use Rattle.mm_types.proofs.Bytes.{append_nil, took_then, appended_none, appended_then}
-use Rattle.mm_lines.specs.Lines.{ended, joined}
-use Rattle.mm_lines.specs.Filling.{Filled}
-use Rattle.mm_lines.proofs.Fillings.{filled_none}
+use Rattle.mm_io.specs.Lines.{with_line_feed, text_of_lines}
+use Rattle.mm_io.specs.Filling.{Filled}
+use Rattle.mm_io.proofs.Fillings.{filled_none}
 use Rattle.mm_types.specs.declared.answers.Answer.{Answer}
 use Rattle.mm_types.specs.declared.events.Event.{Event}
 use Rattle.mm_run.specs.declared.endings.Ending.{Ending}
@@ -22,9 +22,9 @@ use Rattle.mm_life.proofs.Noting.{front_of_then, gave_nothing, gave_then}
 use Rattle.mm_run.specs.Ends.{Closes, Left, IsLogLeft, TakesMemory}
 use Rattle.mm_run.specs.Story.{AreKept, Went, Came, Comes, Settles, StandsAt, Outside, Stand, outside, stand}
 
-pub joined-append : (xs ys : List Text) → joined (xs ++ ys) ≡ joined xs ++ joined ys
+pub joined-append : (xs ys : List Text) → text_of_lines (xs ++ ys) ≡ text_of_lines xs ++ text_of_lines ys
 joined-append [] ys = refl
-joined-append (x ∷ xs) ys = ap (λ t. ended x ++ t) (joined-append xs ys) ∙ sym (append_assoc (ended x) (joined xs) (joined ys))
+joined-append (x ∷ xs) ys = ap (λ t. with_line_feed x ++ t) (joined-append xs ys) ∙ sym (append_assoc (with_line_feed x) (text_of_lines xs) (text_of_lines ys))
 
 pub spelled-append : (xs ys : List Answer) → spelled (xs ++ ys) ≡ spelled xs ++ spelled ys
 spelled-append [] ys = refl
@@ -228,11 +228,11 @@ stands_more ending.MovesFault xs ys still written s = whole_more xs ys written s
 stands_more ending.SetupFault xs ys still written s = whole_more xs ys written s
 
 -- the text of some lines, and then of others
-chain : (x t u y z : Text) (ls ks : List DecidedLine) → x ++ t ≡ joined (texts_of ls) ++ y → y ++ u ≡ joined (texts_of ks) ++ z → x ++ (t ++ u) ≡ joined (texts_of (ls ++ ks)) ++ z
+chain : (x t u y z : Text) (ls ks : List DecidedLine) → x ++ t ≡ text_of_lines (texts_of ls) ++ y → y ++ u ≡ text_of_lines (texts_of ks) ++ z → x ++ (t ++ u) ≡ text_of_lines (texts_of (ls ++ ks)) ++ z
 chain x t u y z ls ks e f =
-    sym (append_assoc x t u) ∙ ap (λ xs. xs ++ u) e ∙ append_assoc (joined (texts_of ls)) y u ∙ ap (λ xs. joined (texts_of ls) ++ xs) f
-    ∙ sym (append_assoc (joined (texts_of ls)) (joined (texts_of ks)) z)
-    ∙ ap (λ xs. xs ++ z) (sym (ap joined (line_texts-append ls ks) ∙ joined-append (texts_of ls) (texts_of ks)))
+    sym (append_assoc x t u) ∙ ap (λ xs. xs ++ u) e ∙ append_assoc (text_of_lines (texts_of ls)) y u ∙ ap (λ xs. text_of_lines (texts_of ls) ++ xs) f
+    ∙ sym (append_assoc (text_of_lines (texts_of ls)) (text_of_lines (texts_of ks)) z)
+    ∙ ap (λ xs. xs ++ z) (sym (ap text_of_lines (line_texts-append ls ks) ∙ joined-append (texts_of ls) (texts_of ks)))
 
 module _ (a b c : Outside) (x y z : Stand) where
   pub went_then : Went a b x y → Went b c y z → Went a c x z

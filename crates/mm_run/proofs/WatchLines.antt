@@ -13,7 +13,7 @@ use Rattle.mm_world.specs.Outcome.{OutcomeOf, done}
 use Rattle.mm_world.specs.Report.{Report}
 use Rattle.mm_world.specs.Step.{step, stepped, resume_told, resume, kept_by}
 use Rattle.mm_world.specs.WellFormed.{Spaces}
-use Rattle.mm_world.specs.Flags.{flag_of, FlagTold, GivesFlagged}
+use Rattle.mm_world.specs.Flags.{flag_of, FlagTold}
 use Rattle.mm_world.specs.Writes.{write_of, writes_of, writes_after}
 use Rattle.mm_world.proofs.FlagsTold.{flags_told}
 use Rattle.mm_world.proofs.WatchGives.{watch_gives_flagged}

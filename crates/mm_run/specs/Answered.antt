@@ -7,7 +7,7 @@ use Rattle.mm_types.specs.declared.answers.Answer.{Answer}
 use Rattle.mm_types.specs.declared.events.Event.{Event}
 use Rattle.mm_types.specs.declared.moves.Move.{Move}
 use Rattle.mm_life.specs.Logs.{IsFrontOf}
-use Rattle.mm_lines.specs.Lines.{IsLine}
+use Rattle.mm_io.specs.Lines.{IsLine}
 use Rattle.mm_script.specs.Grammar.{IsLine as IsLineFor}
 use Rattle.mm_blocks.specs.Devices.{NamedMade}
 use Rattle.mm_core.specs.Serving.{IsFailure}
@@ -16,7 +16,8 @@ use Rattle.mm_run.specs.Scenes.{Stage, Running, HasNoted, Follows, log_of}
 use Rattle.mm_run.specs.Steps.{IsDecided}
 use Rattle.mm_run.specs.Written.{AnsweredLine}
 
--- A line that was decided: its text without the line feed, its event, its answer, its moves, and what the run shows before and after it.
+-- A line that was decided: its text without the line feed, its event, its answer, its moves, and
+-- what the run shows before and after it.
 pub record DecidedLine : Type 0 where
   pub text : Text
   pub event : Event
@@ -59,7 +60,8 @@ abbrev pub last_stage : Stage → List DecidedLine → Stage
 last_stage old [] = old
 last_stage old (l ∷ ls) = last_stage l.after ls
 
--- These bytes begin with the log as it stood after each of these lines: they hold the moves of all of them.
+-- These bytes begin with the log as it stood after each of these lines: they hold the moves of all
+-- of them.
 abbrev pub HoldMovesOf : List DecidedLine → Option Text → Type 0
 HoldMovesOf [] bytes = Unit {0}
 HoldMovesOf (l ∷ ls) bytes = IsFrontOf (log_of l.after).bytes bytes × HoldMovesOf ls bytes
@@ -76,7 +78,9 @@ abbrev pub MadeNamed : Stage → Stage → Type 0
 MadeNamed (Running s) (Running z) = NamedMade s.paging z.paging ⊎ NamedMade s.files z.files
 MadeNamed _ _ = ⊥
 
--- up to the first line in which such a call was made no answer is `fault` or the status of a failed access
+-- up to the first line in which such a call was made no answer is `fault` or the status of a failed
+-- access
 abbrev pub AreFaultless : List DecidedLine → Type 0
 AreFaultless [] = Unit {0}
-AreFaultless (l ∷ ls) = (MadeNamed l.before l.after → ⊥) → ((IsFailure l.answer → ⊥) × AreFaultless ls)
+AreFaultless (l ∷ ls) =
+    (MadeNamed l.before l.after → ⊥) → ((IsFailure l.answer → ⊥) × AreFaultless ls)

@@ -1,15 +1,22 @@
 -- Where a run of a generated script stands, between its events.
 -- Profile, "A run".
-use Rattle.std.specs.Prelude.{◌≡◌, ◌<◌, ℕ, false, List, ◌++◌, length, count_by, Result, Ok, Err}
+use Rattle.std.specs.Prelude.{◌≡◌, ◌⊎◌, ◌<◌, ℕ, true, false, List, ◌++◌, length, count_by, Result, Ok, Err, MatchResult}
 use Rattle.std.specs.List.{AllByRecursion}
+use Rattle.mm_types.specs.declared.answers.Answer.{Answer}
 use Rattle.mm_types.specs.declared.events.Event.{Event}
 use Rattle.mm_script.specs.Printed.{IsWellFormed}
 use Rattle.mm_run.specs.declared.bulk.Tally.{Tally}
 use Rattle.mm_run.specs.declared.endings.Ending.{Ending}
+use Rattle.mm_run.specs.declared.endings.Ending.TheVariants as ending
 use Rattle.mm_core.specs.Built.{is_machine}
-use Rattle.mm_run.specs.Scenes.{Stage}
+use Rattle.mm_core.specs.Promise.{Scene}
+use Rattle.mm_run.specs.Scenes.{Stage, Running}
+use Rattle.mm_run.specs.Steps.{Moved, Breaks}
 use Rattle.mm_run.specs.Answered.{DecidedLine, last_stage, answers_of}
 use Rattle.mm_run.specs.Ends.{Left, Leaves}
+use Rattle.mm_run.specs.Faults.{OpenFailed}
+use Rattle.mm_run.specs.Ran.{begun_at}
+use Rattle.mm_run.specs.Story.{IsBlamed, counts_with}
 use Rattle.mm_run.specs.Bulk.{AreDecided, ClosesEvents, Stops, events_of, begins_ok, is_none, charge_at, limit_at}
 
 -- An event which does not make a machine.
@@ -19,6 +26,21 @@ pub record IsLater (event : Event) : Type 0 where
 
 abbrev pub AreLater : List Event → Type 0
 AreLater events = AllByRecursion IsLater events
+
+-- An event ran out of memory, or was decided and could not note all its moves.
+abbrev pub IsUnanswered : Scene → Event → Ending → Scene → Type 0
+IsUnanswered s event e z =
+    ((e ≡ ending.NoMemory) × Breaks s z)
+    ⊎ ((e ≡ ending.MovesFault)
+    × ((a : Answer) × Moved (Running s) event a (Running z))
+    × (z.behind.log.failed ≡ true))
+
+-- Of the counts of faults only that of the moves, here before and after, may be another, and only
+-- where the end is to blame on it or on the opening.
+abbrev pub AccountsMoves : {A : Type 0} → Result A Ending → Type 0 → ℕ → ℕ → Type 0
+AccountsMoves r opening moves moves' = (source out : ℕ) → MatchResult r
+    (λ _. counts_with source out moves' ≡ counts_with source out moves)
+    (λ e. IsBlamed e opening (counts_with source out moves) (counts_with source out moves'))
 
 -- These events were decided, and so many of their answers begin with `ok`, so many are `none`.
 pub record Handled (old : Stage) (events : List Event) (ok none : ℕ) (end : Stage) : Type 0 where
@@ -51,7 +73,14 @@ Finished old events (Ok t) end = Tallied old events t end
 Finished old events (Err e) end = Stopped old events e end
 
 -- The same, with what is left on devices and in the log of moves.
-pub record BatchRan (old : Stage) (events : List Event) (r : Result Tally Ending) (left : Left) : Type 0 where
+pub record BatchRan (old : Stage) (events : List Event) (r : Result Tally Ending) (left : Left)
+    : Type 0 where
   pub end : Stage
   pub finished : Finished old events r end
   pub leaves : Leaves end left
+
+-- The same from before the first of them on, with what is to blame.
+pub record BatchEnds (events : List Event) (r : Result Tally Ending) (a b : Left) : Type 0 where
+  pub came : BatchRan (begun_at a) events r b
+  pub faults : AccountsMoves r (OpenFailed a.paging b.paging a.files b.files)
+      a.moves_faults b.moves_faults

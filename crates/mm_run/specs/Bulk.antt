@@ -1,8 +1,9 @@
 -- `bulk SEED COUNT`: what a run of a generated script did, on one page.
 -- Profile, "A run".
 --
--- Its events are those of mm_make. Each is decided as a line of a script would be, the first of them as line 1; none has a text, so what a decided
--- line has as its text says nothing here, and the source is not asked. No answer is printed: four lines are, over all of them.
+-- Its events are those of mm_make. Each is decided as a line of a script would be, the first of
+-- them as line 1; none has a text, so what a decided line has as its text says nothing here, and
+-- the source is not asked. No answer is printed: four lines are, over all of them.
 use Rattle.std.specs.Prelude.{◌≡◌, ◌≢◌, ◌⊎◌, ℕ, ◌<◌, ◌≤◌, ◌^◌, Bool, true, false, List, [], ◌∷◌, ◌++◌, length, map, take, codes, bytes_eq, count_by, Option, Some, None, option_and_then, nat_lt, if◌then◌else◌, String, string_bytes}
 use Rattle.std.specs.declared.alloc.Global.{Global}
 use Rattle.mm_types.specs.Outside.{Appended}
@@ -31,7 +32,8 @@ below_64 n = if nat_lt n (2 ^ 64) then Some n else None
 abbrev pub word_value : ℕ → Text → Option ℕ
 word_value most word = option_and_then below_64 (digits_in 10 most word)
 
--- The words are the form `bulk` with this seed, of 1 to 20 decimal digits, and this count, of 1 to 6.
+-- The words are the form `bulk` with this seed, of 1 to 20 decimal digits, and this count, of 1 to
+-- 6.
 pub record IsBulk (words : List (String Global)) (seed count : ℕ) : Type 0 where
   pub first : Text
   pub second : Text
@@ -65,13 +67,15 @@ pub record MutesEvent (last end : Stage) : Type 0 where
   pub failed : (log_of end).failed ≡ true
   pub after : end ≡ line.after
 
--- After the last event nothing happened, but that one ran out of memory, or could not note all its moves.
+-- After the last event nothing happened, but that one ran out of memory, or could not note all its
+-- moves.
 abbrev pub ClosesEvents : Ending → Stage → Stage → Type 0
 ClosesEvents ending.NoMemory last end = Follows last end ⊎ BreaksOff last end
 ClosesEvents ending.MovesFault last end = Follows last end ⊎ MutesEvent last end
 ClosesEvents _ last end = Follows last end
 
--- All events were decided; or some are left, since memory ran out, or since the moves were not all written or a device was not opened.
+-- All events were decided; or some are left, since memory ran out, or since the moves were not all
+-- written or a device was not opened.
 abbrev pub Stops : Ending → List Event → Type 0
 Stops ending.Done left = left ≡ []
 Stops ending.NoMemory left = 0 < length left
@@ -99,14 +103,19 @@ limit_at (Running s) = limit s.world
 
 abbrev pub four_lines : ℕ → ℕ → ℕ → ℕ → ℕ → Text
 four_lines lines ok none charge limit =
-    codes "lines " ++ (decimal lines ++ (codes "\nok " ++ (decimal ok ++ (codes "\nnone " ++ (decimal none ++ (codes "\ncharge " ++ (decimal charge ++ (codes " " ++ (decimal limit ++ 10 ∷ [])))))))))
+    codes "lines " ++ (decimal lines ++ (codes "\nok " ++ (decimal ok ++ (codes "\nnone "
+    ++ (decimal none ++ (codes "\ncharge " ++ (decimal charge
+    ++ (codes " " ++ (decimal limit ++ 10 ∷ [])))))))))
 
 -- over some answers, and the world that they leave
 abbrev pub bulk_text : List Answer → Stage → Text
-bulk_text answers end = four_lines (length answers) (count_by begins_ok answers) (count_by is_none answers) (charge_at end) (limit_at end)
+bulk_text answers end =
+    four_lines (length answers) (count_by begins_ok answers) (count_by is_none answers)
+    (charge_at end) (limit_at end)
 
--- Where all events were decided and all moves given on, the four lines stand whole, with status 0, and are given on, or a front of them stands,
--- with status 5; or the moves could not be given on: status 6. Then nothing stands, nor where not all were decided.
+-- Where all events were decided and all moves given on, the four lines stand whole, with status 0,
+-- and are given on, or a front of them stands, with status 5; or the moves could not be given on:
+-- status 6. Then nothing stands, nor where not all were decided.
 abbrev pub BulkEnds : Around → ℕ → Ending → Text → Text → Type 0
 BulkEnds b status e text written =
     ((status ≡ 0) × (e ≡ ending.Done) × (written ≡ text) × GaveAll b)
@@ -131,7 +140,8 @@ pub record BulkRan (a b : Around) (events : List Event) (status : ℕ) : Type 0 
   -- What happened after the last event, and what the end leaves, as `Ran` has it.
   pub closes : ClosesEvents e (last_stage (begun_at a.beside) lines) end
   pub leaves : Leaves end b.beside
-  pub log : LogRan a.beside.moves b.beside.moves a.beside.moves_faults b.beside.moves_faults (moves_of lines) e (last_stage (begun_at a.beside) lines) end
+  pub log : LogRan a.beside.moves b.beside.moves a.beside.moves_faults b.beside.moves_faults
+      (moves_of lines) e (last_stage (begun_at a.beside) lines) end
   pub holds : e ≡ ending.Done → EndsHolding end b.beside.paging.blocks b.beside.files.blocks
   pub faultless : (SomeRose a.beside b.beside → ⊥) → AreFaultless lines
 

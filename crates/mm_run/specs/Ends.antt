@@ -1,15 +1,15 @@
--- How the end of a run stands to its last answered line, and what is left then on devices and in the log of moves.
+-- How the end of a run stands to its last answered line, and what is left then on devices and in
+-- the log of moves.
 -- Profile, "A run".
 use Rattle.std.specs.Prelude.{◌≡◌, ◌⊎◌, ◌≤◌, ℕ, true, List, Option}
 use Rattle.mm_types.specs.Spelling.{Text}
 use Rattle.mm_types.specs.declared.events.Event.{Event}
-use Rattle.mm_lines.specs.Lines.{ended}
+use Rattle.mm_io.specs.Lines.{with_line_feed}
 use Rattle.mm_life.specs.Logs.{Log, IsFrontOf}
 use Rattle.mm_world.specs.World.{Page, filled}
 use Rattle.mm_blocks.specs.declared.device_calls.DeviceCall.{DeviceCall}
 use Rattle.mm_blocks.specs.Devices.{DeviceOf}
-use Rattle.mm_core.specs.Built.{takes_memory}
-use Rattle.mm_core.specs.Built.{is_machine}
+use Rattle.mm_core.specs.Built.{is_machine, takes_memory}
 use Rattle.mm_run.specs.declared.endings.Ending.{Ending}
 use Rattle.mm_run.specs.declared.endings.Ending.TheVariants as ending
 use Rattle.mm_run.specs.Scenes.{Stage, NotBegun, Running, Follows}
@@ -21,7 +21,7 @@ use Rattle.mm_run.specs.Answered.{DecidedLine, IsMuted, Says}
 -- The line after these was decided and not answered; its line feed is the last byte of `front`.
 pub record Mutes (n : ℕ) (front : Text) (last end : Stage) : Type 0 where
   pub line : DecidedLine
-  pub whole : front ≡ ended line.text
+  pub whole : front ≡ with_line_feed line.text
   pub muted : IsMuted n last line
   pub after : end ≡ line.after
 
@@ -41,14 +41,15 @@ abbrev pub TakesMemory : Stage → Event → Type 0
 TakesMemory (NotBegun o) event = ⊥
 TakesMemory (Running s) event = takes_memory filled s.world event ≡ true
 
--- The line after these ran out of memory: `machine`, whose machine was not made then, or a line that may take memory. Its feed is the
--- last byte of `front`.
+-- The line after these ran out of memory: `machine`, whose machine was not made then, or a line
+-- that may take memory. Its feed is the last byte of `front`.
 pub record WantsMemory (n : ℕ) (front : Text) (last end : Stage) : Type 0 where
   pub line : Text
   pub event : Event
-  pub whole : front ≡ ended line
+  pub whole : front ≡ with_line_feed line
   pub says : Says n line event
-  pub broken : ((is_machine event ≡ true) × Follows last end) ⊎ (TakesMemory last event × BreaksOff last end)
+  pub broken : ((is_machine event ≡ true) × Follows last end)
+      ⊎ (TakesMemory last event × BreaksOff last end)
 
 -- Nothing happened, but that a line ran out of memory, or could not note all its moves.
 abbrev pub Closes : Ending → ℕ → Text → Stage → Stage → Type 0
@@ -73,7 +74,8 @@ pub record IsLeft (d : DeviceOf) (blocks : List Page) (x : DeviceLeft) : Type 0 
   pub blocks_are : blocks ≡ x.blocks
   pub faults_are : d.faults ≡ x.faults
 
--- What a run leaves: the bytes that the sink of moves took and those that it gave on, where told, its count of faults, and both devices.
+-- What a run leaves: the bytes that the sink of moves took and those that it gave on, where told,
+-- its count of faults, and both devices.
 pub record Left : Type 0 where
   pub moves : Option Text
   pub gave : Option Text
@@ -82,10 +84,16 @@ pub record Left : Type 0 where
   pub files : DeviceLeft
 
 abbrev pub left_with : Option Text → Option Text → ℕ → DeviceLeft → DeviceLeft → Left
-left_with moves gave faults paging files = record { moves = moves; gave = gave; moves_faults = faults; paging = paging; files = files }
+left_with moves gave faults paging files = record {
+  moves = moves;
+  gave = gave;
+  moves_faults = faults;
+  paging = paging;
+  files = files;
+}
 
--- The log of moves as it is left: its bytes, where told, are those of the stage; as it is flushed at the end more of them may be given on, and
--- its count of faults may rise.
+-- The log of moves as it is left: its bytes, where told, are those of the stage; as it is flushed
+-- at the end more of them may be given on, and its count of faults may rise.
 pub record IsLogLeft (log : Log) (x : Left) : Type 0 where
   pub bytes_are : log.bytes ≡ x.moves
   pub gave_more : IsFrontOf log.given x.gave
@@ -94,4 +102,7 @@ pub record IsLogLeft (log : Log) (x : Left) : Type 0 where
 -- Before the first line was decided nothing was noted; devices may have been opened.
 abbrev pub Leaves : Stage → Left → Type 0
 Leaves (NotBegun o) x = IsLogLeft o.log x
-Leaves (Running s) x = IsLogLeft s.behind.log x × IsLeft s.paging s.behind.slots x.paging × IsLeft s.files s.blocks x.files
+Leaves (Running s) x =
+    IsLogLeft s.behind.log x
+    × IsLeft s.paging s.behind.slots x.paging
+    × IsLeft s.files s.blocks x.files

@@ -19,11 +19,11 @@ OpenFailed paging paging' files files' =
     (IsUnopened paging paging' × (files' ≡ files))
     ⊎ (NoneLogged paging'.log × IsUnopened files files')
 
--- Status 4 comes only where the source failed, 5 where the sink of answers did, 6 where that of moves
--- did, 7 where a device could not be opened. Where memory was refused, with status 1, no count of the
--- source and of the sink of answers is another than before, and that of moves did not fall: it may
--- have risen, where the `at` of the line that ran out of memory was not written. With the other
--- statuses no count of these three is another.
+-- Status 4 comes only where the source failed, 5 where the sink of answers did, 6 where that of
+-- moves did, 7 where a device could not be opened. Where memory was refused, with status 1, no
+-- count of the source and of the sink of answers is another than before, and that of moves did not
+-- fall: it may have risen, where the `at` of the line that ran out of memory was not written. With
+-- the other statuses no count of these three is another.
 pub record IsAccounted (status : ℕ) (opening : Type 0) (c d : Counts) : Type 0 where
   pub read_fault : status ≡ 4 → Rose c.source d.source
   pub out_fault : status ≡ 5 → Rose c.out d.out

@@ -11,6 +11,8 @@ pub mod Script
 pub mod Bulk
 pub mod WordForms
 pub mod Batch
+pub mod Moments
+pub mod Settings
 pub mod Seen
 pub mod Closing
 pub mod Faults

@@ -1,8 +1,9 @@
 -- What a run did: the promise of `run`, on one page.
 -- Profile, "A run".
 --
--- It speaks of what stands around a run, before it and after it: the bytes left in the source, those
--- that both sinks took and gave on, and both devices. What is not told of these has no bytes (`None`), and nothing is said of it.
+-- It speaks of what stands around a run, before it and after it: the bytes left in the source,
+-- those that both sinks took and gave on, and both devices. What is not told of these has no bytes
+-- (`None`), and nothing is said of it.
 use Rattle.std.specs.Prelude.{◌≡◌, ◌≢◌, ◌⊎◌, ℕ, ◌<◌, ◌≤◌, List, ◌∷◌, ◌++◌, [], length, Option}
 use Rattle.mm_types.specs.Outside.{Took, Appended, Rose}
 use Rattle.mm_types.specs.Spelling.{Text}
@@ -11,7 +12,7 @@ use Rattle.mm_types.specs.declared.moves.Move.{Move}
 use Rattle.mm_life.specs.Life.{unstarted}
 use Rattle.mm_life.specs.MoveText.{AreMoves, spelled_moves}
 use Rattle.mm_life.specs.Replay.{Replays}
-use Rattle.mm_lines.specs.Lines.{joined}
+use Rattle.mm_io.specs.Lines.{text_of_lines}
 use Rattle.mm_world.specs.World.{Page}
 use Rattle.mm_paging.specs.Runs.{DevicesHold}
 use Rattle.mm_run.specs.declared.endings.Ending.{Ending}
@@ -43,7 +44,8 @@ pub record GaveAll (b : Around) : Type 0 where
   pub moves : b.beside.gave ≡ b.beside.moves
 
 -- The status is the ending's own: all answers and its last text stand, and all was given on.
-pub record TellsAll (b : Around) (status : ℕ) (e : Ending) (told kept : List DecidedLine) (written : Text) : Type 0 where
+pub record TellsAll (b : Around) (status : ℕ) (e : Ending) (told kept : List DecidedLine)
+    (written : Text) : Type 0 where
   pub status_is : status ≡ status_of e
   pub out_stands : e ≢ ending.OutFault
   pub moves_stand : e ≢ ending.MovesFault
@@ -52,7 +54,8 @@ pub record TellsAll (b : Around) (status : ℕ) (e : Ending) (told kept : List D
   pub gave : GaveAll b
 
 -- With status 5, as the sink of answers failed, a front of all that stands.
-pub record TellsFront (status : ℕ) (e : Ending) (told kept : List DecidedLine) (written : Text) : Type 0 where
+pub record TellsFront (status : ℕ) (e : Ending) (told kept : List DecidedLine) (written : Text)
+    : Type 0 where
   pub status_is : status ≡ 5
   pub moves_stand : e ≢ ending.MovesFault
   pub all_told : kept ≡ []
@@ -60,7 +63,8 @@ pub record TellsFront (status : ℕ) (e : Ending) (told kept : List DecidedLine)
 
 -- With status 6, as the sink of moves failed, the answers up to the last flush stand, and no last
 -- text.
-pub record TellsSome (status : ℕ) (e : Ending) (told : List DecidedLine) (written : Text) : Type 0 where
+pub record TellsSome (status : ℕ) (e : Ending) (told : List DecidedLine) (written : Text)
+    : Type 0 where
   pub status_is : status ≡ 6
   pub out_stands : e ≢ ending.OutFault
   pub text : written ≡ spelled (answers_of told)
@@ -74,10 +78,13 @@ Ends b status e told kept written =
 abbrev pub SomeRose : Left → Left → Type 0
 SomeRose x y = Rose x.paging.faults y.paging.faults ⊎ Rose x.files.faults y.files.faults
 
--- What the sink of moves took is the text of the moves of the answered lines, one after another, and of `more`: nothing, but the `at` of a
--- line that ran out of memory, or the moves of a line that was decided and could not note them all. Of all these together, which are legal
--- one after another, a front was written: all of it, but in these two cases, and in these too unless the sink's count of faults rose.
-pub record LogRan (took took' : Option Text) (faults faults' : ℕ) (moves : List Move) (e : Ending) (last end : Stage) : Type 0 where
+-- What the sink of moves took is the text of the moves of the answered lines, one after another,
+-- and of `more`: nothing, but the `at` of a line that ran out of memory, or the moves of a line
+-- that was decided and could not note them all. Of all these together, which are legal one after
+-- another, a front was written: all of it, but in these two cases, and in these too unless the
+-- sink's count of faults rose.
+pub record LogRan (took took' : Option Text) (faults faults' : ℕ) (moves : List Move) (e : Ending)
+    (last end : Stage) : Type 0 where
   pub more : List Move
   pub in_range : AreMoves (moves ++ more)
   pub replays : Replays moves unstarted (life_of last)
@@ -93,29 +100,34 @@ EndsHolding (NotBegun o) slots blocks = Unit {0}
 EndsHolding (Running s) slots blocks = DevicesHold s.world s.behind.life slots blocks
 
 pub record Ran (a b : Around) (form : Type 0) (status : ℕ) : Type 0 where
-  -- The lines that were decided and answered, one after another: each with its text, event, answer and moves, and what stands after it.
-  -- Each is in the grammar (`Says`), and decided from what the one before it left (`IsDecided`): its answer and the new world are the
-  -- definitions' step by the reports before and after it; its charge is within the limit; its moves are its piece of the log.
+  -- The lines that were decided and answered, one after another: each with its text, event, answer
+  -- and moves, and what stands after it. Each is in the grammar (`Says`), and decided from what the
+  -- one before it left (`IsDecided`): its answer and the new world are the definitions' step by the
+  -- reports before and after it; its charge is within the limit; its moves are its piece of the
+  -- log.
   pub lines : List DecidedLine
   pub answered : AreAnswered 0 (begun_at a.beside) lines
   pub limit : length lines ≤ most_lines
-  -- Each `watch` that was answered with pages gave exactly those of its range that are written by the lines before it and their answers
-  -- (GetWriteWatch): the lowest ones, at most as many as it asked for.
-  pub watches : (before after : List DecidedLine) (l : DecidedLine) → before ++ l ∷ after ≡ lines → GivesWritten (told_of before) l.event l.answer
-  -- What the run then came to, by the bytes after these lines up to the one that decided it (`front`); fewer than 4,096 more were taken.
+  -- Each `watch` that was answered with pages gave exactly those of its range that are written by
+  -- the lines before it and their answers (GetWriteWatch): the lowest ones, at most as many as it
+  -- asked for.
+  pub watches : (before after : List DecidedLine) (l : DecidedLine) →
+      before ++ l ∷ after ≡ lines → GivesWritten (told_of before) l.event l.answer
+  -- What the run then came to, by the bytes after these lines up to the one that decided it
+  -- (`front`); fewer than 4,096 more were taken.
   pub e : Ending
   pub taken : Text
   pub front : Text
   pub more : Text
   pub read : Took a.left b.left taken
-  pub whole : taken ≡ joined (texts_of lines) ++ (front ++ more)
+  pub whole : taken ≡ text_of_lines (texts_of lines) ++ (front ++ more)
   pub settled : Settles (length lines) front more b.left e
   pub few : length more < 4096
   pub is_form : form → e ≢ ending.Usage
   pub no_form : (form → ⊥) → e ≡ ending.Usage
-  -- An answer is given on only after its moves were. The lines that were told, whose moves the sink of
-  -- moves has given on, and those that were not, none but with status 6; what the sink of answers took:
-  -- the answers of the told ones and the last text of the status.
+  -- An answer is given on only after its moves were. The lines that were told, whose moves the sink
+  -- of moves has given on, and those that were not, none but with status 6; what the sink of
+  -- answers took: the answers of the told ones and the last text of the status.
   pub told : List DecidedLine
   pub kept : List DecidedLine
   pub split : lines ≡ told ++ kept
@@ -127,9 +139,11 @@ pub record Ran (a b : Around) (form : Type 0) (status : ℕ) : Type 0 where
   pub end : Stage
   pub closes : Closes e (length lines) front (last_stage (begun_at a.beside) lines) end
   pub leaves : Leaves end b.beside
-  pub log : LogRan a.beside.moves b.beside.moves a.beside.moves_faults b.beside.moves_faults (moves_of lines) e (last_stage (begun_at a.beside) lines) end
+  pub log : LogRan a.beside.moves b.beside.moves a.beside.moves_faults b.beside.moves_faults
+      (moves_of lines) e (last_stage (begun_at a.beside) lines) end
   pub holds : e ≡ ending.Done → EndsHolding end b.beside.paging.blocks b.beside.files.blocks
-  -- Unless a device's count of faults rose, an answer tells of a failure only behind a call that a `fail` line named.
+  -- Unless a device's count of faults rose, an answer tells of a failure only behind a call that a
+  -- `fail` line named.
   pub faultless : (SomeRose a.beside b.beside → ⊥) → AreFaultless lines
 
 -- Memory was refused as the words were read or as the room for answers was taken, before anything

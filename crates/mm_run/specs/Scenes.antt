@@ -39,11 +39,15 @@ HasNoted s = (log_of s).failed ≡ false
 
 -- after a flush of the moves: these bytes were given on, and so often it has failed
 abbrev pub with_flush : Option (List ℕ) → ℕ → Stage → Stage
-with_flush given k (NotBegun o) = NotBegun (record o { log = record (o.log) { given = given; faults = k } })
+with_flush given k (NotBegun o) =
+    NotBegun (record o { log = record (o.log) { given = given; faults = k } })
 with_flush given k (Running s) =
-    Running (record s { behind = record (s.behind) { log = record (s.behind.log) { given = given; faults = k } } })
+    Running (record s {
+      behind = record (s.behind) { log = record (s.behind.log) { given = given; faults = k } };
+    })
 
--- Nothing has changed between two lines, but that a flush may have given on moves, or may have failed.
+-- Nothing has changed between two lines, but that a flush may have given on moves, or may have
+-- failed.
 pub record Follows (old mid : Stage) : Type 0 where
   pub same : mid ≡ with_flush (log_of mid).given (log_of mid).faults old
   pub later : (log_of old).faults ≤ (log_of mid).faults

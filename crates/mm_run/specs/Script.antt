@@ -4,7 +4,7 @@ use Rattle.std.specs.Prelude.{◌≡◌, ◌⊎◌, ℕ, suc, ◌+◌, ◌≤◌
 use Rattle.mm_types.specs.Outside.{Appended}
 use Rattle.mm_types.specs.Spelling.{Text}
 use Rattle.mm_types.specs.AnswerText.{spelled}
-use Rattle.mm_lines.specs.Lines.{joined}
+use Rattle.mm_io.specs.Lines.{text_of_lines}
 use Rattle.mm_types.specs.declared.events.Event.{Event}
 use Rattle.mm_run.specs.declared.endings.Ending.{Ending}
 use Rattle.mm_run.specs.declared.endings.Ending.TheVariants as ending
@@ -32,7 +32,7 @@ pub record IsScript (text : Text) (n : ℕ) (lines : List Text) (e : Ending) : T
   pub events : List Event
   pub front : Text
   pub more : Text
-  pub whole : text ≡ joined lines ++ (front ++ more)
+  pub whole : text ≡ text_of_lines lines ++ (front ++ more)
   pub each : Each n lines events
   pub limit : n + length lines ≤ most_lines
   pub settled : Settles (n + length lines) front more (Some []) e
@@ -43,7 +43,8 @@ abbrev pub IsFault : ℕ → Type 0
 IsFault status = (status ≡ 1) ⊎ ((status ≡ 4) ⊎ ((status ≡ 5) ⊎ ((status ≡ 6) ⊎ (status ≡ 7))))
 
 -- A run that answered all these lines, came to this with its status, and wrote its whole text.
-pub record IsComplete (a b : Around) (form : Type 0) (lines : List Text) (e : Ending) (status : ℕ) : Type 0 where
+pub record IsComplete (a b : Around) (form : Type 0) (lines : List Text) (e : Ending) (status : ℕ)
+    : Type 0 where
   pub ran : Ran a b form status
   pub came_to : ran.e ≡ e
   pub all : texts_of ran.lines ≡ lines

@@ -1,6 +1,6 @@
 -- What one line does.
 -- Profile, "A run".
-use Rattle.std.specs.Prelude.{◌≡◌, ◌≤◌, ℕ, Bool, true, false, List, [], ◌∷◌, None, replicate, unwrap_or}
+use Rattle.std.specs.Prelude.{◌≡◌, ◌≤◌, ℕ, Bool, true, false, List, [], ◌∷◌, None, replicate}
 use Rattle.mm_types.specs.Machine.{MachineOf, limit_of}
 use Rattle.mm_types.specs.declared.answers.Answer.{Answer}
 use Rattle.mm_types.specs.declared.answers.Answer.TheVariants as answer
@@ -17,14 +17,13 @@ use Rattle.mm_world.specs.Outcome.{done}
 use Rattle.mm_world.specs.Step.{first_world, step, unpaged as unpaged_step, is_told, is_failed_extension}
 use Rattle.mm_blocks.specs.Traffic.{NoneLogged, empty_block}
 use Rattle.mm_blocks.specs.Devices.{DeviceOf}
-use Rattle.mm_walks.specs.Waits.{Idle}
+use Rattle.mm_life.specs.Waits.{Idle}
 use Rattle.mm_pages.specs.Told.{told_of, none_told}
 use Rattle.mm_paging.specs.Lines.{Agrees}
 use Rattle.mm_paging.specs.Runs.{DevicesHold, first_move}
 use Rattle.mm_core.specs.Stepping.{asks_frames}
 use Rattle.mm_core.specs.Promise.{Scene, Told, Breaks as WorldBreaks}
 use Rattle.mm_core.specs.Built.{is_machine}
-use Rattle.mm_core.specs.Promise.{Scene}
 use Rattle.mm_run.specs.Scenes.{Outset, Stage, NotBegun, Running, life_of, log_of}
 
 -- ---- the first line
@@ -35,8 +34,8 @@ pub record IsUnused (faults : ℕ) (d : DeviceOf) : Type 0 where
   pub none_named : d.named ≡ []
   pub later : faults ≤ d.faults
 
--- A machine has begun: its world is the first, its devices hold zeros and were not asked for one yet, its report tells of the frames, of no call
--- and of no growing device, and no thread waits.
+-- A machine has begun: its world is the first, its devices hold zeros and were not asked for one
+-- yet, its report tells of the frames, of no call and of no growing device, and no thread waits.
 pub record IsFirst (m : MachineOf) (o : Outset) (s : Scene) : Type 0 where
   pub world : s.world ≡ first_world m
   pub slots : s.behind.slots ≡ replicate m.slots empty_block
@@ -49,7 +48,8 @@ pub record IsFirst (m : MachineOf) (o : Outset) (s : Scene) : Type 0 where
   pub idle : (tid : ℕ) → (s.behind.waits tid ≡ Idle) × (s.report.wait tid ≡ wait.None)
 
 -- The first line, which names the machine.
-pub record Begins (o : Outset) (e : Event) (a : Answer) (moves : List Move) (s : Scene) : Type 0 where
+pub record Begins (o : Outset) (e : Event) (a : Answer) (moves : List Move) (s : Scene)
+    : Type 0 where
   pub machine : MachineOf
   pub names : e ≡ line.Machine machine
   pub answered : a ≡ answer.Limit (limit_of machine)
@@ -58,7 +58,8 @@ pub record Begins (o : Outset) (e : Event) (a : Answer) (moves : List Move) (s :
 
 -- ---- a later line
 
--- lines whose answers tell of paging even where no device call fails: of requests, of frames, of what a thread waits for
+-- lines whose answers tell of paging even where no device call fails: of requests, of frames, of
+-- what a thread waits for
 abbrev pub tells_paging : Event → Bool
 tells_paging (line.Begin tid pid what) = true
 tells_paging (line.Resume tid) = true
@@ -71,15 +72,19 @@ pub record NoneFailed (after : Report) : Type 0 where
   pub calls : failed_calls after ≡ 0
   pub extended : is_failed_extension after.extended ≡ false
 
-pub record Decides (s : Scene) (e : Event) (a : Answer) (moves : List Move) (z : Scene) : Type 0 where
-  -- the answer and the new world are those of the definitions' step, by the reports before and after
+pub record Decides (s : Scene) (e : Event) (a : Answer) (moves : List Move) (z : Scene)
+    : Type 0 where
+  -- the answer and the new world are those of the definitions' step, by the reports before and
+  -- after
   pub answered : step s.world e s.report z.report ≡ record { answer = a; world = z.world }
-  -- answer and world are those of unpaged address spaces, of a call and a plain access, where no device call of the line failed
+  -- answer and world are those of unpaged address spaces, of a call and a plain access, where no
+  -- device call of the line failed
   pub plain : tells_paging e ≡ false → NoneFailed z.report → unpaged_step s.world e ≡ done a z.world
-  -- and of any line but `io` and `counts`, where the answer is no failed access, no pending one and no `fault`
+  -- and of any line but `io` and `counts`, where the answer is no failed access, no pending one and
+  -- no `fault`
   pub unpaged : asks_frames e ≡ false → is_told a ≡ false → unpaged_step s.world e ≡ done a z.world
-  -- what the promise of a world tells beside: of sections and names, of devices, of waits, and of the moves, which are one `at` with the
-  -- line's number and kind, and what its form allows
+  -- what the promise of a world tells beside: of sections and names, of devices, of waits, and of
+  -- the moves, which are one `at` with the line's number and kind, and what its form allows
   pub told : Told false s e a moves z
 
 -- ---- any line
@@ -101,14 +106,17 @@ abbrev pub HoldsUnchanged : Stage → Type 0
 HoldsUnchanged (NotBegun o) = Unit {0}
 HoldsUnchanged (Running s) = DevicesHold s.world s.behind.life s.behind.slots s.blocks
 
--- Moves that are legal one after another, and by whose text the log grew; where the sink fails in it, by a front of it.
+-- Moves that are legal one after another, and by whose text the log grew; where the sink fails in
+-- it, by a front of it.
 pub record Notes (old : Stage) (moves : List Move) (new : Stage) : Type 0 where
   pub in_range : AreMoves moves
   pub grew : Grew (log_of old) (log_of new) (spelled_moves moves)
   pub replays : Replays moves (life_of old) (life_of new)
 
--- A line is decided: its answer and the new world are the definition's, the charge stays within the limit, and its moves are noted.
-pub record IsDecided (old : Stage) (e : Event) (a : Answer) (moves : List Move) (new : Stage) : Type 0 where
+-- A line is decided: its answer and the new world are the definition's, the charge stays within the
+-- limit, and its moves are noted.
+pub record IsDecided (old : Stage) (e : Event) (a : Answer) (moves : List Move) (new : Stage)
+    : Type 0 where
   pub step : Stepped old e a moves new
   pub within : IsWithinLimit new
   pub notes : Notes old moves new
@@ -125,6 +133,7 @@ pub record Moved (old : Stage) (e : Event) (a : Answer) (new : Stage) : Type 0 w
   pub moves : List Move
   pub decided : IsDecided old e a moves new
 
--- A line ran out of memory: it noted its `at` alone or nothing, and world and devices are as before.
+-- A line ran out of memory: it noted its `at` alone or nothing, and world and devices are as
+-- before.
 abbrev pub Breaks : Scene → Scene → Type 0
 Breaks s z = WorldBreaks false s z

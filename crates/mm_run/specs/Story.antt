@@ -6,7 +6,7 @@ use Rattle.std.specs.declared.alloc.Global.{Global}
 use Rattle.mm_types.specs.Outside.{Took, IsEnd, Appended, Rose}
 use Rattle.mm_types.specs.Spelling.{Text}
 use Rattle.mm_types.specs.AnswerText.{spelled}
-use Rattle.mm_lines.specs.Lines.{IsLine, NoFeed, ended, joined}
+use Rattle.mm_io.specs.Lines.{IsLine, NoFeed, with_line_feed, text_of_lines}
 use Rattle.mm_script.specs.Grammar.{IsLine as IsLineFor}
 use Rattle.mm_types.specs.declared.events.Event.{Event}
 use Rattle.mm_run.specs.declared.endings.Ending.{Ending}
@@ -22,14 +22,15 @@ use Rattle.mm_run.specs.Ends.{Left, Leaves, Closes}
 abbrev pub most_lines : ℕ
 most_lines = 1000000
 
--- What stands around the lines: the bytes left in the source and those that the sink of answers took,
--- where told, and the answers that are kept for it.
+-- What stands around the lines: the bytes left in the source and those that the sink of answers
+-- took, where told, and the answers that are kept for it.
 pub record Outside : Type 0 where
   pub left : Option Text
   pub took : Option Text
   pub kept : Text
 
--- Where a run stands: the bytes that were taken and not used yet, how many lines were decided, and its stage.
+-- Where a run stands: the bytes that were taken and not used yet, how many lines were decided, and
+-- its stage.
 pub record Stand : Type 0 where
   pub held : Text
   pub n : ℕ
@@ -49,7 +50,7 @@ IsMisplaced n e = is_machine e ≡ nat_lt 0 n
 pub record IsBad (n : ℕ) (front : Text) (column : ℕ) : Type 0 where
   pub line : Text
   pub is_line : IsLine line
-  pub whole : front ≡ ended line
+  pub whole : front ≡ with_line_feed line
   pub place : reading n line ≡ Err column
   pub refused : (e : Event) → IsLineFor line e → IsMisplaced n e
 
@@ -66,25 +67,28 @@ pub record IsMachineLine (n : ℕ) (front : Text) : Type 0 where
   pub first : n ≡ 0
   pub line : Text
   pub event : Event
-  pub whole : front ≡ ended line
+  pub whole : front ≡ with_line_feed line
   pub says : reading 0 line ≡ Ok event
   pub machine : is_machine event ≡ true
 
--- After n decided lines these bytes, and none before the last of them, make a run come to this. More were
--- taken after them, and others are left.
+-- After n decided lines these bytes, and none before the last of them, make a run come to this.
+-- More were taken after them, and others are left.
 abbrev pub Settles : ℕ → Text → Text → Option Text → Ending → Type 0
 Settles n front more left ending.Done = (0 < n) × (front ≡ []) × (more ≡ []) × IsEnd left
 Settles n front more left ending.NoMemory = length front ≤ 257
 Settles n front more left ending.Usage = (n ≡ 0) × (front ≡ []) × (more ≡ [])
-Settles n front more left (ending.Script line column) = (line ≡ n + 1) × (n < most_lines) × (IsBad n front column ⊎ IsOpen n front more left column)
+Settles n front more left (ending.Script line column) =
+    (line ≡ n + 1) × (n < most_lines) × (IsBad n front column ⊎ IsOpen n front more left column)
 Settles n front more left ending.ReadFault = IsLine front × (more ≡ [])
 Settles n front more left ending.OutFault = front ≡ []
 Settles n front more left ending.MovesFault = length front ≤ 257
 Settles n front more left ending.SetupFault = IsMachineLine n front
-Settles n front more left (ending.TooLong line) = (line ≡ n + 1) × (((length front ≡ 257) × NoFeed front) ⊎ ((n ≡ most_lines) × (length front ≡ 1)))
+Settles n front more left (ending.TooLong line) =
+    (line ≡ n + 1)
+    × (((length front ≡ 257) × NoFeed front) ⊎ ((n ≡ most_lines) × (length front ≡ 1)))
 
--- This text is the answers of these lines, kept until the moves of all of them are given on; the log
--- has taken these.
+-- This text is the answers of these lines, kept until the moves of all of them are given on; the
+-- log has taken these.
 pub record AreKept (lines : List DecidedLine) (text : Text) (s : Stage) : Type 0 where
   pub text_is : text ≡ spelled (answers_of lines)
   pub noted : HoldMovesOf lines (log_of s).bytes
@@ -95,7 +99,7 @@ pub record WentFrom (kept : List DecidedLine) (a b : Outside) (x y : Stand) : Ty
   pub lines : List DecidedLine
   pub taken : Text
   pub read : Took a.left b.left taken
-  pub whole : x.held ++ taken ≡ joined (texts_of lines) ++ y.held
+  pub whole : x.held ++ taken ≡ text_of_lines (texts_of lines) ++ y.held
   pub answered : AreAnswered x.n x.stage lines
   pub stage : Follows (last_stage x.stage lines) y.stage
   pub count : y.n ≡ x.n + length lines
@@ -110,15 +114,15 @@ pub record WentFrom (kept : List DecidedLine) (a b : Outside) (x y : Stand) : Ty
 abbrev pub Went : Outside → Outside → Stand → Stand → Type 0
 Went a b x y = (kept : List DecidedLine) → AreKept kept a.kept x.stage → WentFrom kept a b x y
 
--- The lines that were decided and answered, what the run then came to, and at which stage it ended. Fewer than 4,096 bytes were
--- taken after the byte that decided it.
+-- The lines that were decided and answered, what the run then came to, and at which stage it ended.
+-- Fewer than 4,096 bytes were taken after the byte that decided it.
 pub record Decided (left left' : Option Text) (x : Stand) (e : Ending) (end : Stage) : Type 0 where
   pub lines : List DecidedLine
   pub taken : Text
   pub front : Text
   pub more : Text
   pub read : Took left left' taken
-  pub whole : x.held ++ taken ≡ joined (texts_of lines) ++ (front ++ more)
+  pub whole : x.held ++ taken ≡ text_of_lines (texts_of lines) ++ (front ++ more)
   pub answered : AreAnswered x.n x.stage lines
   pub limit : x.n + length lines ≤ most_lines
   pub settled : Settles (x.n + length lines) front more left' e
@@ -128,11 +132,13 @@ pub record Decided (left left' : Option Text) (x : Stand) (e : Ending) (end : St
 -- What stands on the sink of answers once a run has come to this, before the last text: the answers
 -- of the told lines, or where a call of the sink failed, a front of them, and then none is kept.
 abbrev pub StandsAt : Ending → List DecidedLine → List DecidedLine → Text → Type 0
-StandsAt ending.OutFault told still written = (still ≡ []) × IsFront written (spelled (answers_of told))
+StandsAt ending.OutFault told still written =
+    (still ≡ []) × IsFront written (spelled (answers_of told))
 StandsAt _ told still written = written ≡ spelled (answers_of told)
 
 -- The same, with the answers that were told and those that are kept.
-pub record CameFrom (kept : List DecidedLine) (a b : Outside) (x : Stand) (e : Ending) (end : Stage) : Type 0 where
+pub record CameFrom (kept : List DecidedLine) (a b : Outside) (x : Stand) (e : Ending) (end : Stage)
+    : Type 0 where
   pub decided : Decided a.left b.left x e end
   pub told : List DecidedLine
   pub still : List DecidedLine
@@ -145,7 +151,8 @@ pub record CameFrom (kept : List DecidedLine) (a b : Outside) (x : Stand) (e : E
   pub grows : IsFrontOf (log_of x.stage).given (log_of end).given
 
 abbrev pub Came : Outside → Outside → Stand → Ending → Stage → Type 0
-Came a b x e end = (kept : List DecidedLine) → AreKept kept a.kept x.stage → CameFrom kept a b x e end
+Came a b x e end =
+    (kept : List DecidedLine) → AreKept kept a.kept x.stage → CameFrom kept a b x e end
 
 -- The same, with what is left on devices and in the log of moves.
 pub record Comes (a b : Outside) (x : Stand) (e : Ending) (left : Left) : Type 0 where
@@ -162,11 +169,12 @@ pub record Counts : Type 0 where
 abbrev pub counts_with : ℕ → ℕ → ℕ → Counts
 counts_with source out moves = record { source = source; out = out; moves = moves }
 
--- The faults that an ending is to blame on: of the source, of a sink, of a device that was opened. No
--- other count is another than before, but that of the moves where a line ran out of memory, whose `at`
--- may not have been written.
+-- The faults that an ending is to blame on: of the source, of a sink, of a device that was opened.
+-- No other count is another than before, but that of the moves where a line ran out of memory,
+-- whose `at` may not have been written.
 abbrev pub IsBlamed : Ending → Type 0 → Counts → Counts → Type 0
-IsBlamed ending.ReadFault opening c d = Rose c.source d.source × (d ≡ record c { source = d.source })
+IsBlamed ending.ReadFault opening c d =
+    Rose c.source d.source × (d ≡ record c { source = d.source })
 IsBlamed ending.OutFault opening c d = Rose c.out d.out × (d ≡ record c { out = d.out })
 IsBlamed ending.MovesFault opening c d = Rose c.moves d.moves × (d ≡ record c { moves = d.moves })
 IsBlamed ending.NoMemory opening c d = (c.moves ≤ d.moves) × (d ≡ record c { moves = d.moves })
@@ -175,7 +183,9 @@ IsBlamed _ opening c d = d ≡ c
 
 -- What the input's end is, after n lines and so many bytes.
 abbrev pub EndsAt : ℕ → ℕ → Ending → Type 0
-EndsAt n len e = ((0 < n) × (len ≡ 0) × (e ≡ ending.Done)) ⊎ (((0 < len) ⊎ (n ≡ 0)) × (e ≡ ending.Script (n + 1) (len + 1)))
+EndsAt n len e =
+    ((0 < n) × (len ≡ 0) × (e ≡ ending.Done))
+    ⊎ (((0 < len) ⊎ (n ≡ 0)) × (e ≡ ending.Script (n + 1) (len + 1)))
 
 -- These words are the form `run`.
 abbrev pub IsForm : List (String Global) → Type 0

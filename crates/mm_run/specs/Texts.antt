@@ -1,6 +1,6 @@
 -- The statuses of a run, and its text.
 -- Profile, "A run".
-use Rattle.std.specs.Prelude.{◌≡◌, ℕ, Bool, true, false, [], ◌∷◌, ◌++◌, codes, Option}
+use Rattle.std.specs.Prelude.{◌≡◌, ℕ, [], ◌∷◌, ◌++◌, codes, Option, Result, MatchResult}
 use Rattle.mm_types.specs.Outside.{Appended}
 use Rattle.mm_types.specs.Spelling.{Text, decimal}
 use Rattle.mm_run.specs.declared.endings.Ending.{Ending}
@@ -23,7 +23,8 @@ abbrev pub last_text : Ending → Text
 last_text ending.Done = []
 last_text ending.NoMemory = []
 last_text ending.Usage = codes "usage: mmsim run | mmsim bulk SEED COUNT\n"
-last_text (ending.Script line column) = codes "bad line " ++ (decimal line ++ (codes " column " ++ (decimal column ++ 10 ∷ [])))
+last_text (ending.Script line column) =
+    codes "bad line " ++ (decimal line ++ (codes " column " ++ (decimal column ++ 10 ∷ [])))
 last_text ending.ReadFault = []
 last_text ending.OutFault = []
 last_text ending.MovesFault = []
@@ -43,6 +44,12 @@ pub record TornText (took took' : Option Text) (text : Text) : Type 0 where
   pub wrote : Appended took took' front
 
 -- How the writing of a text went: whole, or torn where the sink failed.
-abbrev pub WroteText : Option Text → Option Text → Text → Bool → Type 0
-WroteText took took' text false = Appended took took' text
-WroteText took took' text true = TornText took took' text
+abbrev pub WroteText : {T E : Type 0} → Result T E → Option Text → Option Text → Text → Type 0
+WroteText r took took' text =
+    MatchResult r (λ _. Appended took took' text) (λ _. TornText took took' text)
+
+-- The same, and whole it was given on with all that was taken.
+abbrev pub ToldText : {T E : Type 0} →
+    Result T E → Option Text → Option Text → Option Text → Text → Type 0
+ToldText r took took' given' text =
+    MatchResult r (λ _. Appended took took' text × (given' ≡ took')) (λ _. TornText took took' text)

@@ -1,12 +1,13 @@
--- Which pages of watched regions are written, told by a list of lines and their answers alone (GetWriteWatch).
+-- Which pages of watched regions are written, told by a list of lines and their answers alone
+-- (GetWriteWatch).
 -- Profile, "Watched regions and stacks".
-use Rattle.std.specs.Prelude.{◌≡◌, ℕ, Bool, true, false, not, ◌&&◌, ◌==◌, if◌then◌else◌, List, map, take, filter, fold}
+use Rattle.std.specs.Prelude.{◌≡◌, ℕ, Bool, false, not, ◌&&◌, ◌==◌, if◌then◌else◌, List, map, take, filter, fold}
 use Rattle.std.specs.List.{range_with_len}
 use Rattle.mm_types.specs.declared.answers.Answer.{Answer}
 use Rattle.mm_types.specs.declared.answers.Answer.TheVariants as answer
 use Rattle.mm_types.specs.declared.events.Event.{Event}
 use Rattle.mm_types.specs.declared.events.Event.TheVariants as line
-use Rattle.mm_types.specs.Address.{Range, address_of, range_of, holds_page}
+use Rattle.mm_types.specs.Address.{Range, address_of, range_of}
 use Rattle.mm_world.specs.Written.{access_writes, written_after}
 use Rattle.mm_world.specs.Writes.{ends_none}
 
@@ -24,10 +25,13 @@ abbrev pub unmarked : Marks
 unmarked = record { keeps = λ thread. false; written = false }
 
 module _ (pid page : ℕ) where
-  -- the thread keeps a write to the page from a `begin` answered `pending` on, until a `resume` ends the access or the process ends
+  -- the thread keeps a write to the page from a `begin` answered `pending` on, until a `resume`
+  -- ends the access or the process ends
   abbrev pub keeps_after : ℕ → Bool → Event → Answer → Bool
-  keeps_after thread was (line.Begin tid by what) (answer.Pending why) = if tid.0 == thread then access_writes pid page by.0 what else was
-  keeps_after thread was (line.Resume tid) a = if (tid.0 == thread) && not (ends_none a) then false else was
+  keeps_after thread was (line.Begin tid by what) (answer.Pending why) =
+      if tid.0 == thread then access_writes pid page by.0 what else was
+  keeps_after thread was (line.Resume tid) a =
+      if (tid.0 == thread) && not (ends_none a) then false else was
   keeps_after thread was (line.Exit by) answer.Ok = if by.0 == pid then false else was
   keeps_after thread was _ _ = was
 
@@ -47,9 +51,11 @@ module _ (pid page : ℕ) where
 
 -- the lowest pages of the range that are written after these lines, at most `count`
 abbrev pub lowest_written : List AnsweredLine → ℕ → Range → ℕ → List ℕ
-lowest_written lines pid range count = take count (filter (λ page. is_written pid page lines) (range_with_len range.first range.count))
+lowest_written lines pid range count =
+    take count (filter (λ page. is_written pid page lines) (range_with_len range.first range.count))
 
 -- a `watch` after these lines that was answered with pages gave exactly these
 abbrev pub GivesWritten : List AnsweredLine → Event → Answer → Type 0
-GivesWritten lines (line.Watch pid unwrites addr size count) (answer.Watched pages) = pages ≡ map address_of (lowest_written lines pid.0 (range_of addr size) count)
+GivesWritten lines (line.Watch pid unwrites addr size count) (answer.Watched pages) =
+    pages ≡ map address_of (lowest_written lines pid.0 (range_of addr size) count)
 GivesWritten lines _ _ = Unit {0}

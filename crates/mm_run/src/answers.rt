@@ -1,12 +1,10 @@
-ghost use Rattle.std.specs.Prelude.{◌≡◌, ◌≤◌, ◌+◌, ◌++◌, ℕ, List, [], true, length, vec_len, vec_capacity, IfOk, MatchResult};
+ghost use Rattle.std.specs.Prelude.{◌≡◌, ◌≤◌, ◌+◌, ◌++◌, ℕ, List, [], true, length, vec_capacity, IfOk};
 ghost use Rattle.mm_types.specs.AnswerText.{spelling};
-ghost use Rattle.mm_types.specs.Outside.{Appended};
 ghost use Rattle.mm_io.specs.Io.{CountsFaults};
-ghost use Rattle.mm_run.specs.Texts.{TornText};
+ghost use Rattle.mm_run.specs.Texts.{WroteText};
 
-use mm_answer::spell;
 use mm_io::{Sink, write_all};
-use mm_text::LineBuf;
+use mm_text::{LineBuf, spell};
 use mm_types::{Answer, Failed, NoMemory};
 use std::alloc::Global;
 use std::marker::Model;
@@ -84,9 +82,7 @@ impl Kept {
     /// Writes the answers, and has the sink give them on. None is kept then.
     pub(crate) fn give_on<O: Sink>(&mut self, out: &mut O) -> Result<(), Failed>
         ensures none { self.new ≡ [] }
-        ensures wrote { MatchResult result
-            (λ _. Appended (O.taken out.old) (O.taken out.new) self.old)
-            (λ _. TornText (O.taken out.old) (O.taken out.new) self.old) }
+        ensures wrote { WroteText result (O.taken out.old) (O.taken out.new) self.old }
         ensures cause { CountsFaults (O.faults out.old) (O.faults out.new) result }
     {
         let wrote = write_all(out, self.bytes());

@@ -1,20 +1,20 @@
-ghost use Rattle.std.specs.Prelude.{◌≡◌, ◌≢◌, ◌<◌, ◌≤◌, ◌+◌, ◌*◌, ◌⊎◌, ℕ, true, false, [], ◌∷◌, ◌++◌, List, Option, length, replicate, Ok, Err, IfOk, IfErr, OnOk, MatchResult, cond};
-ghost use Rattle.mm_types.specs.Outside.{Appended};
+ghost use Rattle.std.specs.Prelude.{◌≡◌, ◌<◌, ◌≤◌, ◌+◌, ◌*◌, ℕ, false, ◌∷◌, List, Option, length, IfOk, OnOk, MatchResult, cond};
 ghost use Rattle.mm_io.specs.Io.{CountsFaults};
 ghost use Rattle.mm_types.specs.declared.events.Event.TheVariants as event;
-ghost use Rattle.mm_blocks.specs.Traffic.{NoneLogged, empty_block};
 ghost use Rattle.mm_make.specs.Generated.{script_of};
 ghost use Rattle.mm_core.specs.Shown.{line_of, loans, behind};
 ghost use Rattle.mm_core.specs.Promise.{scene};
 ghost use Rattle.mm_run.specs.Scenes.{Outset, NotBegun, Running, outset};
-ghost use Rattle.mm_run.specs.Steps.{IsMade, Moved, Breaks};
-ghost use Rattle.mm_run.specs.Texts.{TornText};
+ghost use Rattle.mm_run.specs.Steps.{IsMade, Moved};
+ghost use Rattle.mm_run.specs.Texts.{ToldText};
 ghost use Rattle.mm_run.specs.Ran.{around};
-ghost use Rattle.mm_run.specs.Story.{IsBlamed, counts_with};
+ghost use Rattle.mm_run.specs.Story.{counts_with};
 ghost use Rattle.mm_run.specs.Faults.{IsAccounted};
 ghost use Rattle.mm_run.specs.Bulk.{BulkRan, begins_ok, is_none, four_lines};
-ghost use Rattle.mm_run.specs.Batch.{IsLater, AreLater, Handled, Stopped, Finished, BatchRan};
-ghost use Rattle.mm_run.specs.Seen.{left_seen, open_failed, outset_seen};
+ghost use Rattle.mm_run.specs.Batch.{IsLater, AreLater, Handled, Stopped, Finished, BatchRan, IsUnanswered, AccountsMoves, BatchEnds};
+ghost use Rattle.mm_run.specs.Moments.{HasBegun, IsReady};
+ghost use Rattle.mm_run.specs.Settings.{AreOpened};
+ghost use Rattle.mm_run.specs.Seen.{device_seen, left_seen, open_failed, world_seen};
 
 use crate::decisions::decide;
 use crate::endings::Ending;
@@ -22,11 +22,11 @@ use crate::machines::open_devices;
 use crate::top::put_number;
 use mm_blocks::{Blocks, Injected};
 use mm_core::World;
-use mm_flushing::FlushesMoves;
 use mm_io::{Sink, write_all};
 use mm_make::script;
 use mm_moves::Recorder;
 use mm_paged::Paged;
+use mm_pages::FlushesMoves;
 use mm_state::State;
 use mm_text::LineBuf;
 use mm_types::{Answer, Event, Failed, Machine};
@@ -88,18 +88,13 @@ fn decide_event<G: FlushesMoves>(
     requires later { IsLater event.now }
     requires next { n ≡ line_of world.old + 1 }
     requires few { n ≤ 1000000 }
-    requires ready { world.old.spent ≡ false }
-    requires paged { G.unpaged ≡ false }
-    requires noted { (behind world.old).log.failed ≡ false }
-    ensures decided { IfOk result (λ a. Moved (Running (scene world.old)) event.now a (Running (scene world.new))) }
-    ensures ends { IfErr result (λ e. ((e ≡ Ending.NoMemory) × Breaks (scene world.old) (scene world.new))
-        ⊎ ((e ≡ Ending.MovesFault) × ((a : Answer) × Moved (Running (scene world.old)) event.now a (Running (scene world.new))) × ((behind world.new).log.failed ≡ true))) }
-    ensures noted { OnOk result ((behind world.new).log.failed ≡ false) }
-    ensures faults { (s o : ℕ) → MatchResult result
-        (λ _. counts_with s o (behind world.new).log.faults ≡ counts_with s o (behind world.old).log.faults)
-        (λ e. IsBlamed e ⊥ (counts_with s o (behind world.old).log.faults) (counts_with s o (behind world.new).log.faults)) }
-    ensures line { OnOk result (line_of world.new ≡ n) }
-    ensures ready { OnOk result (world.new.spent ≡ false) }
+    requires ready { IsReady (line_of world.old) (world_seen world.old) }
+    ensures came { MatchResult result
+        (λ a. Moved (Running (scene world.old)) event.now a (Running (scene world.new)))
+        (λ e. IsUnanswered (scene world.old) event.now e (scene world.new)) }
+    ensures faults { AccountsMoves result ⊥
+        (behind world.old).log.faults (behind world.new).log.faults }
+    ensures ready { OnOk result (IsReady n (world_seen world.new)) }
     ensures loans { loans world.new ≡ loans world.old }
 {
     match decide(alloc, n, event, world) {
@@ -113,7 +108,8 @@ fn decide_event<G: FlushesMoves>(
     }
 }
 
-/// Decides the events after the first one. It gives how many answers begin with `ok`, and how many are `none`.
+/// Decides the events after the first one. It gives how many answers begin with `ok`, and how many
+/// are `none`.
 fn decide_later<G: FlushesMoves>(
     alloc: Global,
     events: &[Event],
@@ -121,17 +117,13 @@ fn decide_later<G: FlushesMoves>(
 ) -> Result<(u32, u32), Ending>
     requires later { AreLater events.now }
     requires few { length events.now < 1000000 }
-    requires count { line_of world.old ≡ 1 }
-    requires ready { world.old.spent ≡ false }
-    requires paged { G.unpaged ≡ false }
-    requires noted { (behind world.old).log.failed ≡ false }
+    requires ready { IsReady 1 (world_seen world.old) }
     ensures came { MatchResult result
         (λ r. Handled (Running (scene world.old)) events.now r.0 r.1 (Running (scene world.new)))
         (λ e. Stopped (Running (scene world.old)) events.now e (Running (scene world.new))) }
     ensures few { IfOk result (λ r. (r.0 ≤ length events.now) × (r.1 ≤ length events.now)) }
-    ensures faults { (s o : ℕ) → MatchResult result
-        (λ _. counts_with s o (behind world.new).log.faults ≡ counts_with s o (behind world.old).log.faults)
-        (λ e. IsBlamed e ⊥ (counts_with s o (behind world.old).log.faults) (counts_with s o (behind world.new).log.faults)) }
+    ensures faults { AccountsMoves result ⊥
+        (behind world.old).log.faults (behind world.new).log.faults }
     ensures loans { loans world.new ≡ loans world.old }
 {
     let mut n = 1u32;
@@ -159,13 +151,12 @@ fn decide_events<G: FlushesMoves>(
 ) -> Result<Tally, Ending>
     requires later { AreLater events.now }
     requires few { length events.now < 1000000 }
-    requires count { line_of world.old ≡ 1 }
-    requires ready { world.old.spent ≡ false }
-    requires paged { G.unpaged ≡ false }
-    ensures came { (o : Outset) → IsMade machine o (scene world.old) → Finished (NotBegun o) (event.Machine machine ∷ events.now) result (Running (scene world.new)) }
-    ensures faults { (o : Outset) → IsMade machine o (scene world.old) → o.log.failed ≡ false → (s k : ℕ) → MatchResult result
-        (λ _. counts_with s k (behind world.new).log.faults ≡ counts_with s k o.log.faults)
-        (λ e. IsBlamed e ⊥ (counts_with s k o.log.faults) (counts_with s k (behind world.new).log.faults)) }
+    requires begun { HasBegun 1 (world_seen world.old) }
+    ensures came { (o : Outset) → IsMade machine o (scene world.old) →
+        Finished (NotBegun o) (event.Machine machine ∷ events.now) result
+        (Running (scene world.new)) }
+    ensures faults { (o : Outset) → IsMade machine o (scene world.old) → o.log.failed ≡ false →
+        AccountsMoves result ⊥ o.log.faults (behind world.new).log.faults }
     ensures loans { loans world.new ≡ loans world.old }
 {
     if world.pages.moves_failed() {
@@ -197,14 +188,13 @@ fn run_events<M: Sink, P: Blocks, F: Blocks>(
 ) -> Result<Tally, Ending>
     requires later { AreLater events.now }
     requires few { length events.now < 1000000 }
-    requires slots { P.blocks paging.old ≡ replicate machine.slots empty_block }
-    requires blocks { F.blocks files.old ≡ replicate machine.blocks empty_block }
-    requires paging_logged { NoneLogged (P.log paging.old) }
-    requires files_logged { NoneLogged (F.log files.old) }
-    ensures came { (p f : ℕ) → p ≤ P.faults paging.old → f ≤ F.faults files.old → BatchRan (NotBegun (outset p f (M.taken moves.old) (M.given moves.old) (M.faults moves.old))) (event.Machine machine ∷ events.now) result (left_seen M.Sink P.Blocks F.Blocks moves.new paging.new files.new) }
-    ensures faults { (s o : ℕ) → MatchResult result
-        (λ _. counts_with s o (M.faults moves.new) ≡ counts_with s o (M.faults moves.old))
-        (λ e. IsBlamed e ⊥ (counts_with s o (M.faults moves.old)) (counts_with s o (M.faults moves.new))) }
+    requires opened { AreOpened machine
+        (device_seen P.Blocks paging.old) (device_seen F.Blocks files.old) }
+    ensures came { (p f : ℕ) → p ≤ P.faults paging.old → f ≤ F.faults files.old → BatchRan
+        (NotBegun (outset p f (M.taken moves.old) (M.given moves.old) (M.faults moves.old)))
+        (event.Machine machine ∷ events.now) result
+        (left_seen M.Sink P.Blocks F.Blocks moves.new paging.new files.new) }
+    ensures faults { AccountsMoves result ⊥ (M.faults moves.old) (M.faults moves.new) }
 {
     let made = State::new(
         alloc,
@@ -243,10 +233,9 @@ fn start_events<M: Sink, P: Blocks, F: Blocks>(
 ) -> Result<Tally, Ending>
     requires later { AreLater events.now }
     requires few { length events.now < 1000000 }
-    ensures came { BatchRan (NotBegun (outset_seen M.Sink P.Blocks F.Blocks moves.old paging.old files.old)) (event.Machine machine ∷ events.now) result (left_seen M.Sink P.Blocks F.Blocks moves.new paging.new files.new) }
-    ensures faults { (s o : ℕ) → MatchResult result
-        (λ _. counts_with s o (M.faults moves.new) ≡ counts_with s o (M.faults moves.old))
-        (λ e. IsBlamed e (open_failed P.Blocks F.Blocks paging.old paging.new files.old files.new) (counts_with s o (M.faults moves.old)) (counts_with s o (M.faults moves.new))) }
+    ensures ends { BatchEnds (event.Machine machine ∷ events.now) result
+        (left_seen M.Sink P.Blocks F.Blocks moves.old paging.old files.old)
+        (left_seen M.Sink P.Blocks F.Blocks moves.new paging.new files.new) }
 {
     match open_devices(machine, paging, files) {
         Ok(()) => run_events(alloc, machine, events, moves, paging, files),
@@ -264,10 +253,9 @@ fn decide_script<M: Sink, P: Blocks, F: Blocks>(
     files: &mut F,
 ) -> Result<Tally, Ending>
     requires few { count ≤ 100000 }
-    ensures came { BatchRan (NotBegun (outset_seen M.Sink P.Blocks F.Blocks moves.old paging.old files.old)) (script_of seed count) result (left_seen M.Sink P.Blocks F.Blocks moves.new paging.new files.new) }
-    ensures faults { (s o : ℕ) → MatchResult result
-        (λ _. counts_with s o (M.faults moves.new) ≡ counts_with s o (M.faults moves.old))
-        (λ e. IsBlamed e (open_failed P.Blocks F.Blocks paging.old paging.new files.old files.new) (counts_with s o (M.faults moves.old)) (counts_with s o (M.faults moves.new))) }
+    ensures ends { BatchEnds (script_of seed count) result
+        (left_seen M.Sink P.Blocks F.Blocks moves.old paging.old files.old)
+        (left_seen M.Sink P.Blocks F.Blocks moves.new paging.new files.new) }
 {
     let events = match script(alloc, seed, count) {
         Ok(events) => events,
@@ -303,9 +291,8 @@ fn spell_tally(tally: Tally) -> LineBuf
 
 /// Writes the four lines of a tally, and has the sink give them on.
 fn tell_tally<O: Sink>(out: &mut O, tally: Tally) -> Result<(), Failed>
-    ensures told { MatchResult result
-        (λ _. Appended (O.taken out.old) (O.taken out.new) (four_lines tally.lines tally.ok tally.none tally.charge tally.limit) × (O.given out.new ≡ O.taken out.new))
-        (λ _. TornText (O.taken out.old) (O.taken out.new) (four_lines tally.lines tally.ok tally.none tally.charge tally.limit)) }
+    ensures told { ToldText result (O.taken out.old) (O.taken out.new) (O.given out.new)
+        (four_lines tally.lines tally.ok tally.none tally.charge tally.limit) }
     ensures cause { CountsFaults (O.faults out.old) (O.faults out.new) result }
 {
     let text = spell_tally(tally);
@@ -326,8 +313,16 @@ pub(crate) fn bulk<O: Sink, M: Sink, P: Blocks, F: Blocks>(
     files: &mut F,
 ) -> u8
     requires few { count ≤ 100000 }
-    ensures ran { (left : Option (List ℕ)) → BulkRan (around left (O.taken out.old) (O.given out.old) (left_seen M.Sink P.Blocks F.Blocks moves.old paging.old files.old)) (around left (O.taken out.new) (O.given out.new) (left_seen M.Sink P.Blocks F.Blocks moves.new paging.new files.new)) (script_of seed count) result }
-    ensures faults { (s : ℕ) → IsAccounted result (open_failed P.Blocks F.Blocks paging.old paging.new files.old files.new) (counts_with s (O.faults out.old) (M.faults moves.old)) (counts_with s (O.faults out.new) (M.faults moves.new)) }
+    ensures ran { (left : Option (List ℕ)) → BulkRan
+        (around left (O.taken out.old) (O.given out.old)
+        (left_seen M.Sink P.Blocks F.Blocks moves.old paging.old files.old))
+        (around left (O.taken out.new) (O.given out.new)
+        (left_seen M.Sink P.Blocks F.Blocks moves.new paging.new files.new))
+        (script_of seed count) result }
+    ensures faults { (s : ℕ) → IsAccounted result
+        (open_failed P.Blocks F.Blocks paging.old paging.new files.old files.new)
+        (counts_with s (O.faults out.old) (M.faults moves.old))
+        (counts_with s (O.faults out.new) (M.faults moves.new)) }
 {
     let decided = decide_script(alloc, seed, count, moves, paging, files);
     match moves.flush() {

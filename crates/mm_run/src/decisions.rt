@@ -1,27 +1,22 @@
-ghost use Rattle.std.specs.Prelude.{◌≡◌, ◌≢◌, ◌<◌, ◌≤◌, ◌+◌, ◌++◌, ℕ, true, false, List, [], Option, Some, None, length, drop, take, Ok, Err, MatchOption, MatchResult, IfNone, IfOk, OnOk, OnErr};
-ghost use Rattle.mm_types.specs.Outside.{Rose};
+ghost use Rattle.std.specs.Prelude.{◌≡◌, ◌<◌, ◌≤◌, ◌+◌, ◌++◌, ℕ, List, [], length, drop, take, IfNone, IfOk, OnOk, OnErr};
 ghost use Rattle.mm_types.specs.AnswerText.{spelling};
 ghost use Rattle.mm_life.specs.Logs.{Flushed};
-ghost use Rattle.mm_lines.specs.Looking.{HasLine};
-ghost use Rattle.mm_script.specs.Grammar.{IsLine as IsLineFor};
-ghost use Rattle.mm_script.specs.Printed.{IsWellFormed};
+ghost use Rattle.mm_io.specs.Looking.{HasLine};
 ghost use Rattle.mm_core.specs.Shown.{line_of, loans, behind};
-ghost use Rattle.mm_core.specs.Built.{is_machine};
-ghost use Rattle.mm_run.specs.Reading.{reading};
 ghost use Rattle.mm_core.specs.Promise.{Scene, scene};
 ghost use Rattle.mm_run.specs.Scenes.{Stage, Running, Follows};
-ghost use Rattle.mm_run.specs.Steps.{Moved, Breaks};
-ghost use Rattle.mm_run.specs.Story.{Went, Came, IsBlamed, EndsAt, outside, stand, counts_with};
-ghost use Rattle.mm_run.specs.Seen.{outside_seen};
-ghost use Rattle.mm_run.specs.Ends.{TakesMemory};
+ghost use Rattle.mm_run.specs.Steps.{Moved};
+ghost use Rattle.mm_run.specs.Story.{EndsAt};
+ghost use Rattle.mm_run.specs.Batch.{IsLater};
+ghost use Rattle.mm_run.specs.Moments.{Input, Output, moment, HoldsLine, SaysLater, IsReady, IsBetween, Keeps, HasDecided, RunsShort, EndsRun, Steps, FindsLine, StepsBetween};
+ghost use Rattle.mm_run.specs.Seen.{input_seen, output_seen, world_seen, moment_seen};
 
 use crate::answers::Kept;
 use crate::endings::Ending;
 use crate::readings::later_event;
 use mm_core::World;
-use mm_flushing::FlushesMoves;
-use mm_io::{Sink, Source};
-use mm_lines::{Found, Held, Look};
+use mm_io::{Found, Held, Look, Sink, Source};
+use mm_pages::FlushesMoves;
 use mm_script::parse_line;
 use mm_types::{Answer, Event, Failed, NoMemory};
 use std::alloc::Global;
@@ -47,20 +42,14 @@ pub(crate) fn decide<G: FlushesMoves>(
     event: &Event,
     world: &mut World<G>,
 ) -> Result<Answer, NoMemory>
-    requires well_formed { IsWellFormed event.now }
-    requires not_first { is_machine event.now ≡ false }
+    requires later { IsLater event.now }
     requires next { n ≡ line_of world.old + 1 }
     requires few { n ≤ 1000000 }
-    requires ready { world.old.spent ≡ false }
-    requires paged { G.unpaged ≡ false }
-    requires noted { (behind world.old).log.failed ≡ false }
-    ensures decided { IfOk result (λ a. Moved (Running (scene world.old)) event.now a (Running (scene world.new))) }
-    ensures breaks { OnErr result (Breaks (scene world.old) (scene world.new)) }
-    ensures takes { OnErr result (TakesMemory (Running (scene world.old)) event.now) }
-    ensures blame { OnOk result ((behind world.new).log.failed ≡ true → Rose (behind world.old).log.faults (behind world.new).log.faults) }
-    ensures same { OnOk result ((behind world.new).log.failed ≡ false → (behind world.new).log.faults ≡ (behind world.old).log.faults) }
-    ensures line { OnOk result (line_of world.new ≡ n) }
-    ensures ready { OnOk result (world.new.spent ≡ false) }
+    requires ready { IsReady (line_of world.old) (world_seen world.old) }
+    ensures moved { IfOk result
+        (λ a. Moved (Running (scene world.old)) event.now a (Running (scene world.new))) }
+    ensures decided { OnOk result (HasDecided n (world_seen world.old) (world_seen world.new)) }
+    ensures short { OnErr result (RunsShort (scene world.old) event.now (scene world.new)) }
     ensures loans { loans world.new ≡ loans world.old }
 {
     let decided = world.step(alloc, n, event);
@@ -78,29 +67,15 @@ fn answer_event<G: FlushesMoves>(
     world: &mut World<G>,
     kept: &mut Kept,
 ) -> Option<Ending>
-    requires some { 0 < n }
     requires few { n < 1000000 }
-    requires line { HasLine held.old len }
+    requires line { HoldsLine held.old len }
     requires room { length kept.old + 256 ≤ 65536 }
-    requires behind { length held.old < len + 1 + 4096 }
-    requires says { reading n (take len held.old) ≡ Ok event.now }
-    requires grammar { IsLineFor (take len held.old) event.now }
-    requires well_formed { IsWellFormed event.now }
-    requires count { line_of world.old ≡ n }
-    requires ready { world.old.spent ≡ false }
-    requires paged { G.unpaged ≡ false }
-    requires noted { (behind world.old).log.failed ≡ false }
-    ensures went { (left took : Option (List ℕ)) → MatchOption result
-        (Went (outside left took kept.old) (outside left took kept.new) (stand held.old n (Running (scene world.old))) (stand held.new (n + 1) (Running (scene world.new))))
-        (λ e. Came (outside left took kept.old) (outside left took kept.new) (stand held.old n (Running (scene world.old))) e (Running (scene world.new))) }
-    ensures few { IfNone result (length held.new < 4096) }
-    ensures count { IfNone result (line_of world.new ≡ n + 1) }
-    ensures ready { IfNone result (world.new.spent ≡ false) }
-    ensures noted { IfNone result ((behind world.new).log.failed ≡ false) }
-    ensures faults { (s o : ℕ) → MatchOption result
-        (counts_with s o (behind world.new).log.faults ≡ counts_with s o (behind world.old).log.faults)
-        (λ e. IsBlamed e ⊥ (counts_with s o (behind world.old).log.faults) (counts_with s o (behind world.new).log.faults)) }
-    ensures form { result ≢ Some Ending.Usage }
+    requires says { SaysLater n (take len held.old) event.now }
+    requires ready { IsReady n (world_seen world.old) }
+    ensures steps { (input : Input) (out : Output) → Steps result held.old n held.new (n + 1)
+        (moment input out kept.old (Running (scene world.old)))
+        (moment input out kept.new (Running (scene world.new))) }
+    ensures between { IfNone result (IsBetween (n + 1) held.new (world_seen world.new)) }
     ensures loans { loans world.new ≡ loans world.old }
 {
     let decided = decide(alloc, n + 1, event, world);
@@ -116,7 +91,8 @@ fn answer_event<G: FlushesMoves>(
     }
 }
 
-/// Decides and answers the line in front, which is not the first. Its event is large, and stays where it was parsed.
+/// Decides and answers the line in front, which is not the first. Its event is large, and stays
+/// where it was parsed.
 fn answer_line<G: FlushesMoves>(
     alloc: Global,
     held: &mut Held,
@@ -127,24 +103,13 @@ fn answer_line<G: FlushesMoves>(
 ) -> Option<Ending>
     requires some { 0 < n }
     requires few { n < 1000000 }
-    requires line { HasLine held.old len }
+    requires line { HoldsLine held.old len }
     requires room { length kept.old + 256 ≤ 65536 }
-    requires behind { length held.old < len + 1 + 4096 }
-    requires count { line_of world.old ≡ n }
-    requires ready { world.old.spent ≡ false }
-    requires paged { G.unpaged ≡ false }
-    requires noted { (behind world.old).log.failed ≡ false }
-    ensures went { (left took : Option (List ℕ)) → MatchOption result
-        (Went (outside left took kept.old) (outside left took kept.new) (stand held.old n (Running (scene world.old))) (stand held.new (n + 1) (Running (scene world.new))))
-        (λ e. Came (outside left took kept.old) (outside left took kept.new) (stand held.old n (Running (scene world.old))) e (Running (scene world.new))) }
-    ensures few { IfNone result (length held.new < 4096) }
-    ensures count { IfNone result (line_of world.new ≡ n + 1) }
-    ensures ready { IfNone result (world.new.spent ≡ false) }
-    ensures noted { IfNone result ((behind world.new).log.failed ≡ false) }
-    ensures faults { (s o : ℕ) → MatchOption result
-        (counts_with s o (behind world.new).log.faults ≡ counts_with s o (behind world.old).log.faults)
-        (λ e. IsBlamed e ⊥ (counts_with s o (behind world.old).log.faults) (counts_with s o (behind world.new).log.faults)) }
-    ensures form { result ≢ Some Ending.Usage }
+    requires ready { IsReady n (world_seen world.old) }
+    ensures steps { (input : Input) (out : Output) → Steps result held.old n held.new (n + 1)
+        (moment input out kept.old (Running (scene world.old)))
+        (moment input out kept.new (Running (scene world.new))) }
+    ensures between { IfNone result (IsBetween (n + 1) held.new (world_seen world.new)) }
     ensures loans { loans world.new ≡ loans world.old }
 {
     let line = &held.bytes()[..len];
@@ -168,20 +133,16 @@ pub(crate) fn at_end(n: u32, len: usize) -> Ending
     }
 }
 
-/// Reads until it is known what stands in front: a line of so many bytes, or what a run comes to there after n lines.
+/// Reads until it is known what stands in front: a line of so many bytes, or what a run comes to
+/// there after n lines.
 fn next_line<S: Source>(held: &mut Held, n: u32, source: &mut S) -> Result<usize, Ending>
     requires few { n < 1000000 }
     requires held { length held.old < 4096 }
-    ensures line { IfOk result (λ len. HasLine held.new len) }
-    ensures behind { IfOk result (λ len. length held.new < len + 1 + 4096) }
-    ensures went { (z : Stage) (took : Option (List ℕ)) (kept : List ℕ) → MatchResult result
-        (λ _. Went (outside (S.left source.old) took kept) (outside (S.left source.new) took kept) (stand held.old n z) (stand held.new n z))
-        (λ e. Came (outside (S.left source.old) took kept) (outside (S.left source.new) took kept) (stand held.old n z) e z) }
-    ensures faults { (o m : ℕ) → MatchResult result
-        (λ _. counts_with (S.faults source.new) o m ≡ counts_with (S.faults source.old) o m)
-        (λ e. IsBlamed e ⊥ (counts_with (S.faults source.old) o m) (counts_with (S.faults source.new) o m)) }
-    ensures idle { MatchResult result (λ _. S.idle source.new ≤ S.idle source.old) (λ _. S.idle source.new ≤ S.idle source.old + S.last_idle source.new) }
-    ensures form { result ≢ Err Ending.Usage }
+    ensures finds { (out : Output) (kept : List ℕ) (z : Stage) →
+        FindsLine result held.old n held.new
+        (moment (input_seen S.Source source.old) out kept z)
+        (moment (input_seen S.Source source.new) out kept z) }
+    ensures line { IfOk result (λ len. HoldsLine held.new len) }
 {
     match held.next(source) {
         Ok(Found::Line(len)) => Ok(len),
@@ -195,10 +156,7 @@ fn next_line<S: Source>(held: &mut Held, n: u32, source: &mut S) -> Result<usize
 fn flush_moves<G: FlushesMoves>(world: &mut World<G>) -> Result<(), Failed>
     ensures follows { Follows (Running (scene world.old)) (Running (scene world.new)) }
     ensures flushed { Flushed (behind world.old).log (behind world.new).log result }
-    ensures noted { (behind world.new).log.failed ≡ (behind world.old).log.failed }
-    ensures count { line_of world.new ≡ line_of world.old }
-    ensures ready { world.new.spent ≡ world.old.spent }
-    ensures loans { loans world.new ≡ loans world.old }
+    ensures keeps { Keeps (world_seen world.old) (world_seen world.new) }
 {
     world.flush_moves()
 }
@@ -209,18 +167,10 @@ fn flush<G: FlushesMoves, O: Sink>(
     kept: &mut Kept,
     out: &mut O,
 ) -> Option<Ending>
-    ensures went { (left : Option (List ℕ)) (held : List ℕ) (n : ℕ) → n ≤ 1000000 → length held < 4096 → MatchOption result
-        (Went (outside left (O.taken out.old) kept.old) (outside left (O.taken out.new) kept.new) (stand held n (Running (scene world.old))) (stand held n (Running (scene world.new))))
-        (λ e. Came (outside left (O.taken out.old) kept.old) (outside left (O.taken out.new) kept.new) (stand held n (Running (scene world.old))) e (Running (scene world.new))) }
-    ensures faults { (s : ℕ) → MatchOption result
-        (counts_with s (O.faults out.new) (behind world.new).log.faults ≡ counts_with s (O.faults out.old) (behind world.old).log.faults)
-        (λ e. IsBlamed e ⊥ (counts_with s (O.faults out.old) (behind world.old).log.faults) (counts_with s (O.faults out.new) (behind world.new).log.faults)) }
-    ensures form { result ≢ Some Ending.Usage }
+    ensures steps { StepsBetween result (output_seen O.Sink out.old) (output_seen O.Sink out.new)
+        kept.old kept.new (Running (scene world.old)) (Running (scene world.new)) }
     ensures none { IfNone result (kept.new ≡ []) }
-    ensures noted { (behind world.new).log.failed ≡ (behind world.old).log.failed }
-    ensures count { line_of world.new ≡ line_of world.old }
-    ensures ready { world.new.spent ≡ world.old.spent }
-    ensures loans { loans world.new ≡ loans world.old }
+    ensures keeps { Keeps (world_seen world.old) (world_seen world.new) }
 {
     match flush_moves(world) {
         Ok(()) => {}
@@ -238,18 +188,10 @@ fn make_room<G: FlushesMoves, O: Sink>(
     kept: &mut Kept,
     out: &mut O,
 ) -> Option<Ending>
-    ensures went { (left : Option (List ℕ)) (held : List ℕ) (n : ℕ) → n ≤ 1000000 → length held < 4096 → MatchOption result
-        (Went (outside left (O.taken out.old) kept.old) (outside left (O.taken out.new) kept.new) (stand held n (Running (scene world.old))) (stand held n (Running (scene world.new))))
-        (λ e. Came (outside left (O.taken out.old) kept.old) (outside left (O.taken out.new) kept.new) (stand held n (Running (scene world.old))) e (Running (scene world.new))) }
-    ensures faults { (s : ℕ) → MatchOption result
-        (counts_with s (O.faults out.new) (behind world.new).log.faults ≡ counts_with s (O.faults out.old) (behind world.old).log.faults)
-        (λ e. IsBlamed e ⊥ (counts_with s (O.faults out.old) (behind world.old).log.faults) (counts_with s (O.faults out.new) (behind world.new).log.faults)) }
-    ensures form { result ≢ Some Ending.Usage }
+    ensures steps { StepsBetween result (output_seen O.Sink out.old) (output_seen O.Sink out.new)
+        kept.old kept.new (Running (scene world.old)) (Running (scene world.new)) }
     ensures room { IfNone result (length kept.new + 256 ≤ 65536) }
-    ensures noted { (behind world.new).log.failed ≡ (behind world.old).log.failed }
-    ensures count { line_of world.new ≡ line_of world.old }
-    ensures ready { world.new.spent ≡ world.old.spent }
-    ensures loans { loans world.new ≡ loans world.old }
+    ensures keeps { Keeps (world_seen world.old) (world_seen world.new) }
 {
     if kept.has_room() {
         return None;
@@ -264,17 +206,9 @@ fn flush_before_read<G: FlushesMoves, O: Sink>(
     kept: &mut Kept,
     out: &mut O,
 ) -> Option<Ending>
-    ensures went { (left : Option (List ℕ)) (held : List ℕ) (n : ℕ) → n ≤ 1000000 → length held < 4096 → MatchOption result
-        (Went (outside left (O.taken out.old) kept.old) (outside left (O.taken out.new) kept.new) (stand held n (Running (scene world.old))) (stand held n (Running (scene world.new))))
-        (λ e. Came (outside left (O.taken out.old) kept.old) (outside left (O.taken out.new) kept.new) (stand held n (Running (scene world.old))) e (Running (scene world.new))) }
-    ensures faults { (s : ℕ) → MatchOption result
-        (counts_with s (O.faults out.new) (behind world.new).log.faults ≡ counts_with s (O.faults out.old) (behind world.old).log.faults)
-        (λ e. IsBlamed e ⊥ (counts_with s (O.faults out.old) (behind world.old).log.faults) (counts_with s (O.faults out.new) (behind world.new).log.faults)) }
-    ensures form { result ≢ Some Ending.Usage }
-    ensures noted { (behind world.new).log.failed ≡ (behind world.old).log.failed }
-    ensures count { line_of world.new ≡ line_of world.old }
-    ensures ready { world.new.spent ≡ world.old.spent }
-    ensures loans { loans world.new ≡ loans world.old }
+    ensures steps { StepsBetween result (output_seen O.Sink out.old) (output_seen O.Sink out.new)
+        kept.old kept.new (Running (scene world.old)) (Running (scene world.new)) }
+    ensures keeps { Keeps (world_seen world.old) (world_seen world.new) }
 {
     match held.look() {
         Look::Line(_) => None,
@@ -294,21 +228,12 @@ fn read_line<G: FlushesMoves, S: Source, O: Sink>(
 ) -> Result<usize, Ending>
     requires few { n < 1000000 }
     requires held { length held.old < 4096 }
-    ensures line { IfOk result (λ len. HasLine held.new len) }
-    ensures behind { IfOk result (λ len. length held.new < len + 1 + 4096) }
-    ensures room { OnOk result (kept.new ≡ []) }
-    ensures went { MatchResult result
-        (λ _. Went (outside_seen S.Source O.Sink source.old out.old kept.old) (outside_seen S.Source O.Sink source.new out.new kept.new) (stand held.old n (Running (scene world.old))) (stand held.new n (Running (scene world.new))))
-        (λ e. Came (outside_seen S.Source O.Sink source.old out.old kept.old) (outside_seen S.Source O.Sink source.new out.new kept.new) (stand held.old n (Running (scene world.old))) e (Running (scene world.new))) }
-    ensures faults { MatchResult result
-        (λ _. counts_with (S.faults source.new) (O.faults out.new) (behind world.new).log.faults ≡ counts_with (S.faults source.old) (O.faults out.old) (behind world.old).log.faults)
-        (λ e. IsBlamed e ⊥ (counts_with (S.faults source.old) (O.faults out.old) (behind world.old).log.faults) (counts_with (S.faults source.new) (O.faults out.new) (behind world.new).log.faults)) }
-    ensures idle { MatchResult result (λ _. S.idle source.new ≤ S.idle source.old) (λ _. S.idle source.new ≤ S.idle source.old + S.last_idle source.new) }
-    ensures form { result ≢ Err Ending.Usage }
-    ensures noted { (behind world.new).log.failed ≡ (behind world.old).log.failed }
-    ensures count { line_of world.new ≡ line_of world.old }
-    ensures ready { world.new.spent ≡ world.old.spent }
-    ensures loans { loans world.new ≡ loans world.old }
+    ensures finds { FindsLine result held.old n held.new
+        (moment_seen S.Source O.Sink source.old out.old kept.old world.old)
+        (moment_seen S.Source O.Sink source.new out.new kept.new world.new) }
+    ensures line { IfOk result (λ len. HoldsLine held.new len) }
+    ensures none { OnOk result (kept.new ≡ []) }
+    ensures keeps { Keeps (world_seen world.old) (world_seen world.new) }
 {
     match flush(world, kept, out) {
         Some(ending) => Err(ending),
@@ -328,21 +253,12 @@ fn find_line<G: FlushesMoves, S: Source, O: Sink>(
     requires few { n < 1000000 }
     requires held { length held.old < 4096 }
     requires room { length kept.old + 256 ≤ 65536 }
-    ensures line { IfOk result (λ len. HasLine held.new len) }
-    ensures behind { IfOk result (λ len. length held.new < len + 1 + 4096) }
+    ensures finds { FindsLine result held.old n held.new
+        (moment_seen S.Source O.Sink source.old out.old kept.old world.old)
+        (moment_seen S.Source O.Sink source.new out.new kept.new world.new) }
+    ensures line { IfOk result (λ len. HoldsLine held.new len) }
     ensures room { OnOk result (length kept.new + 256 ≤ 65536) }
-    ensures went { MatchResult result
-        (λ _. Went (outside_seen S.Source O.Sink source.old out.old kept.old) (outside_seen S.Source O.Sink source.new out.new kept.new) (stand held.old n (Running (scene world.old))) (stand held.new n (Running (scene world.new))))
-        (λ e. Came (outside_seen S.Source O.Sink source.old out.old kept.old) (outside_seen S.Source O.Sink source.new out.new kept.new) (stand held.old n (Running (scene world.old))) e (Running (scene world.new))) }
-    ensures faults { MatchResult result
-        (λ _. counts_with (S.faults source.new) (O.faults out.new) (behind world.new).log.faults ≡ counts_with (S.faults source.old) (O.faults out.old) (behind world.old).log.faults)
-        (λ e. IsBlamed e ⊥ (counts_with (S.faults source.old) (O.faults out.old) (behind world.old).log.faults) (counts_with (S.faults source.new) (O.faults out.new) (behind world.new).log.faults)) }
-    ensures idle { MatchResult result (λ _. S.idle source.new ≤ S.idle source.old) (λ _. S.idle source.new ≤ S.idle source.old + S.last_idle source.new) }
-    ensures form { result ≢ Err Ending.Usage }
-    ensures noted { (behind world.new).log.failed ≡ (behind world.old).log.failed }
-    ensures count { line_of world.new ≡ line_of world.old }
-    ensures ready { world.new.spent ≡ world.old.spent }
-    ensures loans { loans world.new ≡ loans world.old }
+    ensures keeps { Keeps (world_seen world.old) (world_seen world.new) }
 {
     match held.look() {
         Look::Line(len) => Ok(len),
@@ -364,23 +280,11 @@ fn take_line<G: FlushesMoves, S: Source, O: Sink>(
     requires room { length kept.old + 256 ≤ 65536 }
     requires some { 0 < n }
     requires few { n < 1000000 }
-    requires held { length held.old < 4096 }
-    requires count { line_of world.old ≡ n }
-    requires ready { world.old.spent ≡ false }
-    requires paged { G.unpaged ≡ false }
-    requires noted { (behind world.old).log.failed ≡ false }
-    ensures went { MatchOption result
-        (Went (outside_seen S.Source O.Sink source.old out.old kept.old) (outside_seen S.Source O.Sink source.new out.new kept.new) (stand held.old n (Running (scene world.old))) (stand held.new (n + 1) (Running (scene world.new))))
-        (λ e. Came (outside_seen S.Source O.Sink source.old out.old kept.old) (outside_seen S.Source O.Sink source.new out.new kept.new) (stand held.old n (Running (scene world.old))) e (Running (scene world.new))) }
-    ensures few { IfNone result (length held.new < 4096) }
-    ensures count { IfNone result (line_of world.new ≡ n + 1) }
-    ensures ready { IfNone result (world.new.spent ≡ false) }
-    ensures noted { IfNone result ((behind world.new).log.failed ≡ false) }
-    ensures faults { MatchOption result
-        (counts_with (S.faults source.new) (O.faults out.new) (behind world.new).log.faults ≡ counts_with (S.faults source.old) (O.faults out.old) (behind world.old).log.faults)
-        (λ e. IsBlamed e ⊥ (counts_with (S.faults source.old) (O.faults out.old) (behind world.old).log.faults) (counts_with (S.faults source.new) (O.faults out.new) (behind world.new).log.faults)) }
-    ensures idle { MatchOption result (S.idle source.new ≤ S.idle source.old) (λ _. S.idle source.new ≤ S.idle source.old + S.last_idle source.new) }
-    ensures form { result ≢ Some Ending.Usage }
+    requires between { IsBetween n held.old (world_seen world.old) }
+    ensures steps { Steps result held.old n held.new (n + 1)
+        (moment_seen S.Source O.Sink source.old out.old kept.old world.old)
+        (moment_seen S.Source O.Sink source.new out.new kept.new world.new) }
+    ensures between { IfNone result (IsBetween (n + 1) held.new (world_seen world.new)) }
     ensures loans { loans world.new ≡ loans world.old }
 {
     match find_line(held, n, world, kept, source, out) {
@@ -401,23 +305,11 @@ fn decide_line<G: FlushesMoves, S: Source, O: Sink>(
 ) -> Option<Ending>
     requires some { 0 < n }
     requires few { n < 1000000 }
-    requires held { length held.old < 4096 }
-    requires count { line_of world.old ≡ n }
-    requires ready { world.old.spent ≡ false }
-    requires paged { G.unpaged ≡ false }
-    requires noted { (behind world.old).log.failed ≡ false }
-    ensures went { MatchOption result
-        (Went (outside_seen S.Source O.Sink source.old out.old kept.old) (outside_seen S.Source O.Sink source.new out.new kept.new) (stand held.old n (Running (scene world.old))) (stand held.new (n + 1) (Running (scene world.new))))
-        (λ e. Came (outside_seen S.Source O.Sink source.old out.old kept.old) (outside_seen S.Source O.Sink source.new out.new kept.new) (stand held.old n (Running (scene world.old))) e (Running (scene world.new))) }
-    ensures few { IfNone result (length held.new < 4096) }
-    ensures count { IfNone result (line_of world.new ≡ n + 1) }
-    ensures ready { IfNone result (world.new.spent ≡ false) }
-    ensures noted { IfNone result ((behind world.new).log.failed ≡ false) }
-    ensures faults { MatchOption result
-        (counts_with (S.faults source.new) (O.faults out.new) (behind world.new).log.faults ≡ counts_with (S.faults source.old) (O.faults out.old) (behind world.old).log.faults)
-        (λ e. IsBlamed e ⊥ (counts_with (S.faults source.old) (O.faults out.old) (behind world.old).log.faults) (counts_with (S.faults source.new) (O.faults out.new) (behind world.new).log.faults)) }
-    ensures idle { MatchOption result (S.idle source.new ≤ S.idle source.old) (λ _. S.idle source.new ≤ S.idle source.old + S.last_idle source.new) }
-    ensures form { result ≢ Some Ending.Usage }
+    requires between { IsBetween n held.old (world_seen world.old) }
+    ensures steps { Steps result held.old n held.new (n + 1)
+        (moment_seen S.Source O.Sink source.old out.old kept.old world.old)
+        (moment_seen S.Source O.Sink source.new out.new kept.new world.new) }
+    ensures between { IfNone result (IsBetween (n + 1) held.new (world_seen world.new)) }
     ensures loans { loans world.new ≡ loans world.old }
 {
     match make_room(world, kept, out) {
@@ -429,10 +321,9 @@ fn decide_line<G: FlushesMoves, S: Source, O: Sink>(
 /// What a run comes to after the last line that it may have.
 fn behind_last<S: Source>(held: &mut Held, source: &mut S) -> Ending
     requires given { length held.old < 4096 }
-    ensures came { (z : Scene) (took : Option (List ℕ)) (kept : List ℕ) → Came (outside (S.left source.old) took kept) (outside (S.left source.new) took kept) (stand held.old LINES (Running z)) result (Running z) }
-    ensures faults { (o m : ℕ) → IsBlamed result ⊥ (counts_with (S.faults source.old) o m) (counts_with (S.faults source.new) o m) }
-    ensures idle { S.idle source.new ≤ S.idle source.old + S.last_idle source.new }
-    ensures form { result ≢ Ending.Usage }
+    ensures ends { (out : Output) (kept : List ℕ) (z : Scene) → EndsRun held.old LINES
+        (moment (input_seen S.Source source.old) out kept (Running z))
+        (moment (input_seen S.Source source.new) out kept (Running z)) result }
 {
     match held.has_more(source) {
         Ok(true) => Ending::TooLong(LINES + 1),
@@ -450,15 +341,10 @@ pub(crate) fn decide_rest<G: FlushesMoves, S: Source, O: Sink>(
     source: &mut S,
     out: &mut O,
 ) -> Ending
-    requires held { length held.old < 4096 }
-    requires count { line_of world.old ≡ 1 }
-    requires ready { world.old.spent ≡ false }
-    requires paged { G.unpaged ≡ false }
-    requires noted { (behind world.old).log.failed ≡ false }
-    ensures came { Came (outside_seen S.Source O.Sink source.old out.old kept.old) (outside_seen S.Source O.Sink source.new out.new kept.new) (stand held.old 1 (Running (scene world.old))) result (Running (scene world.new)) }
-    ensures faults { IsBlamed result ⊥ (counts_with (S.faults source.old) (O.faults out.old) (behind world.old).log.faults) (counts_with (S.faults source.new) (O.faults out.new) (behind world.new).log.faults) }
-    ensures idle { S.idle source.new ≤ S.idle source.old + S.last_idle source.new }
-    ensures form { result ≢ Ending.Usage }
+    requires between { IsBetween 1 held.old (world_seen world.old) }
+    ensures ends { EndsRun held.old 1
+        (moment_seen S.Source O.Sink source.old out.old kept.old world.old)
+        (moment_seen S.Source O.Sink source.new out.new kept.new world.new) result }
     ensures loans { loans world.new ≡ loans world.old }
 {
     for n in 1..LINES {

@@ -57,8 +57,10 @@ fn value(most: usize, digits: &[u8]) -> Option<u64>
 /// A seed and a count, where the words are these.
 fn numbers(seed: &[u8], count: &[u8]) -> Option<(u64, u32)>
     ensures { MatchOption result
-        ((s n : ℕ) → word_value 20 seed.now ≡ Some s → word_value 6 count.now ≡ Some n → n ≤ 100000 → ⊥)
-        (λ r. (word_value 20 seed.now ≡ Some r.0) × (word_value 6 count.now ≡ Some r.1) × (r.1 ≤ 100000)) }
+        ((s n : ℕ) → word_value 20 seed.now ≡ Some s → word_value 6 count.now ≡ Some n →
+        n ≤ 100000 → ⊥)
+        (λ r. (word_value 20 seed.now ≡ Some r.0) × (word_value 6 count.now ≡ Some r.1)
+        × (r.1 ≤ 100000)) }
 {
     let seed = match value(20, seed) {
         Some(seed) => seed,

@@ -3,9 +3,11 @@ ghost use Rattle.mm_run.specs.Scenes.{Outset, NotBegun};
 ghost use Rattle.mm_run.specs.Answered.{DecidedLine, AreAnswered, told_of};
 ghost use Rattle.mm_run.specs.Written.{GivesWritten};
 
-/// Each `watch` of a run that was answered with pages (GetWriteWatch) gave exactly those of its range that are written by the
-/// lines before it and their answers: the lowest ones, at most as many as it asked for.
+/// Each `watch` of a run that was answered with pages (GetWriteWatch) gave exactly those of its
+/// range that are written by the lines before it and their answers: the lowest ones, at most as
+/// many as it asked for.
 pub fn watches_give_written_pages()
     ensures { (o : Outset) (lines : List DecidedLine) → AreAnswered 0 (NotBegun o) lines
-        → (before after : List DecidedLine) (l : DecidedLine) → before ++ l ∷ after ≡ lines → GivesWritten (told_of before) l.event l.answer }
+        → (before after : List DecidedLine) (l : DecidedLine) → before ++ l ∷ after ≡ lines
+        → GivesWritten (told_of before) l.event l.answer }
 {}

@@ -1,16 +1,12 @@
-ghost use Rattle.std.specs.Prelude.{◌≡◌, ◌≢◌, ◌⊎◌, ◌<◌, ◌≤◌, ◌+◌, ℕ, false, Ok, [], length, take, IfErr, OnOk, replicate};
-ghost use Rattle.mm_types.specs.Outside.{Rose};
-ghost use Rattle.mm_lines.specs.Looking.{HasLine};
-ghost use Rattle.mm_blocks.specs.Traffic.{NoneLogged, empty_block};
-ghost use Rattle.mm_types.specs.declared.events.Event.TheVariants as event;
-ghost use Rattle.mm_script.specs.Grammar.{IsLine as IsLineFor};
-ghost use Rattle.mm_core.specs.Shown.{line_of, loans, behind};
-ghost use Rattle.mm_run.specs.Reading.{reading};
+ghost use Rattle.std.specs.Prelude.{◌≡◌, ◌≢◌, ◌⊎◌, ◌≤◌, ◌+◌, ℕ, false, [], length, IfErr, OnOk};
+ghost use Rattle.mm_core.specs.Shown.{loans, behind};
 ghost use Rattle.mm_core.specs.Promise.{scene};
 ghost use Rattle.mm_run.specs.Scenes.{Outset, NotBegun, Running, outset};
 ghost use Rattle.mm_run.specs.Steps.{IsMade};
 ghost use Rattle.mm_run.specs.Story.{Came, Comes, IsBlamed, stand, counts_with};
-ghost use Rattle.mm_run.specs.Seen.{counts_seen, left_seen, open_failed, outset_seen, outside_seen};
+ghost use Rattle.mm_run.specs.Moments.{HoldsLine, HasBegun};
+ghost use Rattle.mm_run.specs.Settings.{HoldsMachine, AreOpened, ComesTo};
+ghost use Rattle.mm_run.specs.Seen.{counts_seen, device_seen, left_seen, open_failed, outside_seen, setting, world_seen};
 
 use crate::answers::Kept;
 use crate::decisions::{at_end, decide_rest, tell};
@@ -18,11 +14,10 @@ use crate::endings::Ending;
 use crate::readings::read_first;
 use mm_blocks::{Blocks, Injected};
 use mm_core::World;
-use mm_flushing::FlushesMoves;
-use mm_io::{Sink, Source};
-use mm_lines::{Found, Held};
+use mm_io::{Found, Held, Sink, Source};
 use mm_moves::Recorder;
 use mm_paged::Paged;
+use mm_pages::FlushesMoves;
 use mm_state::State;
 use mm_types::{Answer, Event, Machine, OpenFault};
 use std::alloc::Global;
@@ -44,12 +39,11 @@ pub(crate) fn open_devices<P: Blocks, F: Blocks>(
     paging: &mut P,
     files: &mut F,
 ) -> Result<(), Ending>
-    ensures slots { OnOk result (P.blocks paging.new ≡ replicate machine.slots empty_block) }
-    ensures blocks { OnOk result (F.blocks files.new ≡ replicate machine.blocks empty_block) }
-    ensures paging_logged { OnOk result (NoneLogged (P.log paging.new)) }
-    ensures files_logged { OnOk result (NoneLogged (F.log files.new)) }
+    ensures opened { OnOk result
+        (AreOpened machine (device_seen P.Blocks paging.new) (device_seen F.Blocks files.new)) }
     ensures ends { IfErr result (λ e. (e ≡ Ending.NoMemory) ⊎ (e ≡ Ending.SetupFault)) }
-    ensures blame { IfErr result (λ e. e ≡ Ending.SetupFault → open_failed P.Blocks F.Blocks paging.old paging.new files.old files.new) }
+    ensures blame { IfErr result (λ e. e ≡ Ending.SetupFault →
+        open_failed P.Blocks F.Blocks paging.old paging.new files.old files.new) }
     ensures paging_later { P.faults paging.old ≤ P.faults paging.new }
     ensures files_later { F.faults files.old ≤ F.faults files.new }
 {
@@ -74,16 +68,16 @@ fn answer_all<G: FlushesMoves, S: Source, O: Sink>(
     source: &mut S,
     out: &mut O,
 ) -> Ending
-    requires line { HasLine held.old len }
+    requires line { HoldsMachine held.old len machine }
     requires room { length kept.old + 256 ≤ 65536 }
-    requires behind { length held.old < len + 1 + 4096 }
-    requires says { reading 0 (take len held.old) ≡ Ok (event.Machine machine) }
-    requires grammar { IsLineFor (take len held.old) (event.Machine machine) }
-    requires count { line_of world.old ≡ 1 }
-    requires ready { world.old.spent ≡ false }
-    requires paged { G.unpaged ≡ false }
-    ensures came { (o : Outset) → IsMade machine o (scene world.old) → Came (outside_seen S.Source O.Sink source.old out.old kept.old) (outside_seen S.Source O.Sink source.new out.new kept.new) (stand held.old 0 (NotBegun o)) result (Running (scene world.new)) }
-    ensures faults { (o : Outset) → IsMade machine o (scene world.old) → o.log.failed ≡ false → IsBlamed result ⊥ (counts_with (S.faults source.old) (O.faults out.old) o.log.faults) (counts_with (S.faults source.new) (O.faults out.new) (behind world.new).log.faults) }
+    requires begun { HasBegun 1 (world_seen world.old) }
+    ensures came { (o : Outset) → IsMade machine o (scene world.old) → Came
+        (outside_seen S.Source O.Sink source.old out.old kept.old)
+        (outside_seen S.Source O.Sink source.new out.new kept.new)
+        (stand held.old 0 (NotBegun o)) result (Running (scene world.new)) }
+    ensures faults { (o : Outset) → IsMade machine o (scene world.old) → o.log.failed ≡ false →
+        IsBlamed result ⊥ (counts_with (S.faults source.old) (O.faults out.old) o.log.faults)
+        (counts_with (S.faults source.new) (O.faults out.new) (behind world.new).log.faults) }
     ensures idle { S.idle source.new ≤ S.idle source.old + S.last_idle source.new }
     ensures form { result ≢ Ending.Usage }
     ensures loans { loans world.new ≡ loans world.old }
@@ -108,17 +102,19 @@ fn run_machine<S: Source, O: Sink, M: Sink, P: Blocks, F: Blocks>(
     paging: &mut P,
     files: &mut F,
 ) -> Ending
-    requires line { HasLine held.old len }
+    requires line { HoldsMachine held.old len machine }
     requires room { length kept.old + 256 ≤ 65536 }
-    requires behind { length held.old < len + 1 + 4096 }
-    requires says { reading 0 (take len held.old) ≡ Ok (event.Machine machine) }
-    requires grammar { IsLineFor (take len held.old) (event.Machine machine) }
-    requires slots { P.blocks paging.old ≡ replicate machine.slots empty_block }
-    requires blocks { F.blocks files.old ≡ replicate machine.blocks empty_block }
-    requires paging_logged { NoneLogged (P.log paging.old) }
-    requires files_logged { NoneLogged (F.log files.old) }
-    ensures came { (p f : ℕ) → p ≤ P.faults paging.old → f ≤ F.faults files.old → Comes (outside_seen S.Source O.Sink source.old out.old kept.old) (outside_seen S.Source O.Sink source.new out.new kept.new) (stand held.old 0 (NotBegun (outset p f (M.taken moves.old) (M.given moves.old) (M.faults moves.old)))) result (left_seen M.Sink P.Blocks F.Blocks moves.new paging.new files.new) }
-    ensures faults { IsBlamed result ⊥ (counts_seen S.Source O.Sink M.Sink source.old out.old moves.old) (counts_seen S.Source O.Sink M.Sink source.new out.new moves.new) }
+    requires opened { AreOpened machine
+        (device_seen P.Blocks paging.old) (device_seen F.Blocks files.old) }
+    ensures came { (p f : ℕ) → p ≤ P.faults paging.old → f ≤ F.faults files.old → Comes
+        (outside_seen S.Source O.Sink source.old out.old kept.old)
+        (outside_seen S.Source O.Sink source.new out.new kept.new)
+        (stand held.old 0
+        (NotBegun (outset p f (M.taken moves.old) (M.given moves.old) (M.faults moves.old))))
+        result (left_seen M.Sink P.Blocks F.Blocks moves.new paging.new files.new) }
+    ensures faults { IsBlamed result ⊥
+        (counts_seen S.Source O.Sink M.Sink source.old out.old moves.old)
+        (counts_seen S.Source O.Sink M.Sink source.new out.new moves.new) }
     ensures idle { S.idle source.new ≤ S.idle source.old + S.last_idle source.new }
     ensures form { result ≢ Ending.Usage }
 {
@@ -161,14 +157,13 @@ fn start_machine<S: Source, O: Sink, M: Sink, P: Blocks, F: Blocks>(
     paging: &mut P,
     files: &mut F,
 ) -> Ending
-    requires line { HasLine held.old len }
+    requires line { HoldsMachine held.old len machine }
     requires room { length kept.old + 256 ≤ 65536 }
-    requires behind { length held.old < len + 1 + 4096 }
-    requires says { reading 0 (take len held.old) ≡ Ok (event.Machine machine) }
-    requires grammar { IsLineFor (take len held.old) (event.Machine machine) }
-    ensures came { Comes (outside_seen S.Source O.Sink source.old out.old kept.old) (outside_seen S.Source O.Sink source.new out.new kept.new) (stand held.old 0 (NotBegun (outset_seen M.Sink P.Blocks F.Blocks moves.old paging.old files.old))) result (left_seen M.Sink P.Blocks F.Blocks moves.new paging.new files.new) }
-    ensures faults { IsBlamed result (open_failed P.Blocks F.Blocks paging.old paging.new files.old files.new) (counts_seen S.Source O.Sink M.Sink source.old out.old moves.old) (counts_seen S.Source O.Sink M.Sink source.new out.new moves.new) }
-    ensures idle { S.idle source.new ≤ S.idle source.old + S.last_idle source.new }
+    ensures ends { ComesTo held.old
+        (setting S.Source O.Sink M.Sink P.Blocks F.Blocks
+        source.old out.old kept.old moves.old paging.old files.old)
+        (setting S.Source O.Sink M.Sink P.Blocks F.Blocks
+        source.new out.new kept.new moves.new paging.new files.new) result }
     ensures form { result ≢ Ending.Usage }
 {
     match open_devices(machine, paging, files) {
@@ -193,12 +188,13 @@ fn decide_first<S: Source, O: Sink, M: Sink, P: Blocks, F: Blocks>(
     paging: &mut P,
     files: &mut F,
 ) -> Ending
-    requires line { HasLine held.old len }
+    requires line { HoldsLine held.old len }
     requires room { length kept.old + 256 ≤ 65536 }
-    requires behind { length held.old < len + 1 + 4096 }
-    ensures came { Comes (outside_seen S.Source O.Sink source.old out.old kept.old) (outside_seen S.Source O.Sink source.new out.new kept.new) (stand held.old 0 (NotBegun (outset_seen M.Sink P.Blocks F.Blocks moves.old paging.old files.old))) result (left_seen M.Sink P.Blocks F.Blocks moves.new paging.new files.new) }
-    ensures faults { IsBlamed result (open_failed P.Blocks F.Blocks paging.old paging.new files.old files.new) (counts_seen S.Source O.Sink M.Sink source.old out.old moves.old) (counts_seen S.Source O.Sink M.Sink source.new out.new moves.new) }
-    ensures idle { S.idle source.new ≤ S.idle source.old + S.last_idle source.new }
+    ensures ends { ComesTo held.old
+        (setting S.Source O.Sink M.Sink P.Blocks F.Blocks
+        source.old out.old kept.old moves.old paging.old files.old)
+        (setting S.Source O.Sink M.Sink P.Blocks F.Blocks
+        source.new out.new kept.new moves.new paging.new files.new) result }
     ensures form { result ≢ Ending.Usage }
 {
     let event = match read_first(&held.bytes()[..len]) {
@@ -226,9 +222,11 @@ pub(crate) fn decide_all<S: Source, O: Sink, M: Sink, P: Blocks, F: Blocks>(
     files: &mut F,
 ) -> Ending
     requires room { length kept.old + 256 ≤ 65536 }
-    ensures came { Comes (outside_seen S.Source O.Sink source.old out.old kept.old) (outside_seen S.Source O.Sink source.new out.new kept.new) (stand [] 0 (NotBegun (outset_seen M.Sink P.Blocks F.Blocks moves.old paging.old files.old))) result (left_seen M.Sink P.Blocks F.Blocks moves.new paging.new files.new) }
-    ensures faults { IsBlamed result (open_failed P.Blocks F.Blocks paging.old paging.new files.old files.new) (counts_seen S.Source O.Sink M.Sink source.old out.old moves.old) (counts_seen S.Source O.Sink M.Sink source.new out.new moves.new) }
-    ensures idle { S.idle source.new ≤ S.idle source.old + S.last_idle source.new }
+    ensures ends { ComesTo []
+        (setting S.Source O.Sink M.Sink P.Blocks F.Blocks
+        source.old out.old kept.old moves.old paging.old files.old)
+        (setting S.Source O.Sink M.Sink P.Blocks F.Blocks
+        source.new out.new kept.new moves.new paging.new files.new) result }
     ensures form { result ≢ Ending.Usage }
 {
     let mut held = Held::new();

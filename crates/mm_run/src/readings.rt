@@ -48,13 +48,15 @@ pub(crate) fn read_first(line: &[u8]) -> Result<Event, u32>
     }
 }
 
-/// The event of a later line, which stands in what the line was parsed to, or the column of its fault.
+/// The event of a later line, which stands in what the line was parsed to, or the column of its
+/// fault.
 pub(crate) fn later_event<'a>(
     line: &[u8],
     parsed: &'a Result<Event, LineFault>,
 ) -> Result<&'a Event, u32>
     requires parsed { parsed.now ≡ parse line.now }
-    ensures reads { MatchResult result (λ e. reading 1 line.now ≡ Ok e.now) (λ column. reading 1 line.now ≡ Err column) }
+    ensures reads { MatchResult result (λ e. reading 1 line.now ≡ Ok e.now)
+        (λ column. reading 1 line.now ≡ Err column) }
     ensures same { IfOk result (λ e. parsed.now ≡ Ok e.now) }
 {
     match parsed {

@@ -1,17 +1,16 @@
-ghost use Rattle.std.specs.Prelude.{◌≡◌, ◌≢◌, ◌≤◌, ◌+◌, ◌⊎◌, true, ℕ, List, Some, [], MatchResult, length, ◌++◌};
+ghost use Rattle.std.specs.Prelude.{◌≡◌, ◌≢◌, ◌≤◌, ◌+◌, ◌⊎◌, true, ℕ, List, Some, [], length, ◌++◌};
 ghost use Rattle.mm_types.specs.Spelling.{decimal};
-ghost use Rattle.mm_types.specs.Outside.{Appended};
 ghost use Rattle.mm_io.specs.Io.{CountsFaults};
 ghost use Rattle.mm_run.specs.Script.{IsScript, IsComplete, IsFault};
-ghost use Rattle.mm_run.specs.Story.{Comes, IsBlamed, IsForm, stand};
-ghost use Rattle.mm_run.specs.Scenes.{NotBegun};
+ghost use Rattle.mm_run.specs.Story.{IsForm};
 ghost use Rattle.mm_run.specs.Ran.{RanOrRefused};
-ghost use Rattle.mm_run.specs.Texts.{TornText, last_text};
+ghost use Rattle.mm_run.specs.Texts.{WroteText, ToldText, last_text};
 ghost use Rattle.mm_run.specs.Closing.{Closed, is_over};
 ghost use Rattle.mm_run.specs.Faults.{IsAccounted};
 ghost use Rattle.mm_make.specs.Generated.{script_of};
 ghost use Rattle.mm_run.specs.Bulk.{IsBulk, IsNoBulk, BulkRanOrRefused};
-ghost use Rattle.mm_run.specs.Seen.{counts_seen, left_seen, open_failed, outset_seen, outside_seen, seen, sink_seen};
+ghost use Rattle.mm_run.specs.Settings.{ComesTo};
+ghost use Rattle.mm_run.specs.Seen.{counts_seen, open_failed, seen, setting, sink_seen};
 
 use crate::answers::Kept;
 use crate::bulk::bulk;
@@ -59,9 +58,7 @@ fn spell_last(ending: Ending) -> LineBuf
 
 /// Writes one text and then another.
 fn write_both<O: Sink>(out: &mut O, first: &[u8], second: &[u8]) -> Result<(), Failed>
-    ensures wrote { MatchResult result
-        (λ _. Appended (O.taken out.old) (O.taken out.new) (first.now ++ second.now))
-        (λ _. TornText (O.taken out.old) (O.taken out.new) (first.now ++ second.now)) }
+    ensures wrote { WroteText result (O.taken out.old) (O.taken out.new) (first.now ++ second.now) }
     ensures cause { CountsFaults (O.faults out.old) (O.faults out.new) result }
 {
     match write_all(out, first) {
@@ -72,9 +69,8 @@ fn write_both<O: Sink>(out: &mut O, first: &[u8], second: &[u8]) -> Result<(), F
 
 /// Writes the answers that are kept and the last text, and has the sink give all on.
 fn tell_end<O: Sink>(kept: &Kept, out: &mut O, ending: Ending) -> Result<(), Failed>
-    ensures told { MatchResult result
-        (λ _. Appended (O.taken out.old) (O.taken out.new) (kept.now ++ last_text ending) × (O.given out.new ≡ O.taken out.new))
-        (λ _. TornText (O.taken out.old) (O.taken out.new) (kept.now ++ last_text ending)) }
+    ensures told { ToldText result (O.taken out.old) (O.taken out.new) (O.given out.new)
+        (kept.now ++ last_text ending) }
     ensures cause { CountsFaults (O.faults out.old) (O.faults out.new) result }
 {
     let text = spell_last(ending);
@@ -96,11 +92,13 @@ fn come_to<S: Source, O: Sink, M: Sink, P: Blocks, F: Blocks>(
     files: &mut F,
 ) -> Ending
     requires room { length kept.old + 256 ≤ 65536 }
-    ensures came { Comes (outside_seen S.Source O.Sink source.old out.old kept.old) (outside_seen S.Source O.Sink source.new out.new kept.new) (stand [] 0 (NotBegun (outset_seen M.Sink P.Blocks F.Blocks moves.old paging.old files.old))) result (left_seen M.Sink P.Blocks F.Blocks moves.new paging.new files.new) }
+    ensures ends { ComesTo []
+        (setting S.Source O.Sink M.Sink P.Blocks F.Blocks
+        source.old out.old kept.old moves.old paging.old files.old)
+        (setting S.Source O.Sink M.Sink P.Blocks F.Blocks
+        source.new out.new kept.new moves.new paging.new files.new) result }
     ensures form { is_form ≡ true → result ≢ Ending.Usage }
     ensures no_form { (is_form ≡ true → ⊥) → result ≡ Ending.Usage }
-    ensures faults { IsBlamed result (open_failed P.Blocks F.Blocks paging.old paging.new files.old files.new) (counts_seen S.Source O.Sink M.Sink source.old out.old moves.old) (counts_seen S.Source O.Sink M.Sink source.new out.new moves.new) }
-    ensures idle { S.idle source.new ≤ S.idle source.old + S.last_idle source.new }
 {
     if is_form {
         decide_all(alloc, kept, source, out, moves, paging, files)
@@ -116,9 +114,11 @@ fn is_over(ending: Ending) -> bool
     matches!(ending, Ending::OutFault | Ending::MovesFault)
 }
 
-/// Gives on the moves, and then the answers that are kept with the last text, and says with which status the run ends.
+/// Gives on the moves, and then the answers that are kept with the last text, and says with which
+/// status the run ends.
 fn close<O: Sink, M: Sink>(moves: &mut M, kept: &Kept, out: &mut O, ending: Ending) -> u8
-    ensures closed { Closed (sink_seen O.Sink out.old) (sink_seen O.Sink out.new) (sink_seen M.Sink moves.old) (sink_seen M.Sink moves.new) ending kept.now result }
+    ensures closed { Closed (sink_seen O.Sink out.old) (sink_seen O.Sink out.new)
+        (sink_seen M.Sink moves.old) (sink_seen M.Sink moves.new) ending kept.now result }
 {
     if is_over(ending) {
         return ending.status();
@@ -143,8 +143,16 @@ fn run_lines<S: Source, O: Sink, M: Sink, P: Blocks, F: Blocks>(
     paging: &mut P,
     files: &mut F,
 ) -> u8
-    ensures ran { RanOrRefused (seen S.Source O.Sink M.Sink P.Blocks F.Blocks source.old out.old moves.old paging.old files.old) (seen S.Source O.Sink M.Sink P.Blocks F.Blocks source.new out.new moves.new paging.new files.new) (is_form ≡ true) result }
-    ensures faults { IsAccounted result (open_failed P.Blocks F.Blocks paging.old paging.new files.old files.new) (counts_seen S.Source O.Sink M.Sink source.old out.old moves.old) (counts_seen S.Source O.Sink M.Sink source.new out.new moves.new) }
+    ensures ran { RanOrRefused
+        (seen S.Source O.Sink M.Sink P.Blocks F.Blocks
+        source.old out.old moves.old paging.old files.old)
+        (seen S.Source O.Sink M.Sink P.Blocks F.Blocks
+        source.new out.new moves.new paging.new files.new)
+        (is_form ≡ true) result }
+    ensures faults { IsAccounted result
+        (open_failed P.Blocks F.Blocks paging.old paging.new files.old files.new)
+        (counts_seen S.Source O.Sink M.Sink source.old out.old moves.old)
+        (counts_seen S.Source O.Sink M.Sink source.new out.new moves.new) }
     ensures idle { S.idle source.new ≤ S.idle source.old + S.last_idle source.new }
 {
     let mut kept = match Kept::new(alloc) {
@@ -155,17 +163,20 @@ fn run_lines<S: Source, O: Sink, M: Sink, P: Blocks, F: Blocks>(
     close(moves, &kept, out, ending)
 }
 
-/// Runs a script from the bytes of its source to the bytes of its answers, and says how it ended: 0 where every
-/// line was decided, 1 where memory was refused, 2 where the words are no form, 3 at a line that is not in the
-/// grammar, 4 where the source failed, 5 where `out` failed, 6 where `moves` failed, 7 where a device failed as it was opened, 8 at a
-/// line that is too long. The words are read first, once.
+/// Runs a script from the bytes of its source to the bytes of its answers, and says how it ended: 0
+/// where every line was decided, 1 where memory was refused, 2 where the words are no form, 3 at a
+/// line that is not in the grammar, 4 where the source failed, 5 where `out` failed, 6 where
+/// `moves` failed, 7 where a device failed as it was opened, 8 at a line that is too long. The
+/// words are read first, once.
 ///
-/// Where the words are `bulk SEED COUNT` the lines are the events of `mm_make`'s script of these two numbers, and nothing is read; their answers are
-/// not written, but how many there are, how many of them begin with `ok`, how many are `none`, and the charge at the end with its limit.
+/// Where the words are `bulk SEED COUNT` the lines are the events of `mm_make`'s script of these
+/// two numbers, and nothing is read; their answers are not written, but how many there are, how
+/// many of them begin with `ok`, how many are `none`, and the charge at the end with its limit.
 ///
 /// At the first line, `machine`, it opens `paging` with the slots and then `files` with the blocks.
-/// An answer is given on only after its moves were: the answers of lines are kept, and before more is read, when their room is full and at the end
-/// `moves` is flushed, then they are written to `out`, then `out` is flushed. So with status 6 the answers since the last flush do not stand.
+/// An answer is given on only after its moves were: the answers of lines are kept, and before more
+/// is read, when their room is full and at the end `moves` is flushed, then they are written to
+/// `out`, then `out` is flushed. So with status 6 the answers since the last flush do not stand.
 pub fn run<S: Source, O: Sink, M: Sink, P: Blocks, F: Blocks>(
     alloc: Global,
     words: &[String],
@@ -175,32 +186,42 @@ pub fn run<S: Source, O: Sink, M: Sink, P: Blocks, F: Blocks>(
     paging: &mut P,
     files: &mut F,
 ) -> u8
-    // Which lines were decided, with which answers and moves, what the run then came to, what was written, and what is left on devices. Or
-    // memory was refused as the words were read, before anything else: status 1, and everything stands as it stood.
+    // Which lines were decided, with which answers and moves, what the run then came to, what was
+    // written, and what is left on devices. Or memory was refused as the words were read, before
+    // anything else: status 1, and everything stands as it stood.
     ensures ran { IsNoBulk words.now → RanOrRefused
-        (seen S.Source O.Sink M.Sink P.Blocks F.Blocks source.old out.old moves.old paging.old files.old)
-        (seen S.Source O.Sink M.Sink P.Blocks F.Blocks source.new out.new moves.new paging.new files.new)
+        (seen S.Source O.Sink M.Sink P.Blocks F.Blocks
+        source.old out.old moves.old paging.old files.old)
+        (seen S.Source O.Sink M.Sink P.Blocks F.Blocks
+        source.new out.new moves.new paging.new files.new)
         (IsForm words.now) result }
     // Of a generated script, the same of its events.
     ensures bulk { (seed count : ℕ) → IsBulk words.now seed count → BulkRanOrRefused
-        (seen S.Source O.Sink M.Sink P.Blocks F.Blocks source.old out.old moves.old paging.old files.old)
-        (seen S.Source O.Sink M.Sink P.Blocks F.Blocks source.new out.new moves.new paging.new files.new)
+        (seen S.Source O.Sink M.Sink P.Blocks F.Blocks
+        source.old out.old moves.old paging.old files.old)
+        (seen S.Source O.Sink M.Sink P.Blocks F.Blocks
+        source.new out.new moves.new paging.new files.new)
         (script_of seed count) result }
     ensures unread { (seed count : ℕ) → IsBulk words.now seed count → source.new ≡ source.old }
 
-    // A script that comes to something by itself ends with that status and its whole text, unless memory or the
-    // outside fails.
-    ensures exact { (text : List ℕ) (lines : List (List ℕ)) (e : Ending) → S.left source.old ≡ Some text → IsForm words.now → IsScript text 0 lines e
-        → IsComplete
-        (seen S.Source O.Sink M.Sink P.Blocks F.Blocks source.old out.old moves.old paging.old files.old)
-        (seen S.Source O.Sink M.Sink P.Blocks F.Blocks source.new out.new moves.new paging.new files.new)
+    // A script that comes to something by itself ends with that status and its whole text, unless
+    // memory or the outside fails.
+    ensures exact { (text : List ℕ) (lines : List (List ℕ)) (e : Ending) →
+        S.left source.old ≡ Some text → IsForm words.now → IsScript text 0 lines e → IsComplete
+        (seen S.Source O.Sink M.Sink P.Blocks F.Blocks
+        source.old out.old moves.old paging.old files.old)
+        (seen S.Source O.Sink M.Sink P.Blocks F.Blocks
+        source.new out.new moves.new paging.new files.new)
         (IsForm words.now) lines e result ⊎ IsFault result }
     ensures usage { (IsForm words.now → ⊥) → IsNoBulk words.now → (result ≡ 2) ⊎ IsFault result }
     ensures form { IsForm words.now → result ≢ 2 }
 
     // A read that took no byte is the last one.
     ensures idle { S.idle source.new ≤ S.idle source.old + S.last_idle source.new }
-    ensures faults { IsAccounted result (open_failed P.Blocks F.Blocks paging.old paging.new files.old files.new) (counts_seen S.Source O.Sink M.Sink source.old out.old moves.old) (counts_seen S.Source O.Sink M.Sink source.new out.new moves.new) }
+    ensures faults { IsAccounted result
+        (open_failed P.Blocks F.Blocks paging.old paging.new files.old files.new)
+        (counts_seen S.Source O.Sink M.Sink source.old out.old moves.old)
+        (counts_seen S.Source O.Sink M.Sink source.new out.new moves.new) }
 {
     let form = match words_form(alloc, words) {
         Ok(form) => form,

@@ -1,11 +1,14 @@
-//! Tests of the top call: worked rows, and what fails in a run. In a crate of their own, so that mm_run is proved once.
+//! Tests of the top call: what fails in a run. In a crate of their own, so that mm_run is proved
+//! once.
 #![tactic(auto)]
 
 #[cfg(test)]
-mod bulk;
+mod devices;
 #[cfg(test)]
-mod rows;
+mod failing;
 #[cfg(test)]
 mod runs;
 #[cfg(test)]
-mod two_worlds;
+mod shortage;
+#[cfg(test)]
+mod streams;

@@ -4,7 +4,7 @@ use Rattle.mm_types.specs.Spelling.{Text}
 use Rattle.mm_text.specs.Word.{Word}
 use Rattle.mm_script.specs.declared.faults.LineFault.{LineFault}
 use Rattle.mm_script.specs.Place.{fault_at}
-use Rattle.mm_script.specs.Reading.{◌>>=◌, Rest, behind, word_read, first_read, word_as, ends_at, ended}
+use Rattle.mm_script.specs.Reading.{◌>>=◌, Rest, rest_behind, word_read, first_read, word_as, ends_at, ended}
 
 pub bind_ok : {A B : Type 0} (r : Result A LineFault) (f : A → Result B LineFault) (y : B) → (r >>= f) ≡ Ok y → (x : A) × (r ≡ Ok x) × (f x ≡ Ok y)
 bind_ok (Ok x) f y h = (x, refl, h)
@@ -20,7 +20,7 @@ pub record IsRead {A : Type 0} (reads : Text → Option A) (rest : Rest) (x : A)
   pub words : List Word
   pub left : rest.left ≡ word ∷ words
   pub value : reads word.text ≡ Some x
-  pub left_then : later ≡ behind rest word words
+  pub left_then : later ≡ rest_behind rest word words
 
 -- no word is left, or the next is another
 pub data IsBad {A : Type 0} (reads : Text → Option A) (rest : Rest) (f : LineFault) : Type 0 where
@@ -30,7 +30,7 @@ pub data IsBad {A : Type 0} (reads : Text → Option A) (rest : Rest) (f : LineF
 read_word : {A : Type 0} (reads : Text → Option A) (rest later : Rest) (x : A) (w : Word) (ws : List Word) → rest.left ≡ w ∷ ws → (o : Option A) → reads w.text ≡ o → word_read o rest w ws ≡ Ok (x, later) → IsRead reads rest x later
 read_word reads rest later x w ws l None e h = cc
 read_word {A} reads rest later x w ws l (Some y) e h =
-    let same : ◌≡◌ {A = A × Rest} (y, behind rest w ws) (x, later) = cc in
+    let same : ◌≡◌ {A = A × Rest} (y, rest_behind rest w ws) (x, later) = cc in
     record { word = w; words = ws; left = l; value = e ∙ ap (λ (p : A × Rest). Some p.0) same; left_then = sym (ap (λ (p : A × Rest). p.1) same) }
 
 read_first : {A : Type 0} (reads : Text → Option A) (rest later : Rest) (x : A) (ws : List Word) → rest.left ≡ ws → first_read reads rest ws ≡ Ok (x, later) → IsRead reads rest x later
@@ -53,7 +53,7 @@ pub word_err : {A : Type 0} (reads : Text → Option A) (rest : Rest) (f : LineF
 unfolding word_as
 word_err reads rest f h = bad_first reads rest f rest.left refl h
 
-pub word_again : {A : Type 0} (reads : Text → Option A) (rest : Rest) (x : A) (w : Word) (ws : List Word) → rest.left ≡ w ∷ ws → reads w.text ≡ Some x → word_as reads rest ≡ Ok (x, behind rest w ws)
+pub word_again : {A : Type 0} (reads : Text → Option A) (rest : Rest) (x : A) (w : Word) (ws : List Word) → rest.left ≡ w ∷ ws → reads w.text ≡ Some x → word_as reads rest ≡ Ok (x, rest_behind rest w ws)
 unfolding word_as
 word_again reads rest x w ws l e = ap (first_read reads rest) l ∙ ap (λ o. word_read o rest w ws) e
 

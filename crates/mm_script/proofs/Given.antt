@@ -4,11 +4,11 @@ use Rattle.std.specs.Option.{ok_or}
 use Rattle.mm_types.specs.Spelling.{Text}
 use Rattle.mm_script.specs.declared.faults.LineFault.{LineFault}
 use Rattle.mm_script.specs.Place.{fault_at}
-use Rattle.mm_script.specs.Reading.{Rest, behind, word_read, first_read, word_as, Gives}
+use Rattle.mm_script.specs.Reading.{Rest, rest_behind, word_read, first_read, word_as, Gives}
 use Rattle.mm_script.specs.Cursor.{word_from, TakesWord}
 
 -- what is left after the word
-taken_rest : (old new : Rest) (text : Text) → TakesWord old text new → behind old (word_from new.last text) new.left ≡ new
+taken_rest : (old new : Rest) (text : Text) → TakesWord old text new → rest_behind old (word_from new.last text) new.left ≡ new
 taken_rest old new text h = ap (λ (n : ℕ). record { left = new.left; end = old.end; number = n; last = new.last }) (sym h.number) ∙ ap (λ (e : ℕ). record { left = new.left; end = e; number = new.number; last = new.last }) (sym h.end)
 
 read_taken : {A : Type 0} (reads : Text → Option A) (old new : Rest) (text : Text) → TakesWord old text new → word_as reads old ≡ word_read (reads text) old (word_from new.last text) new.left

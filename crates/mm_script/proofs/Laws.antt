@@ -13,7 +13,7 @@ use Rattle.mm_script.specs.Printed.{spaced_words}
 use Rattle.mm_script.specs.Keywords.{text_of, keyword_of}
 use Rattle.mm_script.specs.Shape.{shape_of}
 use Rattle.mm_script.specs.Place.{without_return, first_fault, fault_behind, fault_among, fault_place}
-use Rattle.mm_script.specs.Reading.{◌>>=◌, Rest, behind, word_as, make_of, line_of, whole_line, parse}
+use Rattle.mm_script.specs.Reading.{◌>>=◌, Rest, rest_behind, word_as, make_of, line_of, whole_line, parse}
 use Rattle.mm_script.proofs.Binds.{bind_ok, bind_err, Missing, Bad, word_ok, word_err, word_again}
 use Rattle.mm_script.proofs.Joined.{texts, joined_words, split_words, return_cases, return_taken, plain_kept, IsPlain, ArePlain}
 use Rattle.mm_script.proofs.Shapes.{Values, made_of, fields_for, plain_words}
@@ -68,7 +68,7 @@ parse_words k vs rest (v ∷ vs') w ws l t first each j =
     let tail : texts vs' ≡ ws = cc in
     let key : keyword_of v.text ≡ Some k = ap keyword_of (head ∙ first) ∙ keyword_again k in
     ap (λ r. r >>= λ x. line_of x.0 x.1) (word_again keyword_of rest k v vs' l key)
-    ∙ event_again k (shape_of k) (make_of k) vs (behind rest v vs') vs' refl (subst (λ (ts : List Text). EachSpells ts (fields_for (shape_of k) vs)) (sym tail) each) j
+    ∙ event_again k (shape_of k) (make_of k) vs (rest_behind rest v vs') vs' refl (subst (λ (ts : List Text). EachSpells ts (fields_for (shape_of k) vs)) (sym tail) each) j
 
 line_again : (text : Text) (e : Event) (k : Keyword) (vs : Values (shape_of k)) → made_of (shape_of k) (make_of k) vs ≡ e → (ws : List Text) → IsText text ws → EachSpells ws (Exactly (text_of k) ∷ fields_for (shape_of k) vs) → are_joined e ≡ true → parse text ≡ Ok e
 unfolding parse

@@ -7,6 +7,7 @@ pub mod Found
 pub mod Walk
 pub mod Laws
 pub mod Given
+pub mod Narrowed
 pub mod Ranges
 pub mod Room
 pub mod Again

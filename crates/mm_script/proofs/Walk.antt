@@ -13,7 +13,7 @@ use Rattle.mm_script.specs.Field.{EachSpells}
 use Rattle.mm_script.specs.Grammar.{are_joined}
 use Rattle.mm_script.specs.Shape.{DirectionWord, read, Shape, End, Then, ReadOrWrite}
 use Rattle.mm_script.specs.Place.{fault_at, joint_fault, first_fault}
-use Rattle.mm_script.specs.Reading.{◌>>=◌, Rest, behind, word_as, ended, Makes, by_direction, event_in}
+use Rattle.mm_script.specs.Reading.{◌>>=◌, Rest, rest_behind, word_as, ended, Makes, by_direction, event_in}
 use Rattle.mm_script.proofs.Binds.{bind_ok, bind_err, IsRead, Missing, Bad, word_ok, word_err, word_again, ended_ok, More, ended_err, ended_again}
 use Rattle.mm_script.proofs.Joined.{texts}
 use Rattle.mm_script.proofs.Shapes.{Values, made_of, fields_for, spells_read, read_spells}
@@ -81,15 +81,15 @@ event_again k End make vs rest (w ∷ ws) l h j = absurd h
 event_again k (Then kind s) make vs rest [] l h j = absurd h
 event_again k (Then kind s) make vs rest (w ∷ ws) l h j =
     ap (λ r. r >>= λ x. event_in k s (make x.0) x.1) (word_again (read kind) rest vs.0 w ws l (read_spells kind vs.0 w.text h.0))
-    ∙ event_again k s (make vs.0) vs.1 (behind rest w ws) ws refl h.1 j
+    ∙ event_again k s (make vs.0) vs.1 (rest_behind rest w ws) ws refl h.1 j
 event_again k (ReadOrWrite s t) make (inl vs) rest [] l h j = absurd h
 event_again k (ReadOrWrite s t) make (inr vs) rest [] l h j = absurd h
 event_again k (ReadOrWrite s t) make (inl vs) rest (w ∷ ws) l h j =
     ap (λ r. r >>= λ x. by_direction x.0 (event_in k s make.0 x.1) (event_in k t make.1 x.1)) (word_again (read DirectionWord) rest direction.Read w ws l (read_spells DirectionWord direction.Read w.text h.0))
-    ∙ event_again k s make.0 vs (behind rest w ws) ws refl h.1 j
+    ∙ event_again k s make.0 vs (rest_behind rest w ws) ws refl h.1 j
 event_again k (ReadOrWrite s t) make (inr vs) rest (w ∷ ws) l h j =
     ap (λ r. r >>= λ x. by_direction x.0 (event_in k s make.0 x.1) (event_in k t make.1 x.1)) (word_again (read DirectionWord) rest direction.Write w ws l (read_spells DirectionWord direction.Write w.text h.0))
-    ∙ event_again k t make.1 vs (behind rest w ws) ws refl h.1 j
+    ∙ event_again k t make.1 vs (rest_behind rest w ws) ws refl h.1 j
 
 tested_err : (b : Bool) (e : Event) (f g : LineFault) → cond b (Ok e) (Err f) ≡ Err g → f ≡ g
 tested_err true e f g h = cc

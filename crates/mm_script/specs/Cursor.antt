@@ -15,7 +15,12 @@ pub record IsCursor (line : Text) (words : WordsOf) (number last : ℕ) : Type 0
   pub within : last ≤ length line
 
 abbrev pub rest_of : Text → WordsOf → ℕ → ℕ → Rest
-rest_of line words number last = record { left = words.left; end = length line; number = number; last = last }
+rest_of line words number last = record {
+  left = words.left;
+  end = length line;
+  number = number;
+  last = last;
+}
 
 abbrev pub word_from : ℕ → Text → Word
 word_from from text = record { from = from; text = text }
@@ -28,4 +33,5 @@ pub record TakesWord (old : Rest) (text : Text) (new : Rest) : Type 0 where
 
 -- the next word, or the fault after the line's end
 abbrev pub Takes : Rest → Result (Bor Text) LineFault → Rest → Type 0
-Takes old result new = MatchResult result (λ w. TakesWord old w.now new) (λ f. (old.left ≡ []) × (f ≡ fault_at old.end old.number))
+Takes old result new = MatchResult result (λ w. TakesWord old w.now new) (λ f. (old.left ≡ []) ×
+    (f ≡ fault_at old.end old.number))

@@ -12,7 +12,8 @@ pub data Field : Type 0 where
   Named : (name : Text) → Field  -- a name
   NamedOrDash : (name : Option Text) → Field  -- a name, or `-` for none
 
--- The word spells the field. A number may be decimal or hexadecimal, with leading zeros, in every field of numbers.
+-- The word spells the field. A number may be decimal or hexadecimal, with leading zeros, in every
+-- field of numbers.
 abbrev pub Spells : Text → Field → Type 0
 Spells word (Exactly text) = word ≡ text
 Spells word (Decimal least most n) = (number_of word ≡ Some n) × (least ≤ n) × (n ≤ most)

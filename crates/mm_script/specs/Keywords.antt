@@ -46,7 +46,12 @@ keyword_among [] word = None
 keyword_among (k ∷ ks) word = if bytes_eq word (text_of k) then Some k else keyword_among ks word
 
 abbrev pub keywords : List Keyword
-keywords = keyword.Machine ∷ keyword.Process ∷ keyword.Exit ∷ keyword.File ∷ keyword.Alloc ∷ keyword.Free ∷ keyword.Protect ∷ keyword.Query ∷ keyword.Create ∷ keyword.CreateFile ∷ keyword.Open ∷ keyword.Close ∷ keyword.Map ∷ keyword.Unmap ∷ keyword.Flush ∷ keyword.Read ∷ keyword.Write ∷ keyword.Exec ∷ keyword.Begin ∷ keyword.Resume ∷ keyword.Io ∷ keyword.Trim ∷ keyword.Age ∷ keyword.Writer ∷ keyword.Zeroer ∷ keyword.Fail ∷ keyword.Charge ∷ keyword.Counts ∷ keyword.Grow ∷ keyword.Watch ∷ keyword.ResetWatch ∷ keyword.Stack ∷ keyword.Probe ∷ []
+keywords = keyword.Machine ∷ keyword.Process ∷ keyword.Exit ∷ keyword.File ∷ keyword.Alloc ∷
+    keyword.Free ∷ keyword.Protect ∷ keyword.Query ∷ keyword.Create ∷ keyword.CreateFile ∷
+    keyword.Open ∷ keyword.Close ∷ keyword.Map ∷ keyword.Unmap ∷ keyword.Flush ∷ keyword.Read ∷
+    keyword.Write ∷ keyword.Exec ∷ keyword.Begin ∷ keyword.Resume ∷ keyword.Io ∷ keyword.Trim ∷
+    keyword.Age ∷ keyword.Writer ∷ keyword.Zeroer ∷ keyword.Fail ∷ keyword.Charge ∷ keyword.Counts ∷
+    keyword.Grow ∷ keyword.Watch ∷ keyword.ResetWatch ∷ keyword.Stack ∷ keyword.Probe ∷ []
 
 -- the keyword that a word is
 unfoldable pub keyword_of : Text → Option Keyword

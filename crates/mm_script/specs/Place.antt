@@ -15,25 +15,28 @@ without_return [] = []
 without_return (c ∷ []) = if c == 0x0D then [] else c ∷ []
 without_return (c ∷ d ∷ cs) = c ∷ without_return (d ∷ cs)
 
--- the fault of the word with this number, which begins at this place of the line; places are counted from 0, columns from 1
+-- the fault of the word with this number, which begins at this place of the line; places are
+-- counted from 0, columns from 1
 abbrev pub fault_at : ℕ → ℕ → LineFault
 fault_at from number = record { column = from + 1; word = number }
 
--- The place of a joint condition: the frames of a machine, right after `machine `, and else the last word, which begins
--- at this place, one word before this number.
+-- The place of a joint condition: the frames of a machine, right after `machine `, and else the
+-- last word, which begins at this place, one word before this number.
 abbrev pub joint_fault : Keyword → ℕ → ℕ → LineFault
 joint_fault keyword.Machine last number = fault_at 8 2
 joint_fault _ last number = fault_at last (number - 1)
 
--- The words that are left are tested from left to right, each by its form and range; the first of them has this number, the
--- word before it began at `last`, and the line ends at `end`. A missing word stands after the line's end, a word too many at
--- its own place, and where all words are good the joint condition fails.
+-- The words that are left are tested from left to right, each by its form and range; the first of
+-- them has this number, the word before it began at `last`, and the line ends at `end`. A missing
+-- word stands after the line's end, a word too many at its own place, and where all words are good
+-- the joint condition fails.
 abbrev pub first_fault : Keyword → Shape → List Word → (end number last : ℕ) → LineFault
 first_fault k End [] end number last = joint_fault k last number
 first_fault k End (w ∷ ws) end number last = fault_at w.from number
 first_fault k (Then kind later) [] end number last = fault_at end number
 first_fault k (Then kind later) (w ∷ ws) end number last =
-    if is_some (read kind w.text) then first_fault k later ws end (number + 1) w.from else fault_at w.from number
+    if is_some (read kind w.text) then first_fault k later ws end (number + 1) w.from else
+    fault_at w.from number
 first_fault k (ReadOrWrite if_read if_write) [] end number last = fault_at end number
 first_fault k (ReadOrWrite if_read if_write) (w ∷ ws) end number last =
     if bytes_eq w.text (codes "read") then first_fault k if_read ws end (number + 1) w.from

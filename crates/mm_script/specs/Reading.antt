@@ -17,11 +17,13 @@ use Rattle.mm_script.specs.Shape.{DirectionWord, Value, read, Shape, End, Then, 
 use Rattle.mm_script.specs.Place.{without_return, fault_at, joint_fault}
 
 infixl 10 ◌>>=◌
-abbrev pub ◌>>=◌ : {A B : Type 0} → Result A LineFault → (A → Result B LineFault) → Result B LineFault
+abbrev pub ◌>>=◌ : {A B : Type 0} → Result A LineFault → (A → Result B LineFault) →
+    Result B LineFault
 (Ok x) >>= f = f x
 (Err e) >>= f = Err e
 
--- The words of a line that are left: the first has this number, the one before it began at `last`, the line ends at `end`.
+-- The words of a line that are left: the first has this number, the one before it began at `last`,
+-- the line ends at `end`.
 pub record Rest : Type 0 where
   pub left : List Word
   pub end : ℕ
@@ -29,14 +31,21 @@ pub record Rest : Type 0 where
   pub last : ℕ
 
 -- what is left after a word
-abbrev pub behind : Rest → Word → List Word → Rest
-behind rest w ws = record { left = ws; end = rest.end; number = rest.number + 1; last = w.from }
+abbrev pub rest_behind : Rest → Word → List Word → Rest
+rest_behind rest w ws = record {
+  left = ws;
+  end = rest.end;
+  number = rest.number + 1;
+  last = w.from;
+}
 
-abbrev pub word_read : {A : Type 0} → Option A → Rest → Word → List Word → Result (A × Rest) LineFault
+abbrev pub word_read : {A : Type 0} → Option A → Rest → Word → List Word →
+    Result (A × Rest) LineFault
 word_read None rest w ws = Err (fault_at w.from rest.number)
-word_read (Some x) rest w ws = Ok (x, behind rest w ws)
+word_read (Some x) rest w ws = Ok (x, rest_behind rest w ws)
 
-abbrev pub first_read : {A : Type 0} → (Text → Option A) → Rest → List Word → Result (A × Rest) LineFault
+abbrev pub first_read : {A : Type 0} → (Text → Option A) → Rest → List Word →
+    Result (A × Rest) LineFault
 first_read reads rest [] = Err (fault_at rest.end rest.number)
 first_read reads rest (w ∷ ws) = word_read (reads w.text) rest w ws
 
@@ -65,14 +74,21 @@ by_direction direction.Write x y = y
 -- the words of a shape, and the event that is made of their values
 abbrev pub event_in : Keyword → (s : Shape) → Makes s Event → Rest → Result Event LineFault
 event_in k End event rest =
-    ended rest >>= λ _. if are_joined event then Ok event else Err (joint_fault k rest.last rest.number)
+    ended rest >>= λ _. if are_joined event then Ok event else
+    Err (joint_fault k rest.last rest.number)
 event_in k (Then kind s) make rest = word_as (read kind) rest >>= λ x. event_in k s (make x.0) x.1
 event_in k (ReadOrWrite s t) make rest =
-    word_as (read DirectionWord) rest >>= λ x. by_direction x.0 (event_in k s make.0 x.1) (event_in k t make.1 x.1)
+    word_as (read DirectionWord) rest >>= λ x.
+    by_direction x.0 (event_in k s make.0 x.1) (event_in k t make.1 x.1)
 
 -- the event of the values that stand after a keyword
 abbrev pub make_of : (k : Keyword) → Makes (shape_of k) Event
-make_of keyword.Machine = λ frames slots depth blocks. line.Machine (record { frames = frames; slots = slots; depth = depth; blocks = blocks })
+make_of keyword.Machine = λ frames slots depth blocks. line.Machine (record {
+  frames = frames;
+  slots = slots;
+  depth = depth;
+  blocks = blocks;
+})
 make_of keyword.Process = λ min max. line.Process min max
 make_of keyword.Exit = λ pid. line.Exit pid
 make_of keyword.File = λ name pages byte. line.File name pages byte
@@ -84,13 +100,18 @@ make_of keyword.Create = λ pid size flags name. line.Create pid size flags name
 make_of keyword.CreateFile = λ pid file flags name. line.CreateFile pid file flags name
 make_of keyword.Open = λ pid name. line.Open pid name
 make_of keyword.Close = λ pid handle. line.Close pid handle
-make_of keyword.Map = λ pid handle access offset len addr. line.Map pid handle access offset len addr
+make_of keyword.Map = λ pid handle access offset len addr.
+    line.Map pid handle access offset len addr
 make_of keyword.Unmap = λ pid addr. line.Unmap pid addr
 make_of keyword.Flush = λ pid addr size. line.Flush pid addr size
 make_of keyword.Read = λ pid addr len. line.Read pid addr len
 make_of keyword.Write = λ pid addr bytes. line.Write pid addr bytes
 make_of keyword.Exec = λ pid addr. line.Exec pid addr
-make_of keyword.Begin = λ tid pid. (λ addr len. line.Begin tid pid (spec.Read addr len), λ addr bytes. line.Begin tid pid (spec.Write addr bytes))
+make_of keyword.Begin = λ tid pid. (
+  λ addr len. line.Begin tid pid (spec.Read addr len),
+  λ addr bytes.
+      line.Begin tid pid (spec.Write addr bytes),
+)
 make_of keyword.Resume = λ tid. line.Resume tid
 make_of keyword.Io = λ i. line.Io i
 make_of keyword.Trim = λ pid n. line.Trim pid n

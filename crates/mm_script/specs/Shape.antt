@@ -55,13 +55,16 @@ abbrev pub flag_from : ℕ → Bool
 flag_from n = n == 1
 
 abbrev pub name_or_dash : Text → Option (Option Text)
-name_or_dash word = if bytes_eq word (codes "-") then Some None else option_map (λ n. Some n) (name_of word)
+name_or_dash word = if bytes_eq word (codes "-") then Some None else
+    option_map (λ n. Some n) (name_of word)
 
 abbrev pub device_of : Text → Option Device
-device_of word = if bytes_eq word (codes "paging") then Some device.Paging else if bytes_eq word (codes "file") then Some device.File else None
+device_of word = if bytes_eq word (codes "paging") then Some device.Paging else
+    if bytes_eq word (codes "file") then Some device.File else None
 
 abbrev pub direction_of : Text → Option Direction
-direction_of word = if bytes_eq word (codes "read") then Some direction.Read else if bytes_eq word (codes "write") then Some direction.Write else None
+direction_of word = if bytes_eq word (codes "read") then Some direction.Read else
+    if bytes_eq word (codes "write") then Some direction.Write else None
 
 -- what a word stands for as one of a kind; none where it does not have the kind's form and range
 unfoldable pub read : (k : Kind) → Text → Option (Value k)
@@ -83,11 +86,13 @@ pub data Shape : Type 0 where
   ReadOrWrite : (if_read if_write : Shape) → Shape
 
 abbrev pub shape_of : Keyword → Shape
-shape_of keyword.Machine = Then (Number 6 262144) (Then (Number 0 262144) (Then (Number 1 64) (Then (Number 0 65536) End)))
+shape_of keyword.Machine =
+    Then (Number 6 262144) (Then (Number 0 262144) (Then (Number 1 64) (Then (Number 0 65536) End)))
 shape_of keyword.Process = Then (Number 0 65536) (Then (Number 1 65536) End)
 shape_of keyword.Exit = Then PidNumber End
 shape_of keyword.File = Then NameWord (Then (Number 1 65536) (Then (Number 0 255) End))
-shape_of keyword.Alloc = Then PidNumber (Then AnyNumber (Then AnyNumber (Then AnyNumber (Then AnyNumber End))))
+shape_of keyword.Alloc =
+    Then PidNumber (Then AnyNumber (Then AnyNumber (Then AnyNumber (Then AnyNumber End))))
 shape_of keyword.Free = Then PidNumber (Then AnyNumber (Then AnyNumber (Then AnyNumber End)))
 shape_of keyword.Protect = Then PidNumber (Then AnyNumber (Then AnyNumber (Then AnyNumber End)))
 shape_of keyword.Query = Then PidNumber (Then AnyNumber End)
@@ -95,24 +100,32 @@ shape_of keyword.Create = Then PidNumber (Then AnyNumber (Then AnyNumber (Then N
 shape_of keyword.CreateFile = Then PidNumber (Then NameWord (Then AnyNumber (Then NameOrDash End)))
 shape_of keyword.Open = Then PidNumber (Then NameWord End)
 shape_of keyword.Close = Then PidNumber (Then (Number 0 0xFFFFFFFF) End)
-shape_of keyword.Map = Then PidNumber (Then (Number 0 0xFFFFFFFF) (Then AnyNumber (Then AnyNumber (Then AnyNumber (Then AnyNumber End)))))
+shape_of keyword.Map =
+    Then PidNumber
+    (Then (Number 0 0xFFFFFFFF)
+    (Then AnyNumber (Then AnyNumber (Then AnyNumber (Then AnyNumber End)))))
 shape_of keyword.Unmap = Then PidNumber (Then AnyNumber End)
 shape_of keyword.Flush = Then PidNumber (Then AnyNumber (Then AnyNumber End))
 shape_of keyword.Read = Then PidNumber (Then AnyNumber (Then (Number 1 64) End))
 shape_of keyword.Write = Then PidNumber (Then AnyNumber (Then ByteWord End))
 shape_of keyword.Exec = Then PidNumber (Then AnyNumber End)
-shape_of keyword.Begin = Then TidNumber (Then PidNumber (ReadOrWrite (Then AnyNumber (Then (Number 1 64) End)) (Then AnyNumber (Then ByteWord End))))
+shape_of keyword.Begin =
+    Then TidNumber
+    (Then PidNumber
+    (ReadOrWrite (Then AnyNumber (Then (Number 1 64) End)) (Then AnyNumber (Then ByteWord End))))
 shape_of keyword.Resume = Then TidNumber End
 shape_of keyword.Io = Then (Number 1 64) End
 shape_of keyword.Trim = Then PidNumber (Then (Number 0 1000000) End)
 shape_of keyword.Age = Then PidNumber End
 shape_of keyword.Writer = Then (Number 0 1000000) End
 shape_of keyword.Zeroer = Then (Number 0 1000000) End
-shape_of keyword.Fail = Then DeviceWord (Then DirectionWord (Then (Number 1 1000000) (Then (Number 1 1000000) End)))
+shape_of keyword.Fail =
+    Then DeviceWord (Then DirectionWord (Then (Number 1 1000000) (Then (Number 1 1000000) End)))
 shape_of keyword.Charge = End
 shape_of keyword.Counts = End
 shape_of keyword.Grow = Then (Number 1 262144) End
-shape_of keyword.Watch = Then PidNumber (Then FlagNumber (Then AnyNumber (Then AnyNumber (Then (Number 1 16) End))))
+shape_of keyword.Watch =
+    Then PidNumber (Then FlagNumber (Then AnyNumber (Then AnyNumber (Then (Number 1 16) End))))
 shape_of keyword.ResetWatch = Then PidNumber (Then AnyNumber (Then AnyNumber End))
 shape_of keyword.Stack = Then TidNumber (Then PidNumber (Then AnyNumber (Then AnyNumber End)))
 shape_of keyword.Probe = Then TidNumber (Then AnyNumber End)

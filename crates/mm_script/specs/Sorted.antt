@@ -4,16 +4,21 @@ use Rattle.mm_script.specs.declared.keywords.Keyword.{Keyword}
 use Rattle.mm_script.specs.declared.keywords.Keyword.TheVariants as keyword
 
 abbrev pub four_letter_keywords : List Keyword
-four_letter_keywords = keyword.Read ∷ keyword.Exit ∷ keyword.File ∷ keyword.Free ∷ keyword.Open ∷ keyword.Exec ∷ keyword.Trim ∷ keyword.Fail ∷ keyword.Grow ∷ []
+four_letter_keywords = keyword.Read ∷ keyword.Exit ∷ keyword.File ∷ keyword.Free ∷ keyword.Open ∷
+    keyword.Exec ∷ keyword.Trim ∷ keyword.Fail ∷ keyword.Grow ∷ []
 
 abbrev pub five_letter_keywords : List Keyword
-five_letter_keywords = keyword.Write ∷ keyword.Alloc ∷ keyword.Query ∷ keyword.Close ∷ keyword.Unmap ∷ keyword.Flush ∷ keyword.Begin ∷ keyword.Watch ∷ keyword.Stack ∷ keyword.Probe ∷ []
+five_letter_keywords = keyword.Write ∷ keyword.Alloc ∷ keyword.Query ∷ keyword.Close ∷
+    keyword.Unmap ∷ keyword.Flush ∷ keyword.Begin ∷ keyword.Watch ∷ keyword.Stack ∷ keyword.Probe ∷
+    []
 
 abbrev pub six_letter_keywords : List Keyword
-six_letter_keywords = keyword.Writer ∷ keyword.Create ∷ keyword.Resume ∷ keyword.Zeroer ∷ keyword.Charge ∷ keyword.Counts ∷ []
+six_letter_keywords = keyword.Writer ∷ keyword.Create ∷ keyword.Resume ∷ keyword.Zeroer ∷
+    keyword.Charge ∷ keyword.Counts ∷ []
 
 abbrev pub other_keywords : List Keyword
-other_keywords = keyword.Io ∷ keyword.Map ∷ keyword.Age ∷ keyword.Machine ∷ keyword.Process ∷ keyword.Protect ∷ keyword.CreateFile ∷ keyword.ResetWatch ∷ []
+other_keywords = keyword.Io ∷ keyword.Map ∷ keyword.Age ∷ keyword.Machine ∷ keyword.Process ∷
+    keyword.Protect ∷ keyword.CreateFile ∷ keyword.ResetWatch ∷ []
 
 abbrev pub keywords_of_length : ℕ → List Keyword
 keywords_of_length n =

@@ -14,7 +14,8 @@ use std::marker::Model;
 /// More words than any line has.
 const MOST_WORDS: u32 = 64;
 
-/// The words of a line that are left. Each call takes the next word, and answers its value, or the fault at it.
+/// The words of a line that are left. Each call takes the next word, and answers its value, or the
+/// fault at it.
 #[derive(Drop)]
 pub struct Fields<'a> {
     line: &'a [u8],
@@ -48,7 +49,8 @@ impl<'a> Fields<'a> {
         }
     }
 
-    /// The next word; the fault stands after the line's end where no word is left. Either way one word more is counted.
+    /// The next word; the fault stands after the line's end where no word is left. Either way one
+    /// word more is counted.
     #[inline(always)]
     fn next(&mut self) -> Result<&'a [u8], LineFault>
         requires few { self.old.number < MOST_WORDS }
@@ -96,24 +98,42 @@ impl<'a> Fields<'a> {
 
     /// A number from `least` to `most`.
     #[inline(always)]
-    #[tactic(auto, using(crate::proofs::Given::given))]
+    #[tactic(auto, using(crate::proofs::Narrowed::narrowed))]
     pub fn number_in(&mut self, least: u32, most: u32) -> Result<u32, LineFault>
         requires few { self.old.number < MOST_WORDS }
         ensures value { Gives result self.new (word_as (read (Number least most)) self.old) }
         ensures counts { self.new.number ≡ self.old.number + 1 }
         ensures range { IfOk result (λ n. (least ≤ n) × (n ≤ most)) }
     {
-        let word = self.next()?;
-        match values::number_within(word, least, most) {
-            Some(value) => Ok(value),
-            None => Err(self.fault()),
+        let value = self.number()?;
+        if least <= value && value <= most {
+            Ok(value)
+        } else {
+            Err(self.fault())
         }
     }
 
-    /// A number below 2^32.
+    /// A number below 2^32, by one pass over its word where that tells it.
     #[inline(always)]
-    #[tactic(auto, using(crate::proofs::Given::given))]
     pub fn number(&mut self) -> Result<u32, LineFault>
+        requires few { self.old.number < MOST_WORDS }
+        ensures value { Gives result self.new (word_as (read AnyNumber) self.old) }
+        ensures counts { self.new.number ≡ self.old.number + 1 }
+    {
+        match self.words.next_number() {
+            Some(found) => {
+                self.number += 1;
+                self.last = found.from;
+                Ok(found.value)
+            }
+            None => self.number_word(),
+        }
+    }
+
+    /// The same by the next word, which is taken whole.
+    #[inline(never)]
+    #[tactic(auto, using(crate::proofs::Given::given))]
+    fn number_word(&mut self) -> Result<u32, LineFault>
         requires few { self.old.number < MOST_WORDS }
         ensures value { Gives result self.new (word_as (read AnyNumber) self.old) }
         ensures counts { self.new.number ≡ self.old.number + 1 }
@@ -141,17 +161,14 @@ impl<'a> Fields<'a> {
 
     /// A process's number, 0 to 255.
     #[inline(always)]
-    #[tactic(auto, using(crate::proofs::Given::given))]
+    #[tactic(auto, using(crate::proofs::Narrowed::narrowed))]
     pub fn pid(&mut self) -> Result<Pid, LineFault>
         requires few { self.old.number < MOST_WORDS }
         ensures value { Gives result self.new (word_as (read PidNumber) self.old) }
         ensures counts { self.new.number ≡ self.old.number + 1 }
     {
-        let word = self.next()?;
-        match values::pid(word) {
-            Some(value) => Ok(value),
-            None => Err(self.fault()),
-        }
+        let value = self.number_in(0, 255)?;
+        Ok(Pid(value as u8))
     }
 
     /// A thread's number, 0 to 255.

@@ -1,5 +1,5 @@
-//! The lines of a script, both ways: the event of a line or the place of its first fault, and the shortest line of an
-//! event. Nothing here takes memory.
+//! The lines of a script, both ways: the event of a line or the place of its first fault, and the
+//! shortest line of an event. Nothing here takes memory.
 #![tactic(auto)]
 
 mod faults;

@@ -101,9 +101,9 @@ fn print(event: &Event, out: &mut LineBuf)
     }
 }
 
-/// Writes the shortest line of an event at the end of `out`, without a line feed: hexadecimal with upper-case digits for
-/// address, size, offset, length of a view, type, protection, flags and access, decimal for the rest, bytes in upper case.
-/// It takes at most 160 bytes.
+/// Writes the shortest line of an event at the end of `out`, without a line feed: hexadecimal with
+/// upper-case digits for address, size, offset, length of a view, type, protection, flags and
+/// access, decimal for the rest, bytes in upper case. It takes at most 160 bytes.
 pub fn print_event(event: &Event, out: &mut LineBuf)
     requires { length out.old ≤ 96 }
     ensures text { out.new ≡ out.old ++ printed event.now }

@@ -70,7 +70,8 @@ pub fn without_return(line: &[u8]) -> &[u8]
     }
 }
 
-/// Reads and writes, most lines of a script, are told apart here: each of the three calls writes its event where the caller wants it.
+/// Reads and writes, most lines of a script, are told apart here: each of the three calls writes
+/// its event where the caller wants it.
 #[inline(always)]
 #[tactic(auto, unfolding(crate::specs::Reading::parse))]
 fn parse(line: &[u8]) -> Result<Event, LineFault>
@@ -85,8 +86,9 @@ fn parse(line: &[u8]) -> Result<Event, LineFault>
     }
 }
 
-/// The event of a line, from its bytes before the line feed; one carriage return at their end is taken off. `Err` exactly
-/// where the grammar has no event for the line: the place of its first fault.
+/// The event of a line, from its bytes before the line feed; one carriage return at their end is
+/// taken off. `Err` exactly where the grammar has no event for the line: the place of its first
+/// fault.
 #[inline(always)]
 pub fn parse_line(line: &[u8]) -> Result<Event, LineFault>
     requires { length line.now + 1 < 2 ^ 32 }

@@ -1,8 +1,8 @@
 ghost use Rattle.std.specs.Prelude.{◌≡◌, ◌≤◌, IfSome};
-ghost use Rattle.mm_script.specs.Shape.{read, Number, PidNumber, TidNumber, FlagNumber, NameOrDash, DeviceWord, DirectionWord};
+ghost use Rattle.mm_script.specs.Shape.{read, Number, TidNumber, FlagNumber, NameOrDash, DeviceWord, DirectionWord};
 
 use mm_text::{name, number};
-use mm_types::{Device, Direction, Name, Pid, Tid};
+use mm_types::{Device, Direction, Name, Tid};
 
 /// The number of a word, where it is from `least` to `most`.
 #[inline(always)]
@@ -33,15 +33,6 @@ pub fn byte(word: &[u8]) -> Option<u8>
     ensures { result ≡ read (Number 0 255) word.now }
 {
     small(word, 255)
-}
-
-/// A process's number, 0 to 255.
-#[inline(always)]
-#[tactic(auto, unfolding(crate::specs::Shape::read))]
-pub fn pid(word: &[u8]) -> Option<Pid>
-    ensures { result ≡ read PidNumber word.now }
-{
-    Some(Pid(small(word, 255)?))
 }
 
 /// A thread's number, 0 to 255.

@@ -11,7 +11,7 @@ use Rattle.mm_types.proofs.Cells.{same_or_not}
 use Rattle.mm_world.specs.World.{Numbered, numbered, SectionOf}
 use Rattle.mm_world.specs.Find.{is_named}
 use Rattle.mm_sections.specs.Directories.{CountedSection, section_in, settled_by}
-use Rattle.mm_sections.specs.Names.{IsIndex, name_lost, without, joined}
+use Rattle.mm_sections.specs.Names.{IsIndex, name_lost, without_name, with_name}
 
 -- ---- names
 
@@ -37,11 +37,11 @@ named_it t s = by s.name
     by None = refl
     by (Some name) = bytes_eq-sym t name
 
-without_it : (gone : Option Text) (find : Text → Option ℕ) (t : Text) → without gone find t ≡ cond (is_it gone t) None (find t)
+without_it : (gone : Option Text) (find : Text → Option ℕ) (t : Text) → without_name gone find t ≡ cond (is_it gone t) None (find t)
 without_it None find t = refl
 without_it (Some name) find t = refl
 
-joined_it : (new : Option Text) (n : ℕ) (find : Text → Option ℕ) (t : Text) → joined new n find t ≡ cond (is_it new t) (Some n) (find t)
+joined_it : (new : Option Text) (n : ℕ) (find : Text → Option ℕ) (t : Text) → with_name new n find t ≡ cond (is_it new t) (Some n) (find t)
 joined_it None n find t = refl
 joined_it (Some name) n find t = refl
 
@@ -103,7 +103,7 @@ settled_loses c =
     ]
 
 module _ (find other : Text → Option ℕ) (ss : Numbered SectionOf) (i : IsIndex find ss) where
-  module _ (n : ℕ) (new : Option SectionOf) (gone : Option Text) (inside : n < length ss) (loses : Loses gone (numbered ss n) new) (is : (t : Text) → other t ≡ without gone find t) where
+  module _ (n : ℕ) (new : Option SectionOf) (gone : Option Text) (inside : n < length ss) (loses : Loses gone (numbered ss n) new) (is : (t : Text) → other t ≡ without_name gone find t) where
     lost_named : (t : Text) (k : ℕ) → other t ≡ Some k → is_named t (numbered (slice_set ss n new) k) ≡ true
     lost_named t k e =
         let same : Some k ≡ cond (is_it gone t) None (find t) = sym e ∙ is t ∙ without_it gone find t in
@@ -143,7 +143,7 @@ module _ (find other : Text → Option ℕ) (ss : Numbered SectionOf) (i : IsInd
 
   -- ---- one section more
 
-  module _ (s : SectionOf) (fresh : IfSome s.name (λ name. position (is_named name) ss ≡ None)) (is : (t : Text) → other t ≡ joined s.name (length ss) find t) where
+  module _ (s : SectionOf) (fresh : IfSome s.name (λ name. position (is_named name) ss ≡ None)) (is : (t : Text) → other t ≡ with_name s.name (length ss) find t) where
     not_found : (t : Text) → is_it s.name t ≡ true → find t ≡ None
     not_found t e =
         by s.name fresh e

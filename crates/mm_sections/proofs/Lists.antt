@@ -19,27 +19,12 @@ use Rattle.mm_world.specs.Contents.{blank}
 use Rattle.mm_sections.specs.declared.entries.Entry.{Entry}
 use Rattle.mm_sections.specs.declared.name_keys.NameKey.{NameKey}
 use Rattle.mm_sections.specs.Directories.{CountedSection, sections_of, section_in, settled_by, id_of, area_of}
-use Rattle.mm_sections.specs.Handles.{number_of, held}
-use Rattle.mm_sections.specs.Names.{IsIndex, counted, file_of, found_by, key_of, same_key, name_lost, without, joined}
+use Rattle.mm_sections.specs.Handles.{number_of}
+use Rattle.mm_sections.specs.Names.{IsIndex, counted, file_of, found_by, key_of, same_key, name_lost, without_name, with_name}
 use Rattle.mm_sections.specs.Pages.{page_if}
 use Rattle.mm_sections.proofs.Indexes.{bytes_eq-sym, Loses, loses_nothing, settled_loses, index_after_loss, index_after_one_more, position_is_found}
 
 -- ---- handles
-
--- the n-th entry is the handle before it in the list of those that were given
-pub closed_behind : (xs : List (Option SectionId)) (n : ℕ) → is_some (numbered (None ∷ map (option_map number_of) xs) n) ≡ true
-    → None ∷ map (option_map number_of) (slice_set xs (n - 1) None) ≡ slice_set (None ∷ map (option_map number_of) xs) n None
-closed_behind xs zero h = cc
-closed_behind xs (suc n) h =
-    let e : suc n - 1 ≡ n = omega arith in
-    rw e (ap (λ (l : List (Option ℕ)). None ∷ l) (map-set (option_map number_of) xs n None))
-
-pub is_held : (entries : Numbered ℕ) (handle : ℕ) → is_some (held entries handle) ≡ true → is_some (numbered entries (handle / 4)) ≡ true
-is_held entries handle h =
-    elim (handle % 4 == 0) as (λ b. is_some (cond b (numbered entries (handle / 4)) None) ≡ true → is_some (numbered entries (handle / 4)) ≡ true) [
-      | true ↦ λ e. e
-      | false ↦ λ e. cc
-    ] h
 
 -- ---- pages
 
@@ -191,7 +176,7 @@ entry_loses (Some c) = settled_loses c
 
 pub settled_index : (find other : Text → Option ℕ) (xs : List (Option Entry)) (n : ℕ) (old new : Option Entry) (gone : Option Text)
     → n < length xs → old ≡ slice_index_or xs n old → option_map counted new ≡ option_and_then settled_by (option_map counted old) → gone ≡ option_and_then name_lost (option_map counted old)
-    → ((t : Text) → other t ≡ without gone find t) → IsIndex find (sections_of (tables xs)) → IsIndex other (sections_of (tables (slice_set xs n new)))
+    → ((t : Text) → other t ≡ without_name gone find t) → IsIndex find (sections_of (tables xs)) → IsIndex other (sections_of (tables (slice_set xs n new)))
 settled_index find other xs n old new gone h e is lost found i =
     let o : Option CountedSection = option_map counted old in
     let shown : numbered (sections_of (tables xs)) n ≡ option_map section_in o = get_or-map_both (option_map section_in) (tables xs) n None ∙ ap (option_map section_in) (shown_now xs n old h e) in
@@ -215,11 +200,11 @@ pub added_tables : (xs : List (Option Entry)) (e : Entry) → tables (xs ++ Some
 added_tables xs e = map-append (option_map counted) xs (Some e ∷ [])
 
 pub added_index : (find other : Text → Option ℕ) (xs all : List (Option Entry)) (e : Entry) (number : ℕ) → all ≡ xs ++ Some e ∷ [] → number ≡ length (tables xs)
-    → IfSome e.name (λ name. position (is_named name) (sections_of (tables xs)) ≡ None) → ((t : Text) → other t ≡ joined e.name number find t)
+    → IfSome e.name (λ name. position (is_named name) (sections_of (tables xs)) ≡ None) → ((t : Text) → other t ≡ with_name e.name number find t)
     → IsIndex find (sections_of (tables xs)) → IsIndex other (sections_of (tables all))
 added_index find other xs all e number is at fresh found i =
     let count : number ≡ length (sections_of (tables xs)) = at ∙ sym (length_sections (tables xs)) in
-    let after = index_after_one_more find other (sections_of (tables xs)) i (section_in (counted e)) fresh (λ t. found t ∙ ap (λ (k : ℕ). joined e.name k find t) count) in
+    let after = index_after_one_more find other (sections_of (tables xs)) i (section_in (counted e)) fresh (λ t. found t ∙ ap (λ (k : ℕ). with_name e.name k find t) count) in
     subst (λ (ss : Numbered SectionOf). IsIndex other ss)
     (sym (ap (λ (ys : List (Option Entry)). sections_of (tables ys)) is ∙ ap sections_of (added_tables xs e) ∙ map-append (option_map section_in) (tables xs) (Some (counted e) ∷ []))) after
 

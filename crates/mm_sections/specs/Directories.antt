@@ -37,7 +37,11 @@ settled_by c =
     else None
 
 abbrev pub new_entry : ℕ → Option Text → ℕ → CountedSection
-new_entry prot name area = record { section = record { prot = prot; name = name; area = area }; handles = 0; views = 0 }
+new_entry prot name area = record {
+  section = record { prot = prot; name = name; area = area };
+  handles = 0;
+  views = 0;
+}
 
 abbrev pub one_handle_more : CountedSection → CountedSection
 one_handle_more c = record c { handles = c.handles + 1 }

@@ -27,5 +27,6 @@ section_at find index = option_map number_of (find (handle_at index))
 -- `lowest` is a fourth of the lowest open handle, and of the next one where none is open
 pub record AreOpen (find : ℕ → Option SectionId) (lowest next : ℕ) : Type 0 where
   pub numbers : (1 ≤ lowest) × (lowest ≤ next) × (next ≤ 2 ^ 28)
-  pub among : (handle : ℕ) → is_some (find handle) ≡ true → (handle % 4 ≡ 0) × (4 * lowest ≤ handle) × (handle < 4 * next)
+  pub among : (handle : ℕ) → is_some (find handle) ≡ true → (handle % 4 ≡ 0) ×
+      (4 * lowest ≤ handle) × (handle < 4 * next)
   pub first : lowest < next → is_some (find (handle_at lowest)) ≡ true

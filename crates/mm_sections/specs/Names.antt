@@ -39,18 +39,20 @@ abbrev pub name_lost : CountedSection → Option Text
 name_lost c = if nat_lt 0 c.handles then None else c.section.name
 
 -- what is found by names without one of them, and with one more
-abbrev pub without : Option Text → (Text → Option ℕ) → Text → Option ℕ
-without None find t = find t
-without (Some name) find t = if bytes_eq name t then None else find t
+abbrev pub without_name : Option Text → (Text → Option ℕ) → Text → Option ℕ
+without_name None find t = find t
+without_name (Some name) find t = if bytes_eq name t then None else find t
 
-abbrev pub joined : Option Text → ℕ → (Text → Option ℕ) → Text → Option ℕ
-joined None number find t = find t
-joined (Some name) number find t = if bytes_eq name t then Some number else find t
+abbrev pub with_name : Option Text → ℕ → (Text → Option ℕ) → Text → Option ℕ
+with_name None number find t = find t
+with_name (Some name) number find t = if bytes_eq name t then Some number else find t
 
 -- what is found by a name is the one section that has it
 pub record IsIndex (find : Text → Option ℕ) (sections : Numbered SectionOf) : Type 0 where
-  pub named : (name : Text) (number : ℕ) → find name ≡ Some number → is_named name (numbered sections number) ≡ true
-  pub found : (name : Text) (number : ℕ) → is_named name (numbered sections number) ≡ true → find name ≡ Some number
+  pub named : (name : Text) (number : ℕ) → find name ≡ Some number →
+      is_named name (numbered sections number) ≡ true
+  pub found : (name : Text) (number : ℕ) → is_named name (numbered sections number) ≡ true →
+      find name ≡ Some number
 
 -- so much room is in each of three collections
 pub record IsRoom (room a b c : ℕ) : Type 0 where

@@ -19,8 +19,8 @@ pub struct Section {
     pub area: Area,
 }
 
-/// The sections of a machine and their names, with how many handles and views refer to each, and its files. Sections are
-/// numbered from 0 as they are made, and never again.
+/// The sections of a machine and their names, with how many handles and views refer to each, and
+/// its files. Sections are numbered from 0 as they are made, and never again.
 #[derive(Drop)]
 pub struct Directory {
     sections: Vec<Option<Entry>>,
@@ -59,7 +59,8 @@ impl Directory {
         }
     }
 
-    /// Sees that there is room for one section and one file more at least. After `NoMemory` all is as before.
+    /// Sees that there is room for one section and one file more at least. After `NoMemory` all is
+    /// as before.
     pub fn reserve(&mut self) -> Result<(), NoMemory>
         ensures same { self.new ≡ record self.old { spare = self.new.spare } }
         ensures later { self.old.spare ≤ self.new.spare }
@@ -98,7 +99,8 @@ impl Directory {
 
     /// The section with this name. None exactly where none has it.
     pub fn named(&self, name: &Name) -> Option<SectionId>
-        ensures { result ≡ option_map id_of (position (is_named name.now) (sections_of self.now.entries)) }
+        ensures { result ≡ option_map id_of
+            (position (is_named name.now) (sections_of self.now.entries)) }
     {
         self.names.get(&NameKey::new(name)).copied()
     }
@@ -110,14 +112,19 @@ impl Directory {
         self.files.get(&NameKey::new(name)).copied()
     }
 
-    /// Makes a section of this control area, to which nothing refers yet; no section has the name, if one is given. There is
-    /// room, and fewer than 2^28 were made. The number is that of the sections made before.
+    /// Makes a section of this control area, to which nothing refers yet; no section has the name,
+    /// if one is given. There is room, and fewer than 2^28 were made. The number is that of the
+    /// sections made before.
     pub fn add_section(&mut self, prot: Prot, name: Option<Name>, area: Area) -> SectionId
         requires room { 1 ≤ self.old.spare }
         requires few { length self.old.entries < 2 ^ 28 }
-        requires unnamed { IfSome name (λ n. position (is_named n) (sections_of self.old.entries) ≡ None) }
+        requires unnamed { IfSome name (λ n. position (is_named n) (sections_of self.old.entries) ≡
+            None) }
         ensures number { result.0 ≡ length self.old.entries }
-        ensures added { self.new ≡ record self.old { entries = self.old.entries ++ Some (new_entry prot.0 name area.0) ∷ []; spare = self.new.spare } }
+        ensures added { self.new ≡ record self.old {
+          entries = self.old.entries ++ Some (new_entry prot.0 name area.0) ∷ [];
+          spare = self.new.spare;
+        } }
         ensures room { self.old.spare ≤ self.new.spare + 1 }
     {
         let id = SectionId(self.made());
@@ -140,7 +147,10 @@ impl Directory {
     pub fn add_file(&mut self, name: Name, area: Area)
         requires room { 1 ≤ self.old.spare }
         requires unnamed { find (λ f. bytes_eq f.name name) self.old.files ≡ None }
-        ensures added { self.new ≡ record self.old { files = self.old.files ++ record { name = name; area = area.0 } ∷ []; spare = self.new.spare } }
+        ensures added { self.new ≡ record self.old {
+          files = self.old.files ++ record { name = name; area = area.0 } ∷ [];
+          spare = self.new.spare;
+        } }
         ensures room { self.old.spare ≤ self.new.spare + 1 }
     {
         let Ok(_) = self.files.insert(NameKey::new(&name), area) else {
@@ -153,7 +163,10 @@ impl Directory {
     pub fn add_handle(&mut self, id: SectionId)
         requires lives { is_some (numbered self.old.entries id.0) ≡ true }
         requires few { IfSome (numbered self.old.entries id.0) (λ c. c.handles < 2 ^ 60) }
-        ensures { self.new ≡ record self.old { entries = slice_set self.old.entries id.0 (option_map one_handle_more (numbered self.old.entries id.0)) } }
+        ensures { self.new ≡ record self.old {
+          entries = slice_set self.old.entries id.0
+              (option_map one_handle_more (numbered self.old.entries id.0));
+        } }
     {
         add_handle_to(&mut self.sections[id.0 as usize]);
     }
@@ -162,37 +175,52 @@ impl Directory {
     pub fn add_view(&mut self, id: SectionId)
         requires lives { is_some (numbered self.old.entries id.0) ≡ true }
         requires few { IfSome (numbered self.old.entries id.0) (λ c. c.views < 2 ^ 60) }
-        ensures { self.new ≡ record self.old { entries = slice_set self.old.entries id.0 (option_map one_view_more (numbered self.old.entries id.0)) } }
+        ensures { self.new ≡ record self.old {
+          entries = slice_set self.old.entries id.0
+              (option_map one_view_more (numbered self.old.entries id.0));
+        } }
     {
         add_view_to(&mut self.sections[id.0 as usize]);
     }
 
-    /// One handle less refers to a section to which one does: where it was the last its name is gone, and where no view refers to
-    /// it either the section ends. Tells whether it ended.
+    /// One handle less refers to a section to which one does: where it was the last its name is
+    /// gone, and where no view refers to it either the section ends. Tells whether it ended.
     pub fn drop_handle(&mut self, id: SectionId) -> bool
         requires lives { IsSomeAnd (numbered self.old.entries id.0) (λ c. 1 ≤ c.handles) }
-        ensures dropped { self.new ≡ record self.old { entries = slice_set self.old.entries id.0 (option_and_then (λ c. settled_by (one_handle_less c)) (numbered self.old.entries id.0)) } }
+        ensures dropped { self.new ≡ record self.old {
+          entries = slice_set self.old.entries id.0
+              (option_and_then (λ c. settled_by (one_handle_less c))
+              (numbered self.old.entries id.0));
+        } }
         ensures ended { result ≡ is_none (numbered self.new.entries id.0) }
     {
         drop_handle_of(&mut self.sections[id.0 as usize]);
         self.settle(id)
     }
 
-    /// One view less refers to a section to which one does: where no handle and no other view refers to it the section ends. Tells
-    /// whether it ended.
+    /// One view less refers to a section to which one does: where no handle and no other view
+    /// refers to it the section ends. Tells whether it ended.
     pub fn drop_view(&mut self, id: SectionId) -> bool
         requires lives { IsSomeAnd (numbered self.old.entries id.0) (λ c. 1 ≤ c.views) }
-        ensures dropped { self.new ≡ record self.old { entries = slice_set self.old.entries id.0 (option_and_then (λ c. settled_by (one_view_less c)) (numbered self.old.entries id.0)) } }
+        ensures dropped { self.new ≡ record self.old {
+          entries = slice_set self.old.entries id.0
+              (option_and_then (λ c. settled_by (one_view_less c))
+              (numbered self.old.entries id.0));
+        } }
         ensures ended { result ≡ is_none (numbered self.new.entries id.0) }
     {
         drop_view_of(&mut self.sections[id.0 as usize]);
         self.settle(id)
     }
 
-    // The section with this number without the name and without the life to which nothing refers any more. Tells whether it ended.
+    // The section with this number without the name and without the life to which nothing refers
+    // any more. Tells whether it ended.
     fn settle(&mut self, id: SectionId) -> bool
         requires lives { is_some (numbered self.old.entries id.0) ≡ true }
-        ensures settled { self.new ≡ record self.old { entries = slice_set self.old.entries id.0 (option_and_then settled_by (numbered self.old.entries id.0)) } }
+        ensures settled { self.new ≡ record self.old {
+          entries = slice_set self.old.entries id.0
+              (option_and_then settled_by (numbered self.old.entries id.0));
+        } }
         ensures ended { result ≡ is_none (numbered self.new.entries id.0) }
     {
         let section = &mut self.sections[id.0 as usize];

@@ -3,7 +3,7 @@ ghost use Rattle.std.specs.Prelude.{◌≡◌, ◌≤◌, ◌<◌, ◌+◌, ◌^
 ghost use Rattle.indexmap.specs.IndexMap.{spare};
 ghost use Rattle.mm_types.specs.Spelling.{Text};
 ghost use Rattle.mm_sections.specs.Directories.{settled_by, one_handle_more, one_view_more, one_handle_less, one_view_less};
-ghost use Rattle.mm_sections.specs.Names.{counted, found_by, name_lost, without, joined};
+ghost use Rattle.mm_sections.specs.Names.{counted, found_by, name_lost, without_name, with_name};
 
 use crate::name_keys::NameKey;
 use indexmap::IndexMap;
@@ -23,7 +23,8 @@ pub(crate) struct Entry {
 pub(crate) fn add_handle_to(section: &mut Option<Entry>)
     requires lives { is_some section.old ≡ true }
     requires few { IfSome section.old (λ e. e.handles < 2 ^ 60) }
-    ensures { option_map counted section.new ≡ option_map one_handle_more (option_map counted section.old) }
+    ensures { option_map counted section.new ≡
+        option_map one_handle_more (option_map counted section.old) }
 {
     let Some(entry) = section else { unreachable!() };
     entry.handles += 1;
@@ -33,7 +34,8 @@ pub(crate) fn add_handle_to(section: &mut Option<Entry>)
 pub(crate) fn add_view_to(section: &mut Option<Entry>)
     requires lives { is_some section.old ≡ true }
     requires few { IfSome section.old (λ e. e.views < 2 ^ 60) }
-    ensures { option_map counted section.new ≡ option_map one_view_more (option_map counted section.old) }
+    ensures { option_map counted section.new ≡
+        option_map one_view_more (option_map counted section.old) }
 {
     let Some(entry) = section else { unreachable!() };
     entry.views += 1;
@@ -42,7 +44,8 @@ pub(crate) fn add_view_to(section: &mut Option<Entry>)
 /// One handle less refers to a section to which one does.
 pub(crate) fn drop_handle_of(section: &mut Option<Entry>)
     requires lives { IsSomeAnd section.old (λ e. 1 ≤ e.handles) }
-    ensures { option_map counted section.new ≡ option_map one_handle_less (option_map counted section.old) }
+    ensures { option_map counted section.new ≡
+        option_map one_handle_less (option_map counted section.old) }
 {
     let Some(entry) = section else { unreachable!() };
     entry.handles -= 1;
@@ -51,17 +54,19 @@ pub(crate) fn drop_handle_of(section: &mut Option<Entry>)
 /// One view less refers to a section to which one does.
 pub(crate) fn drop_view_of(section: &mut Option<Entry>)
     requires lives { IsSomeAnd section.old (λ e. 1 ≤ e.views) }
-    ensures { option_map counted section.new ≡ option_map one_view_less (option_map counted section.old) }
+    ensures { option_map counted section.new ≡
+        option_map one_view_less (option_map counted section.old) }
 {
     let Some(entry) = section else { unreachable!() };
     entry.views -= 1;
 }
 
-/// A section that lives loses its name where no handle refers to it, and ends where no view does either. Gives the name that
-/// it lost.
+/// A section that lives loses its name where no handle refers to it, and ends where no view does
+/// either. Gives the name that it lost.
 pub(crate) fn settle(section: &mut Option<Entry>) -> Option<Name>
     requires lives { is_some section.old ≡ true }
-    ensures settled { option_map counted section.new ≡ option_and_then settled_by (option_map counted section.old) }
+    ensures settled { option_map counted section.new ≡
+        option_and_then settled_by (option_map counted section.old) }
     ensures name { result ≡ option_and_then name_lost (option_map counted section.old) }
 {
     let Some(entry) = section else { unreachable!() };
@@ -80,7 +85,8 @@ pub(crate) fn settle(section: &mut Option<Entry>) -> Option<Name>
 /// A section is found by its name, if it has one.
 pub(crate) fn remember(names: &mut IndexMap<NameKey, SectionId>, name: &Option<Name>, id: SectionId)
     requires room { 1 ≤ spare names.old }
-    ensures found { (t : Text) → found_by names.new t ≡ joined name.now id.0 (found_by names.old) t }
+    ensures found { (t : Text) →
+        found_by names.new t ≡ with_name name.now id.0 (found_by names.old) t }
     ensures room { spare names.old ≤ spare names.new + 1 }
 {
     if let Some(name) = name {
@@ -92,7 +98,8 @@ pub(crate) fn remember(names: &mut IndexMap<NameKey, SectionId>, name: &Option<N
 
 /// No section is found by a name that was lost.
 pub(crate) fn forget(names: &mut IndexMap<NameKey, SectionId>, name: &Option<Name>)
-    ensures found { (t : Text) → found_by names.new t ≡ without name.now (found_by names.old) t }
+    ensures found { (t : Text) →
+        found_by names.new t ≡ without_name name.now (found_by names.old) t }
     ensures room { spare names.old ≤ spare names.new }
 {
     if let Some(name) = name {

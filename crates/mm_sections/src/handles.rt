@@ -43,7 +43,8 @@ impl Handles {
         }
     }
 
-    /// Sees that there is room for one handle more at least. After `NoMemory` the handles are as before.
+    /// Sees that there is room for one handle more at least. After `NoMemory` the handles are as
+    /// before.
     pub fn reserve(&mut self) -> Result<(), NoMemory>
         ensures same { self.new.entries ≡ self.old.entries }
         ensures later { self.old.spare ≤ self.new.spare }

@@ -1,5 +1,6 @@
-//! Sections of files and of the paging file (section objects, in Windows Internals): their names and lives, the handles of a
-//! process, and which pages of a control area are committed. No page's bytes are here.
+//! Sections of files and of the paging file (section objects, in Windows Internals): their names
+//! and lives, the handles of a process, and which pages of a control area are committed. No page's
+//! bytes are here.
 #![tactic(auto)]
 
 mod directories;

@@ -56,7 +56,10 @@ impl SectionPages {
         pages: u32,
         committed: bool,
     ) -> Result<SectionPages, NoMemory>
-        ensures { IfOk result (λ p. p ≡ record { file_block = None; pages = replicate pages (page_if committed) }) }
+        ensures { IfOk result (λ p. p ≡ record {
+          file_block = None;
+          pages = replicate pages (page_if committed);
+        }) }
     {
         Ok(SectionPages {
             first_block: None,
@@ -66,7 +69,10 @@ impl SectionPages {
 
     /// The pages of a file, which stand in the blocks from `first` on; they are committed.
     pub fn of_file(alloc: Global, first: Block, pages: u32) -> Result<SectionPages, NoMemory>
-        ensures { IfOk result (λ p. p ≡ record { file_block = Some first.0; pages = replicate pages (Some tt) }) }
+        ensures { IfOk result (λ p. p ≡ record {
+          file_block = Some first.0;
+          pages = replicate pages (Some tt);
+        }) }
     {
         Ok(SectionPages {
             first_block: Some(first),

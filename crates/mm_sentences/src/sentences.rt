@@ -158,8 +158,8 @@ fn put_goes(after: &Life, facts: &Facts, text: &mut Vec<u8>) -> Result<(), NoMem
     }
 }
 
-// ---- words and names, as they come in sentences. Behind a name that ends a sentence its definition
-// has the empty text.
+// ---- words and names, as they come in sentences. Behind a name that ends a sentence its
+// definition has the empty text.
 
 /// Writes a page between words.
 #[tactic(auto, using(crate::proofs::Joined::joined))]

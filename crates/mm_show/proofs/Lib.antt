@@ -1,5 +1,4 @@
 pub mod Worded
-pub mod FormWords
 pub mod Behind
 pub mod Paged
 pub mod Summed

@@ -1,15 +1,15 @@
 -- The page that is still to come, where one more move was taken and where none comes.
-use Rattle.std.proofs.Common.{◌≡◌, Bool, true, false, List, [], ◌∷◌, ◌++◌, Option, Some, None, refl, sym, ap, ◌∙◌, append_assoc}
+use Rattle.std.proofs.Common.{◌≡◌, Bool, true, false, List, [], ◌∷◌, ◌++◌, Option, Some, refl, sym, ap, ◌∙◌, append_assoc}
 use Rattle.mm_types.specs.Spelling.{Text}
 use Rattle.mm_types.specs.declared.moves.Move.{Move}
-use Rattle.mm_life.specs.Life.{FrameLife, unstarted}
+use Rattle.mm_life.specs.Life.{FrameLife}
 use Rattle.mm_life.specs.Effect.{after_move}
-use Rattle.mm_classes.specs.Marks.{MarksOf, no_marks, marks_after}
+use Rattle.mm_classes.specs.Marks.{MarksOf, marks_after}
 use Rattle.mm_classes.specs.Marking.{marks_of}
 use Rattle.mm_classes.specs.Classes.{class_of, next_of}
 use Rattle.mm_classes.specs.declared.classes.Class.{Class}
 use Rattle.mm_classes.specs.Encoding.{move_data}
-use Rattle.mm_classes.specs.Data.{log_data, data_from, mark_before, last_mark}
+use Rattle.mm_classes.specs.Data.{data_from, mark_before}
 use Rattle.mm_tell.specs.Classing.{pending, class_then, move_of}
 use Rattle.mm_show.specs.Data.{classed_data, data_rest}
 use Rattle.mm_show.specs.PageRest.{page_rest}
@@ -54,29 +54,3 @@ page_taken t t' l m front behind known marks pend true ms =
     ∙ ap (λ xs. t.front.items ++ (t'.written.items ++ (come ++ xs))) behind
     ∙ ap (λ xs. t.front.items ++ xs)
     (data_moved t.written.items t'.written.items t.behind.items l (marks_of t.classifier.marks) (marks_of t'.classifier.marks) t.classifier.pending t'.classifier.pending m known marks pend ms)
-
--- no move comes
-pub page_ended : (t : PageTeller) (l : FrameLife) (text data1 data2 text1 text2 text3 : Text)
-    → data1 ≡ t.written.items ++ classed_data (class_then t.classifier.pending None) → data2 ≡ data1 ++ (last_mark l ++ 10 ∷ [])
-    → text1 ≡ text ++ t.front.items → text2 ≡ text1 ++ data2 → text3 ≡ text2 ++ t.behind.items → text3 ≡ text ++ page_rest t true l []
-page_ended t l text data1 data2 text1 text2 text3 d1 d2 e1 e2 e3 =
-    let front : Text = t.front.items in
-    let known : Text = t.written.items in
-    let behind : Text = t.behind.items in
-    let a : Text = classed_data (class_then t.classifier.pending None) in
-    let b : Text = last_mark l ++ 10 ∷ [] in
-    let d : data2 ≡ known ++ (a ++ b) = d2 ∙ ap (λ xs. xs ++ b) d1 ∙ append_assoc known a b in
-    e3 ∙ ap (λ xs. xs ++ behind) (e2 ∙ ap (λ xs. xs ++ data2) e1 ∙ ap (λ xs. (text ++ front) ++ xs) d)
-    ∙ append_assoc (text ++ front) (known ++ (a ++ b)) behind
-    ∙ append_assoc text front ((known ++ (a ++ b)) ++ behind)
-    ∙ ap (λ xs. text ++ (front ++ xs)) (append_assoc known (a ++ b) behind)
-
--- nothing was told
-pub page_none : (t : PageTeller) (front behind : Text) → t.front.items ≡ front → t.written.items ≡ [] → t.behind.items ≡ behind
-    → marks_of t.classifier.marks ≡ no_marks → t.classifier.pending ≡ None → (moves : List Move) → page_rest t true unstarted moves ≡ front ++ (log_data moves ++ behind)
-page_none t front behind f d b marks pend moves =
-    ap (λ xs. xs ++ (t.written.items ++ (data_rest (marks_of t.classifier.marks) t.classifier.pending unstarted moves ++ t.behind.items))) f
-    ∙ ap (λ xs. front ++ (xs ++ (data_rest (marks_of t.classifier.marks) t.classifier.pending unstarted moves ++ t.behind.items))) d
-    ∙ ap (λ xs. front ++ (data_rest (marks_of t.classifier.marks) t.classifier.pending unstarted moves ++ xs)) b
-    ∙ ap (λ (v : MarksOf). front ++ (data_rest v t.classifier.pending unstarted moves ++ behind)) marks
-    ∙ ap (λ (p : Option Pending). front ++ (data_rest no_marks p unstarted moves ++ behind)) pend

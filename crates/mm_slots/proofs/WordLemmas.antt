@@ -1,7 +1,6 @@
 -- Sets of numbers in words: one bit of one word changes, words are added, the lowest number is found.
-use Rattle.std.proofs.Common.{◌≡◌, ◌≢◌, ℕ, ◌+◌, ◌-◌, ◌*◌, ◌/◌, ◌%◌, ◌^◌, ◌<◌, Bool, true, false, List, length, get_or, set, refl, sym, ap, ◌∙◌, inl, inr, arith, get_or-set_same, get_or-set_other}
+use Rattle.std.proofs.Common.{◌≡◌, ◌≢◌, ℕ, ◌+◌, ◌-◌, ◌*◌, ◌/◌, ◌%◌, ◌^◌, ◌<◌, Bool, true, false, List, length, get_or, set, sym, ap, ◌∙◌, inl, inr, arith, get_or-set_same, get_or-set_other}
 use Rattle.std.specs.Prelude.{◌==◌, not, bit_or, bit_and}
-use Rattle.std.specs.Cmp.{unsigned_Decides}
 use Rattle.std.proofs.lemmas.List.{get_or_past, get_or_read}
 use Rattle.std.specs.Int.{bit_not, trailing_zeros, w64}
 use Rattle.mm_types.proofs.Cells.{same_or_not}
@@ -50,15 +49,6 @@ some_inside words k some = elim (same_or_not (length words - k) 0) [
 
 pub not_zero : (n : ℕ) → n ≢ 0 → not (n == 0) ≡ true
 not_zero n d = ap not (differ n 0 d)
-
-pub is_zero : (n : ℕ) → n ≡ 0 → not (n == 0) ≡ false
-is_zero n e = ap not ((unsigned_Decides n 0).1 e)
-
-pub some_from : (n : ℕ) → not (n == 0) ≡ true → n ≢ 0
-some_from n t e = let bad : true ≡ false = sym t ∙ is_zero n e in cc
-
-pub none_from : (n : ℕ) → not (n == 0) ≡ false → n ≡ 0
-none_from n t = elim (same_or_not n 0) [ inl e ↦ e | inr d ↦ let bad : true ≡ false = sym (not_zero n d) ∙ t in cc ]
 
 -- the lowest number is the lowest bit of the first word that is not zero
 pub least_in : (words : List ℕ) (k i : ℕ) → get_or words k 0 ≢ 0 → get_or words k 0 < 2 ^ 64 → ((q : ℕ) → q < k → get_or words q 0 ≡ 0) → i ≡ k * 64 + trailing_zeros w64 (get_or words k 0) → IsLeast (have_bit words) i
@@ -121,22 +111,3 @@ module _ (words : List ℕ) (bits : ℕ) (zero : (k : ℕ) → get_or words k 0 
         ap (λ (w : ℕ). has_bit w (i % 64)) (get_or-set_other words 0 (i / 64) bits 0 d ∙ zero (i / 64))
         ∙ zero_has_none (i % 64) ∙ sym (none_above bits i fits (omega (arith, d)))
   ]
-
-  pub raised_above : (above above' : ℕ → Bool) → bits ≢ 0 → ((k : ℕ) → above k ≡ false) → ChangesOne above above' 0 true → (k : ℕ) → above' k ≡ not (get_or (set words 0 bits) k 0 == 0)
-  raised_above above above' there none c k = elim (same_or_not k 0) [
-    | inl e ↦
-        ap above' e ∙ c.at
-        ∙ sym (ap (λ (q : ℕ). not (get_or (set words 0 bits) q 0 == 0)) e ∙ ap (λ (w : ℕ). not (w == 0)) (get_or-set_same words 0 bits 0 some) ∙ not_zero bits there)
-    | inr d ↦
-        c.others k d ∙ none k
-        ∙ sym (ap (λ (w : ℕ). not (w == 0)) (get_or-set_other words 0 k bits 0 d ∙ zero k) ∙ is_zero 0 refl)
-  ]
-
-  pub raised_none : (above : ℕ → Bool) → bits ≡ 0 → ((k : ℕ) → above k ≡ false) → (k : ℕ) → above k ≡ not (get_or (set words 0 bits) k 0 == 0)
-  raised_none above e none k = none k ∙ sym (ap (λ (w : ℕ). not (w == 0)) (at_zero k) ∙ is_zero 0 refl)
-    where
-      at_zero : (j : ℕ) → get_or (set words 0 bits) j 0 ≡ 0
-      at_zero j = elim (same_or_not j 0) [
-        | inl h ↦ ap (λ (q : ℕ). get_or (set words 0 bits) q 0) h ∙ get_or-set_same words 0 bits 0 some ∙ e
-        | inr d ↦ get_or-set_other words 0 j bits 0 d ∙ zero j
-      ]

@@ -81,7 +81,8 @@ impl Numbers for Word {
     }
 }
 
-/// As many levels as the numbers want: one word where they are below 64, else words with levels above.
+/// As many levels as the numbers want: one word where they are below 64, else words with levels
+/// above.
 #[derive(Drop)]
 pub enum Top<A: Numbers> {
     One(Global, Word),

@@ -3,7 +3,7 @@ use Rattle.std.proofs.Common.{◌≡◌, ℕ, zero, suc, ◌+◌, ◌≤◌, Boo
 use Rattle.std.specs.Prelude.{All}
 use Rattle.std.proofs.lemmas.List.Elements.{All-head, All-tail}
 use Rattle.mm_types.specs.Address.{Range, end_of, holds_page, lies_within}
-use Rattle.mm_gaps.specs.Ranges.{LieApart}
+use Rattle.mm_vad.specs.Ranges.{LieApart}
 use Rattle.mm_vad.specs.declared.regions.Region.{Region}
 use Rattle.mm_vad.specs.Regions.{ranges_of as kept_ranges}
 use Rattle.mm_world.specs.World.{RegionOf, pages_of}

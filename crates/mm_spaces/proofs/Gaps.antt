@@ -5,7 +5,7 @@ use Rattle.std.specs.List.{list_any}
 use Rattle.std.proofs.lemmas.Bool.{ne_eqb}
 use Rattle.mm_types.specs.declared.numbers.Vpn.{Vpn}
 use Rattle.mm_types.specs.Address.{Range, meets, is_free, are_user_pages, lowest_gap}
-use Rattle.mm_gaps.specs.Ranges.{page_number}
+use Rattle.mm_vad.specs.Ranges.{page_number}
 use Rattle.mm_vad.specs.declared.regions.Region.{Region}
 use Rattle.mm_vad.specs.Regions as vad
 use Rattle.mm_world.specs.Find.{placed, ranges_of}

@@ -9,7 +9,7 @@ use Rattle.mm_types.specs.declared.views.Kind.TheVariants as kind
 use Rattle.mm_types.specs.declared.views.ViewAccess.{ViewAccess}
 use Rattle.mm_types.specs.declared.views.ViewAccess.TheVariants as view
 use Rattle.mm_types.specs.Address.{Range, holds_page, lies_within, end_of, page_of, first_user_page}
-use Rattle.mm_gaps.specs.Ranges.{FollowsFrom}
+use Rattle.mm_vad.specs.Ranges.{FollowsFrom}
 use Rattle.mm_vad.specs.declared.pages.Row.{Row}
 use Rattle.mm_vad.specs.declared.regions.Region.{Region}
 use Rattle.mm_vad.specs.Regions as vad

@@ -4,7 +4,7 @@ use Rattle.std.specs.Prelude.{find, remove, ◌==◌}
 use Rattle.std.specs.List.{position_or_len}
 use Rattle.std.specs.Cmp.{unsigned_Decides}
 use Rattle.std.proofs.lemmas.Bool.{eqb-true, ne_eqb, eqb-false, le-leb}
-use Rattle.std.proofs.lemmas.List.{length-map, length-replicate}
+use Rattle.std.proofs.lemmas.List.{length-map}
 use Rattle.std.proofs.lemmas.Option.{slice_get-map, IfSome_then}
 use Rattle.mm_types.specs.declared.views.View.{View}
 use Rattle.mm_types.specs.declared.views.ViewAccess.{ViewAccess}
@@ -21,12 +21,12 @@ use Rattle.mm_world.specs.Alloc.{new_row, private_region}
 use Rattle.mm_world.specs.Contents.{blank}
 use Rattle.mm_world.specs.Rows.{is_one_of, is_protection_among, private_protections, reserved_row, commit}
 use Rattle.mm_world.specs.Views.{view_region, first_protection, is_copy}
-use Rattle.mm_world.specs.WellFormed.{Each, IsSpace, FlagsFit, RowsFit, RowFits, PrivateRowFits, ViewRowFits}
+use Rattle.mm_world.specs.WellFormed.{Each, IsSpace, RowsFit, RowFits, PrivateRowFits, ViewRowFits}
 use Rattle.mm_world.proofs.Natural.{map-replicate}
 use Rattle.mm_world.proofs.Each.{each-remove, each-replicate}
 use Rattle.mm_world.proofs.LaidOut.{and-true, laid_remove, free_of}
 use Rattle.mm_world.proofs.RowsFit.{reserved_fits, commit_fits, new_view_fits}
-use Rattle.mm_world.proofs.Spaces.{space_add, private_flags}
+use Rattle.mm_world.proofs.Spaces.{space_add}
 use Rattle.mm_spaces.specs.Shown.{row_of, region_of, new_flags, shown}
 use Rattle.mm_spaces.specs.Finds.{IsKept, IsWhole}
 use Rattle.mm_spaces.specs.Kept.{both_where, is_based}
@@ -56,12 +56,6 @@ module _ (watched : Bool) (alloc_type prot : ℕ) (range : Range) (rows : List R
 
   pub region_made : region_of (region_by range.first range.count prot rows flags) ≡ private_region blank watched alloc_type prot range
   region_made = λ i. record { base = range.first; alloc_prot = prot; kind = kind.Private; rows = rows_made i; watched = unwritten i }
-
-  pub made_whole : IsWhole (region_by range.first range.count prot rows flags)
-  made_whole = record {
-    rows = ap length all ∙ length-replicate range.count row;
-    flags = subst FlagsFit (sym region_made) (private_flags blank watched alloc_type prot range);
-  }
 
   pub made_fits : is_protection_among private_protections prot ≡ true → RowsFit (region_of (region_by range.first range.count prot rows flags))
   made_fits e =

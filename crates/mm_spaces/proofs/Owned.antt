@@ -1,9 +1,8 @@
 -- Which rows of a range pass a test, in the words of regions that are kept and of those that are shown.
-use Rattle.std.proofs.Common.{◌≡◌, ℕ, zero, suc, ◌+◌, ◌-◌, ◌≤◌, ◌<◌, Bool, true, false, cond, List, length, get_or, map, take, drop, Option, Some, None, refl, sym, ap, ◌∙◌, arith, slice_get, is_some, option_map, unwrap_or, ◌&&◌, count_by}
+use Rattle.std.proofs.Common.{◌≡◌, ℕ, zero, suc, ◌+◌, ◌-◌, ◌≤◌, ◌<◌, Bool, true, false, List, length, get_or, map, take, drop, Option, Some, None, refl, sym, ap, ◌∙◌, arith, slice_get, is_some, option_map, unwrap_or, ◌&&◌}
 use Rattle.std.specs.List.{list_all}
 use Rattle.std.proofs.lemmas.List.{get_or-drop, get_or-take, length-drop, length-take-le, length-map}
-use Rattle.std.proofs.lemmas.List.Folds.{list_all_at, list_all_more}
-use Rattle.std.proofs.lemmas.List.Sums.{count_by_more_yes, count_by_more_no}
+use Rattle.std.proofs.lemmas.List.Folds.{list_all_at}
 use Rattle.std.proofs.lemmas.Option.{slice_get-map, slice_get-get_or, get_or_from_slice_get}
 use Rattle.std.proofs.Math.Seq.{drop-cons}
 use Rattle.mm_types.specs.declared.views.Kind.{Kind}
@@ -99,29 +98,6 @@ module _ (rs : List (RegionOf (Unit {0}))) (range : Range) (g : Region) (h : IsA
 module _ (p : Test) (k : Kind) (rows : List Row) (first : ℕ) where
   abbrev behind : List (RowOf (Unit {0}))
   behind = drop first (shown_rows k rows)
-
-  pub counted_more : (i n m : ℕ) (row : Row) (b : Bool) → first + i < length rows → slice_get rows (first + i) ≡ Some row → b ≡ p (row_of k row) → n ≤ i → n ≡ count_by p (take i behind) → m ≡ n + cond b 1 0 → (m ≤ i + 1) × (m ≡ count_by p (take (i + 1) behind))
-  counted_more i n m row b inside at same low is made = by_test b same made
-    where
-      size : i < length behind
-      size = omega (arith, shown_length k rows first, inside)
-
-      here : p (get_or behind i reserved_row) ≡ p (row_of k row)
-      here = ap p (read_row k rows first i row at)
-
-      by_test : (b : Bool) → b ≡ p (row_of k row) → m ≡ n + cond b 1 0 → (m ≤ i + 1) × (m ≡ count_by p (take (i + 1) behind))
-      by_test true t e =
-          let more = count_by_more_yes p behind i reserved_row size (here ∙ sym t) in
-          (omega (arith, low, e), omega (arith, more, is, e))
-      by_test false f e =
-          let more = count_by_more_no p behind i reserved_row size (here ∙ sym f) in
-          (omega (arith, low, e), omega (arith, more, is, e))
-
-  pub all_more : (i : ℕ) (row : Row) (b : Bool) → first + i < length rows → slice_get rows (first + i) ≡ Some row → b ≡ p (row_of k row) → b ≡ true → list_all p (take i behind) ≡ true → list_all p (take (i + 1) behind) ≡ true
-  all_more i row b inside at same holds all =
-      list_all_more p behind i reserved_row (omega (arith, shown_length k rows first, inside))
-      ∙ ap (λ (z : Bool). z && p (get_or behind i reserved_row)) all
-      ∙ ap p (read_row k rows first i row at) ∙ sym same ∙ holds
 
   pub not_all : (count i : ℕ) (row : Row) (b : Bool) → first + count ≤ length rows → i < count → slice_get rows (first + i) ≡ Some row → b ≡ p (row_of k row) → b ≡ false → list_all p (take count behind) ≡ false
   not_all count i row b inside more at same fails =

@@ -1,16 +1,15 @@
 -- The rows of a range, changed one page after the other.
-use Rattle.std.proofs.Common.{◌≡◌, ℕ, zero, suc, ◌+◌, ◌-◌, ◌<◌, ◌≤◌, Bool, true, false, cond, List, [], ◌∷◌, ◌++◌, length, get_or, map, take, drop, Option, Some, None, refl, sym, ap, ◌∙◌, subst, arith, slice_get, slice_set, is_some, option_map}
+use Rattle.std.proofs.Common.{◌≡◌, ℕ, zero, suc, ◌+◌, ◌-◌, ◌<◌, ◌≤◌, Bool, true, false, cond, List, [], ◌∷◌, ◌++◌, length, map, take, drop, Option, Some, None, refl, sym, ap, ◌∙◌, subst, arith, slice_get, slice_set, is_some, option_map}
 use Rattle.std.specs.Prelude.{All}
 use Rattle.std.proofs.lemmas.List.Elements.{All-head, All-tail}
-use Rattle.std.proofs.lemmas.Option.{slice_get-get_or}
 use Rattle.mm_types.specs.Address.{Range, end_of, holds_page, first_user_page, end_of_user_pages}
-use Rattle.mm_gaps.specs.Ranges.{LieApart}
+use Rattle.mm_vad.specs.Ranges.{LieApart}
 use Rattle.mm_vad.specs.declared.regions.Region.{Region}
 use Rattle.mm_vad.specs.Regions.{SpaceOf}
 use Rattle.mm_vad.specs.Regions.{IsSpace as IsVad, pages_of as kept_pages, ranges_of as kept_ranges}
 use Rattle.mm_world.specs.World.{RowOf, RegionOf, pages_of}
 use Rattle.mm_world.specs.Find.{Found, one_later, change_range, region_with, region_around}
-use Rattle.mm_world.specs.Rows.{reserved_row, change_rows}
+use Rattle.mm_world.specs.Rows.{change_rows}
 use Rattle.mm_world.proofs.Finding.{found_stands}
 use Rattle.mm_world.proofs.RowsFit.{length-change_range}
 use Rattle.mm_spaces.specs.declared.rows.RowChange.{RowChange}

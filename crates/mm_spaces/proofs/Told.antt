@@ -1,14 +1,13 @@
 -- What VirtualQuery tells of a page, read off the regions that are kept.
 use Rattle.std.proofs.Common.{◌≡◌, ℕ, zero, suc, ◌+◌, ◌-◌, ◌<◌, ◌≤◌, Bool, true, false, cond, List, [], ◌∷◌, length, map, drop, Option, Some, None, option_map, unwrap_or, is_some, refl, sym, ap, ◌∙◌, subst, arith, slice_get, nat_lt, nat_le, ◌&&◌}
-use Rattle.std.specs.Prelude.{find, ◌==◌, IsSome, take_while}
+use Rattle.std.specs.Prelude.{find, ◌==◌, take_while}
 use Rattle.std.specs.Cmp.{unsigned_Decides}
 use Rattle.std.proofs.lemmas.Bool.{leb-true, eqb-true, eqb-false, ne_eqb}
-use Rattle.std.proofs.lemmas.List.{length-drop}
 use Rattle.std.proofs.lemmas.List.Sums.{take_while-cons}
 use Rattle.mm_types.specs.declared.answers.QueryInfo.{QueryInfo}
 use Rattle.mm_types.specs.declared.views.Kind.TheVariants as kind
 use Rattle.mm_types.specs.Address.{address_of, first_user_page, end_of_user_pages}
-use Rattle.mm_gaps.specs.Ranges.{FollowsFrom}
+use Rattle.mm_vad.specs.Ranges.{FollowsFrom}
 use Rattle.mm_vad.specs.declared.pages.Row.{Row}
 use Rattle.mm_vad.specs.declared.regions.Region.{Region}
 use Rattle.mm_vad.specs.Regions as vad
@@ -22,10 +21,9 @@ use Rattle.mm_world.specs.Query.{PageState, same_state, first_run, row_state, pa
 use Rattle.mm_world.specs.WellFormed.{Each, RowFits, PrivateRowFits}
 use Rattle.mm_spaces.specs.Shown.{row_of, region_of, shown}
 use Rattle.mm_spaces.specs.Finds.{IsKept}
-use Rattle.mm_spaces.proofs.Carried.{Whole, place_of, with_shown, map_drop}
+use Rattle.mm_spaces.proofs.Carried.{map_drop}
 use Rattle.mm_spaces.specs.Kept.{IsAt}
-use Rattle.mm_spaces.proofs.Kept.{found_has, is_at, private_low}
-use Rattle.mm_world.proofs.KindsAndKeys.{private_kind}
+use Rattle.mm_spaces.proofs.Kept.{found_has, private_low}
 use Rattle.mm_types.proofs.Booleans.{and_true, and_false}
 
 -- ---- the next region
@@ -57,26 +55,6 @@ next_behind vs page r k e =
     let h = found_has (λ g. FollowsFrom first_user_page (vad.pages_of g)) (λ g. nat_le (page + 1) g.base.0) vs r (each_region vs k.whole) (sym e) in
     let low : page + 1 ≤ r.base.0 = leb-true _ _ h.0 in
     (omega (arith, low), omega (arith, h.1.within))
-
--- ---- a run
-
-pub has_region : (vs : List Region) (page : ℕ) → Whole vs → is_some (region_with (shown vs) page) ≡ true → IsSome (vad.region_at vs page)
-has_region vs page whole e = by_found (vad.region_at vs page) (sym (ap is_some (with_shown vs page whole)) ∙ e)
-  where
-    by_found : (o : Option Region) → is_some (option_map (place_of (vad.holds page) vs) o) ≡ true → IsSome o
-    by_found None k = k
-    by_found (Some g) k = refl
-
-shorter : {A : Type 0} (p : A → Bool) (xs : List A) → length (take_while p xs) ≤ length xs
-shorter p [] = omega arith
-shorter p (x ∷ xs) =
-    let later = shorter p xs in
-    subst (λ ys. length ys ≤ suc (length xs)) (sym (take_while-cons p x xs))
-    (elim (p x) as (λ b. length (cond b (x ∷ take_while p xs) []) ≤ suc (length xs)) [ true ↦ omega (arith, later) | false ↦ omega arith ])
-
-run_shorter : (rows : List Row) → looks.first_run rows ≤ length rows
-run_shorter [] = omega arith
-run_shorter (row ∷ rows) = shorter (are_alike row) (row ∷ rows)
 
 -- ---- the states of the rows
 
@@ -213,28 +191,3 @@ module _ (rs : List (RegionOf (Unit {0}))) (page : ℕ) (g : Region) (at : IsAt 
 
     pub private_state : (w : WorldOf (Unit {0})) (row : Row) → slice_get g.rows (page - g.base.0) ≡ Some row → (first_run (states w (region_of g))).0 ≡ state_of row
     private_state w row there = ap (λ ss. (first_run ss).0) (private_states w) ∙ first_state (page - g.base.0) g.rows row there
-
-    pub run_told : (w : WorldOf (Unit {0})) (r : Found (RegionOf (Unit {0}))) → region_with rs page ≡ Some r → (first_run (states w r.thing)).1 ≡ run_from g.rows (page - g.base.0)
-    run_told w r e = ap (λ x. (first_run (states w x)).1) (thing_at r e) ∙ private_run w
-
-pub run_within : (vs : List Region) (page : ℕ) → IsKept vs → IsSome (vad.region_at vs page) → page + vad.run_of_equal vs page ≤ end_of_user_pages
-run_within vs page k some = by_found (vad.region_at vs page) refl some
-  where
-    by_found : (o : Option Region) → vad.region_at vs page ≡ o → IsSome o → page + unwrap_or (option_map (λ (r : Region). run_from r.rows (page - r.base.0)) o) 0 ≤ end_of_user_pages
-    by_found None e s = cc
-    by_found (Some g) e s =
-        let at = is_at vs page g k e in
-        omega (arith, at.low, at.high, at.rows, at.within, run_shorter (drop (page - g.base.0) g.rows), length-drop (page - g.base.0) g.rows)
-
--- how many pages are alike, as the regions that are kept tell
-pub run_kept : (vs : List Region) (page n : ℕ) (w : WorldOf (Unit {0})) (r : Found (RegionOf (Unit {0}))) → IsKept vs → n ≡ vad.run_of_equal vs page → region_with (shown vs) page ≡ Some r → is_private r.thing.kind ≡ true → n ≡ (first_run (drop (page - r.thing.base) (page_states w r.thing.kind 0 r.thing.rows))).1
-run_kept vs page n w r k is e private = by_found (vad.region_at vs page) refl
-  where
-    by_found : (o : Option Region) → vad.region_at vs page ≡ o → n ≡ (first_run (drop (page - r.thing.base) (page_states w r.thing.kind 0 r.thing.rows))).1
-    by_found None f = (let bad : None ≡ Some r = sym (with_shown vs page k.whole.whole ∙ ap (option_map (place_of (vad.holds page) vs)) f) ∙ e in cc)
-    by_found (Some g) f =
-        let at = is_at vs page g k f in
-        let kind_is : is_private g.kind ≡ true = ap (λ (x : RegionOf (Unit {0})). is_private x.kind) (sym (thing_at (shown vs) page g at r e)) ∙ private in
-        is
-        ∙ ap (λ o. unwrap_or (option_map (λ (x : Region). run_from x.rows (page - x.base.0)) o) 0) f
-        ∙ sym (run_told (shown vs) page g at (private_kind g.kind kind_is) w r e)

@@ -1,6 +1,5 @@
 -- The regions that are kept stay so when rows of them are written.
 use Rattle.std.proofs.Common.{◌≡◌, ℕ, zero, suc, ◌+◌, ◌≤◌, ◌<◌, Bool, true, false, cond, List, [], ◌∷◌, take, drop, ◌-◌, Option, Some, None, is_some, refl, sym, ap, ◌∙◌, subst, arith, ◌&&◌, count_by}
-use Rattle.std.specs.Prelude.{option_map, option_and_then}
 use Rattle.std.specs.List.{list_all}
 use Rattle.std.proofs.lemmas.List.Sums.{sum_by-cons}
 use Rattle.mm_types.specs.Address.{Range, end_of, holds_page}
@@ -13,7 +12,7 @@ use Rattle.mm_world.specs.WellFormed.{IsSpace}
 use Rattle.mm_world.proofs.Finding.{found_stands}
 use Rattle.mm_spaces.specs.Shown.{shown}
 use Rattle.mm_spaces.specs.Finds.{IsKept}
-use Rattle.mm_spaces.specs.Tables.{owned_in, rows_in, rows_of, page_row, told_row}
+use Rattle.mm_spaces.specs.Tables.{owned_in, rows_in, rows_of}
 use Rattle.mm_spaces.specs.declared.rows.RowChange.{RowChange}
 use Rattle.mm_spaces.specs.RowChanges.{RowChanged, RowsChanged, owns}
 use Rattle.mm_spaces.proofs.Shows.{there}
@@ -95,16 +94,6 @@ row_of_page rs page some =
     let a = within (pages_of r.thing.thing) page (found_stands (λ (x : RegionOf (Unit {0})). holds_page (pages_of x) page) rs r.thing r.is).passes in
     let row = has_row r.thing.thing.rows (page - r.thing.thing.base) (omega (arith, a.low, a.high)) in
     record { found = r.thing; row = row.0; there = r.is; row_there = row.1 }
-
--- a page without a row lies in no region
-pub no_region : (rs : Regions) (page : ℕ) (r : Found (RegionOf (Unit {0}))) → None ≡ page_row rs page → region_with rs page ≡ Some r → ⊥
-no_region rs page r none e =
-    let o = row_of_page rs page (ap is_some e) in
-    let bad : None ≡ Some (told_row o.found.thing page o.row) =
-    none
-    ∙ ap (option_and_then (λ (f : Found (RegionOf (Unit {0}))). option_map (told_row f.thing page) (row_at f.thing page))) o.there
-    ∙ ap (option_map (told_row o.found.thing page)) o.row_there in
-    cc
 
 abbrev pub CanChangeRow : RowChange → Regions → ℕ → Type 0
 CanChangeRow c rs page = (r : Found (RegionOf (Unit {0}))) (row : RowOf (Unit {0})) → region_with rs page ≡ Some r → row_at r.thing page ≡ Some row → CanChange c r.thing.kind row

@@ -4,7 +4,7 @@ use Rattle.std.specs.Prelude.{map}
 use Rattle.std.proofs.lemmas.List.{length-take, length-drop, get_or-take, get_or-drop, drop-drop, drop-take, take_all}
 use Rattle.mm_types.specs.Address.{address_of, page_of}
 use Rattle.mm_world.specs.Watch.{written_from}
-use Rattle.mm_watch.specs.Bits.{NoneSet, IsNextSet, flag_at}
+use Rattle.mm_vad.specs.Bits.{NoneSet, IsNextSet, flag_at}
 use Rattle.mm_vad.specs.Regions.{LieAmong}
 
 no_page : (page : ℕ) (bits : List Bool) → ((i : ℕ) → i < length bits → get_or bits i false ≡ false) → written_from page bits ≡ []

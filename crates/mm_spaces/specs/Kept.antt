@@ -22,7 +22,8 @@ pub record IsAt (regions : List (RegionOf (Unit {0}))) (page : ℕ) (r : Region)
   pub fit : RowsFit (region_of r)
 
 -- the first region that passes both tests
-abbrev pub both_where : (RegionOf (Unit {0}) → Bool) → (RegionOf (Unit {0}) → Bool) → List (RegionOf (Unit {0})) → Option (Found (RegionOf (Unit {0})))
+abbrev pub both_where : (RegionOf (Unit {0}) → Bool) → (RegionOf (Unit {0}) → Bool) →
+    List (RegionOf (Unit {0})) → Option (Found (RegionOf (Unit {0})))
 both_where t test regions = first_where (λ x. t x && test x) regions
 
 abbrev pub one_if : Bool → Found (RegionOf (Unit {0})) → Option (Found (RegionOf (Unit {0})))
@@ -35,11 +36,13 @@ abbrev pub is_based : ℕ → RegionOf (Unit {0}) → Bool
 is_based addr x = address_of x.base == addr
 
 -- the one region in which all pages of the range lie
-pub record IsAround (regions : List (RegionOf (Unit {0}))) (range : Range) (r : Region) : Type 0 where
+pub record IsAround (regions : List (RegionOf (Unit {0}))) (range : Range) (r : Region) :
+    Type 0 where
   pub at : IsAt regions range.first r
   pub high : range.first - r.base.0 + range.count ≤ length r.rows
   pub around : region_around regions range ≡ Some at.found
-  pub only : (t : RegionOf (Unit {0}) → Bool) → both_where t (surrounds range) regions ≡ one_if (t at.found.thing) at.found
+  pub only : (t : RegionOf (Unit {0}) → Bool) →
+      both_where t (surrounds range) regions ≡ one_if (t at.found.thing) at.found
 
 pub record NoneAround (regions : List (RegionOf (Unit {0}))) (range : Range) : Type 0 where
   pub around : region_around regions range ≡ None
@@ -48,7 +51,8 @@ pub record NoneAround (regions : List (RegionOf (Unit {0}))) (range : Range) : T
 -- the one region whose base is the address, to the byte
 pub record IsBased (regions : List (RegionOf (Unit {0}))) (addr : ℕ) (r : Region) : Type 0 where
   pub at : IsAt regions (page_of addr) r
-  pub only : (t : RegionOf (Unit {0}) → Bool) → both_where t (is_based addr) regions ≡ one_if (t at.found.thing) at.found
+  pub only : (t : RegionOf (Unit {0}) → Bool) →
+      both_where t (is_based addr) regions ≡ one_if (t at.found.thing) at.found
 
 pub record NoneBased (regions : List (RegionOf (Unit {0}))) (addr : ℕ) : Type 0 where
   pub only : (t : RegionOf (Unit {0}) → Bool) → both_where t (is_based addr) regions ≡ None

@@ -5,3 +5,5 @@ pub mod Kept
 pub mod RowChanges
 pub mod RowTests
 pub mod ViewStates
+pub mod Asked
+pub mod PageInfos

@@ -30,17 +30,25 @@ abbrev pub range_at : ℕ → ℕ → Range
 range_at first count = record { first = first; count = count }
 
 -- the row of the page was changed, and nothing else
-abbrev pub RowChanged : RowChange → ℕ → List (RegionOf (Unit {0})) → List (RegionOf (Unit {0})) → Type 0
+abbrev pub RowChanged : RowChange → ℕ → List (RegionOf (Unit {0})) → List (RegionOf (Unit {0})) →
+    Type 0
 RowChanged change page old new =
-    (r : Found (RegionOf (Unit {0}))) (row : RowOf (Unit {0})) → region_with old page ≡ Some r → row_at r.thing page ≡ Some row →
-    new ≡ slice_set old r.place (record r.thing { rows = slice_set r.thing.rows (page - r.thing.base) (changed change r.thing.kind row) })
+    (r : Found (RegionOf (Unit {0}))) (row : RowOf (Unit {0})) → region_with old page ≡ Some r →
+    row_at r.thing page ≡ Some row →
+    new ≡ slice_set old r.place (record r.thing {
+      rows = slice_set r.thing.rows (page - r.thing.base) (changed change r.thing.kind row);
+    })
 
 -- the rows of the range, which begins in a region and lies in it, were changed, and nothing else
-abbrev pub RunChanged : RowChange → Range → List (RegionOf (Unit {0})) → List (RegionOf (Unit {0})) → Type 0
+abbrev pub RunChanged : RowChange → Range → List (RegionOf (Unit {0})) →
+    List (RegionOf (Unit {0})) → Type 0
 RunChanged change range old new =
-    (r : Found (RegionOf (Unit {0}))) → region_with old range.first ≡ Some r → new ≡ slice_set old r.place (change_rows (changed change r.thing.kind) range r.thing)
+    (r : Found (RegionOf (Unit {0}))) → region_with old range.first ≡ Some r →
+    new ≡ slice_set old r.place (change_rows (changed change r.thing.kind) range r.thing)
 
 -- the rows of the range, which lies in one region, were changed, and nothing else
-abbrev pub RowsChanged : RowChange → Range → List (RegionOf (Unit {0})) → List (RegionOf (Unit {0})) → Type 0
+abbrev pub RowsChanged : RowChange → Range → List (RegionOf (Unit {0})) →
+    List (RegionOf (Unit {0})) → Type 0
 RowsChanged change range old new =
-    (r : Found (RegionOf (Unit {0}))) → region_around old range ≡ Some r → new ≡ slice_set old r.place (change_rows (changed change r.thing.kind) range r.thing)
+    (r : Found (RegionOf (Unit {0}))) → region_around old range ≡ Some r →
+    new ≡ slice_set old r.place (change_rows (changed change r.thing.kind) range r.thing)

@@ -1,5 +1,5 @@
--- The regions of an address space as the definitions of worlds have them, read off those that `mm_vad` keeps.
--- Profile, "Regions, rows, sections".
+-- The regions of an address space as the definitions of worlds have them, read off those that
+-- `mm_vad` keeps. Profile, "Regions, rows, sections".
 use Rattle.std.specs.Prelude.{ℕ, Bool, false, if◌then◌else◌, List, map, replicate, Option, Some, None}
 use Rattle.mm_types.specs.declared.views.Kind.{Kind}
 use Rattle.mm_types.specs.declared.views.Kind.TheVariants as kind
@@ -7,7 +7,8 @@ use Rattle.mm_vad.specs.declared.pages.Row.{Row}
 use Rattle.mm_vad.specs.declared.regions.Region.{Region}
 use Rattle.mm_world.specs.World.{RowOf, RegionOf}
 
--- whether the page has bytes of its own: a private row where it is committed, a view's where it was copied
+-- whether the page has bytes of its own: a private row where it is committed, a view's where it was
+-- copied
 abbrev pub has_own : Kind → Row → Bool
 has_own kind.Private row = row.committed
 has_own (kind.View v) row = row.copied
@@ -22,7 +23,13 @@ row_of kind row =
     }
 
 abbrev pub region_of : Region → RegionOf (Unit {0})
-region_of r = record { base = r.base.0; alloc_prot = r.alloc_prot.0; kind = r.kind; rows = map (row_of r.kind) r.rows; watched = r.watched }
+region_of r = record {
+  base = r.base.0;
+  alloc_prot = r.alloc_prot.0;
+  kind = r.kind;
+  rows = map (row_of r.kind) r.rows;
+  watched = r.watched;
+}
 
 -- the flags of a region of so many pages, none of them written, where it is watched
 abbrev pub new_flags : Bool → ℕ → Option (List Bool)

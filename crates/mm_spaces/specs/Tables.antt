@@ -33,7 +33,9 @@ told_row r page row =
     }
 
 abbrev pub page_row : List (RegionOf (Unit {0})) → ℕ → Option PageRow
-page_row regions page = option_and_then (λ r. option_map (told_row r.thing page) (row_at r.thing page)) (region_with regions page)
+page_row regions page =
+    option_and_then (λ r. option_map (told_row r.thing page) (row_at r.thing page))
+    (region_with regions page)
 
 module _ {B : Type 0} where
   abbrev pub rows_of : Range → Option (Found (RegionOf B)) → List (RowOf B)

@@ -9,7 +9,8 @@ use Rattle.mm_world.specs.Query.{PageState, row_state}
 use Rattle.mm_spaces.specs.Shown.{row_of}
 use Rattle.mm_spaces.specs.declared.view_states.ToldState.{ToldState}
 
--- whether the page of a view is committed: the area's page with the view's first index and the page's own is
+-- whether the page of a view is committed: the area's page with the view's first index and the
+-- page's own is
 abbrev pub is_area_page : AreaOf (Unit {0}) → View → ℕ → Bool
 is_area_page a v i = is_some (numbered a.pages (v.first + i))
 

@@ -18,8 +18,8 @@ const LOWEST: Vpn = Vpn(0);
 impl AddressSpace {
     // ---- regions
 
-    /// Sees that there is room for one more region at least. `NoMemory` only where there was none and a request for
-    /// memory was refused.
+    /// Sees that there is room for one more region at least. `NoMemory` only where there was none
+    /// and a request for memory was refused.
     pub fn reserve(&mut self) -> Result<(), NoMemory>
         ensures same { self.new.regions ≡ self.old.regions }
         ensures later { self.old.spare ≤ self.new.spare }
@@ -44,8 +44,10 @@ impl AddressSpace {
 
     /// Takes the region out whose base is the address, to the byte.
     pub fn remove(&mut self, addr: u32)
-        requires there { (is_some (private_at self.old.regions addr) ≡ true) ⊎ (is_some (view_at self.old.regions addr) ≡ true) }
-        ensures private { (r : Found (RegionOf (Unit {0}))) → private_at self.old.regions addr ≡ Some r
+        requires there { (is_some (private_at self.old.regions addr) ≡ true) ⊎
+            (is_some (view_at self.old.regions addr) ≡ true) }
+        ensures private { (r : Found (RegionOf (Unit {0}))) →
+            private_at self.old.regions addr ≡ Some r
             → self.new.regions ≡ remove self.old.regions r.place }
         ensures view { (r : Found (RegionOf (Unit {0}))) → view_at self.old.regions addr ≡ Some r
             → self.new.regions ≡ remove self.old.regions r.place }
@@ -69,14 +71,18 @@ impl AddressSpace {
 
     // ---- rows
 
-    /// Commits the pages of the range, which lies in one private region, with the protection `prot`, guard (0x100) included
-    /// (VirtualAlloc with MEM_COMMIT). A page that is committed gets the protection too.
+    /// Commits the pages of the range, which lies in one private region, with the protection
+    /// `prot`, guard (0x100) included (VirtualAlloc with MEM_COMMIT). A page that is committed gets
+    /// the protection too.
     pub fn commit(&mut self, range: PageRange, prot: u32)
         requires inside { is_some (region_around self.old.regions range) ≡ true }
-        requires private { (r : Found (RegionOf (Unit {0}))) → region_around self.old.regions range ≡ Some r → is_private r.thing.kind ≡ true }
+        requires private { (r : Found (RegionOf (Unit {0}))) →
+            region_around self.old.regions range ≡ Some r → is_private r.thing.kind ≡ true }
         requires prot { is_protection_among private_protections prot ≡ true }
-        ensures changed { (r : Found (RegionOf (Unit {0}))) → region_around self.old.regions range ≡ Some r
-            → self.new.regions ≡ slice_set self.old.regions r.place (change_rows (commit tt prot) range r.thing) }
+        ensures changed { (r : Found (RegionOf (Unit {0}))) →
+            region_around self.old.regions range ≡ Some r
+            → self.new.regions ≡
+            slice_set self.old.regions r.place (change_rows (commit tt prot) range r.thing) }
         ensures room { self.new.spare ≡ self.old.spare }
     {
         change_rows(
@@ -87,13 +93,16 @@ impl AddressSpace {
         );
     }
 
-    /// Makes the pages of the range, which lies in one private region, reserved alone (VirtualFree with MEM_DECOMMIT). Pages
-    /// that are not committed are no failure.
+    /// Makes the pages of the range, which lies in one private region, reserved alone (VirtualFree
+    /// with MEM_DECOMMIT). Pages that are not committed are no failure.
     pub fn decommit(&mut self, range: PageRange)
         requires inside { is_some (region_around self.old.regions range) ≡ true }
-        requires private { (r : Found (RegionOf (Unit {0}))) → region_around self.old.regions range ≡ Some r → is_private r.thing.kind ≡ true }
-        ensures changed { (r : Found (RegionOf (Unit {0}))) → region_around self.old.regions range ≡ Some r
-            → self.new.regions ≡ slice_set self.old.regions r.place (change_rows (λ row. reserved_row) range r.thing) }
+        requires private { (r : Found (RegionOf (Unit {0}))) →
+            region_around self.old.regions range ≡ Some r → is_private r.thing.kind ≡ true }
+        ensures changed { (r : Found (RegionOf (Unit {0}))) →
+            region_around self.old.regions range ≡ Some r
+            → self.new.regions ≡
+            slice_set self.old.regions r.place (change_rows (λ row. reserved_row) range r.thing) }
         ensures room { self.new.spare ≡ self.old.spare }
     {
         change_rows(
@@ -104,15 +113,23 @@ impl AddressSpace {
         );
     }
 
-    /// Gives the pages of the range, which lies in one region, the protection `prot`, guard (0x100) included, which each of them
-    /// accepts (VirtualProtect); the pages of a private region are committed. In a view WRITECOPY marks the pages.
+    /// Gives the pages of the range, which lies in one region, the protection `prot`, guard (0x100)
+    /// included, which each of them accepts (VirtualProtect); the pages of a private region are
+    /// committed. In a view WRITECOPY marks the pages.
     pub fn protect(&mut self, range: PageRange, prot: u32)
         requires inside { is_some (region_around self.old.regions range) ≡ true }
         requires prot { is_protection_among all_protections prot ≡ true }
-        requires accepted { (r : Found (RegionOf (Unit {0}))) → region_around self.old.regions range ≡ Some r → every_page (accepts r.thing prot) range ≡ true }
-        requires committed { (r : Found (RegionOf (Unit {0}))) → region_around self.old.regions range ≡ Some r → is_private r.thing.kind ≡ true → owned_in self.old.regions range ≡ range.count }
-        ensures changed { (r : Found (RegionOf (Unit {0}))) → region_around self.old.regions range ≡ Some r
-            → self.new.regions ≡ slice_set self.old.regions r.place (change_rows (protected r.thing.kind prot) range r.thing) }
+        requires accepted { (r : Found (RegionOf (Unit {0}))) →
+            region_around self.old.regions range ≡ Some r →
+            every_page (accepts r.thing prot) range ≡ true }
+        requires committed { (r : Found (RegionOf (Unit {0}))) →
+            region_around self.old.regions range ≡ Some r → is_private r.thing.kind ≡ true →
+            owned_in self.old.regions range ≡ range.count }
+        ensures changed { (r : Found (RegionOf (Unit {0}))) →
+            region_around self.old.regions range ≡ Some r
+            → self.new.regions ≡
+            slice_set self.old.regions r.place
+            (change_rows (protected r.thing.kind prot) range r.thing) }
         ensures room { self.new.spare ≡ self.old.spare }
     {
         change_rows(
@@ -126,22 +143,31 @@ impl AddressSpace {
     /// Takes the guard off a page that lies in a region.
     pub fn take_guard_off(&mut self, page: u32)
         requires there { is_some (region_with self.old.regions page) ≡ true }
-        ensures changed { (r : Found (RegionOf (Unit {0}))) (row : RowOf (Unit {0})) → region_with self.old.regions page ≡ Some r
+        ensures changed { (r : Found (RegionOf (Unit {0}))) (row : RowOf (Unit {0})) →
+            region_with self.old.regions page ≡ Some r
             → row_at r.thing page ≡ Some row
-            → self.new.regions ≡ slice_set self.old.regions r.place (record r.thing { rows = slice_set r.thing.rows (page - r.thing.base) (record row { guard = false }) }) }
+            → self.new.regions ≡ slice_set self.old.regions r.place (record r.thing {
+              rows = slice_set r.thing.rows (page - r.thing.base) (record row { guard = false });
+            }) }
         ensures room { self.new.spare ≡ self.old.spare }
     {
         change_row(&mut self.space, page, RowChange::GuardOff);
     }
 
-    /// The page of a view, which has a mark and was not copied, has bytes of its own from now on, and the protection READWRITE.
+    /// The page of a view, which has a mark and was not copied, has bytes of its own from now on,
+    /// and the protection READWRITE.
     pub fn copy_page(&mut self, page: u32)
         requires there { is_some (region_with self.old.regions page) ≡ true }
-        requires marked { (r : Found (RegionOf (Unit {0}))) (row : RowOf (Unit {0})) → region_with self.old.regions page ≡ Some r → row_at r.thing page ≡ Some row
+        requires marked { (r : Found (RegionOf (Unit {0}))) (row : RowOf (Unit {0})) →
+            region_with self.old.regions page ≡ Some r → row_at r.thing page ≡ Some row
             → (is_private r.thing.kind ≡ false) × (row.marked ≡ true) }
-        ensures changed { (r : Found (RegionOf (Unit {0}))) (row : RowOf (Unit {0})) → region_with self.old.regions page ≡ Some r
+        ensures changed { (r : Found (RegionOf (Unit {0}))) (row : RowOf (Unit {0})) →
+            region_with self.old.regions page ≡ Some r
             → row_at r.thing page ≡ Some row
-            → self.new.regions ≡ slice_set self.old.regions r.place (record r.thing { rows = slice_set r.thing.rows (page - r.thing.base) (record row { own = Some tt; prot = 0x04 }) }) }
+            → self.new.regions ≡ slice_set self.old.regions r.place (record r.thing {
+              rows = slice_set r.thing.rows (page - r.thing.base)
+                  (record row { own = Some tt; prot = 0x04 });
+            }) }
         ensures room { self.new.spare ≡ self.old.spare }
     {
         change_row(&mut self.space, page, RowChange::Copy);

@@ -11,8 +11,7 @@ ghost use Rattle.mm_types.specs.declared.views.Kind.TheVariants as kind;
 
 use crate::PageRange;
 use mm_types::{AllocFlags, Kind, NoMemory, Prot, View, ViewAccess, Vpn};
-use mm_vad::{Region, Row, Rows};
-use mm_watch::Bits;
+use mm_vad::{Bits, Region, Row, Rows};
 use std::alloc::Global;
 use std::marker::Model;
 
@@ -96,9 +95,9 @@ fn new_flags(alloc: Global, watched: bool, n: u32) -> Result<Option<Bits>, NoMem
 }
 
 impl NewRegion {
-    /// A private region: its pages are reserved where `alloc_type` is MEM_RESERVE (0x2000) alone, and committed
-    /// otherwise, with the protection `prot`, guard (0x100) included. Where it is watched, none of its pages is written.
-    /// `NoMemory` where a request for memory was refused.
+    /// A private region: its pages are reserved where `alloc_type` is MEM_RESERVE (0x2000) alone,
+    /// and committed otherwise, with the protection `prot`, guard (0x100) included. Where it is
+    /// watched, none of its pages is written. `NoMemory` where a request for memory was refused.
     pub fn private(
         alloc: Global,
         watched: bool,
@@ -125,10 +124,11 @@ impl NewRegion {
         })
     }
 
-    /// A view of a section, each of whose pages has the first protection of the view's access and, in a copy view, a mark.
-    /// `NoMemory` where a request for memory was refused.
+    /// A view of a section, each of whose pages has the first protection of the view's access and,
+    /// in a copy view, a mark. `NoMemory` where a request for memory was refused.
     pub fn view(alloc: Global, view: View, range: PageRange) -> Result<NewRegion, NoMemory>
-        ensures ok { IfOk result (λ r. (s : Found SectionOf) → s.place ≡ view.section.0 → s.thing.area ≡ view.area.0 → r ≡ view_region s view.access view.first range) }
+        ensures ok { IfOk result (λ r. (s : Found SectionOf) → s.place ≡ view.section.0 →
+            s.thing.area ≡ view.area.0 → r ≡ view_region s view.access view.first range) }
         ensures kind { IfOk result (λ r. r.kind ≡ kind.View view) }
         ensures pages { IfOk result (λ r. pages_of r ≡ range) }
         ensures fit { IfOk result (λ r. RowsFit r) }

@@ -6,11 +6,12 @@ ghost use Rattle.mm_world.specs.World.{RegionOf, WorldOf};
 ghost use Rattle.mm_world.specs.Find.{Found, region_with, area_at, is_private};
 ghost use Rattle.mm_world.specs.Query.{page_info, region_info, free_info, page_states, first_run, next_base};
 ghost use Rattle.mm_spaces.specs.Kept.{IsAt};
+ghost use Rattle.mm_spaces.specs.PageInfos.{IfTold, IfInView, LiesInView};
 
 use crate::AddressSpace;
 use crate::view_states::{run_in_view, state_in_view, told_of_row};
 use mm_sections::SectionPages;
-use mm_types::{END_OF_USER_PAGES, Kind, PAGE_SIZE, Prot, QueryInfo, Vpn};
+use mm_types::{END_OF_USER_PAGES, Kind, PAGE_SIZE, Prot, QueryInfo, View, Vpn};
 use mm_vad::Region;
 
 const FREE: u32 = 0x10000;
@@ -19,17 +20,32 @@ const PRIVATE: u32 = 0x20000;
 
 const MAPPED: u32 = 0x40000;
 
+/// What VirtualQuery tells of a page, where its region alone says it.
+#[derive(Clone, Copy, PartialEq, Eq, Debug)]
+pub enum PageInfo {
+    /// All of it: the page is free or lies in a private region.
+    Told(QueryInfo),
+    /// The page lies in this view, whose control area says which pages are committed.
+    InView(View),
+}
+
 impl AddressSpace {
-    /// What VirtualQuery tells of a user page that is free or lies in a private region: of a page in a region the longest run of
-    /// pages from it on, in its region, that are alike in state and protection; of a free page where the next region begins.
-    pub fn info(&self, page: u32) -> QueryInfo
+    /// What VirtualQuery tells of a user page that is free or lies in a private region: of a page
+    /// in a region the longest run of pages from it on, in its region, that are alike in state and
+    /// protection; of a free page where the next region begins. Of another page which view it lies
+    /// in.
+    pub fn info(&self, page: u32) -> PageInfo
         requires user { is_user_page page ≡ true }
-        requires private { (r : Found (RegionOf (Unit {0}))) → region_with self.now.regions page ≡ Some r → is_private r.thing.kind ≡ true }
-        ensures { (w : WorldOf (Unit {0})) → result ≡ page_info w self.now.regions page (region_with self.now.regions page) }
+        ensures told { (w : WorldOf (Unit {0})) → IfTold result (λ info.
+            info ≡ page_info w self.now.regions page (region_with self.now.regions page)) }
+        ensures view { IfInView result (λ view. LiesInView self.now.regions page view) }
     {
-        match self.region_at(page) {
-            Some(region) => self.region_info(page, region),
-            None => self.free_info(page),
+        let Some(region) = self.region_at(page) else {
+            return PageInfo::Told(self.free_info(page));
+        };
+        match region.kind {
+            Kind::Private => PageInfo::Told(self.region_info(page, region)),
+            Kind::View(view) => PageInfo::InView(view),
         }
     }
 
@@ -37,9 +53,12 @@ impl AddressSpace {
     pub fn view_info(&self, page: u32, pages: &SectionPages) -> QueryInfo
         requires user { is_user_page page ≡ true }
         requires inside { is_some (region_with self.now.regions page) ≡ true }
-        requires view { (r : Found (RegionOf (Unit {0}))) → region_with self.now.regions page ≡ Some r → is_private r.thing.kind ≡ false }
-        ensures { (w : WorldOf (Unit {0})) (r : Found (RegionOf (Unit {0}))) (v : View) → region_with self.now.regions page ≡ Some r → r.thing.kind ≡ kind.View v
-            → area_at w v.area.0 ≡ pages.now → result ≡ page_info w self.now.regions page (region_with self.now.regions page) }
+        requires view { (r : Found (RegionOf (Unit {0}))) →
+            region_with self.now.regions page ≡ Some r → is_private r.thing.kind ≡ false }
+        ensures { (w : WorldOf (Unit {0})) (r : Found (RegionOf (Unit {0}))) (v : View) →
+            region_with self.now.regions page ≡ Some r → r.thing.kind ≡ kind.View v
+            → area_at w v.area.0 ≡ pages.now →
+            result ≡ page_info w self.now.regions page (region_with self.now.regions page) }
     {
         let Some(region) = self.region_at(page) else {
             unreachable!()
@@ -64,31 +83,22 @@ impl AddressSpace {
         requires user { is_user_page page ≡ true }
         requires at { IsAt self.now.regions page region.now }
         requires private { region.now.kind ≡ kind.Private }
-        ensures { (w : WorldOf (Unit {0})) (r : Found (RegionOf (Unit {0}))) → region_with self.now.regions page ≡ Some r
+        ensures { (w : WorldOf (Unit {0})) (r : Found (RegionOf (Unit {0}))) →
+            region_with self.now.regions page ≡ Some r
             → result ≡ region_info w r.thing page }
     {
-        let row = region.rows.get(page - region.base.0);
+        let index = page - region.base.0;
+        let row = region.rows.get(index);
         let told = told_of_row(row, row.committed);
         QueryInfo {
             base: page * PAGE_SIZE,
             alloc_base: region.base.0 * PAGE_SIZE,
             alloc_prot: region.alloc_prot.0,
-            size: self.run_of_alike(page) * PAGE_SIZE,
+            size: region.rows.run_from(index) * PAGE_SIZE,
             state: told.state,
             prot: told.prot,
             kind: PRIVATE,
         }
-    }
-
-    // How many pages from this one on, in its region, are alike in state and protection.
-    fn run_of_alike(&self, page: u32) -> u32
-        requires there { is_some (region_with self.now.regions page) ≡ true }
-        requires private { (r : Found (RegionOf (Unit {0}))) → region_with self.now.regions page ≡ Some r → is_private r.thing.kind ≡ true }
-        ensures run { (w : WorldOf (Unit {0})) (r : Found (RegionOf (Unit {0}))) → region_with self.now.regions page ≡ Some r
-            → result ≡ (first_run (drop (page - r.thing.base) (page_states w r.thing.kind 0 r.thing.rows))).1 }
-        ensures within { page + result ≤ end_of_user_pages }
-    {
-        self.space.run_of_equal(Vpn(page))
     }
 
     fn free_info(&self, page: u32) -> QueryInfo

@@ -26,7 +26,8 @@ impl Model for PageRange {
     ghost inverse = { λ d. record { first = d.first; count = d.count } };
 }
 
-// The page after the one of the last of `size` bytes. The sum of an address and a size may be larger than any address.
+// The page after the one of the last of `size` bytes. The sum of an address and a size may be
+// larger than any address.
 fn end_page(addr: u32, size: u32) -> u32
     requires some { 1 ≤ size }
     ensures { result ≡ (addr + size - 1) / 4096 + 1 }
@@ -35,7 +36,8 @@ fn end_page(addr: u32, size: u32) -> u32
 }
 
 impl PageRange {
-    /// The pages that hold one of the `size` bytes from the address `addr` on; `size` is at least 1.
+    /// The pages that hold one of the `size` bytes from the address `addr` on; `size` is at least
+    /// 1.
     pub fn of(addr: u32, size: u32) -> PageRange
         requires some { 1 ≤ size }
         ensures { result ≡ range_of addr size }

@@ -84,13 +84,13 @@ pub(crate) fn count_rows(
 ) -> u32
     requires inside { first + count ≤ length rows.now }
     requires fits { first + count < 2 ^ 32 }
-    ensures { result ≡ count_by (passes test region_kind) (take count (drop first (map (row_of region_kind) rows.now))) }
+    ensures { result ≡ count_by (passes test region_kind)
+        (take count (drop first (map (row_of region_kind) rows.now))) }
 {
     let mut passing = 0;
     let mut done = 0;
     while done < count {
-        let (row, equal) = rows.equal_from(first + done);
-        let n = equal.min(count - done);
+        let (row, n) = rows.equal_from(first + done, count - done);
         if test.holds(region_kind, row) {
             passing += n;
         }
@@ -109,15 +109,16 @@ pub(crate) fn do_rows_pass(
 ) -> bool
     requires inside { first + count ≤ length rows.now }
     requires fits { first + count < 2 ^ 32 }
-    ensures { result ≡ list_all (passes test region_kind) (take count (drop first (map (row_of region_kind) rows.now))) }
+    ensures { result ≡ list_all (passes test region_kind)
+        (take count (drop first (map (row_of region_kind) rows.now))) }
 {
     let mut done = 0;
     while done < count {
-        let (row, equal) = rows.equal_from(first + done);
+        let (row, n) = rows.equal_from(first + done, count - done);
         if !test.holds(region_kind, row) {
             return false;
         }
-        done += equal.min(count - done);
+        done += n;
     }
     true
 }

@@ -11,8 +11,8 @@ ghost use Rattle.mm_spaces.specs.RowChanges.{changed, RowChanged, RunChanged, Ro
 use mm_types::{Kind, Prot, View, Vpn};
 use mm_vad::{Row, Space};
 
-/// What a call makes of the row of a page. Protections are as callers give them: a base protection, with
-/// PAGE_GUARD (0x100) or without.
+/// What a call makes of the row of a page. Protections are as callers give them: a base protection,
+/// with PAGE_GUARD (0x100) or without.
 #[derive(Clone, Copy)]
 pub(crate) enum RowChange {
     /// The page has bytes of its own and this protection (VirtualAlloc with MEM_COMMIT).
@@ -72,7 +72,8 @@ fn marked_protection(copied: bool, base: u32) -> u32
 
 // The row of a page of a view, with the protection.
 fn protected_in_view(view: View, row: Row, prot: u32) -> Row
-    ensures { row_of (kind.View view) result ≡ protected (kind.View view) prot (row_of (kind.View view) row) }
+    ensures { row_of (kind.View view) result ≡
+        protected (kind.View view) prot (row_of (kind.View view) row) }
 {
     let base = prot % Prot::GUARD.0;
     let marked = row.marked || base == Prot::WRITECOPY.0;
@@ -156,14 +157,15 @@ pub(crate) fn change_row(space: &mut Space, page: u32, change: RowChange)
     space.set_row(Vpn(page), row);
 }
 
-// Changes the rows of pages from `page` on, which lies in a region: those that are known to be equal, at least one and
-// at most `count`. How many.
+// Changes the rows of pages from `page` on, which lies in a region: those that are known to be
+// equal, at least one and at most `count`. How many.
 fn change_some(space: &mut Space, page: u32, count: u32, change: RowChange) -> u32
     requires there { IsSome (region_with (shown space.old.regions) page) }
     requires some { 0 < count }
     ensures some { 0 < result }
     ensures within { result ≤ count }
-    ensures after { RunChanged change (range_at page result) (shown space.old.regions) (shown space.new.regions) }
+    ensures after { RunChanged change (range_at page result) (shown space.old.regions)
+        (shown space.new.regions) }
     ensures spare { space.new.spare ≡ space.old.spare }
     ensures sound { IsVad space.old.regions }
     ensures kept { IsVad space.new.regions }
@@ -171,8 +173,9 @@ fn change_some(space: &mut Space, page: u32, count: u32, change: RowChange) -> u
     let Some(region) = space.find(Vpn(page)) else {
         unreachable!()
     };
-    let (row, equal) = region.rows.equal_from(page - region.base.0);
-    let n = equal.min(count);
+    let index = page - region.base.0;
+    let most = count.min(region.pages - index);
+    let (row, n) = region.rows.equal_from(index, most);
     let row = change.of(region.kind, row);
     space.fill_rows(Vpn(page), n, row);
     n
@@ -181,7 +184,8 @@ fn change_some(space: &mut Space, page: u32, count: u32, change: RowChange) -> u
 /// Changes the rows of `count` pages from `first` on, all of them in one region.
 pub(crate) fn change_rows(space: &mut Space, first: u32, count: u32, change: RowChange)
     requires { IsInRegion (shown space.old.regions) (range_at first count) }
-    ensures after { RowsChanged change (range_at first count) (shown space.old.regions) (shown space.new.regions) }
+    ensures after { RowsChanged change (range_at first count) (shown space.old.regions)
+        (shown space.new.regions) }
     ensures spare { space.new.spare ≡ space.old.spare }
     ensures kept { IsVad space.old.regions → IsVad space.new.regions }
 {

@@ -9,8 +9,8 @@ ghost use Rattle.mm_world.specs.Free.{private_at, private_around};
 ghost use Rattle.mm_world.specs.Views.{view_at, view_around};
 ghost use Rattle.mm_world.specs.Keys.{own_page};
 ghost use Rattle.mm_world.specs.Rows.{every_page, accepts, is_committed_at};
-ghost use Rattle.mm_world.specs.Protect.{protection_at};
 ghost use Rattle.mm_world.specs.WellFormed.{IsSpace};
+ghost use Rattle.mm_spaces.specs.Kept.{IsAround};
 ghost use Rattle.mm_spaces.specs.Tables.{info_of, found_info, page_row, owned_in, unmarked_in, marked_in, rows_in};
 ghost use Rattle.mm_spaces.specs.RowTests.{passes};
 
@@ -18,10 +18,10 @@ use crate::PageRange;
 use crate::look_ups::{info_of_region, is_private};
 use crate::ranges::pages_for;
 use crate::row_tests::{RowTest, count_rows, do_rows_pass, has_own};
-use crate::view_states::{are_pages_committed, protection_of_row};
+use crate::view_states::are_pages_committed;
 use mm_sections::SectionPages;
 use mm_types::{Kind, PAGE_SIZE, Prot, Vpn};
-use mm_vad::Space;
+use mm_vad::{Region, Space};
 use std::alloc::Global;
 use std::marker::Model;
 
@@ -50,7 +50,8 @@ pub struct PageRow {
     pub guard: bool,
     /// A write to a page of a view makes a copy.
     pub marked: bool,
-    /// It has bytes of its own: a private page where it is committed, one of a view where it was copied.
+    /// It has bytes of its own: a private page where it is committed, one of a view where it was
+    /// copied.
     pub owned: bool,
     /// Its region is watched (MEM_WRITE_WATCH).
     pub watched: bool,
@@ -93,23 +94,31 @@ impl AddressSpace {
 
     // ---- regions
 
-    /// Where `size` bytes are to lie, at least one: for address 0 from the lowest granule whose pages are free, else
-    /// from the granule of `addr` to the page of the last byte. None exactly where those pages are not all free.
+    /// Where `size` bytes are to lie, at least one: for address 0 from the lowest granule whose
+    /// pages are free, else from the granule of `addr` to the page of the last byte. None exactly
+    /// where those pages are not all free.
     pub fn gap(&self, addr: u32, size: u32) -> Option<PageRange>
         requires some { 1 ≤ size }
-        ensures found { result ≡ placed (ranges_of self.now.regions) addr (granule_range_of addr size) (pages_for size) }
-        ensures free { IfSome result (λ r. (are_user_pages r ≡ true) × (1 ≤ r.count) × (r.first % 16 ≡ 0) × (is_free (ranges_of self.now.regions) r ≡ true)) }
+        ensures found { result ≡ placed (ranges_of self.now.regions) addr
+            (granule_range_of addr size) (pages_for size) }
+        ensures free { IfSome result (λ r. (are_user_pages r ≡ true) × (1 ≤ r.count) ×
+            (r.first % 16 ≡ 0) × (is_free (ranges_of self.now.regions) r ≡ true)) }
     {
         self.placed(addr, PageRange::from_granule(addr, size), pages_for(size))
     }
 
-    /// Where `count` pages are to lie, at least one: for address 0 from the lowest granule whose pages are free, else from
-    /// `addr` on, which is the address of a granule. None exactly where those pages are not all free.
+    /// Where `count` pages are to lie, at least one: for address 0 from the lowest granule whose
+    /// pages are free, else from `addr` on, which is the address of a granule. None exactly where
+    /// those pages are not all free.
     pub fn gap_for_view(&self, addr: u32, count: u32) -> Option<PageRange>
         requires some { 1 ≤ count }
         requires granule { is_granule_address addr ≡ true }
-        ensures found { result ≡ placed (ranges_of self.now.regions) addr (record { first = page_of addr; count = count }) count }
-        ensures free { IfSome result (λ r. (are_user_pages r ≡ true) × (1 ≤ r.count) × (r.first % 16 ≡ 0) × (is_free (ranges_of self.now.regions) r ≡ true)) }
+        ensures found { result ≡ placed (ranges_of self.now.regions) addr (record {
+          first = page_of addr;
+          count = count;
+        }) count }
+        ensures free { IfSome result (λ r. (are_user_pages r ≡ true) × (1 ≤ r.count) ×
+            (r.first % 16 ≡ 0) × (is_free (ranges_of self.now.regions) r ≡ true)) }
     {
         let wanted = PageRange {
             first: addr / PAGE_SIZE,
@@ -150,9 +159,11 @@ impl AddressSpace {
         }
     }
 
-    /// The pages of the private region whose base is the address, to the byte. None exactly where there is none.
+    /// The pages of the private region whose base is the address, to the byte. None exactly where
+    /// there is none.
     pub fn private_at(&self, addr: u32) -> Option<PageRange>
-        ensures found { result ≡ option_map (λ r. pages_of r.thing) (private_at self.now.regions addr) }
+        ensures found { result ≡ option_map (λ r. pages_of r.thing)
+            (private_at self.now.regions addr) }
         ensures sound { IsSpace self.now.regions }
     {
         let region = self.based_at(addr)?;
@@ -216,26 +227,17 @@ impl AddressSpace {
         }
     }
 
-    /// Whether each page of the range can have the protection `prot`, guard aside. The range lies in one region.
+    /// Whether each page of the range can have the protection `prot`, guard aside. The range lies
+    /// in one region.
     pub fn accepts(&self, range: PageRange, prot: u32) -> bool
         requires inside { is_some (region_around self.now.regions range) ≡ true }
         ensures { (r : Found (RegionOf (Unit {0}))) → region_around self.now.regions range ≡ Some r
             → result ≡ every_page (accepts r.thing prot) range }
     {
-        self.do_all_pass(range, RowTest::Accepts(prot))
-    }
-
-    /// The protection of the first page of the range, guard included. The range lies in one region.
-    pub fn protection_at(&self, range: PageRange) -> Prot
-        requires inside { is_some (region_around self.now.regions range) ≡ true }
-        ensures { (r : Found (RegionOf (Unit {0}))) → region_around self.now.regions range ≡ Some r
-            → result ≡ protection_at r.thing range.first }
-    {
         let Some(region) = self.around(range) else {
             unreachable!()
         };
-        let row = region.rows.get(range.first - region.base.0);
-        Prot(protection_of_row(row))
+        self.do_all_pass(region, range, RowTest::Accepts(prot))
     }
 
     /// How many pages of the range, which lies in one region, have bytes of their own.
@@ -262,22 +264,16 @@ impl AddressSpace {
         self.count_passing(range, RowTest::Marked)
     }
 
-    /// Whether all pages of the range, which lies in one private region, are committed.
-    pub fn are_owned(&self, range: PageRange) -> bool
-        requires inside { is_some (region_around self.now.regions range) ≡ true }
-        requires private { (r : Found (RegionOf (Unit {0}))) → region_around self.now.regions range ≡ Some r → is_private r.thing.kind ≡ true }
-        ensures { (w : WorldOf (Unit {0})) (r : Found (RegionOf (Unit {0}))) → region_around self.now.regions range ≡ Some r
-            → result ≡ every_page (is_committed_at w r.thing) range }
-    {
-        self.do_all_pass(range, RowTest::Owned)
-    }
-
-    /// Whether all pages of the range, which lies in one view, are committed; the view's control area has these pages.
+    /// Whether all pages of the range, which lies in one view, are committed; the view's control
+    /// area has these pages.
     pub fn are_committed(&self, range: PageRange, pages: &SectionPages) -> bool
         requires inside { is_some (region_around self.now.regions range) ≡ true }
-        requires view { (r : Found (RegionOf (Unit {0}))) → region_around self.now.regions range ≡ Some r → is_private r.thing.kind ≡ false }
-        ensures { (w : WorldOf (Unit {0})) (r : Found (RegionOf (Unit {0}))) (v : View) → region_around self.now.regions range ≡ Some r → r.thing.kind ≡ kind.View v
-            → area_at w v.area.0 ≡ pages.now → result ≡ every_page (is_committed_at w r.thing) range }
+        requires view { (r : Found (RegionOf (Unit {0}))) →
+            region_around self.now.regions range ≡ Some r → is_private r.thing.kind ≡ false }
+        ensures { (w : WorldOf (Unit {0})) (r : Found (RegionOf (Unit {0}))) (v : View) →
+            region_around self.now.regions range ≡ Some r → r.thing.kind ≡ kind.View v
+            → area_at w v.area.0 ≡ pages.now →
+            result ≡ every_page (is_committed_at w r.thing) range }
     {
         let Some(region) = self.around(range) else {
             unreachable!()
@@ -288,7 +284,8 @@ impl AddressSpace {
         are_pages_committed(view, range.first - region.base.0, range.count, pages)
     }
 
-    // Where `count` pages are to lie: at the lowest gap for address 0, else as wanted, if that is free.
+    // Where `count` pages are to lie: at the lowest gap for address 0, else as wanted, if that is
+    // free.
     fn placed(&self, addr: u32, wanted: PageRange, count: u32) -> Option<PageRange>
         requires some { 1 ≤ count }
         ensures { result ≡ placed (ranges_of self.now.regions) addr wanted count }
@@ -320,15 +317,12 @@ impl AddressSpace {
         count_rows(&region.rows, region.kind, first, range.count, test)
     }
 
-    // Whether all rows of a range, which lies in one region, pass.
-    fn do_all_pass(&self, range: PageRange, test: RowTest) -> bool
-        requires inside { is_some (region_around self.now.regions range) ≡ true }
+    // Whether all rows of a range, which lies in this region, pass.
+    pub(crate) fn do_all_pass(&self, region: &Region, range: PageRange, test: RowTest) -> bool
+        requires around { IsAround self.now.regions range region.now }
         ensures { (r : Found (RegionOf (Unit {0}))) → region_around self.now.regions range ≡ Some r
             → result ≡ list_all (passes test r.thing.kind) (rows_in self.now.regions range) }
     {
-        let Some(region) = self.around(range) else {
-            unreachable!()
-        };
         let first = range.first - region.base.0;
         do_rows_pass(&region.rows, region.kind, first, range.count, test)
     }

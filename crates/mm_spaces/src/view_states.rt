@@ -12,7 +12,8 @@ use mm_sections::SectionPages;
 use mm_types::{AllocFlags, Prot, View};
 use mm_vad::{Row, Rows};
 
-/// What is told of a page: its state (MEM_COMMIT or MEM_RESERVE) and its protection, guard included.
+/// What is told of a page: its state (MEM_COMMIT or MEM_RESERVE) and its protection, guard
+/// included.
 #[derive(Clone, Copy)]
 pub(crate) struct ToldState {
     pub state: u32,
@@ -69,7 +70,8 @@ pub(crate) fn is_page_committed(view: View, index: u32, pages: &SectionPages) ->
     }
 }
 
-/// Whether `count` pages of a view are committed, the first of which stands at the place `first` in the view.
+/// Whether `count` pages of a view are committed, the first of which stands at the place `first` in
+/// the view.
 pub(crate) fn are_pages_committed(view: View, first: u32, count: u32, pages: &SectionPages) -> bool
     requires fits { first + count < 2 ^ 32 }
     ensures { result ≡ every_page_from (is_area_page pages.now view) first count }

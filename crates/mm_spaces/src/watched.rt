@@ -8,7 +8,7 @@ ghost use Rattle.mm_world.specs.WellFormed.{IsSpace};
 
 use crate::{AddressSpace, PageRange};
 use mm_types::{PAGE_SIZE, PageList, Vpn};
-use mm_watch::Bits;
+use mm_vad::Bits;
 
 // The addresses of the lowest written pages among the `n` from `first` on, at most `count`. The
 // flags are those of the pages from `base` on.
@@ -91,7 +91,8 @@ impl AddressSpace {
     /// where the region is watched.
     pub fn mark(&mut self, page: u32)
         requires there { is_some (region_with self.old.regions page) ≡ true }
-        ensures changed { (r : Found (RegionOf (Unit {0}))) → region_with self.old.regions page ≡ Some r
+        ensures changed { (r : Found (RegionOf (Unit {0}))) →
+            region_with self.old.regions page ≡ Some r
             → self.new.regions ≡ slice_set self.old.regions r.place
             (mark_written true (one_page page) r.thing) }
         ensures room { self.new.spare ≡ self.old.spare }

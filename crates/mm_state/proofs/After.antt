@@ -21,10 +21,10 @@ use Rattle.mm_laws.proofs.Taking.{changes_read}
 use Rattle.mm_laws.proofs.Requests.{read_has}
 use Rattle.mm_laws.proofs.Sound.{owner_passes}
 use Rattle.mm_parts.specs.Moves.{read_end}
-use Rattle.mm_located.specs.Carried.{IsSoiled, is_calm}
-use Rattle.mm_located.proofs.Alone.{others_set, here_set, records_ended}
+use Rattle.mm_frame_laws.specs.Carried.{IsSoiled, is_calm}
+use Rattle.mm_frame_laws.proofs.Alone.{others_set, here_set, records_ended}
 use Rattle.mm_laws.proofs.Facts.{facts_of}
-use Rattle.mm_located.proofs.FrameMoves.{owned_low, asked_low, shown_calm}
+use Rattle.mm_frame_laws.proofs.FrameMoves.{owned_low, asked_low, shown_calm}
 use Rattle.mm_laws.proofs.FreshMoves.{stored_backed}
 
 asked_write : (q : Request) → has_request q ≡ true → is_read q ≡ false → is_write q ≡ true

@@ -10,8 +10,8 @@ use Rattle.mm_parts.specs.Shown.{PartsOf}
 use Rattle.mm_life.specs.Logs.{Log}
 use Rattle.mm_blocks.specs.Devices.{DeviceOf}
 use Rattle.mm_pages.specs.Told.{Told}
-use Rattle.mm_located.specs.Carried.{Carries}
-use Rattle.mm_located.proofs.Carrying.{carries_block}
+use Rattle.mm_frame_laws.specs.Carried.{Carries}
+use Rattle.mm_frame_laws.proofs.Carrying.{carries_block}
 use Rattle.mm_state.specs.Shown.{state_of}
 use Rattle.mm_moving.specs.Shown.{written_if}
 

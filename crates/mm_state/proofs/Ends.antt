@@ -22,15 +22,15 @@ use Rattle.mm_laws.specs.Reached.{Reached}
 use Rattle.mm_laws.proofs.Requests.{read_has, write_has}
 use Rattle.mm_flight.specs.Requests.{ended}
 use Rattle.mm_flight.specs.declared.flights.Waiting.{Waiting as Wait}
-use Rattle.mm_walks.specs.Waits.{Waiting, waits_after, ages_after}
+use Rattle.mm_life.specs.Waits.{Waiting, waits_after, ages_after}
 use Rattle.mm_pages.specs.Told.{Told, told_after, with_write, in_slot, in_block, paging_traffic, file_traffic}
 use Rattle.mm_parts.specs.Moves.{read_end, write_end, page_filled}
-use Rattle.mm_located.specs.Carried.{Carries, slots_written, blocks_written}
-use Rattle.mm_located.proofs.Carrying.{carries_got, carries_bad, carries_wrote, carries_lost}
+use Rattle.mm_frame_laws.specs.Carried.{Carries, slots_written, blocks_written}
+use Rattle.mm_frame_laws.proofs.Carrying.{carries_got, carries_bad, carries_wrote, carries_lost}
 use Rattle.mm_laws.proofs.Facts.{facts_of}
 use Rattle.mm_life.proofs.Requests.{write_not_read}
-use Rattle.mm_located.proofs.FrameMoves.{asked_low}
-use Rattle.mm_located.proofs.Moving.{home_bytes}
+use Rattle.mm_frame_laws.proofs.FrameMoves.{asked_low}
+use Rattle.mm_frame_laws.proofs.Moving.{home_bytes}
 use Rattle.mm_parts.specs.Reading.{waits_of}
 use Rattle.mm_parts.proofs.Waiting.{waits_ended}
 use Rattle.mm_moving.specs.Shown.{StateOf, Calls, Called, CalledFor, backing_of_frame, written_if}

@@ -18,10 +18,10 @@ use Rattle.mm_life.specs.Located.{FrameBytes, BlockBytes, zero_page, contents_of
 use Rattle.mm_laws.specs.Reached.{Reached}
 use Rattle.mm_ram.specs.Ram as frames
 use Rattle.mm_ram.specs.Ram.{with_page}
-use Rattle.mm_located.specs.Carried.{Carries, grown}
-use Rattle.mm_located.proofs.Carrying.{carries_clear}
+use Rattle.mm_frame_laws.specs.Carried.{Carries, slots_grown}
+use Rattle.mm_frame_laws.proofs.Carrying.{carries_clear}
 
-pub plain_grown : (k : LineKind) → IsPlainLine k → grown k ≡ 0
+pub plain_grown : (k : LineKind) → IsPlainLine k → slots_grown k ≡ 0
 plain_grown (kind.Machine f s d b) h = refl
 plain_grown (kind.Process pid min max) h = refl
 plain_grown (kind.Unbind pid) h = refl

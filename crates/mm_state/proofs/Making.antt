@@ -12,10 +12,10 @@ use Rattle.mm_life.specs.Logs.{Log, Grew}
 use Rattle.mm_life.specs.MoveText.{IsMove, spelling_of_move, spelled_moves}
 use Rattle.mm_blocks.specs.Devices.{DeviceOf, KeepsOthers}
 use Rattle.mm_blocks.proofs.Holding.{keeps_same}
-use Rattle.mm_walks.specs.Waits.{Waiting, waits_after, ages_after}
+use Rattle.mm_life.specs.Waits.{Waiting, waits_after, ages_after}
 use Rattle.mm_pages.specs.Told.{Told, told_after, paging_traffic, file_traffic}
 use Rattle.mm_parts.specs.Shown.{PartsOf}
-use Rattle.mm_located.specs.Carried.{Carries}
+use Rattle.mm_frame_laws.specs.Carried.{Carries}
 use Rattle.mm_moving.specs.Shown.{StateOf, Made, Calls}
 use Rattle.mm_state.specs.Shown.{state_of}
 

@@ -7,21 +7,21 @@ use Rattle.mm_types.specs.declared.numbers.Key.{Key}
 use Rattle.mm_types.specs.declared.numbers.Place.{Place}
 use Rattle.mm_types.specs.declared.frames.Record.{Record}
 use Rattle.mm_types.specs.declared.frames.Held.{Held}
-use Rattle.mm_located.specs.Carried.{IsSoiled}
+use Rattle.mm_frame_laws.specs.Carried.{IsSoiled}
 use Rattle.mm_life.specs.Frames.{record_at, is_read}
 use Rattle.mm_life.specs.Life.{FrameLife, is_dead}
 use Rattle.mm_life.specs.Located.{FrameBytes, BlockBytes, zero_page, page_at, contents_of, BytesLocated}
 use Rattle.mm_laws.specs.Reached.{Reached}
 use Rattle.mm_laws.proofs.Sound.{some_owner}
 use Rattle.mm_ram.specs.Ram.{bytes_of}
-use Rattle.mm_entry.specs.declared.entries.Entry.{Entry}
-use Rattle.mm_entry.specs.declared.entries.Entry.TheVariants as entry
+use Rattle.mm_words.specs.declared.layout.Entry.{Entry}
+use Rattle.mm_words.specs.declared.layout.Entry.TheVariants as entry
 use Rattle.mm_words.specs.Words.{WordsOf, valid_frame}
 use Rattle.mm_parts.specs.Shown.{Owners, named_by, names_of, valid_of}
-use Rattle.mm_located.proofs.Carrying.{page_of_key}
+use Rattle.mm_frame_laws.proofs.Carrying.{page_of_key}
 use Rattle.mm_laws.proofs.Facts.{facts_of}
-use Rattle.mm_located.proofs.FrameMoves.{shown_calm}
-use Rattle.mm_located.proofs.PageMoves.{calm_is}
+use Rattle.mm_frame_laws.proofs.FrameMoves.{shown_calm}
+use Rattle.mm_frame_laws.proofs.PageMoves.{calm_is}
 
 pub pick : {A : Type 0} (o : Option A) → IsSome o → (x : A) × (o ≡ Some x)
 pick None h = cc

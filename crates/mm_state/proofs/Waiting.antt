@@ -5,7 +5,7 @@ use Rattle.std.proofs.lemmas.Bool.{eqb-true}
 use Rattle.mm_types.specs.declared.numbers.Frame.{Frame}
 use Rattle.mm_flight.specs.declared.flights.Waiting.{Waiting}
 use Rattle.mm_flight.specs.declared.flights.Waiting.TheVariants as waiting
-use Rattle.mm_walks.specs.Waits.{ForFrame}
+use Rattle.mm_life.specs.Waits.{ForFrame}
 use Rattle.mm_parts.specs.Reading.{first_of, walked_or, waits_of}
 use Rattle.mm_parts.specs.Shown.{own_is}
 

@@ -10,7 +10,7 @@ use Rattle.mm_types.specs.declared.frames.Held.TheVariants as held
 use Rattle.mm_life.specs.Life.{FrameLife}
 use Rattle.mm_life.specs.Located.{FrameBytes, BlockBytes, page_at, bytes_at, contents_of, held_at, zero_page}
 use Rattle.mm_blocks.specs.Traffic.{empty_block}
-use Rattle.mm_located.specs.Carried.{slots_written, blocks_written}
+use Rattle.mm_frame_laws.specs.Carried.{slots_written, blocks_written}
 use Rattle.mm_moving.specs.Shown.{written_if}
 use Rattle.mm_state.specs.Whole.{AreWhole}
 

@@ -11,7 +11,8 @@ use Rattle.mm_parts.specs.Reading.{waits_of}
 use Rattle.mm_parts.specs.Start.{started, first_move}
 use Rattle.mm_moving.specs.Shown.{StateOf}
 
-abbrev pub state_of : PartsOf → Log → Told → DeviceOf → DeviceOf → List (List ℕ) → List (List ℕ) → StateOf
+abbrev pub state_of : PartsOf → Log → Told → DeviceOf → DeviceOf → List (List ℕ) → List (List ℕ) →
+    StateOf
 state_of s log told paging files slots blocks = record {
   life = s.life;
   log = log;
@@ -31,8 +32,14 @@ state_of s log told paging files slots blocks = record {
   blocks = blocks;
 }
 
--- the first line of this machine was made and noted after this log, over these devices: nothing lives yet
-pub record Starts (m : MachineOf) (log : Log) (paging files : DeviceOf) (slots blocks : List (List ℕ)) (z : StateOf) : Type 0 where
+-- the first line of this machine was made and noted after this log, over these devices: nothing
+-- lives yet
+pub record Starts (m : MachineOf) (log : Log) (paging files : DeviceOf)
+    (slots blocks : List (List ℕ)) (z : StateOf) : Type 0 where
   pub in_range : AreMoves (first_move m ∷ [])
   pub grew : Grew log z.log (spelled_moves (first_move m ∷ []))
-  pub shows : z ≡ record (state_of (started m) z.log none_told paging files slots blocks) { contents = λ _. None }
+  pub shows : z ≡
+      record (state_of (started m) z.log none_told paging files slots blocks) {
+        contents = λ _.
+            None;
+      }

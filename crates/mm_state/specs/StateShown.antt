@@ -10,7 +10,10 @@ use Rattle.mm_state.specs.Shown.{state_of}
 
 module _ {P F M : Type 0} {p : DeviceGhosts P} {f : DeviceGhosts F} {m : MovesGhosts M} where
   abbrev pub shown : State P F M p f m → StateOf
-  shown s = state_of (parts.shown s.parts) (m.log s.moves) s.told (device_with (p.log s.paging) (p.named s.paging) (p.faults s.paging)) (device_with (f.log s.files) (f.named s.files) (f.faults s.files)) (p.blocks s.paging) (f.blocks s.files)
+  shown s = state_of (parts.shown s.parts) (m.log s.moves) s.told
+      (device_with (p.log s.paging) (p.named s.paging) (p.faults s.paging))
+      (device_with (f.log s.files) (f.named s.files) (f.faults s.files)) (p.blocks s.paging)
+      (f.blocks s.files)
 
   -- the references that it holds
   abbrev pub loans : State P F M p f m → Loans

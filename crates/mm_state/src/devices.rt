@@ -8,7 +8,7 @@ ghost use Rattle.mm_laws.specs.Fits.{is_backed};
 ghost use Rattle.mm_laws.specs.FileBlocks.{block_of};
 ghost use Rattle.mm_blocks.specs.Traffic.{is_named};
 ghost use Rattle.mm_blocks.specs.Devices.{Serves, device_with};
-ghost use Rattle.mm_located.specs.Carried.{slots_written, blocks_written};
+ghost use Rattle.mm_frame_laws.specs.Carried.{slots_written, blocks_written};
 ghost use Rattle.mm_moving.specs.Shown.{CalledFor, written_if};
 ghost use Rattle.std.specs.Prelude.{[]};
 
@@ -68,7 +68,8 @@ pub(crate) fn get_page<P: Inject, F: Inject>(
     requires backed { is_backed home ≡ true }
     requires slot { (s : ℕ) → slot_of home ≡ Some s → s < length (P.blocks paging.old) }
     requires block { (b : ℕ) → block_of home ≡ Some b → b < length (F.blocks files.old) }
-    ensures ok { OnTrue result (bytes_at [] (P.blocks paging.old) (F.blocks files.old) (home_at home)
+    ensures ok { OnTrue result
+        (bytes_at [] (P.blocks paging.old) (F.blocks files.old) (home_at home)
         ≡ Some page.new) }
     ensures slots { P.blocks paging.new ≡ P.blocks paging.old }
     ensures blocks { F.blocks files.new ≡ F.blocks files.old }

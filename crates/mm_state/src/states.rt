@@ -54,9 +54,9 @@ fn first_move(machine: Machine) -> Move
 impl<P: Inject, F: Inject, M: Moves> State<P, F, M> {
     ghost use Rattle.mm_state.specs.StateShown.{shown, loans};
 
-    /// A machine at rest, whose first line has begun and is noted, over two devices that were opened
-    /// with its slots and its blocks. It takes the memory of all frames, slots, blocks and requests.
-    /// After an error the devices and the sink are given back as they were.
+    /// A machine at rest, whose first line has begun and is noted, over two devices that were
+    /// opened with its slots and its blocks. It takes the memory of all frames, slots, blocks and
+    /// requests. After an error the devices and the sink are given back as they were.
     pub fn new(
         alloc: Global,
         machine: Machine,

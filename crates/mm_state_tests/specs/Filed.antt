@@ -1,5 +1,5 @@
--- A page of a file is read for a thread and copied, the paging file grows, and the process ends: the moves, and what the joined state shows after so many of them.
--- Profile, "Logs of moves".
+-- A page of a file is read for a thread and copied, the paging file grows, and the process ends:
+-- the moves, and what the joined state shows after so many of them. Profile, "Logs of moves".
 use Rattle.std.specs.Prelude.{◌≡◌, ℕ, true, false, ◌==◌, List, [], ◌∷◌, take, Some, None}
 use Rattle.mm_types.specs.declared.moves.LineKind.TheVariants as kind
 use Rattle.mm_types.specs.declared.moves.Move.{Move}
@@ -8,7 +8,7 @@ use Rattle.mm_types.specs.declared.numbers.Key.{Key}
 use Rattle.mm_types.specs.declared.numbers.Key.TheVariants.{Shared}
 use Rattle.mm_life.specs.Life.{FrameLife, unstarted, changed}
 use Rattle.mm_life.specs.WorkedLogs.{pid, frame, private, place}
-use Rattle.mm_radix.specs.Pages.{pages}
+use Rattle.mm_words.specs.Pages.{pages}
 use Rattle.mm_words.specs.Words.{changed_in}
 use Rattle.mm_moving.specs.Shown.{StateOf}
 use Rattle.mm_state_tests.specs.Rows.{after_moves}

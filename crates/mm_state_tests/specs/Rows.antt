@@ -1,5 +1,5 @@
--- A page rewritten while its write is in flight: what the joined state shows after so many of the moves.
--- Profile, "Logs of moves".
+-- A page rewritten while its write is in flight: what the joined state shows after so many of the
+-- moves. Profile, "Logs of moves".
 use Rattle.std.specs.Prelude.{◌≡◌, ℕ, true, List, [], ◌∷◌, take, Option, None}
 use Rattle.mm_types.specs.declared.moves.Move.{Move}
 use Rattle.mm_types.specs.declared.numbers.Key.{Key}
@@ -31,7 +31,8 @@ pub record Begun (s : StateOf) : Type 0 where
   pub aside : s.aside ≡ None
   pub unnamed : s.names page_place ≡ None
 
--- the first n moves were made, nothing is under way within the line, and the page's place is bound and names this
+-- the first n moves were made, nothing is under way within the line, and the page's place is bound
+-- and names this
 pub record Stands (n : ℕ) (named : Option Key) (s : StateOf) : Type 0 where
   pub life : s.life ≡ life_after n
   pub own : s.own ≡ None

@@ -1,5 +1,5 @@
--- A page that is written to a slot, loses its frame and is read in again: the moves, and what the joined state shows after so many of them.
--- Profile, "Logs of moves".
+-- A page that is written to a slot, loses its frame and is read in again: the moves, and what the
+-- joined state shows after so many of them. Profile, "Logs of moves".
 use Rattle.std.specs.Prelude.{◌≡◌, ℕ, true, false, ◌==◌, List, [], ◌∷◌, ◌++◌, take, None}
 use Rattle.mm_types.specs.declared.moves.LineKind.TheVariants as kind
 use Rattle.mm_types.specs.declared.moves.Stored.TheVariants as stored
@@ -7,7 +7,7 @@ use Rattle.mm_types.specs.declared.moves.Move.{Move}
 use Rattle.mm_types.specs.declared.moves.Move.TheVariants as move
 use Rattle.mm_life.specs.Life.{FrameLife, unstarted, changed}
 use Rattle.mm_life.specs.WorkedLogs.{pid, frame, slot, private, place}
-use Rattle.mm_radix.specs.Pages.{pages}
+use Rattle.mm_words.specs.Pages.{pages}
 use Rattle.mm_words.specs.Words.{changed_in}
 use Rattle.mm_moving.specs.Shown.{StateOf}
 use Rattle.mm_state_tests.specs.Rows.{after_moves}
@@ -29,7 +29,8 @@ adds =
 
 -- a page is used for the first time
 abbrev pub uses : ℕ → ℕ → List Move
-uses f v = move.Clear (frame f) ∷ move.Give (frame f) (private 1 v) ∷ move.Map (frame f) (place 1 v) ∷ []
+uses f v = move.Clear (frame f) ∷ move.Give (frame f) (private 1 v) ∷
+    move.Map (frame f) (place 1 v) ∷ []
 
 -- the first page goes to a slot and comes back
 abbrev pub swap : List Move
@@ -45,10 +46,12 @@ swap =
 
 -- and then it alone stays in the working set
 abbrev pub leaves : List Move
-leaves = move.Unmap (place 1 17) ∷ move.Unmap (place 1 18) ∷ move.Unmap (place 1 19) ∷ move.Unmap (place 1 20) ∷ move.Unmap (place 1 21) ∷ []
+leaves = move.Unmap (place 1 17) ∷ move.Unmap (place 1 18) ∷ move.Unmap (place 1 19) ∷
+    move.Unmap (place 1 20) ∷ move.Unmap (place 1 21) ∷ []
 
 abbrev pub swapped_log : List Move
-swapped_log = adds ++ uses 0 16 ++ uses 1 17 ++ uses 2 18 ++ uses 3 19 ++ uses 4 20 ++ uses 5 21 ++ swap ++ leaves
+swapped_log = adds ++ uses 0 16 ++ uses 1 17 ++ uses 2 18 ++ uses 3 19 ++ uses 4 20 ++ uses 5 21 ++
+    swap ++ leaves
 
 abbrev pub life_at : ℕ → FrameLife
 life_at n = after_moves unstarted (take n swapped_log)

@@ -3,7 +3,7 @@ ghost use Rattle.std.specs.Bool.{OnTrue, OnFalse};
 ghost use Rattle.mm_types.specs.declared.numbers.Key.{Key};
 ghost use Rattle.mm_life.specs.Frames.{record_at, is_read, slot_of};
 ghost use Rattle.mm_ram.specs.Ram.{bytes_of, overwritten, with_page};
-ghost use Rattle.mm_located.specs.Carried.{IsSoiled};
+ghost use Rattle.mm_frame_laws.specs.Carried.{IsSoiled};
 ghost use Rattle.mm_parts.specs.PartsShown as parts_of;
 ghost use Rattle.mm_state.specs.StateShown.{shown};
 
@@ -16,7 +16,8 @@ use mm_types::{Block, Failed, Frame, Slot};
 /// One write of a device: true where it succeeded.
 fn write_device<B: Inject>(device: &mut B, block: u32, page: &[u8; 4096]) -> bool
     requires { block < length (B.blocks device.old) }
-    ensures ok { OnTrue result (B.blocks device.new ≡ slice_set (B.blocks device.old) block page.now) }
+    ensures ok { OnTrue result
+        (B.blocks device.new ≡ slice_set (B.blocks device.old) block page.now) }
     ensures err { OnFalse result (B.blocks device.new ≡ B.blocks device.old) }
 {
     match device.write(block, page) {
@@ -30,12 +31,16 @@ fn write_in_parts(parts: &mut Parts, f: Frame, bytes: &[u8])
     requires owned { IsSome (record_at (parts_of.shown parts.old).life.frames f.0).owner }
     requires calm { is_read (record_at (parts_of.shown parts.old).life.frames f.0).request ≡ false }
     requires inside { length bytes.now ≤ 4096 }
-    ensures made { parts_of.shown parts.new ≡ record (parts_of.shown parts.old) { bytes = with_page (parts_of.shown parts.old).bytes f.0 (overwritten (bytes_of (parts_of.shown parts.old).bytes f.0) 0 bytes.now) } }
+    ensures made { parts_of.shown parts.new ≡ record (parts_of.shown parts.old) {
+      bytes = with_page (parts_of.shown parts.old).bytes f.0
+          (overwritten (bytes_of (parts_of.shown parts.old).bytes f.0) 0 bytes.now);
+    } }
 {
     parts.frames.write(f, 0, bytes);
 }
 
-/// The first bytes of a modified page that is in no request are changed behind the state, in its frame.
+/// The first bytes of a modified page that is in no request are changed behind the state, in its
+/// frame.
 pub(crate) fn write_frame<P: Inject, F: Inject, M: Moves>(
     state: &mut State<P, F, M>,
     f: Frame,
@@ -44,13 +49,17 @@ pub(crate) fn write_frame<P: Inject, F: Inject, M: Moves>(
     requires owned { IsSome (record_at (shown state.old).life.frames f.0).owner }
     requires soiled { IsSoiled (record_at (shown state.old).life.frames f.0) }
     requires inside { length bytes.now ≤ 4096 }
-    ensures rest { shown state.new ≡ record (shown state.old) { contents = (shown state.new).contents } }
-    ensures live { (k : Key) → is_some ((shown state.new).contents k) ≡ is_some ((shown state.old).contents k) }
+    ensures rest { shown state.new ≡ record (shown state.old) {
+      contents = (shown state.new).contents;
+    } }
+    ensures live { (k : Key) → is_some ((shown state.new).contents k) ≡
+        is_some ((shown state.old).contents k) }
 {
     write_in_parts(&mut state.parts, f, bytes);
 }
 
-/// A slot is written behind the state, while no frame is backed by one. False where the device failed.
+/// A slot is written behind the state, while no frame is backed by one. False where the device
+/// failed.
 pub(crate) fn write_slot<P: Inject, F: Inject, M: Moves>(
     state: &mut State<P, F, M>,
     s: Slot,
@@ -58,7 +67,11 @@ pub(crate) fn write_slot<P: Inject, F: Inject, M: Moves>(
 ) -> bool
     requires there { s.0 < (shown state.old).life.machine.slots }
     requires none { (f : ℕ) → slot_of (record_at (shown state.old).life.frames f).backing ≡ None }
-    ensures rest { shown state.new ≡ record (shown state.old) { contents = (shown state.new).contents; paging = (shown state.new).paging; slots = (shown state.new).slots } }
+    ensures rest { shown state.new ≡ record (shown state.old) {
+      contents = (shown state.new).contents;
+      paging = (shown state.new).paging;
+      slots = (shown state.new).slots;
+    } }
 {
     let page = [byte; 4096];
     write_device(&mut state.paging, s.0, &page)
@@ -72,7 +85,11 @@ pub(crate) fn write_block<P: Inject, F: Inject, M: Moves>(
 ) -> bool
     requires there { b.0 < (shown state.old).life.machine.blocks }
     requires none { (f : ℕ) → is_some (record_at (shown state.old).life.frames f).owner ≡ false }
-    ensures rest { shown state.new ≡ record (shown state.old) { contents = (shown state.new).contents; files = (shown state.new).files; blocks = (shown state.new).blocks } }
+    ensures rest { shown state.new ≡ record (shown state.old) {
+      contents = (shown state.new).contents;
+      files = (shown state.new).files;
+      blocks = (shown state.new).blocks;
+    } }
 {
     let page = [byte; 4096];
     write_device(&mut state.files, b.0, &page)

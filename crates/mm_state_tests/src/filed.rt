@@ -178,7 +178,8 @@ fn file<T: Moving>(state: &mut T) -> Option<Told>
     })
 }
 
-/// The block of the file's page is changed behind the state before the page has a frame. False where the device failed.
+/// The block of the file's page is changed behind the state before the page has a frame. False
+/// where the device failed.
 fn change_in_block<P: Inject, F: Inject, M: Moves>(state: &mut State<P, F, M>) -> bool
     requires { Filed 5 (shown state.old) }
     ensures { Filed 5 (shown state.new) }
@@ -246,7 +247,8 @@ fn run_change<'a>(
     }
 }
 
-/// The bytes of a file's page without a frame stand in its block alone: a block changed behind the state is what comes in.
+/// The bytes of a file's page without a frame stand in its block alone: a block changed behind the
+/// state is what comes in.
 #[test]
 fn a_block_changed_on_its_device_is_read(rt: HostRuntime) -> Result<(), Fail> {
     let mut paging = opened(rt.alloc(), 2)?;

@@ -1,4 +1,5 @@
-//! Tests of the joined state, one of the store that pages over it, and one of a world over that store, in a crate of their own, so that each is proved once.
+//! Tests of the joined state, one of the store that pages over it, and one of a world over that
+//! store, in a crate of their own, so that each is proved once.
 #![tactic(auto)]
 
 #[cfg(test)]

@@ -81,7 +81,8 @@ fn find_any<T: Moving>(state: &mut T) -> Option<Found>
     find_frame(state, None).ok()
 }
 
-/// A frame is looked for, with the first page's pinned or not. Nothing where the state does not come so far.
+/// A frame is looked for, with the first page's pinned or not. Nothing where the state does not
+/// come so far.
 fn search<T: Moving>(state: &mut T, pinned: bool) -> Option<Option<Found>>
     requires { Opens (T.shown state.old) }
 {

@@ -206,7 +206,8 @@ fn run_change<'a>(
     }
 }
 
-/// The bytes of a valid page stand in its frame alone: a byte changed there, behind the state, is what the state reads.
+/// The bytes of a valid page stand in its frame alone: a byte changed there, behind the state, is
+/// what the state reads.
 #[test]
 fn a_byte_changed_in_a_frame_is_read(rt: HostRuntime) -> Result<(), Fail> {
     let mut paging = opened(rt.alloc(), 8)?;

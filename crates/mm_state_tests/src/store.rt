@@ -2,7 +2,7 @@ ghost use Rattle.std.specs.Prelude.{◌≡◌, true, IsSome, is_some, IfSome, On
 ghost use Rattle.std.specs.Bool.{OnTrue};
 ghost use Rattle.mm_blocks.specs.Traffic.{empty_block};
 ghost use Rattle.mm_life.specs.Frames.{record_at};
-ghost use Rattle.mm_located.specs.Carried.{IsSoiled};
+ghost use Rattle.mm_frame_laws.specs.Carried.{IsSoiled};
 ghost use Rattle.mm_pages.specs.Conditions.{IsNew};
 ghost use Rattle.mm_paged.specs.Store as paged;
 ghost use Rattle.mm_state_tests.specs.Rows.{page_place};
@@ -65,7 +65,8 @@ fn read_two<G: Pages>(store: &mut G) -> Option<[u8; 2]>
 /// The frame of the page, where it is valid and modified and in no request.
 fn modified_frame<T: Moving>(state: &T) -> Option<Frame>
     requires { (T.shown state.now).bound page_place ≡ true }
-    ensures owned { IfSome result (λ f. IsSome (record_at (T.shown state.now).life.frames f.0).owner) }
+    ensures owned { IfSome result
+        (λ f. IsSome (record_at (T.shown state.now).life.frames f.0).owner) }
     ensures soiled { IfSome result (λ f. IsSoiled (record_at (T.shown state.now).life.frames f.0)) }
 {
     let f = state.valid(PLACE)?;
@@ -79,7 +80,8 @@ fn modified_frame<T: Moving>(state: &T) -> Option<Frame>
     }
 }
 
-/// The first byte of the page is changed behind the store, in the frame that holds it. False where it is in none.
+/// The first byte of the page is changed behind the store, in the frame that holds it. False where
+/// it is in none.
 fn change_in_frame<P: Inject, F: Inject, M: Moves>(store: &mut Paged<State<P, F, M>>) -> bool
     requires { MayUse (paged.contents store.old) (paged.store store.old) }
     ensures { MayUse (paged.contents store.new) (paged.store store.new) }
@@ -95,7 +97,8 @@ fn change_in_frame<P: Inject, F: Inject, M: Moves>(store: &mut Paged<State<P, F,
 
 /// The first modified frame, where it is in no request.
 fn first_modified<T: Moving>(state: &T) -> Option<Frame>
-    ensures owned { IfSome result (λ f. IsSome (record_at (T.shown state.now).life.frames f.0).owner) }
+    ensures owned { IfSome result
+        (λ f. IsSome (record_at (T.shown state.now).life.frames f.0).owner) }
     ensures soiled { IfSome result (λ f. IsSoiled (record_at (T.shown state.now).life.frames f.0)) }
 {
     let f = state.front_modified()?;
@@ -106,11 +109,13 @@ fn first_modified<T: Moving>(state: &T) -> Option<Frame>
     }
 }
 
-/// The first byte of the first modified page is changed behind the store. False where none is modified.
+/// The first byte of the first modified page is changed behind the store. False where none is
+/// modified.
 pub(crate) fn change_modified<P: Inject, F: Inject, M: Moves>(
     store: &mut Paged<State<P, F, M>>,
 ) -> bool
-    ensures live { (k : Key) → is_some (paged.contents store.new k) ≡ is_some (paged.contents store.old k) }
+    ensures live { (k : Key) → is_some (paged.contents store.new k) ≡
+        is_some (paged.contents store.old k) }
     ensures rest { paged.store store.new ≡ paged.store store.old }
 {
     match first_modified(&store.state) {
@@ -163,7 +168,8 @@ fn run_behind<'a>(
     }
 }
 
-/// The store keeps no bytes beside the frames: a byte changed in a frame, behind the store, is what the store reads.
+/// The store keeps no bytes beside the frames: a byte changed in a frame, behind the store, is what
+/// the store reads.
 #[test]
 fn a_byte_changed_behind_the_store_is_read(rt: HostRuntime) -> Result<(), Fail> {
     let mut paging = opened(rt.alloc(), 4)?;

@@ -219,7 +219,8 @@ fn frames<T: Moving>(state: &T) -> [Option<Frame>; 4]
     ]
 }
 
-/// What is told of the first page: where it stands, whether its frame was changed, and the page that goes first.
+/// What is told of the first page: where it stands, whether its frame was changed, and the page
+/// that goes first.
 fn first_page<T: Moving>(state: &T) -> (Held, bool, Option<Vpn>)
     requires { Used 35 (T.shown state.now) }
 {
@@ -262,7 +263,8 @@ fn swap<T: Moving>(state: &mut T) -> Option<Told>
     })
 }
 
-/// The first page's slot is changed behind the state while the page has no frame. False where the device failed.
+/// The first page's slot is changed behind the state while the page has no frame. False where the
+/// device failed.
 fn change_in_slot<P: Inject, F: Inject, M: Moves>(state: &mut State<P, F, M>) -> bool
     requires { Used 32 (shown state.old) }
     ensures { Used 32 (shown state.new) }
@@ -326,7 +328,8 @@ fn run_change<'a>(
     }
 }
 
-/// The bytes of a page without a frame stand in its slot alone: a slot changed behind the state is what comes back.
+/// The bytes of a page without a frame stand in its slot alone: a slot changed behind the state is
+/// what comes back.
 #[test]
 fn a_slot_changed_on_its_device_is_read(rt: HostRuntime) -> Result<(), Fail> {
     let mut paging = opened(rt.alloc(), 4)?;

@@ -90,7 +90,8 @@ fn trimmed_page<G: Pages>(alloc: Global, world: &mut World<G>) -> Result<(), NoM
     Ok(())
 }
 
-/// The first byte of the page is changed behind the world, in the frame that holds it. False where it is in none.
+/// The first byte of the page is changed behind the world, in the frame that holds it. False where
+/// it is in none.
 fn change_behind<P: Inject, F: Inject, M: Moves>(world: &mut World<Paged<State<P, F, M>>>) -> bool
     requires line { line_of world.old ≡ 5 }
     requires ready { world.old.spent ≡ false }
@@ -147,7 +148,8 @@ fn run_behind<'a>(
     }
 }
 
-/// A world keeps no bytes beside its store: a byte changed in a frame, behind the world, is what a line reads.
+/// A world keeps no bytes beside its store: a byte changed in a frame, behind the world, is what a
+/// line reads.
 #[test]
 fn a_byte_changed_behind_the_world_is_read(rt: HostRuntime) -> Result<(), Fail> {
     let mut paging = opened(rt.alloc(), 4)?;

@@ -30,6 +30,7 @@ use Rattle.mm_tables.specs.Sound.{IsKept}
 use Rattle.mm_tables.proofs.Standing.{lives_where, shown_at, shown_set, shown_with}
 use Rattle.mm_tables.proofs.EndingSettles.{closed_count, handles_put}
 use Rattle.mm_tables.proofs.OneProcess.{paging-set_process}
+use Rattle.mm_tables.proofs.EndingRanks.{closed_rank}
 use Rattle.mm_tables.proofs.EndingSteps.{OneLess, Step, nothing_lost}
 
 -- ---- a living process among those that are kept
@@ -180,7 +181,7 @@ module _ {i : Inside} {t : Tables} {pid : ℕ} {x : Option Process} (k : Known i
   pub close_step : {dir : DirectoryOf} {result : Option Area} {c : Key → Option Page} {s : StoreOf} (y : Option Process) → ((p : ProcessOf (Unit {0})) → option_map shown_process x ≡ Some p → option_map shown_process y ≡ Some (closed p handle))
       → ((p : ProcessOf (Unit {0})) (n : ℕ) (c : CountedSection) → option_map shown_process x ≡ Some p → held p.handles handle ≡ Some n → numbered i.directory.entries n ≡ Some c → dir ≡ record i.directory { entries = set i.directory.entries n (settled_by (one_handle_less c)) })
       → ((p : ProcessOf (Unit {0})) (n : ℕ) (c : CountedSection) → option_map shown_process x ≡ Some p → held p.handles handle ≡ Some n → numbered i.directory.entries n ≡ Some c → result ≡ cond (is_some (settled_by (one_handle_less c))) None (Some (record { 0 = c.section.area })))
-      → Fits t c s → Step i t pid q y dir result i.commit c c s s
+      → Fits t c s → Step i t pid q y dir result i.commit c c s s (handle / 4 + 1)
   close_step {dir} {result} {c} {s} y shut dropped ended fits =
       record {
         p = k.process;
@@ -198,6 +199,8 @@ module _ {i : Inside} {t : Tables} {pid : ℕ} {x : Option Process} (k : Known i
         less = λ key some. refl;
         rest = refl;
         fits = nothing_lost t pid k.process (Some q) k.lives refl (omega (arith, same_charge)) (omega (arith, paging-set_process t pid k.process (Some q) k.lives)) refl c s fits;
+        ranked = closed_rank h.number (handle / 4) k.process h.there;
+        early = omega arith;
       }
 
   -- by whatever name the process has

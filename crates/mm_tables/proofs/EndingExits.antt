@@ -1,10 +1,10 @@
 -- Calls that give up pages, one after another: their moves, the pages of a range, the regions of a process, and its end.
 use Rattle.std.specs.Prelude.{position, remove, ◌==◌, ◌/◌, ◌%◌, option_and_then, IfSome}
-use Rattle.std.proofs.Common.{option_map, slice_get, ◌≡◌, ℕ, ◌+◌, ◌≤◌, ◌<◌, Bool, true, false, List, [], ◌∷◌, ◌++◌, Option, Some, None, refl, sym, ap, ◌∙◌, subst, arith, ◌-◌, cond, length, set, is_some, nat_lt, ◌&&◌, suc, ◌*◌, map, sum_by, count_by, not}
+use Rattle.std.proofs.Common.{inl, inr, ◌≢◌, ◌^◌, option_map, slice_get, ◌≡◌, ℕ, ◌+◌, ◌≤◌, ◌<◌, Bool, true, false, List, [], ◌∷◌, ◌++◌, Option, Some, None, refl, sym, ap, ◌∙◌, subst, arith, ◌-◌, cond, length, set, is_some, nat_lt, ◌&&◌, suc, ◌*◌, map, sum_by, count_by, not}
 use Rattle.std.specs.Cmp.{unsigned_Decides}
 use Rattle.std.specs.List.{position_or_len}
-use Rattle.std.proofs.lemmas.Bool.{ltb-true, ltb-false}
-use Rattle.std.proofs.lemmas.List.{get_or_past, set-set}
+use Rattle.std.proofs.lemmas.Bool.{ltb-true, ltb-false, cases_lt}
+use Rattle.std.proofs.lemmas.List.{get_or_past, set-set, get_or-set_same, get_or-set_other}
 use Rattle.std.proofs.lemmas.List.Sums.{sum_by-cons, sum_by-set, passes_at_first, fails_before_first}
 use Rattle.mm_types.specs.declared.numbers.Pid.{Pid}
 use Rattle.mm_types.specs.declared.numbers.Place.{Place}
@@ -33,16 +33,17 @@ use Rattle.mm_world.proofs.Keeps.{exit_keeps}
 use Rattle.mm_world.proofs.Charges.{charge-set_process}
 use Rattle.mm_pages.specs.Behind.{Behind}
 use Rattle.mm_pages.specs.Conditions.{AreAmong, place_at}
-use Rattle.mm_pages.specs.Housekeeping.{Turn, Ends, pages_gone, Rises, Turns}
+use Rattle.mm_pages.specs.Housekeeping.{Turn, Ends, Turns}
+use Rattle.mm_pages.specs.Leaving.{Leaving, page_rank}
 use Rattle.mm_pages.specs.Passing.{PassesIn}
 use Rattle.mm_pages.specs.Store.{StoreOf, changed}
-use Rattle.mm_pages.proofs.Passed.{Joins, passes_then, all_turn_then, moved_then, gone_then, rises_wider, ends_anywhere, ends_then, ends_more, lowest_then as drops_then}
+use Rattle.mm_pages.proofs.Passed.{ends_then, ends_meet, ends_wider}
 use Rattle.mm_commit.specs.Charge.{CommitOf}
 use Rattle.mm_sections.specs.Directories.{CountedSection}
 use Rattle.mm_sections.specs.Handles.{held, handle_at}
 use Rattle.mm_spaces.specs.Tables.{info_of, owned_in, found_info}
 use Rattle.mm_spaces.specs.declared.spaces.RegionInfo.{RegionInfo}
-use Rattle.mm_tables.specs.Endings.{Fewer, CanRelease, Released, Less, Toward, HasNoHandle, nowhere}
+use Rattle.mm_tables.specs.Endings.{Fewer, CanRelease, Released, Less, Toward, HasNoHandle, IsFor, nowhere}
 use Rattle.mm_tables.specs.declared.tables.Process.{Process}
 use Rattle.mm_tables.specs.declared.tables.Tables.TheInside.{Inside}
 use Rattle.mm_tables.specs.References.{IsTidy, handles_to, views_of, NobodyKeeps}
@@ -60,51 +61,30 @@ use Rattle.mm_tables.proofs.EndingUnmap.{unmapped, ends_within, all_around, can_
 use Rattle.mm_tables.proofs.Standing.{shown_with}
 use Rattle.mm_tables.proofs.EndingClose.{closed, Known, by_shown, same_process, put_process}
 
--- ---- the last page of one call is the first of the next
-
-rises_meet : (from page to : ℕ) (ps qs : List ℕ) → from ≤ page → page < to → Rises from (page + 1) ps → Rises page to qs → Rises from to (ps ++ qs)
-rises_meet from page to [] qs l h p q = rises_wider page from to to qs l (omega arith) q
-rises_meet from page to (x ∷ ps) qs l h p q = (p.0, omega (arith, h, p.1), rises_meet x page to ps qs (omega (arith, p.1)) h p.2 q)
-
-meet_join : (held : Place → Bool) (from page to : ℕ) → from ≤ page → page < to → Joins (Turns (Ends held from (page + 1))) (Turns (Ends held page to)) (Turns (Ends held from to))
-meet_join held from page to l h = record {
-  join = λ b c d xs ys r p q. record {
-    turned = record {
-      all = all_turn_then (Ends held from to) xs ys p.turned.all q.turned.all;
-      order = subst (Rises from to) (sym (gone_then xs ys)) (rises_meet from page to (pages_gone xs) (pages_gone ys) l h p.turned.order q.turned.order);
-      lowest = drops_then xs ys b.life c.life r p.turned.lowest q.turned.lowest;
-    };
-    moved = moved_then b c d xs ys p.moved q.moved;
-    slots = q.slots ∙ p.slots;
-  };
-}
-
-pub ends_meet : (u : Bool) (held : Place → Bool) (from page to : ℕ) (s y z : StoreOf) (b c d : Behind) → from ≤ page → page < to → PassesIn u (Turns (Ends held from (page + 1))) s y b c → PassesIn u (Turns (Ends held page to)) y z c d → PassesIn u (Turns (Ends held from to)) s z b d
-ends_meet u held from page to s y z b c d l h p q =
-    passes_then u (Turns (Ends held from (page + 1))) (Turns (Ends held page to)) (Turns (Ends held from to)) s y z b c d (meet_join held from page to l h) p q
-
--- two calls of which no page of a process goes
-pub sections_then : (u : Bool) (s y z : StoreOf) (b c d : Behind) → ((held : Place → Bool) (from to : ℕ) → PassesIn u (Turns (Ends held from to)) s y b c) → ((held : Place → Bool) (from to : ℕ) → PassesIn u (Turns (Ends held from to)) y z c d) → (held : Place → Bool) (from to : ℕ) → PassesIn u (Turns (Ends held from to)) s z b d
-sections_then u s y z b c d p q held from to =
-    ends_anywhere u held from to s z b d (ends_then u held 0 0 0 s y z b c d (omega arith) (omega arith) (p held 0 0) (q held 0 0))
-
 -- ---- the pages of a range, one after another
 
 -- all these pages of the process are held
-abbrev pub AllHeld : (Place → Bool) → Pid → Range → Type 0
-AllHeld held pid range = (page : ℕ) → holds_page range page ≡ true → held (place_at pid page) ≡ true
+abbrev pub AllHeld : Leaving → Pid → Range → Type 0
+AllHeld held pid range = (page : ℕ) → holds_page range page ≡ true → held.places (place_at pid page) ≡ true
 
-pub page_then : (u : Bool) (held : Place → Bool) (first i : ℕ) (s y z : StoreOf) (b c d : Behind) → PassesIn u (Turns (Ends held first (first + i))) s y b c → PassesIn u (Turns (Ends held (first + i) (first + (i + 1)))) y z c d → PassesIn u (Turns (Ends held first (first + (i + 1)))) s z b d
-page_then u held first i s y z b c d p q = ends_then u held first (first + i) (first + (i + 1)) s y z b c d (omega arith) (omega arith) p q
+pub page_then : (u : Bool) (held : Leaving) (first i : ℕ) (s y z : StoreOf) (b c d : Behind) → PassesIn u (Turns (Ends held (page_rank first) (page_rank (first + i)))) s y b c → PassesIn u (Turns (Ends held (page_rank (first + i)) (page_rank (first + (i + 1))))) y z c d → PassesIn u (Turns (Ends held (page_rank first) (page_rank (first + (i + 1))))) s z b d
+page_then u held first i s y z b c d p q = ends_then u held (page_rank first) (page_rank (first + i)) (page_rank (first + (i + 1))) s y z b c d (omega arith) (omega arith) p q
 
 -- those of the whole range
-pub range_passes : (u : Bool) (held : Place → Bool) (from to : ℕ) (pid : Pid) (range : Range) (n : ℕ) (s z : StoreOf) (b c : Behind) → AreAmong held from to pid range → n ≡ range.count → PassesIn u (Turns (Ends held range.first (range.first + n))) s z b c → PassesIn u (Turns (Ends held from to)) s z b c
+pub range_passes : (u : Bool) (held : Leaving) (from to : ℕ) (pid : Pid) (range : Range) (n : ℕ) (s z : StoreOf) (b c : Behind) → AreAmong held from to pid range → n ≡ range.count → PassesIn u (Turns (Ends held (page_rank range.first) (page_rank (range.first + n)))) s z b c → PassesIn u (Turns (Ends held from to)) s z b c
 range_passes u held from to pid range n s z b c among all p =
-    ends_more u held held range.first (range.first + n) from to s z b c (λ place e. e) among.first (omega (arith, all, among.last)) p
+    ends_wider u held (page_rank range.first) (page_rank (range.first + n)) from to s z b c among.first (omega (arith, all, among.last)) p
 
--- and an area ends behind them
-pub range_then : (u : Bool) (held : Place → Bool) (from to : ℕ) (pid : Pid) (range : Range) (s y z : StoreOf) (b c d : Behind) → AreAmong held from to pid range → PassesIn u (Turns (Ends held from to)) s y b c → ((held : Place → Bool) (from to : ℕ) → PassesIn u (Turns (Ends held from to)) y z c d) → PassesIn u (Turns (Ends held from to)) s z b d
-range_then u held from to pid range s y z b c d among p q = ends_then u held from to to s y z b c d (omega (arith, among.first, among.last)) (omega arith) p (q held to to)
+-- and an area ends right behind them
+pub range_then : (u : Bool) (held : Leaving) (from to : ℕ) (pid : Pid) (range : Range) (s y z : StoreOf) (b c d : Behind) → 1 ≤ range.count → AreAmong held from to pid range
+    → ((from to : ℕ) → AreAmong held from to pid range → PassesIn u (Turns (Ends held from to)) s y b c)
+    → PassesIn u (Turns (Ends held (page_rank (end_of range) - 1) to)) y z c d → PassesIn u (Turns (Ends held from to)) s z b d
+range_then u held from to pid range s y z b c d some among p q =
+    let rank = page_rank (end_of range) - 1 in
+    let low : from ≤ rank = omega (arith, some, among.first) in
+    let high : rank < to = omega (arith, some, among.last) in
+    ends_meet u held from rank to s y z b c d low high
+    (p from (rank + 1) (record { each = among.each; first = among.first; last = omega (arith, some) })) q
 
 -- ---- the regions of a process, one after another
 
@@ -117,31 +97,32 @@ laid_first : (from : ℕ) (rs : List (RegionOf (Unit {0}))) → LaidOut from rs 
 laid_first from [] h = h
 laid_first from (r ∷ rs) h = h.0.later
 
-pub lowest_then : (u : Bool) (held : Place → Bool) (pid : Pid) (rs ss : List (RegionOf (Unit {0}))) (info : RegionInfo) (s y z : StoreOf) (b c d : Behind) → IsSpace rs → Some info ≡ option_map info_of (slice_get rs 0) → ss ≡ remove rs 0 → ((page : ℕ) → held (place_at pid page) ≡ true) → PassesIn u (Turns (Ends held 0 (first_page rs))) s y b c → ((held : Place → Bool) (from to : ℕ) → AreAmong held from to pid info.pages → PassesIn u (Turns (Ends held from to)) y z c d) → PassesIn u (Turns (Ends held 0 (first_page ss))) s z b d
+pub lowest_then : (u : Bool) (held : Leaving) (pid : Pid) (rs ss : List (RegionOf (Unit {0}))) (info : RegionInfo) (s y z : StoreOf) (b c d : Behind) → IsSpace rs → Some info ≡ option_map info_of (slice_get rs 0) → ss ≡ remove rs 0 → ((page : ℕ) → held.places (place_at pid page) ≡ true) → PassesIn u (Turns (Ends held (page_rank 0) (page_rank (first_page rs)))) s y b c → ((from to : ℕ) → AreAmong held from to pid info.pages → PassesIn u (Turns (Ends held from to)) y z c d) → PassesIn u (Turns (Ends held (page_rank 0) (page_rank (first_page ss)))) s z b d
 lowest_then u held pid [] ss info s y z b c d space at left all p q = cc
 lowest_then u held pid (r ∷ rs) ss info s y z b c d space at left all p q =
     let same : ◌≡◌ {A = RegionInfo} info (info_of r) = cc in
     let pages : info.pages ≡ pages_of r = ap (λ (i : RegionInfo). i.pages) same in
     let low : end_of (pages_of r) ≤ first_page rs = laid_first (end_of (pages_of r)) rs space.laid_out.1 in
-    subst (λ (rs : List (RegionOf (Unit {0}))). PassesIn u (Turns (Ends held 0 (first_page rs))) s z b d) (sym left)
-    (ends_then u held 0 r.base (first_page rs) s y z b c d (omega arith) (omega (arith, low)) p
-    (q held r.base (first_page rs) (subst (λ (range : Range). AreAmong held r.base (first_page rs) pid range) (sym pages) (record { each = λ page e. all page; first = omega arith; last = omega (arith, low) }))))
+    subst (λ (rs : List (RegionOf (Unit {0}))). PassesIn u (Turns (Ends held (page_rank 0) (page_rank (first_page rs)))) s z b d) (sym left)
+    (ends_then u held (page_rank 0) (page_rank r.base) (page_rank (first_page rs)) s y z b c d (omega arith) (omega (arith, low)) p
+    (q (page_rank r.base) (page_rank (first_page rs)) (subst (λ (range : Range). AreAmong held (page_rank r.base) (page_rank (first_page rs)) pid range) (sym pages) (record { each = λ page e. all page; first = omega arith; last = omega (arith, low) }))))
 
 -- the same of the regions that a process has in tables
-pub regions_then : (u : Bool) (held : Place → Bool) (pid : Pid) (t v : Tables) (p q : ProcessOf (Unit {0})) (info : RegionInfo) (s y z : StoreOf) (b c d : Behind) → process_of t pid.0 ≡ Some p → process_of v pid.0 ≡ Some q → IsSpace p.regions → Some info ≡ option_map info_of (slice_get p.regions 0) → Fewer p q → ((page : ℕ) → held (place_at pid page) ≡ true) → PassesIn u (Turns (Ends held 0 (first_page (regions_in t pid.0)))) s y b c → ((held : Place → Bool) (from to : ℕ) → AreAmong held from to pid info.pages → PassesIn u (Turns (Ends held from to)) y z c d) → PassesIn u (Turns (Ends held 0 (first_page (regions_in v pid.0)))) s z b d
+pub regions_then : (u : Bool) (held : Leaving) (pid : Pid) (t v : Tables) (p q : ProcessOf (Unit {0})) (info : RegionInfo) (s y z : StoreOf) (b c d : Behind) → process_of t pid.0 ≡ Some p → process_of v pid.0 ≡ Some q → IsSpace p.regions → Some info ≡ option_map info_of (slice_get p.regions 0) → Fewer p q → ((page : ℕ) → held.places (place_at pid page) ≡ true) → PassesIn u (Turns (Ends held (page_rank 0) (page_rank (first_page (regions_in t pid.0))))) s y b c → ((from to : ℕ) → AreAmong held from to pid info.pages → PassesIn u (Turns (Ends held from to)) y z c d) → PassesIn u (Turns (Ends held (page_rank 0) (page_rank (first_page (regions_in v pid.0))))) s z b d
 regions_then u held pid t v p q info s y z b c d lives now space at fewer all past next =
-    subst (λ (rs : List (RegionOf (Unit {0}))). PassesIn u (Turns (Ends held 0 (first_page rs))) s z b d) (sym (ap regions_of now))
+    subst (λ (rs : List (RegionOf (Unit {0}))). PassesIn u (Turns (Ends held (page_rank 0) (page_rank (first_page rs)))) s z b d) (sym (ap regions_of now))
     (lowest_then u held pid p.regions q.regions info s y z b c d space at fewer.left all
-    (subst (λ (rs : List (RegionOf (Unit {0}))). PassesIn u (Turns (Ends held 0 (first_page rs))) s y b c) (ap regions_of lives) past) next)
+    (subst (λ (rs : List (RegionOf (Unit {0}))). PassesIn u (Turns (Ends held (page_rank 0) (page_rank (first_page rs)))) s y b c) (ap regions_of lives) past) next)
 
-pub regions_end : (u : Bool) (held : Place → Bool) (t : Tables) (pid : ℕ) (p : ProcessOf (Unit {0})) (s z : StoreOf) (b c : Behind) → process_of t pid ≡ Some p → p.regions ≡ [] → PassesIn u (Turns (Ends held 0 (first_page (regions_in t pid)))) s z b c → PassesIn u (Turns (Ends held 0 end_of_user_pages)) s z b c
+pub regions_end : (u : Bool) (held : Leaving) (t : Tables) (pid : ℕ) (p : ProcessOf (Unit {0})) (s z : StoreOf) (b c : Behind) → process_of t pid ≡ Some p → p.regions ≡ [] → PassesIn u (Turns (Ends held (page_rank 0) (page_rank (first_page (regions_in t pid))))) s z b c → PassesIn u (Turns (Ends held (page_rank 0) (page_rank end_of_user_pages))) s z b c
 regions_end u held t pid p s z b c lives none past =
-    subst (λ (rs : List (RegionOf (Unit {0}))). PassesIn u (Turns (Ends held 0 (first_page rs))) s z b c) (ap regions_of lives ∙ none) past
+    subst (λ (rs : List (RegionOf (Unit {0}))). PassesIn u (Turns (Ends held (page_rank 0) (page_rank (first_page rs)))) s z b c) (ap regions_of lives ∙ none) past
 
 -- handles are closed, regions given up, and the process closed
-pub exit_then : (u : Bool) (held : Place → Bool) (n : ℕ) (s x y z : StoreOf) (b c d e : Behind) → ((held : Place → Bool) (from to : ℕ) → PassesIn u (Turns (Ends held from to)) s x b c) → PassesIn u (Turns (Ends held 0 n)) x y c d → ((turn : Turn) → PassesIn u (Turns turn) y z d e) → PassesIn u (Turns (Ends held 0 n)) s z b e
-exit_then u held n s x y z b c d e p q r =
-    ends_then u held 0 n n s y z b d e (omega arith) (omega arith) (ends_then u held 0 0 n s x y b c d (omega arith) (omega arith) (p held 0 0) q) (r (Ends held n n))
+pub exit_then : (u : Bool) (held : Leaving) (n : ℕ) (s x y z : StoreOf) (b c d e : Behind) → page_rank 0 ≤ n → PassesIn u (Turns (Ends held 1 (page_rank 0))) s x b c → PassesIn u (Turns (Ends held (page_rank 0) n)) x y c d → ((turn : Turn) → PassesIn u (Turns turn) y z d e) → PassesIn u (Turns (Ends held 1 n)) s z b e
+exit_then u held n s x y z b c d e h p q r =
+    ends_then u held 1 n n s y z b d e (omega (arith, h)) (omega arith)
+    (ends_then u held 1 (page_rank 0) n s x y b c d (omega arith) h p q) (r (Ends held n n))
 
 -- ---- The lowest region of a process, which is private, is released: what the call's steps are told, and what they come to
 
@@ -214,19 +195,22 @@ module _ {i : Inside} {t : Tables} {x : Option Process} (pid : Pid) (k : Known i
 
 pub toward_then : {pid : ℕ} {t u v : Tables} {c d e : Key → Option Page} {s z y : StoreOf} → Toward pid t u c d s z → Toward pid u v d e z y → Toward pid t v c e s y
 toward_then {c = c} {d = d} {e = e} {s = s} {z = z} {y = y} a b =
-    record { same = b.same ∙ a.same; fits = b.fits; less = less_then c d e a.less b.less; rest = beside_then s z y a.rest b.rest }
+    record { same = b.same ∙ a.same; fits = b.fits; less = less_then c d e a.less b.less; rest = beside_then s z y a.rest b.rest; ranks = λ rank h. b.ranks rank (a.ranks rank h) }
 
 -- no thread comes to keep an access
 pub toward_nobody : {pid : ℕ} {t u : Tables} {c d : Key → Option Page} {s z : StoreOf} → Toward pid t u c d s z → NobodyKeeps pid t → NobodyKeeps pid u
 toward_nobody a nobody tid k e = nobody tid k (ap (λ (w : Tables). numbered w.kept tid) (sym a.same) ∙ e)
 
-pub toward_settled : (pid : ℕ) (t : Tables) (q : Option (ProcessOf (Unit {0}))) {v : Tables} {c d : Key → Option Page} {s z : StoreOf} → v ≡ settle (set_process t pid q) → Settled v c d s z → Less c d → Toward pid t v c d s z
-toward_settled pid t q is settled less =
-    record { same = ap (λ (w : Tables). settle (set_process w pid None)) is ∙ ends_same t pid q; fits = settled.fits; less = less; rest = settled.rest }
+pub toward_same : (pid : ℕ) (t : Tables) (c : Key → Option Page) (s : StoreOf) → Fits t c s → Toward pid t t c c s s
+toward_same pid t c s fits = record { same = refl; fits = fits; less = λ k some. refl; rest = refl; ranks = λ rank h. h }
 
-pub toward_set : (pid : ℕ) (t : Tables) (q : Option (ProcessOf (Unit {0}))) {v : Tables} {c d : Key → Option Page} {s z : StoreOf} → v ≡ set_process t pid q → Settled v c d s z → Less c d → Toward pid t v c d s z
-toward_set pid t q is settled less =
-    record { same = ap (λ (w : Tables). settle (set_process w pid None)) is ∙ ap (λ (ps : List (Option (ProcessOf (Unit {0})))). settle (record t { processes = ps })) (set-set t.processes pid q None); fits = settled.fits; less = less; rest = settled.rest }
+pub toward_settled : (pid : ℕ) (t : Tables) (q : Option (ProcessOf (Unit {0}))) {v : Tables} {c d : Key → Option Page} {s z : StoreOf} → v ≡ settle (set_process t pid q) → Settled v c d s z → Less c d → ((rank : ℕ → ℕ) → IsFor rank pid t → IsFor rank pid v) → Toward pid t v c d s z
+toward_settled pid t q is settled less ranks =
+    record { same = ap (λ (w : Tables). settle (set_process w pid None)) is ∙ ends_same t pid q; fits = settled.fits; less = less; rest = settled.rest; ranks = ranks }
+
+pub toward_set : (pid : ℕ) (t : Tables) (q : Option (ProcessOf (Unit {0}))) {v : Tables} {c d : Key → Option Page} {s z : StoreOf} → v ≡ set_process t pid q → Settled v c d s z → Less c d → ((rank : ℕ → ℕ) → IsFor rank pid t → IsFor rank pid v) → Toward pid t v c d s z
+toward_set pid t q is settled less ranks =
+    record { same = ap (λ (w : Tables). settle (set_process w pid None)) is ∙ ap (λ (ps : List (Option (ProcessOf (Unit {0})))). settle (record t { processes = ps })) (set-set t.processes pid q None); fits = settled.fits; less = less; rest = settled.rest; ranks = ranks }
 
 -- the process after a step
 pub after_settled : (t v : Tables) (pid : ℕ) (p q : ProcessOf (Unit {0})) → process_of t pid ≡ Some p → v ≡ settle (set_process t pid (Some q)) → process_of v pid ≡ Some q
@@ -267,6 +251,53 @@ no_lowest hs told k =
             | false ↦ λ beyond. get_or_past hs k None (ltb-false k (length hs) beyond)
           ] refl)
     ] refl told
+
+-- none below it is open
+pub below_lowest : (hs : Numbered ℕ) (handle : ℕ) → option_map handle_at (position (is_some {T = ℕ}) hs) ≡ Some handle → (j : ℕ) → j < handle / 4 → numbered hs j ≡ None
+below_lowest hs handle told j less =
+    let at = lowest_at hs handle told in
+    let first = lowest_is hs handle told in
+    none_of (numbered hs j) (fails_before_first (is_some {T = ℕ}) hs j None (omega (arith, less, at.1, first)))
+  where
+    lowest_is : (hs : Numbered ℕ) (handle : ℕ) → option_map handle_at (position (is_some {T = ℕ}) hs) ≡ Some handle → handle ≡ 4 * position_or_len (is_some {T = ℕ}) hs
+    lowest_is hs handle told = by_test (nat_lt (position_or_len (is_some {T = ℕ}) hs) (length hs)) told
+      where
+        by_test : (b : Bool) → option_map handle_at (cond b (Some (position_or_len (is_some {T = ℕ}) hs)) None) ≡ Some handle → handle ≡ 4 * position_or_len (is_some {T = ℕ}) hs
+        by_test true e = cc
+        by_test false e = cc
+
+-- the handles below this are closed
+abbrev pub NoneBelow : ℕ → ℕ → Tables → Type 0
+NoneBelow k pid t = (p : ProcessOf (Unit {0})) → process_of t pid ≡ Some p → (j : ℕ) → j < k → numbered p.handles j ≡ None
+
+-- and so are those up to the next
+pub record NextClosed (pid k handle : ℕ) (v : Tables) : Type 0 where
+  pub more : k ≤ handle / 4
+  pub few : handle / 4 + 1 ≤ 2 ^ 30
+  pub none : NoneBelow (handle / 4 + 1) pid v
+
+pub next_closed : (t v : Tables) (pid : ℕ) (p : ProcessOf (Unit {0})) (handle k : ℕ) → process_of t pid ≡ Some p → v ≡ settle (set_process t pid (Some (closed p handle))) → option_map handle_at (position (is_some {T = ℕ}) p.handles) ≡ Some handle → handle < 2 ^ 32 → NoneBelow k pid t → NextClosed pid k handle v
+next_closed t v pid p handle k lives is told small none =
+    let at = lowest_at p.handles handle told in
+    let part : handle / 4 ≡ at.0 = omega (arith, at.1) in
+    record {
+      more = elim (cases_lt at.0 k) [
+        | inl less ↦ absurd (let bad : false ≡ true = sym (ap is_some (none p lives at.0 less)) ∙ at.3 in cc)
+        | inr more ↦ omega (arith, part, more)
+      ];
+      few = omega (arith, small);
+      none = λ q now j less.
+          let same = same_found (process_of v pid) (closed p handle) q (after_settled t v pid p (closed p handle) lives is) now in
+          subst (λ (q : ProcessOf (Unit {0})). numbered q.handles j ≡ None) same (elim (cases_lt j (handle / 4)) [
+            | inl low ↦
+                (let other : j ≢ handle / 4 = λ e. absurd (omega (arith, e, low)) in
+                get_or-set_other p.handles (handle / 4) j None None other ∙ below_lowest p.handles handle told j low)
+            | inr high ↦
+                (let here : j ≡ handle / 4 = omega (arith, less, high) in
+                let inside : handle / 4 < length p.handles = omega (arith, part, at.2) in
+                ap (numbered (set p.handles (handle / 4) None)) here ∙ get_or-set_same p.handles (handle / 4) None None inside)
+          ]);
+    }
 
 -- the section of a handle lives
 at_handle : (t : Tables) (pid : ℕ) (p : ProcessOf (Unit {0})) (index : ℕ) → WellFormed t → process_of t pid ≡ Some p → is_some (numbered p.handles index) ≡ true → is_some (handle_section t p (4 * index)) ≡ true

@@ -21,7 +21,7 @@ use Rattle.mm_world.proofs.KindsAndKeys.{same_again}
 use Rattle.mm_pages.specs.Store.{StoreOf, own_key, changed, changed_in, is_place_in}
 use Rattle.mm_pages.specs.Reports.{rearranged}
 use Rattle.mm_pages.specs.Conditions.{MayRemove, IsReleasing, AllBound, place_at}
-use Rattle.mm_tables.specs.Endings.{among, owned_among, without, without_paging, without_names, Gone, CanGo, CanGoAll, shared_at, is_committed_in, is_shared_in, CanEnd, Emptied, is_owned_at, is_key_in, CanRelease, CanGiveUp, GivenUp, Released}
+use Rattle.mm_tables.specs.Endings.{among, owned_among, without_keys, without_paging, without_names, Gone, CanGo, CanGoAll, shared_at, is_committed_in, is_shared_in, CanEnd, Emptied, is_owned_at, is_key_in, CanRelease, CanGiveUp, GivenUp, Released}
 use Rattle.mm_tables.specs.Effects.{Ends, Stored}
 use Rattle.mm_tables.specs.Ranges.{passing, is_live, CanRemove, only, front}
 use Rattle.mm_tables.proofs.PageByPage.{key_in_more, not_yet, next_held, outside, only_is, no_key_in, no_place_in, own, key_in_only, place_in_only, by_same}
@@ -52,10 +52,10 @@ gone_then at owned n {c = c} {e = e} {s = s} {y = y} a b =
     fun_ext (λ q. cond_twice (step (own_key q)) (among at owned n (own_key q)) None (s.names q)) in
     let paging : without_paging step (without_paging (among at owned n) s.paging) ≡ without_paging (among at owned (suc n)) s.paging =
     fun_ext (λ k. cond_twice (step k) (among at owned n k) false (s.paging k)) in
-    let contents : without step (without (among at owned n) c) ≡ without (among at owned (suc n)) c =
+    let contents : without_keys step (without_keys (among at owned n) c) ≡ without_keys (among at owned (suc n)) c =
     fun_ext (λ k. cond_twice (step k) (among at owned n k) None (c k)) in
     subst (λ (m : ℕ). Gone (among at owned m) (owned_among owned m) c e s y) more (record {
-      contents = b.contents ∙ ap (without step) a.contents ∙ contents;
+      contents = b.contents ∙ ap (without_keys step) a.contents ∙ contents;
       store =
           b.store
           ∙ ap (λ (x : StoreOf). let made : StoreOf = record x { names = without_names step x.names; paging = without_paging step x.paging; paging_keys = x.paging_keys - cond (owned n) 1 0; report = rearranged x.report y.report } in made) a.store
@@ -186,7 +186,7 @@ emptied area a {c = c} {s = s} {y = y} {z = z} can g same after =
     let gone = among (shared_at area) (is_committed_in a) (length a.pages) in
     let made : StoreOf = record s { names = without_names gone s.names; paging = without_paging gone s.paging; paging_keys = s.paging_keys - owned_among (is_committed_in a) (length a.pages); report = rearranged s.report y.report; areas = changed ◌==◌ s.areas area.0 None } in
     let is : z ≡ made = after ∙ (λ i. record (g.store i) { areas = changed ◌==◌ (g.store i).areas area.0 None }) in
-    subst (λ (e : Key → Option Page). Emptied area a c e s z) (sym (same ∙ g.contents)) (subst (λ (z : StoreOf). Emptied area a c (without gone c) s z) (sym is) (record {
+    subst (λ (e : Key → Option Page). Emptied area a c e s z) (sym (same ∙ g.contents)) (subst (λ (z : StoreOf). Emptied area a c (without_keys gone c) s z) (sym is) (record {
       lost = record {
         live = λ k. some_gone (gone k) (c k) ∙ shared_test area a (λ k. is_some (c k)) can.live k;
         less = λ k some. gone_same (gone k) (c k) some;
@@ -262,7 +262,7 @@ pub given_two : {pid : Pid} {first second whole : Range} {n m k : ℕ} {c d e : 
 given_two {pid = pid} {first = first} {second = second} {whole = whole} {n = n} {m = m} {k = k} {c = c} {s = s} {y = y} more sum a b =
     let count : s.paging_keys - n - m ≡ s.paging_keys - k = omega (arith, sum) in
     record {
-      contents = b.contents ∙ ap (without (is_key_in pid second)) a.contents ∙ fun_ext (λ j. both_in None (c j) j);
+      contents = b.contents ∙ ap (without_keys (is_key_in pid second)) a.contents ∙ fun_ext (λ j. both_in None (c j) j);
       store =
           b.store
           ∙ ap (λ (x : StoreOf). let made : StoreOf = record x { bound = changed_in pid second x.bound false; names = changed_in pid second x.names None; paging = without_paging (is_key_in pid second) x.paging; paging_keys = x.paging_keys - m; report = rearranged x.report y.report } in made) a.store
@@ -327,7 +327,7 @@ as_many pid range rs {c = c} {d = d} {s = s} {z = z} can a =
 
 pub released : (pid : Pid) (range : Range) (rs : List (RegionOf (Unit {0}))) {c d : Key → Option Page} {s z : StoreOf} → GivenUp pid range (owned_among (is_owned_at rs range.first) range.count) c d s z → Released pid range rs c d s z
 released pid range rs {c = c} {s = s} {z = z} a =
-    subst (λ (d : Key → Option Page). Released pid range rs c d s z) (sym a.contents) (subst (λ (z : StoreOf). Released pid range rs c (without (is_key_in pid range) c) s z) (sym a.store) (record {
+    subst (λ (d : Key → Option Page). Released pid range rs c d s z) (sym a.contents) (subst (λ (z : StoreOf). Released pid range rs c (without_keys (is_key_in pid range) c) s z) (sym a.store) (record {
       lost = record {
         live = λ k. some_gone (is_key_in pid range k) (c k);
         less = λ k some. gone_same (is_key_in pid range k) (c k) some;

@@ -20,6 +20,7 @@ use Rattle.mm_world.proofs.LaidOut.{and-true}
 use Rattle.mm_pages.specs.Behind.{Behind}
 use Rattle.mm_pages.specs.Conditions.{AreAmong, place_at}
 use Rattle.mm_pages.specs.Housekeeping.{Ends, Turns}
+use Rattle.mm_pages.specs.Leaving.{Leaving, page_rank}
 use Rattle.mm_pages.specs.Passing.{PassesIn}
 use Rattle.mm_pages.specs.Reports.{rearranged}
 use Rattle.mm_pages.specs.Store.{StoreOf, changed_in, own_key}
@@ -284,12 +285,12 @@ module _ {range low high : Range} (h : Halves range low high) where
               });
         }
 
-  pub halves_pass : (u : Bool) (held : Place → Bool) (from to : ℕ) (pid : Pid) (s y z : StoreOf) (b c d : Behind) → AreAmong held from to pid range
-      → ((held : Place → Bool) (from to : ℕ) → AreAmong held from to pid low → PassesIn u (Turns (Ends held from to)) s y b c)
-      → ((held : Place → Bool) (from to : ℕ) → AreAmong held from to pid high → PassesIn u (Turns (Ends held from to)) y z c d)
+  pub halves_pass : (u : Bool) (held : Leaving) (from to : ℕ) (pid : Pid) (s y z : StoreOf) (b c d : Behind) → AreAmong held from to pid range
+      → ((held : Leaving) (from to : ℕ) → AreAmong held from to pid low → PassesIn u (Turns (Ends held from to)) s y b c)
+      → ((held : Leaving) (from to : ℕ) → AreAmong held from to pid high → PassesIn u (Turns (Ends held from to)) y z c d)
       → PassesIn u (Turns (Ends held from to)) s z b d
   halves_pass u held from to pid s y z b c d among p q =
-      let mid = high.first in
+      let mid = page_rank high.first in
       ends_then u held from mid to s y z b c d (omega (arith, among.first, h.second)) (omega (arith, among.last, h.second, h.count))
-      (p held from mid (record { each = λ page e. among.each page (holds_too low range page low_in e); first = omega (arith, among.first, h.first); last = apart }))
+      (p held from mid (record { each = λ page e. among.each page (holds_too low range page low_in e); first = omega (arith, among.first, h.first); last = omega (arith, apart) }))
       (q held mid to (record { each = λ page e. among.each page (holds_too high range page high_in e); first = omega arith; last = omega (arith, among.last, h.second, h.count) }))

@@ -3,6 +3,7 @@ use Rattle.std.proofs.Common.{◌≡◌, ◌≢◌, inl, inr, ℕ, ◌+◌, ◌-
 use Rattle.std.specs.Prelude.{◌==◌}
 use Rattle.std.specs.List.{list_any}
 use Rattle.std.specs.Cmp.{unsigned_Decides}
+use Rattle.std.proofs.lemmas.Bool.{ltb-false}
 use Rattle.std.proofs.lemmas.List.{get_or-set_same, get_or-set_other, map-set, set-get_or, get_or_read_under}
 use Rattle.std.proofs.lemmas.List.Folds.{list_any_at}
 use Rattle.std.proofs.lemmas.Option.{get_or_from_slice_get, unwrap_or-slice_get}
@@ -12,12 +13,11 @@ use Rattle.mm_types.specs.declared.numbers.Key.{Key}
 use Rattle.mm_types.specs.declared.numbers.Key.TheVariants as key
 use Rattle.mm_types.specs.declared.views.Kind.TheVariants as kind
 use Rattle.mm_types.specs.declared.views.View.{View}
-use Rattle.mm_types.specs.Machine.{MachineOf}
 use Rattle.mm_types.proofs.Cells.{same_or_not, get_within}
 use Rattle.mm_types.proofs.Booleans.{not_true, and_true}
 use Rattle.mm_types.proofs.Lists.{some_get}
 use Rattle.mm_types.proofs.Options.{some_map}
-use Rattle.mm_world.specs.World.{Page, ProcessOf, RegionOf, AreaOf, SectionOf, Numbered, numbered, FileOf, KeptOf, StackOf}
+use Rattle.mm_world.specs.World.{Page, ProcessOf, RegionOf, AreaOf, SectionOf, Numbered, numbered}
 use Rattle.mm_world.specs.Find.{process_of, section_of, set_process, area_at, no_area}
 use Rattle.mm_world.specs.Charge.{charge, area_charge}
 use Rattle.mm_world.specs.Sections.{holds, views, is_view_of, settle, settled_section}
@@ -28,12 +28,13 @@ use Rattle.mm_world.proofs.Each.{each-at}
 use Rattle.mm_world.proofs.Finding.{numbered_inside}
 use Rattle.mm_pages.specs.Store.{StoreOf, changed}
 use Rattle.mm_pages.specs.Conditions.{IsReleasing}
+use Rattle.mm_pages.specs.Leaving.{section_rank}
 use Rattle.mm_commit.specs.Charge.{CommitOf}
 use Rattle.mm_sections.specs.Directories.{CountedSection, DirectoryOf, section_in, sections_of, settled_by}
 use Rattle.mm_tables.specs.References.{handles_in, views_in, handles_to, views_of}
 use Rattle.mm_tables.specs.Sound.{IsCounted, IsKept}
 use Rattle.mm_tables.specs.Fits.{Fits, Settled, beside, block_in, paging_count}
-use Rattle.mm_tables.specs.Endings.{Less, Lost, is_shared_in, nowhere, ended_area, CanEnd, Emptied}
+use Rattle.mm_tables.specs.Endings.{Less, Lost, is_shared_in, nowhere, ended_area, CanEnd, Emptied, IsFor}
 use Rattle.mm_tables.specs.declared.tables.Process.{Process}
 use Rattle.mm_tables.specs.declared.tables.Tables.TheInside.{Inside}
 use Rattle.mm_tables.specs.Shown.{shown_process, shown_processes, shown_accesses, tables_with}
@@ -64,6 +65,17 @@ ended_bits c e = by_tests (nat_lt 0 c.handles) (nat_lt 0 c.views) e
     by_tests true b e = cc
     by_tests false true e = cc
     by_tests false false e = refl
+
+ended_counts : (c : CountedSection) → is_some (settled_by c) ≡ false → (c.handles ≡ 0) × (c.views ≡ 0)
+ended_counts c e = by_tests (nat_lt 0 c.handles) (nat_lt 0 c.views) refl refl e
+  where
+    none : (k : ℕ) → nat_lt 0 k ≡ false → k ≡ 0
+    none k e = let h = ltb-false 0 k e in omega (arith, h)
+
+    by_tests : (a b : Bool) → nat_lt 0 c.handles ≡ a → nat_lt 0 c.views ≡ b → is_some (cond a (Some c) (cond b (Some (record c { section = record (c.section) { name = None } })) None)) ≡ false → (c.handles ≡ 0) × (c.views ≡ 0)
+    by_tests true b h v e = cc
+    by_tests false true h v e = cc
+    by_tests false false h v e = (none c.handles h, none c.views v)
 
 -- ---- what a step leaves
 
@@ -217,6 +229,20 @@ module _ {t : Tables} {pid : ℕ} {p q : ProcessOf (Unit {0})} {m : ℕ} {old no
 
   -- ---- the section ends
 
+  -- the process has no reference to it left
+  left_none : is_some (settled_by now) ≡ false → (handles_in m (Some q) ≡ 0) × (views_in m (Some q) ≡ 0)
+  left_none ended =
+      let none = ended_counts now ended in (
+        omega (arith, none.0, l.handles, counts.handles, handles_put t pid m p None l.lives),
+        omega (arith, none.1, l.seen, counts.views, views_put t pid m p None l.lives),
+      )
+
+  -- its area goes with the last one
+  its_rank : a.file_block ≡ None → (rank : ℕ → ℕ) → IsFor rank pid t → (r : ℕ) → 1 ≤ r → section_rank m (Some p) ≡ r → rank area ≡ r
+  its_rank paging rank for r some e =
+      let same : section_rank m (process_of t pid) ≡ r = ap (section_rank m) l.lives ∙ e in
+      for m old.section there paging (omega (arith, some, same)) ∙ same
+
   -- no view of its area is left
   unseen : is_some (settled_by now) ≡ false → a.file_block ≡ None → (n i : ℕ) (x : ProcessOf (Unit {0})) (r : RegionOf (Unit {0})) (v : View) → process_of u n ≡ Some x → slice_get x.regions i ≡ Some r → r.kind ≡ kind.View v → v.area.0 ≢ area
   unseen ended paging n i x r v alive at is same =
@@ -301,21 +327,13 @@ pub record Standing (t : Tables) (items : List (Option Process)) (entries : Numb
   pub sections : sections_of entries ≡ t.sections
   pub areas_are : areas ≡ t.areas
 
-pub standing : (m : MachineOf) (items : List (Option Process)) (entries : Numbered CountedSection) (areas : List (AreaOf (Unit {0}))) (files : List FileOf) (used fails : ℕ) (accesses : Numbered KeptOf) (stacks : Numbered StackOf) (commit : CommitOf) (t : Tables) → tables_with m (shown_processes items) entries areas files used fails accesses stacks ≡ t → IsKept (tables_with m (shown_processes items) entries areas files used fails accesses stacks) entries commit → Standing t items entries areas commit
-standing m items entries areas files used fails accesses stacks commit t view kept =
-    record {
-      kept = subst (λ (t : Tables). IsKept t entries commit) view kept;
-      processes = ap (λ (t : Tables). t.processes) view;
-      sections = ap (λ (t : Tables). t.sections) view;
-      areas_are = ap (λ (t : Tables). t.areas) view;
-    }
-
 -- the tables as they are kept, with this at the place of a process, this directory and these areas
 abbrev pub kept_with : Inside → ℕ → Option Process → DirectoryOf → List (AreaOf (Unit {0})) → Tables
 kept_with i pid y dir areas = tables_with i.machine (shown_processes (set i.processes.items (pid - 1) y)) dir.entries areas dir.files i.blocks_used i.fails_taken (shown_accesses i.kept) i.stacks
 
--- one reference less in them, before the area of a section that ended is looked at
-pub record Step (i : Inside) (t : Tables) (pid : ℕ) (q : ProcessOf (Unit {0})) (y : Option Process) (dir : DirectoryOf) (result : Option Area) (commit : CommitOf) (c0 c1 : Key → Option Page) (s0 s1 : StoreOf) : Type 0 where
+-- one reference less in them, before the area of a section that ended is looked at; where it was the last of the process, its
+-- area goes with this rank
+pub record Step (i : Inside) (t : Tables) (pid : ℕ) (q : ProcessOf (Unit {0})) (y : Option Process) (dir : DirectoryOf) (result : Option Area) (commit : CommitOf) (c0 c1 : Key → Option Page) (s0 s1 : StoreOf) (rank : ℕ) : Type 0 where
   pub p : ProcessOf (Unit {0})
   pub m : ℕ
   pub old : CountedSection
@@ -331,8 +349,10 @@ pub record Step (i : Inside) (t : Tables) (pid : ℕ) (q : ProcessOf (Unit {0}))
   pub less : Less c0 c1
   pub rest : s1 ≡ beside s0 s1
   pub fits : Fits (set_process t pid (Some q)) c1 s1
+  pub ranked : handles_in m (Some q) ≡ 0 → views_in m (Some q) ≡ 0 → section_rank m (Some p) ≡ rank
+  pub early : 1 ≤ rank
 
-module _ {i : Inside} {t : Tables} {pid : ℕ} {q : ProcessOf (Unit {0})} {y : Option Process} {dir : DirectoryOf} {result : Option Area} {commit : CommitOf} {c0 c1 : Key → Option Page} {s0 s1 : StoreOf} (w : Step i t pid q y dir result commit c0 c1 s0 s1) where
+module _ {i : Inside} {t : Tables} {pid : ℕ} {q : ProcessOf (Unit {0})} {y : Option Process} {dir : DirectoryOf} {result : Option Area} {commit : CommitOf} {c0 c1 : Key → Option Page} {s0 s1 : StoreOf} {rank : ℕ} (w : Step i t pid q y dir result commit c0 c1 s0 s1 rank) where
   abbrev its_area : ℕ
   its_area = w.old.section.area
 
@@ -374,6 +394,11 @@ module _ {i : Inside} {t : Tables} {pid : ℕ} {q : ProcessOf (Unit {0})} {y : O
     module _ {pages : AreaOf (Unit {0})} (at : pages ≡ get_or i.areas.items n.0 pages) where
       is_area : pages ≡ area_at t its_area
       is_area = get_or_read_under t.areas its_area (length t.areas) pages no_area (at ∙ (λ j. get_or (areas_are j) (end.1 j) pages)) (inside w.one) refl ∙ sym (unwrap_or-slice_get t.areas its_area no_area)
+
+      pub ends_at : pages.file_block ≡ None → (ranks : ℕ → ℕ) → IsFor ranks pid t → ranks n.0 ≡ rank
+      ends_at paging ranks for =
+          let none = left_none w.one end.0 in
+          ap ranks end.1 ∙ its_rank w.one (ap (λ (a : AreaOf (Unit {0})). a.file_block) (sym is_area) ∙ paging) ranks for rank w.early (w.ranked none.0 none.1)
 
       pub whole_can : IsReleasing s1.kind → pages.file_block ≡ None → CanEnd n pages c1 s1
       whole_can releasing paging =

@@ -27,6 +27,7 @@ use Rattle.mm_world.proofs.Each.{each-at}
 use Rattle.mm_world.proofs.Finding.{found_stands}
 use Rattle.mm_world.proofs.Keeps.{unmap_keeps}
 use Rattle.mm_pages.specs.Store.{StoreOf, is_place_in}
+use Rattle.mm_pages.specs.Leaving.{section_rank, page_rank}
 use Rattle.mm_commit.specs.Charge.{CommitOf}
 use Rattle.mm_sections.specs.Directories.{CountedSection, DirectoryOf, settled_by, one_view_less}
 use Rattle.mm_spaces.specs.Tables.{rows_of, owned_in, marked_in, found_info}
@@ -44,6 +45,7 @@ use Rattle.mm_tables.proofs.EndingFits.{Loses, fits_lost, region_loses}
 use Rattle.mm_tables.proofs.OneProcess.{own_rows, paging-remove_region}
 use Rattle.mm_tables.proofs.Rows.{in_range}
 use Rattle.mm_tables.proofs.Settled.{live_is, bound_in, ends, is_around, around_is, whole_inside, whole_range, whole_owned, some_pages}
+use Rattle.mm_tables.proofs.EndingRanks.{removed_rank}
 use Rattle.mm_tables.proofs.EndingSteps.{OneLess, Step, lives_as}
 use Rattle.mm_tables.proofs.EndingClose.{Known, by_shown, same_process, has_entry}
 
@@ -186,6 +188,16 @@ module _ {i : Inside} {t : Tables} {x : Option Process} (pid : Pid) (k : Known i
   pub unmap_counted : IsSomeAnd (numbered i.directory.entries view.section.0) (λ c. 1 ≤ c.views)
   unmap_counted = subst (λ (o : Option CountedSection). IsSomeAnd o (λ c. 1 ≤ c.views)) (sym e.1) some_of
 
+  pub unmap_some : 1 ≤ range.count
+  unmap_some = some t pid k.process v.found.place v.found.thing range k.lives v.at v.pages k.kept.sound
+
+  -- it was the last reference of the process
+  unmap_rank : views_in view.section.0 (Some q) ≡ 0 → section_rank view.section.0 (Some k.process) ≡ page_rank (end_of range) - 1
+  unmap_rank views =
+      removed_rank view.section.0 v.found.place k.process v.found.thing v.at
+      (ap (is_view_of view.section.0) v.is ∙ (unsigned_Decides view.section.0 view.section.0).1 refl) views
+      ∙ ap (λ (pages : Range). page_rank (end_of pages) - 1) v.pages
+
   -- by whatever names the process and the region have
   pub unmap_named : (p : ProcessOf (Unit {0})) (r : Found (RegionOf (Unit {0}))) → process_of t pid.0 ≡ Some p → view_at p.regions addr ≡ Some r → settle (set_process t pid.0 (Some q)) ≡ settle (set_process t pid.0 (Some (unmapped p r.place)))
   unmap_named p r lives found =
@@ -217,7 +229,7 @@ module _ {i : Inside} {t : Tables} {x : Option Process} (pid : Pid) (k : Known i
           → ((p : ProcessOf (Unit {0})) → option_map shown_process x ≡ Some p → Released pid range p.regions c d s z) → commit ≡ record i.commit { charge = i.commit.charge - marked }
           → ((c : CountedSection) → numbered i.directory.entries view.section.0 ≡ Some c → dir ≡ record i.directory { entries = set i.directory.entries view.section.0 (settled_by (one_view_less c)) })
           → ((c : CountedSection) → numbered i.directory.entries view.section.0 ≡ Some c → result ≡ cond (is_some (settled_by (one_view_less c))) None (Some (record { 0 = c.section.area })))
-          → Step i t pid.0 q y dir result commit c d s z
+          → Step i t pid.0 q y dir result commit c d s z (page_rank (end_of range) - 1)
       unmap_step {dir} {result} {commit} {d} {z} y removed released refunded dropped ended =
           let gone = released k.process k.shown in
           record {
@@ -236,4 +248,6 @@ module _ {i : Inside} {t : Tables} {x : Option Process} (pid : Pid) (k : Known i
             less = gone.lost.less;
             rest = gone.lost.rest;
             fits = fits_removed t pid k.process v.found.place v.found.thing range k.lives v.at v.pages k.kept.sound c s fits d z gone;
+            ranked = λ handles. unmap_rank;
+            early = omega arith;
           }

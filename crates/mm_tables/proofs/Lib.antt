@@ -31,4 +31,5 @@ pub mod EndingSteps
 pub mod EndingClose
 pub mod EndingUnmap
 pub mod EndingRuns
+pub mod EndingRanks
 pub mod EndingExits

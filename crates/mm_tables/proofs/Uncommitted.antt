@@ -1,6 +1,9 @@
 -- Places without a committed row, and pages of a private region that are decommitted or released.
-use Rattle.std.proofs.Common.{◌≡◌, ℕ, ◌-◌, ◌≤◌, Bool, true, false, Option, Some, None, List, sym, ◌∙◌, ap, arith, is_some, not, option_map, cond, set, slice_get, ◌+◌, subst, count_by}
-use Rattle.std.specs.Prelude.{option_and_then, remove}
+use Rattle.std.proofs.Common.{refl, ◌≡◌, ℕ, ◌-◌, ◌≤◌, Bool, true, false, Option, Some, None, List, sym, ◌∙◌, ap, arith, is_some, not, option_map, cond, set, slice_get, ◌+◌, subst, count_by}
+use Rattle.std.specs.Prelude.{option_and_then, remove, ◌==◌, ◌&&◌}
+use Rattle.std.specs.Cmp.{unsigned_Decides}
+use Rattle.mm_types.proofs.Booleans.{both}
+use Rattle.mm_pages.specs.Leaving.{leaving, page_rank}
 use Rattle.mm_types.specs.declared.numbers.Pid.{Pid}
 use Rattle.mm_types.specs.declared.numbers.Place.{Place}
 use Rattle.mm_types.specs.declared.numbers.Key.{Key}
@@ -52,13 +55,17 @@ ended t pid page e = ap (λ (o : Option (ProcessOf (Unit {0}))). not (is_some (o
 pub all_ended : (t v : Tables) (pid : Pid) (p : ProcessOf (Unit {0})) → process_of t pid.0 ≡ Some p → v ≡ settle (set_process t pid.0 None) → (page : ℕ) → is_uncommitted v (place_at pid page) ≡ true
 all_ended t v pid p lives is page = ended v pid page (ap (λ (w : Tables). process_of w pid.0) is ∙ process_same t pid.0 p None lives)
 
+-- a place of the process itself
+pub its_own : (pid : Pid) (places : Place → Bool) (page : ℕ) → places (place_at pid page) ≡ true → ((pid.0 == pid.0) && places (place_at pid page)) ≡ true
+its_own pid places page e = both (pid.0 == pid.0) (places (place_at pid page)) ((unsigned_Decides pid.0 pid.0).1 refl) e
+
 -- places that are bound no more
-pub among_unbound : (t : Tables) (c : Key → Option Page) (z : StoreOf) (pid : Pid) (range : Range) → Fits t c z → AreUnbound pid range z → AreAmong (is_uncommitted t) 0 end_of_user_pages pid range
-among_unbound t c z pid range fits unbound =
+pub among_unbound : (o t : Tables) (c : Key → Option Page) (z : StoreOf) (pid : Pid) (range : Range) → Fits t c z → AreUnbound pid range z → AreAmong (leaving o pid.0 (is_uncommitted t)) 1 (page_rank end_of_user_pages) pid range
+among_unbound o t c z pid range fits unbound =
     record {
-      each = λ page e. unreserved t (place_at pid page) (sym (fits.bound (place_at pid page)) ∙ unbound.each page e);
+      each = λ page e. its_own pid (is_uncommitted t) page (unreserved t (place_at pid page) (sym (fits.bound (place_at pid page)) ∙ unbound.each page e));
       first = omega arith;
-      last = unbound.end;
+      last = omega (arith, unbound.end);
     }
 
 pub stored_unbound : (pid : Pid) (range : Range) (keys : Effect) (clears : Bool) (c d : Key → Option Page) (s z : StoreOf) → end_of range ≤ end_of_user_pages → Stored pid range keys Ends clears c d s z → AreUnbound pid range z
@@ -130,7 +137,7 @@ module _ {i : the_inside.Inside} {t : Tables} {o : Option Process} (pid : Pid) (
         counted = omega (arith, some, few);
       }
 
-  pub decommit_among : {n : ℕ} {new : Option Process} {d : Key → Option Page} {z : StoreOf} → Freed i t pid h.process o new emptied_rows n c d s z → Stored pid range Ends Leaves true c d s z → AreAmong (is_uncommitted (shown_with i (set i.processes.items (pid.0 - 1) new))) 0 end_of_user_pages pid range
+  pub decommit_among : {n : ℕ} {new : Option Process} {d : Key → Option Page} {z : StoreOf} → Freed i t pid h.process o new emptied_rows n c d s z → Stored pid range Ends Leaves true c d s z → AreAmong (leaving t pid.0 (is_uncommitted (shown_with i (set i.processes.items (pid.0 - 1) new)))) 1 (page_rank end_of_user_pages) pid range
   decommit_among {n} {new} {d} {z} f stored =
       let row = change_rows (λ row. reserved_row) range found.0.thing in
       let q : ProcessOf (Unit {0}) = record h.process { regions = emptied_rows } in
@@ -141,13 +148,13 @@ module _ {i : the_inside.Inside} {t : Tables} {o : Option Process} (pid : Pid) (
       let same = same_pages (λ row. reserved_row) range found.0.thing in
       let low : row.base ≤ range.first = placed.inside.low in
       let within : Inside range (pages_of row) = record { low = low; high = omega (arith, placed.inside.high, same.rows) } in
-      subst (λ (w : Tables). AreAmong (is_uncommitted w) 0 end_of_user_pages pid range) (sym (freed_is pid h f)) (record {
-        each = λ page e.
-            ap (λ (o : Option Key). not (is_some o))
+      subst (λ (w : Tables). AreAmong (leaving t pid.0 (is_uncommitted w)) 1 (page_rank end_of_user_pages) pid range) (sym (freed_is pid h f)) (record {
+        each = λ page e. its_own pid (is_uncommitted u) page
+            (ap (λ (o : Option Key). not (is_some o))
             (uncommitted_is u pid q d z now sound f.done.settled.fits found.0.place row range there within of_own page e
-            (ap (λ (f : Key → Option Page). is_live pid f page) stored.contents ∙ ap (λ b. is_some (cond b None (c (own pid page)))) (here pid range page e)));
+            (ap (λ (f : Key → Option Page). is_live pid f page) stored.contents ∙ ap (λ b. is_some (cond b None (c (own pid page)))) (here pid range page e))));
         first = omega arith;
-        last = ends u pid q d z now sound f.done.settled.fits found.0.place row range there within;
+        last = omega (arith, ends u pid q d z now sound f.done.settled.fits found.0.place row range there within);
       })
 
 -- ---- a private region is released
@@ -193,7 +200,7 @@ module _ {i : the_inside.Inside} {t : Tables} {o : Option Process} (pid : Pid) (
         counted = omega (arith, some, few, private_charge begun.0.thing starts.private);
       }
 
-  pub release_among : {n : ℕ} {new : Option Process} {d : Key → Option Page} {z : StoreOf} → Freed i t pid h.process o new without_it n c d s z → Stored pid range Ends Ends true c d s z → AreAmong (is_uncommitted (shown_with i (set i.processes.items (pid.0 - 1) new))) 0 end_of_user_pages pid range
+  pub release_among : {n : ℕ} {new : Option Process} {d : Key → Option Page} {z : StoreOf} → Freed i t pid h.process o new without_it n c d s z → Stored pid range Ends Ends true c d s z → AreAmong (leaving t pid.0 (is_uncommitted (shown_with i (set i.processes.items (pid.0 - 1) new)))) 1 (page_rank end_of_user_pages) pid range
   release_among {n} {new} {d} {z} f stored =
-      subst (λ (w : Tables). AreAmong (is_uncommitted w) 0 end_of_user_pages pid range) (sym (freed_is pid h f))
-      (among_unbound (set_regions t pid.0 h.process without_it) d z pid range f.done.settled.fits (stored_unbound pid range Ends true c d s z release_end stored))
+      subst (λ (w : Tables). AreAmong (leaving t pid.0 (is_uncommitted w)) 1 (page_rank end_of_user_pages) pid range) (sym (freed_is pid h f))
+      (among_unbound t (set_regions t pid.0 h.process without_it) d z pid range f.done.settled.fits (stored_unbound pid range Ends true c d s z release_end stored))

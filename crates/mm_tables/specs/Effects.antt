@@ -1,4 +1,5 @@
--- What a call does to the keys and places of a range of a process, and to the process's regions with them.
+-- What a call does to the keys and places of a range of a process, and to the process's regions
+-- with them.
 use Rattle.std.specs.Prelude.{◌≡◌, ◌≤◌, ◌+◌, ◌==◌, if◌then◌else◌, ℕ, Bool, true, false, cond, is_some, List, Option, Some, None, option_map}
 use Rattle.mm_types.specs.declared.numbers.Key.{Key}
 use Rattle.mm_types.specs.declared.numbers.Pid.{Pid}
@@ -48,7 +49,8 @@ names_by true pid range names = changed_in pid range names None
 names_by false pid range names = names
 
 -- a store after a call on a range
-pub record Stored (pid : Pid) (range : Range) (keys places : Effect) (clears : Bool) (c d : Key → Option Page) (s z : StoreOf) : Type 0 where
+pub record Stored (pid : Pid) (range : Range) (keys places : Effect) (clears : Bool)
+    (c d : Key → Option Page) (s z : StoreOf) : Type 0 where
   pub contents : d ≡ contents_by keys pid range c
   pub paging : z.paging ≡ paging_by keys pid range s.paging
   pub bound : z.bound ≡ bound_by places pid range s.bound
@@ -61,11 +63,16 @@ pub record Stored (pid : Pid) (range : Range) (keys places : Effect) (clears : B
 abbrev pub key_in : Tables → ℕ → List (RegionOf (Unit {0})) → ℕ → Option Key
 key_in t pid rs page = option_map (λ c. key_of pid page c.home) (committed_at t rs page)
 
--- what the pages of the regions of a process have after it, in tables with the same areas; a name that is not cleared stays
-pub record Moves (t : Tables) (pid : Pid) (range : Range) (keys places : Effect) (clears : Bool) (rs ss : List (RegionOf (Unit {0}))) : Type 0 where
-  pub owned : (v : ℕ) → is_some (own_page ss v) ≡ after keys (holds_page range v) (is_some (own_page rs v))
-  pub reserved : (v : ℕ) → is_some (region_with ss v) ≡ after places (holds_page range v) (is_some (region_with rs v))
-  pub named : (v : ℕ) (k : Key) → (clears ≡ true → holds_page range v ≡ false) → key_in t pid.0 rs v ≡ Some k → key_in t pid.0 ss v ≡ Some k
+-- what the pages of the regions of a process have after it, in tables with the same areas; a name
+-- that is not cleared stays
+pub record Moves (t : Tables) (pid : Pid) (range : Range) (keys places : Effect) (clears : Bool)
+    (rs ss : List (RegionOf (Unit {0}))) : Type 0 where
+  pub owned : (v : ℕ) →
+      is_some (own_page ss v) ≡ after keys (holds_page range v) (is_some (own_page rs v))
+  pub reserved : (v : ℕ) →
+      is_some (region_with ss v) ≡ after places (holds_page range v) (is_some (region_with rs v))
+  pub named : (v : ℕ) (k : Key) → (clears ≡ true → holds_page range v ≡ false) →
+      key_in t pid.0 rs v ≡ Some k → key_in t pid.0 ss v ≡ Some k
 
 -- a store in which there may be more room, and nothing else is other
 pub record Roomier (c d : Key → Option Page) (s z : StoreOf) : Type 0 where
@@ -78,12 +85,15 @@ abbrev pub keys_of : ℕ → Effect
 keys_of type = if type == reserve_type then Leaves else Makes
 
 -- a region can be made of these pages of a process, and `total` keys are room enough for them
-pub record CanMake (pid : Pid) (range : Range) (type total : ℕ) (regions : List (RegionOf (Unit {0}))) (c : Key → Option Page) (s : StoreOf) : Type 0 where
-  pub live : (page : ℕ) → holds_page range page ≡ true → is_live pid c page ≡ is_some (own_page regions page)
+pub record CanMake (pid : Pid) (range : Range) (type total : ℕ)
+    (regions : List (RegionOf (Unit {0}))) (c : Key → Option Page) (s : StoreOf) : Type 0 where
+  pub live : (page : ℕ) → holds_page range page ≡ true →
+      is_live pid c page ≡ is_some (own_page regions page)
   pub dead : (page : ℕ) → holds_page range page ≡ true → is_some (own_page regions page) ≡ false
   pub opened : s.is_open pid.0 ≡ true
   pub unbound : AllBound s pid range false
-  pub paging : (page : ℕ) → holds_page range page ≡ true → s.paging (own_key (place_at pid page)) ≡ is_live pid c page
+  pub paging : (page : ℕ) → holds_page range page ≡ true →
+      s.paging (own_key (place_at pid page)) ≡ is_live pid c page
   pub few : s.paging_keys + new_pages type range ≤ total
   pub within : total ≤ limit_of s.machine
   pub called : s.kind ≡ kind.Call

@@ -1,4 +1,5 @@
--- Keys that are removed one after another, regions that are given up, and areas that end with their sections.
+-- Keys that are removed one after another, regions that are given up, and areas that end with their
+-- sections.
 use Rattle.std.specs.Prelude.{◌≡◌, ◌≤◌, ◌<◌, ℕ, zero, suc, ◌+◌, ◌-◌, Bool, true, false, ◌&&◌, ◌||◌, ◌==◌, if◌then◌else◌, is_some, Option, Some, None, List, length, count_by, remove}
 use Rattle.mm_types.specs.declared.moves.LineKind.TheVariants as line_kind
 use Rattle.mm_types.specs.declared.numbers.Area.{Area}
@@ -7,14 +8,15 @@ use Rattle.mm_types.specs.declared.numbers.Key.TheVariants as key
 use Rattle.mm_types.specs.declared.numbers.Pid.{Pid}
 use Rattle.mm_types.specs.declared.numbers.Place.{Place}
 use Rattle.mm_types.specs.Address.{Range, holds_page, end_of, end_of_user_pages}
-use Rattle.mm_world.specs.World.{Page, AreaOf, RegionOf, ProcessOf, numbered}
-use Rattle.mm_world.specs.Find.{no_area, set_process}
+use Rattle.mm_world.specs.World.{Page, AreaOf, RegionOf, ProcessOf, SectionOf, numbered}
+use Rattle.mm_world.specs.Find.{no_area, area_at, process_of, section_of, set_process}
 use Rattle.mm_world.specs.Keys.{own_page}
 use Rattle.mm_world.specs.Sections.{settle}
 use Rattle.mm_world.specs.Failure.{same_key}
 use Rattle.mm_world.specs.Contents.{Tables}
 use Rattle.mm_pages.specs.Store.{StoreOf, changed, changed_in, own_key, is_place_in}
 use Rattle.mm_pages.specs.Reports.{rearranged}
+use Rattle.mm_pages.specs.Leaving.{section_rank}
 use Rattle.mm_pages.specs.Conditions.{AllBound, MayRemove, IsReleasing, place_at}
 use Rattle.mm_tables.specs.Fits.{Fits, beside}
 
@@ -31,8 +33,8 @@ owned_among owned zero = 0
 owned_among owned (suc n) = owned_among owned n + (if owned n then 1 else 0)
 
 -- the keys that are held are live no more
-abbrev pub without : (Key → Bool) → (Key → Option Page) → Key → Option Page
-without held c k = if held k then None else c k
+abbrev pub without_keys : (Key → Bool) → (Key → Option Page) → Key → Option Page
+without_keys held c k = if held k then None else c k
 
 abbrev pub without_paging : (Key → Bool) → (Key → Bool) → Key → Bool
 without_paging held f k = if held k then false else f k
@@ -43,7 +45,7 @@ without_names held names place = if held (own_key place) then None else names pl
 
 -- a store after the keys that are held, `n` of them, were removed
 pub record Gone (held : Key → Bool) (n : ℕ) (c d : Key → Option Page) (s z : StoreOf) : Type 0 where
-  pub contents : d ≡ without held c
+  pub contents : d ≡ without_keys held c
   pub store : z ≡ record s {
     names = without_names held s.names;
     paging = without_paging held s.paging;
@@ -80,12 +82,14 @@ abbrev pub Less : (Key → Option Page) → (Key → Option Page) → Type 0
 Less c d = (k : Key) → is_some (d k) ≡ true → d k ≡ c k
 
 -- a store after the keys that are held, `n` of them live, and the places that were left
-pub record Lost (held : Key → Bool) (left : Place → Bool) (n : ℕ) (c d : Key → Option Page) (s z : StoreOf) : Type 0 where
+pub record Lost (held : Key → Bool) (left : Place → Bool) (n : ℕ) (c d : Key → Option Page)
+    (s z : StoreOf) : Type 0 where
   pub live : (k : Key) → is_some (d k) ≡ (if held k then false else is_some (c k))
   pub less : Less c d
   pub paging : (k : Key) → z.paging k ≡ (if held k then false else s.paging k)
   pub bound : (place : Place) → z.bound place ≡ (if left place then false else s.bound place)
-  pub names : (place : Place) (k : Key) → z.names place ≡ Some k → (s.names place ≡ Some k) × (left place ≡ false)
+  pub names : (place : Place) (k : Key) → z.names place ≡ Some k → (s.names place ≡ Some k) ×
+      (left place ≡ false)
   pub count : z.paging_keys ≡ s.paging_keys - n
   pub open_same : z.is_open ≡ s.is_open
   pub room : z.room ≡ s.room
@@ -107,22 +111,27 @@ nowhere place = false
 -- ---- regions
 
 -- pages of a process can be given up: their keys are those of the regions
-pub record CanRelease (pid : Pid) (range : Range) (regions : List (RegionOf (Unit {0}))) (c : Key → Option Page) (s : StoreOf) : Type 0 where
-  pub live : (i : ℕ) → i < range.count → is_some (c (own_at pid range.first i)) ≡ is_owned_at regions range.first i
-  pub paging : (i : ℕ) → i < range.count → s.paging (own_at pid range.first i) ≡ is_owned_at regions range.first i
+pub record CanRelease (pid : Pid) (range : Range) (regions : List (RegionOf (Unit {0})))
+    (c : Key → Option Page) (s : StoreOf) : Type 0 where
+  pub live : (i : ℕ) → i < range.count →
+      is_some (c (own_at pid range.first i)) ≡ is_owned_at regions range.first i
+  pub paging : (i : ℕ) → i < range.count →
+      s.paging (own_at pid range.first i) ≡ is_owned_at regions range.first i
   pub bound : AllBound s pid range true
   pub unbinding : s.kind ≡ line_kind.Unbind pid
 
 -- one page can be given up, with its key if it is owned
-pub record CanGiveUp (pid : Pid) (page : ℕ) (owned : Bool) (c : Key → Option Page) (s : StoreOf) : Type 0 where
+pub record CanGiveUp (pid : Pid) (page : ℕ) (owned : Bool) (c : Key → Option Page) (s : StoreOf) :
+    Type 0 where
   pub live : is_some (c (own_key (place_at pid page))) ≡ owned
   pub paging : s.paging (own_key (place_at pid page)) ≡ owned
   pub bound : s.bound (place_at pid page) ≡ true
   pub unbinding : s.kind ≡ line_kind.Unbind pid
 
 -- a store after pages of a process were given up: their keys, `n` of them, and their places
-pub record GivenUp (pid : Pid) (range : Range) (n : ℕ) (c d : Key → Option Page) (s z : StoreOf) : Type 0 where
-  pub contents : d ≡ without (is_key_in pid range) c
+pub record GivenUp (pid : Pid) (range : Range) (n : ℕ) (c d : Key → Option Page) (s z : StoreOf) :
+    Type 0 where
+  pub contents : d ≡ without_keys (is_key_in pid range) c
   pub store : z ≡ record s {
     bound = changed_in pid range s.bound false;
     names = changed_in pid range s.names None;
@@ -131,8 +140,10 @@ pub record GivenUp (pid : Pid) (range : Range) (n : ℕ) (c d : Key → Option P
     report = rearranged s.report z.report;
   }
 
-pub record Released (pid : Pid) (range : Range) (regions : List (RegionOf (Unit {0}))) (c d : Key → Option Page) (s z : StoreOf) : Type 0 where
-  pub lost : Lost (is_key_in pid range) (is_place_in pid range) (owned_among (is_owned_at regions range.first) range.count) c d s z
+pub record Released (pid : Pid) (range : Range) (regions : List (RegionOf (Unit {0})))
+    (c d : Key → Option Page) (s z : StoreOf) : Type 0 where
+  pub lost : Lost (is_key_in pid range) (is_place_in pid range)
+      (owned_among (is_owned_at regions range.first) range.count) c d s z
   pub areas : z.areas ≡ s.areas
 
 -- these user pages of a process are bound no more
@@ -147,7 +158,8 @@ abbrev pub ended_area : {B : Type 0} → AreaOf B → AreaOf B
 ended_area a = if is_some a.file_block then a else no_area
 
 -- an area of which this is the number can end: no place names a page of it
-pub record CanEnd (area : Area) (a : AreaOf (Unit {0})) (c : Key → Option Page) (s : StoreOf) : Type 0 where
+pub record CanEnd (area : Area) (a : AreaOf (Unit {0})) (c : Key → Option Page) (s : StoreOf) :
+    Type 0 where
   pub live : (i : ℕ) → is_some (c (shared_at area i)) ≡ is_committed_in a i
   pub paging : (i : ℕ) → s.paging (shared_at area i) ≡ is_committed_in a i
   pub unnamed : (place : Place) (i : ℕ) → s.names place ≡ Some (shared_at area i) → ⊥
@@ -155,9 +167,18 @@ pub record CanEnd (area : Area) (a : AreaOf (Unit {0})) (c : Key → Option Page
   pub releasing : IsReleasing s.kind
 
 -- a store after an area ended that is no file's
-pub record Emptied (area : Area) (a : AreaOf (Unit {0})) (c d : Key → Option Page) (s z : StoreOf) : Type 0 where
+pub record Emptied (area : Area) (a : AreaOf (Unit {0})) (c d : Key → Option Page) (s z : StoreOf) :
+    Type 0 where
   pub lost : Lost (is_shared_in area.0) nowhere (count_by is_some a.pages) c d s z
   pub areas : z.areas ≡ changed ◌==◌ s.areas area.0 None
+
+-- ---- the order in which areas end
+
+-- the pages of page-file sections that a process can give up go where they have these ranks
+abbrev pub IsFor : (ℕ → ℕ) → ℕ → Tables → Type 0
+IsFor rank pid t = (n : ℕ) (s : SectionOf) → section_of t n ≡ Some s
+    → (area_at t s.area).file_block ≡ None → 1 ≤ section_rank n (process_of t pid)
+    → rank s.area ≡ section_rank n (process_of t pid)
 
 -- ---- ends
 
@@ -167,6 +188,7 @@ pub record Toward (pid : ℕ) (t u : Tables) (c d : Key → Option Page) (s z : 
   pub fits : Fits u d z
   pub less : Less c d
   pub rest : z ≡ beside s z
+  pub ranks : (rank : ℕ → ℕ) → IsFor rank pid t → IsFor rank pid u
 
 -- no handle of the process is open
 abbrev pub HasNoHandle : ProcessOf (Unit {0}) → Type 0

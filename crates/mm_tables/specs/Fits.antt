@@ -35,13 +35,15 @@ module _ {B : Type 0} where
   -- the place lies in a region of a living process
   abbrev pub is_reserved : WorldOf B → Place → Bool
   is_reserved w place =
-      unwrap_or (option_map (λ p. is_some (region_with p.regions place.vpn.0)) (process_of w place.pid.0)) false
+      unwrap_or (option_map (λ p. is_some (region_with p.regions place.vpn.0))
+      (process_of w place.pid.0)) false
 
   -- the key of the place's committed row
   abbrev pub key_at : WorldOf B → Place → Option Key
   key_at w place =
       option_and_then
-      (λ p. option_map (λ c. key_of place.pid.0 place.vpn.0 c.home) (committed_at w p.regions place.vpn.0))
+      (λ p. option_map (λ c. key_of place.pid.0 place.vpn.0 c.home)
+      (committed_at w p.regions place.vpn.0))
       (process_of w place.pid.0)
 
   -- no committed row is there
@@ -64,7 +66,8 @@ module _ {B : Type 0} where
       then option_map (λ first. first + index) (area_at w area.0).file_block
       else None
 
-  -- how many page-file keys live: the private pages, copied ones among them, and the committed pages of page-file sections
+  -- how many page-file keys live: the private pages, copied ones among them, and the committed
+  -- pages of page-file sections
   abbrev pub owned_by : Option (ProcessOf B) → ℕ
   owned_by None = 0
   owned_by (Some p) = sum_by (λ r. count_by (λ row. is_some row.own) r.rows) p.regions
@@ -91,7 +94,8 @@ pub record Fits (t : Tables) (contents : Key → Option Page) (s : StoreOf) : Ty
   pub named_file : length s.file_device.named ≤ t.fails_taken
 
 -- a call was decided as the definition says, and the bytes of keys that stay are kept
-pub record Called (q : OutcomeOf (Unit {0})) (t : Tables) (old : Key → Option Page) (a : Answer) (after : Tables) (new : Key → Option Page) : Type 0 where
+pub record Called (q : OutcomeOf (Unit {0})) (t : Tables) (old : Key → Option Page) (a : Answer)
+    (after : Tables) (new : Key → Option Page) : Type 0 where
   pub outcome : q ≡ record { answer = a; world = after }
   pub bytes : BytesAfter t (bytes_of old) after (bytes_of new)
 
@@ -111,7 +115,8 @@ beside old new =
 
 -- a key's bytes are as they were, or zeros where the key is new
 abbrev pub Carried : Option Page → Option Page → Type 0
-Carried old new = unwrap_or new (filled 0) ≡ (if is_some old && is_some new then unwrap_or old (filled 0) else filled 0)
+Carried old new = unwrap_or new (filled 0) ≡
+    (if is_some old && is_some new then unwrap_or old (filled 0) else filled 0)
 
 pub record Carries (old new : Key → Option Page) : Type 0 where
   pub at : (k : Key) → Carried (old k) (new k)
@@ -131,7 +136,10 @@ extended old new =
       line = new.line;
       kind = new.kind;
       ready = None;
-      report = record (begun old.report) { counts = new.report.counts; extended = new.report.extended };
+      report = record (begun old.report) {
+        counts = new.report.counts;
+        extended = new.report.extended;
+      };
       paging_device = called old.paging_device new.paging_device;
     }
 
@@ -151,7 +159,11 @@ filed t name pages byte after =
 
 -- a store after a file was to be made
 abbrev pub beside_file : StoreOf → StoreOf → StoreOf
-beside_file old new = record (wrote old new) { areas = new.areas; block_of = new.block_of; blocks_used = new.blocks_used }
+beside_file old new = record (wrote old new) {
+  areas = new.areas;
+  block_of = new.block_of;
+  blocks_used = new.blocks_used;
+}
 
 -- `flush`: that the file device failed is told by the line's report
 abbrev pub flushed : Tables → ℕ → ℕ → ℕ → Report → OutcomeOf (Unit {0})
@@ -163,7 +175,8 @@ flushed t pid addr size after =
 -- the blocks of the shared pages of a range of a view hold their bytes
 abbrev pub BlocksHold : Tables → (Key → Option Page) → List Page → ℕ → ℕ → ℕ → Type 0
 BlocksHold t contents blocks pid addr size =
-    (p : ProcessOf (Unit {0})) (r : Found (RegionOf (Unit {0}))) (v : View) (page block : ℕ) → process_of t pid ≡ Some p → flushed_view p.regions addr size ≡ Some r →
+    (p : ProcessOf (Unit {0})) (r : Found (RegionOf (Unit {0}))) (v : View) (page block : ℕ) →
+    process_of t pid ≡ Some p → flushed_view p.regions addr size ≡ Some r →
     r.thing.kind ≡ view_kind.View v → holds_page (flushed_range r.thing addr size) page ≡ true →
     block_in t (shared_key v.area.0 (v.first + (page - r.thing.base))) ≡ Some block →
     slice_get blocks block ≡ contents (shared_key v.area.0 (v.first + (page - r.thing.base)))
@@ -178,13 +191,17 @@ before_process t s = record s { last_pid = length t.processes - 1 }
 abbrev pub new_pages : ℕ → Range → ℕ
 new_pages type range = if type == reserve_type then 0 else range.count
 
--- how many pages of a range, which lies in one region, a protection marks: in a view WRITECOPY marks those without a mark
+-- how many pages of a range, which lies in one region, a protection marks: in a view WRITECOPY
+-- marks those without a mark
 abbrev pub marks_in : Kind → List (RegionOf (Unit {0})) → Range → ℕ → ℕ
 marks_in view_kind.Private regions range prot = 0
-marks_in (view_kind.View v) regions range prot = if base_of prot == 0x08 then unmarked_in regions range else 0
+marks_in (view_kind.View v) regions range prot = if base_of prot == 0x08 then
+    unmarked_in regions range else 0
 
 abbrev pub new_marks : List (RegionOf (Unit {0})) → Range → ℕ → ℕ
-new_marks regions range prot = unwrap_or (option_map (λ r. marks_in r.thing.kind regions range prot) (region_around regions range)) 0
+new_marks regions range prot =
+    unwrap_or (option_map (λ r. marks_in r.thing.kind regions range prot)
+    (region_around regions range)) 0
 
 -- ---- copies
 

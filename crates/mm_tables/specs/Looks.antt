@@ -26,11 +26,17 @@ told_row pid page c =
 
 abbrev pub committed_row : Tables → ℕ → ℕ → Option CommittedRow
 committed_row t pid page =
-    option_and_then (λ p. option_map (told_row pid page) (committed_at t p.regions page)) (process_of t pid)
+    option_and_then (λ p. option_map (told_row pid page) (committed_at t p.regions page))
+    (process_of t pid)
 
 -- the section of a handle
 abbrev pub told_section : Found SectionOf → HandleSection
-told_section s = record { id = record { 0 = s.place }; prot = record { 0 = s.thing.prot }; area = record { 0 = s.thing.area } }
+told_section s = record {
+  id = record { 0 = s.place };
+  prot = record { 0 = s.thing.prot };
+  area = record { 0 = s.thing.area };
+}
 
 abbrev pub section_at : Tables → ℕ → ℕ → Option HandleSection
-section_at t pid handle = option_and_then (λ p. option_map told_section (handle_section t p handle)) (process_of t pid)
+section_at t pid handle = option_and_then (λ p. option_map told_section (handle_section t p handle))
+    (process_of t pid)

@@ -18,7 +18,8 @@ is_key_in pid range (key.Shared area index) = false
 
 -- these pages of a process have a key: what was not live reads as zero
 abbrev pub added : Pid → Range → (Key → Option Page) → Key → Option Page
-added pid range contents k = if is_key_in pid range k then Some (unwrap_or (contents k) (filled 0)) else contents k
+added pid range contents k = if is_key_in pid range k then
+    Some (unwrap_or (contents k) (filled 0)) else contents k
 
 -- these pages of a process have none
 abbrev pub removed : Pid → Range → (Key → Option Page) → Key → Option Page
@@ -60,19 +61,27 @@ without_keys pid range count old new =
     }
 
 -- keys can be added where these pages of a process, which regions have, hold none
-pub record CanAdd (pid : Pid) (range : Range) (regions : List (RegionOf (Unit {0}))) (c : Key → Option Page) (s : StoreOf) : Type 0 where
-  pub live : (page : ℕ) → holds_page range page ≡ true → is_live pid c page ≡ is_some (own_page regions page)
+pub record CanAdd (pid : Pid) (range : Range) (regions : List (RegionOf (Unit {0})))
+    (c : Key → Option Page) (s : StoreOf) : Type 0 where
+  pub live : (page : ℕ) → holds_page range page ≡ true →
+      is_live pid c page ≡ is_some (own_page regions page)
   pub bound : AllBound s pid range true
-  pub named : (page : ℕ) → holds_page range page ≡ true → is_live pid c page ≡ false → s.names (place_at pid page) ≡ None
-  pub paging : (page : ℕ) → holds_page range page ≡ true → s.paging (own_key (place_at pid page)) ≡ is_live pid c page
+  pub named : (page : ℕ) → holds_page range page ≡ true → is_live pid c page ≡ false →
+      s.names (place_at pid page) ≡ None
+  pub paging : (page : ℕ) → holds_page range page ≡ true →
+      s.paging (own_key (place_at pid page)) ≡ is_live pid c page
   pub room : s.paging_keys + passing (is_dead pid c) range.first range.count ≤ s.room
   pub called : s.kind ≡ kind.Call
 
 -- those that these pages hold can be removed
-pub record CanRemove (pid : Pid) (range : Range) (regions : List (RegionOf (Unit {0}))) (c : Key → Option Page) (s : StoreOf) : Type 0 where
-  pub live : (page : ℕ) → holds_page range page ≡ true → is_live pid c page ≡ is_some (own_page regions page)
-  pub named : (page : ℕ) → holds_page range page ≡ true → is_live pid c page ≡ false → s.names (place_at pid page) ≡ None
-  pub paging : (page : ℕ) → holds_page range page ≡ true → s.paging (own_key (place_at pid page)) ≡ is_live pid c page
+pub record CanRemove (pid : Pid) (range : Range) (regions : List (RegionOf (Unit {0})))
+    (c : Key → Option Page) (s : StoreOf) : Type 0 where
+  pub live : (page : ℕ) → holds_page range page ≡ true →
+      is_live pid c page ≡ is_some (own_page regions page)
+  pub named : (page : ℕ) → holds_page range page ≡ true → is_live pid c page ≡ false →
+      s.names (place_at pid page) ≡ None
+  pub paging : (page : ℕ) → holds_page range page ≡ true →
+      s.paging (own_key (place_at pid page)) ≡ is_live pid c page
   pub unbinding : s.kind ≡ kind.Unbind pid
 
 -- these pages stand from one number to before another
@@ -92,7 +101,10 @@ abbrev pub low_half : Range → Range
 low_half range = record { first = range.first; count = range.count / 2 }
 
 abbrev pub high_half : Range → Range
-high_half range = record { first = range.first + range.count / 2; count = range.count - range.count / 2 }
+high_half range = record {
+  first = range.first + range.count / 2;
+  count = range.count - range.count / 2;
+}
 
 -- what adding keys comes to
 pub record Adds (pid : Pid) (range : Range) (c d : Key → Option Page) (s z : StoreOf) : Type 0 where
@@ -100,6 +112,7 @@ pub record Adds (pid : Pid) (range : Range) (c d : Key → Option Page) (s z : S
   pub store : z ≡ with_keys pid range (passing (is_dead pid c) range.first range.count) s z
 
 -- what removing keys comes to
-pub record Removes (pid : Pid) (range : Range) (c d : Key → Option Page) (s z : StoreOf) : Type 0 where
+pub record Removes (pid : Pid) (range : Range) (c d : Key → Option Page) (s z : StoreOf) :
+    Type 0 where
   pub contents : d ≡ removed pid range c
   pub store : z ≡ without_keys pid range (passing (is_live pid c) range.first range.count) s z

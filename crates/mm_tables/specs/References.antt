@@ -32,18 +32,22 @@ module _ {B : Type 0} where
     pub committed : count_by is_some (area_at w area).pages ≡ length (area_at w area).pages
 
   abbrev pub KeepersLive : WorldOf B → Type 0
-  KeepersLive w = (tid : ℕ) (k : KeptOf) → numbered w.kept tid ≡ Some k → is_some (process_of w k.pid) ≡ true
+  KeepersLive w = (tid : ℕ) (k : KeptOf) → numbered w.kept tid ≡ Some k →
+      is_some (process_of w k.pid) ≡ true
 
   -- no thread keeps an access of this process
   abbrev pub NobodyKeeps : ℕ → WorldOf B → Type 0
   NobodyKeeps pid w = (tid : ℕ) (k : KeptOf) → numbered w.kept tid ≡ Some k → k.pid ≢ pid
 
   pub record IsTidy (w : WorldOf B) : Type 0 where
-    -- a section lives while a handle or a view refers to it, its name while a handle does, its area's pages while it does
+    -- a section lives while a handle or a view refers to it, its name while a handle does, its
+    -- area's pages while it does
     pub settled : settle w ≡ w
     -- a page-file section has its area alone
-    pub own_area : (n m : ℕ) (s r : SectionOf) → section_of w n ≡ Some s → section_of w m ≡ Some r → s.area ≡ r.area → (area_at w s.area).file_block ≡ None → n ≡ m
-    pub some : (n : ℕ) (s : SectionOf) → section_of w n ≡ Some s → 1 ≤ length (area_at w s.area).pages
+    pub own_area : (n m : ℕ) (s r : SectionOf) → section_of w n ≡ Some s → section_of w m ≡ Some r →
+        s.area ≡ r.area → (area_at w s.area).file_block ≡ None → n ≡ m
+    pub some : (n : ℕ) (s : SectionOf) → section_of w n ≡ Some s →
+        1 ≤ length (area_at w s.area).pages
     pub files : (area first : ℕ) → (area_at w area).file_block ≡ Some first → FileFits w area first
     pub file_areas : Each (λ f. is_some (area_at w f.area).file_block ≡ true) w.files
     -- whoever keeps an access is a thread of a living process

@@ -57,6 +57,10 @@ pub record Fills (area : Area) (n : ℕ) (c d : Key → Option Page) (s z : Stor
   pub store : z ≡ with_area_keys area n s z
 
 -- an area was opened, and its first `n` pages have keys
-pub record Opens (area : Area) (pages n : ℕ) (c d : Key → Option Page) (s z : StoreOf) : Type 0 where
+pub record Opens (area : Area) (pages n : ℕ) (c d : Key → Option Page) (s z : StoreOf) :
+    Type 0 where
   pub contents : d ≡ with_pages area n c
-  pub store : z ≡ record (with_area_keys area n s z) { areas = changed ◌==◌ s.areas area.0 (Some pages); room = z.room }
+  pub store : z ≡ record (with_area_keys area n s z) {
+    areas = changed ◌==◌ s.areas area.0 (Some pages);
+    room = z.room;
+  }

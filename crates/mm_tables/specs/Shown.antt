@@ -24,7 +24,9 @@ abbrev pub unless_of : ℕ → Option Kept → Option Kept
 unless_of pid None = None
 unless_of pid (Some k) = if k.pid.0 == pid then None else Some k
 
-abbrev pub tables_with : MachineOf → List (Option (ProcessOf (Unit {0}))) → Numbered CountedSection → List (AreaOf (Unit {0})) → List FileOf → ℕ → ℕ → Numbered KeptOf → Numbered StackOf → Tables
+abbrev pub tables_with : MachineOf → List (Option (ProcessOf (Unit {0}))) →
+    Numbered CountedSection → List (AreaOf (Unit {0})) → List FileOf → ℕ → ℕ → Numbered KeptOf →
+    Numbered StackOf → Tables
 tables_with machine processes entries areas files blocks_used fails_taken kept stacks =
     record {
       machine = machine;

@@ -13,9 +13,11 @@ pub record IsCounted (t : Tables) (number : ℕ) (c : CountedSection) : Type 0 w
   pub handles : c.handles ≡ handles_to t number
   pub views : c.views ≡ views_of t number
 
-pub record IsKept (t : Tables) (entries : Numbered CountedSection) (commit : CommitOf) : Type 0 where
+pub record IsKept (t : Tables) (entries : Numbered CountedSection) (commit : CommitOf) :
+    Type 0 where
   pub sound : WellFormed t
   pub tidy : IsTidy t
-  pub counted : (number : ℕ) (c : CountedSection) → numbered entries number ≡ Some c → IsCounted t number c
+  pub counted : (number : ℕ) (c : CountedSection) → numbered entries number ≡ Some c →
+      IsCounted t number c
   pub charged : commit.charge ≡ charge t
   pub limited : commit.limit ≡ limit t

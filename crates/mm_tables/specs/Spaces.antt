@@ -12,4 +12,7 @@ regions_of o = unwrap_or (option_map (λ p. p.space.regions) o) []
 pub record Became (old new : Option Process) (regions : List (RegionOf (Unit {0}))) : Type 0 where
   pub process : Process
   pub was : old ≡ Some process
-  pub now : option_map shown_process new ≡ Some (record { regions = regions; handles = process.handles.entries })
+  pub now : option_map shown_process new ≡ Some (record {
+    regions = regions;
+    handles = process.handles.entries;
+  })

@@ -1,4 +1,5 @@
--- A store in which the places of a new view are bound, and one in which pages of a section come to be.
+-- A store in which the places of a new view are bound, and one in which pages of a section come to
+-- be.
 use Rattle.std.specs.Prelude.{◌≡◌, ◌≤◌, ◌<◌, ℕ, ◌+◌, ◌==◌, ◌&&◌, Bool, true, false, nat_le, nat_lt, if◌then◌else◌, is_some, List, length, slice_get, Option, Some, None, unwrap_or}
 use Rattle.mm_types.specs.declared.numbers.Area.{Area}
 use Rattle.mm_types.specs.declared.numbers.Key.{Key}
@@ -30,7 +31,10 @@ area_in areas area = unwrap_or (slice_get areas area) no_area
 
 -- the region of a view of these pages
 abbrev pub section_of_view : View → Found SectionOf
-section_of_view v = record { place = v.section.0; thing = record { prot = 0; name = None; area = v.area.0 } }
+section_of_view v = record {
+  place = v.section.0;
+  thing = record { prot = 0; name = None; area = v.area.0 };
+}
 
 abbrev pub region_of_view : View → Range → RegionOf (Unit {0})
 region_of_view v range = view_region (section_of_view v) v.access v.first range
@@ -42,7 +46,11 @@ pub record MoreRoom (s z : StoreOf) : Type 0 where
 
 -- one in which these places are bound besides, and name nothing
 pub record NewPlaces (pid : Pid) (range : Range) (s z : StoreOf) : Type 0 where
-  pub store : z ≡ record s { bound = changed_in pid range s.bound true; names = changed_in pid range s.names None; room = z.room }
+  pub store : z ≡ record s {
+    bound = changed_in pid range s.bound true;
+    names = changed_in pid range s.names None;
+    room = z.room;
+  }
   pub later : s.room ≤ z.room
 
 -- ---- pages of a section
@@ -50,11 +58,13 @@ pub record NewPlaces (pid : Pid) (range : Range) (s z : StoreOf) : Type 0 where
 -- a key of one of `count` pages of an area from the index `first` on
 abbrev pub is_shared_in : Area → ℕ → ℕ → Key → Bool
 is_shared_in area first count (key.Private pid v) = false
-is_shared_in area first count (key.Shared a i) = (a.0 == area.0) && (nat_le first i && nat_lt i (first + count))
+is_shared_in area first count (key.Shared a i) = (a.0 == area.0) &&
+    (nat_le first i && nat_lt i (first + count))
 
 -- these pages are committed: what was not live reads as zero
 abbrev pub shared_added : Area → ℕ → ℕ → (Key → Option Page) → Key → Option Page
-shared_added area first count c k = if is_shared_in area first count k then Some (unwrap_or (c k) (filled 0)) else c k
+shared_added area first count c k = if is_shared_in area first count k then
+    Some (unwrap_or (c k) (filled 0)) else c k
 
 abbrev pub shared_set : Area → ℕ → ℕ → (Key → Bool) → Key → Bool
 shared_set area first count f k = if is_shared_in area first count k then true else f k
@@ -69,23 +79,30 @@ with_shared area first count n old new =
     }
 
 -- keys of these pages of an open area can be added where they are not committed
-pub record CanShare (area : Area) (first count : ℕ) (a : AreaOf (Unit {0})) (c : Key → Option Page) (s : StoreOf) : Type 0 where
+pub record CanShare (area : Area) (first count : ℕ) (a : AreaOf (Unit {0})) (c : Key → Option Page)
+    (s : StoreOf) : Type 0 where
   pub inside : first + count ≤ length a.pages
   pub opened : s.areas area.0 ≡ Some (length a.pages)
-  pub live : (i : ℕ) → first ≤ i → i < first + count → is_some (c (key.Shared area i)) ≡ is_some (numbered a.pages i)
-  pub paging : (i : ℕ) → first ≤ i → i < first + count → s.paging (key.Shared area i) ≡ is_some (numbered a.pages i)
+  pub live : (i : ℕ) → first ≤ i → i < first + count →
+      is_some (c (key.Shared area i)) ≡ is_some (numbered a.pages i)
+  pub paging : (i : ℕ) → first ≤ i → i < first + count →
+      s.paging (key.Shared area i) ≡ is_some (numbered a.pages i)
   pub room : s.paging_keys + uncommitted_in a first count ≤ s.room
   pub called : s.kind ≡ kind.Call
 
 -- what adding them comes to
-pub record Shares (area : Area) (first count : ℕ) (a : AreaOf (Unit {0})) (c d : Key → Option Page) (s z : StoreOf) : Type 0 where
+pub record Shares (area : Area) (first count : ℕ) (a : AreaOf (Unit {0})) (c d : Key → Option Page)
+    (s z : StoreOf) : Type 0 where
   pub contents : d ≡ shared_added area first count c
   pub store : z ≡ with_shared area first count (uncommitted_in a first count) s z
 
 -- ---- protections
 
 -- each page of the range, which lies in one view, accepts the protection
-pub record CanProtect (regions : List (RegionOf (Unit {0}))) (range : Range) (prot : ℕ) : Type 0 where
+pub record CanProtect (regions : List (RegionOf (Unit {0}))) (range : Range) (prot : ℕ) :
+    Type 0 where
   pub inside : is_some (region_around regions range) ≡ true
-  pub view : (r : Found (RegionOf (Unit {0}))) → region_around regions range ≡ Some r → is_private r.thing.kind ≡ false
-  pub accepted : (r : Found (RegionOf (Unit {0}))) → region_around regions range ≡ Some r → every_page (accepts r.thing prot) range ≡ true
+  pub view : (r : Found (RegionOf (Unit {0}))) → region_around regions range ≡ Some r →
+      is_private r.thing.kind ≡ false
+  pub accepted : (r : Found (RegionOf (Unit {0}))) → region_around regions range ≡ Some r →
+      every_page (accepts r.thing prot) range ≡ true

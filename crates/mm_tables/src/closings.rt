@@ -3,6 +3,7 @@ ghost use Rattle.mm_types.specs.Address.{end_of, end_of_user_pages};
 ghost use Rattle.mm_types.specs.declared.numbers.Place.{Place};
 ghost use Rattle.mm_pages.specs.Conditions.{AreAmong};
 ghost use Rattle.mm_pages.specs.Housekeeping.{Turns, Ends};
+ghost use Rattle.mm_pages.specs.Leaving.{Leaving};
 ghost use Rattle.mm_pages.specs.Passing.{PassesIn};
 ghost use Rattle.mm_world.specs.World.{RegionOf, ProcessOf, numbered};
 ghost use Rattle.mm_world.specs.Find.{Found, region_around};
@@ -23,8 +24,14 @@ use mm_types::{Area, Pid, SectionId};
 /// One handle less refers to a section. Tells its control area, where it ended.
 fn drop_handle_of(directory: &mut Directory, id: SectionId) -> Option<Area>
     requires lives { IsSomeAnd (numbered directory.old.entries id.0) (λ c. 1 ≤ c.handles) }
-    ensures dropped { (c : CountedSection) → numbered directory.old.entries id.0 ≡ Some c → directory.new ≡ record directory.old { entries = slice_set directory.old.entries id.0 (settled_by (one_handle_less c)) } }
-    ensures ended { (c : CountedSection) → numbered directory.old.entries id.0 ≡ Some c → result ≡ (if is_some (settled_by (one_handle_less c)) then None else Some (record { 0 = c.section.area })) }
+    ensures dropped { (c : CountedSection) → numbered directory.old.entries id.0 ≡ Some c →
+        directory.new ≡ record directory.old {
+          entries = slice_set directory.old.entries id.0 (settled_by (one_handle_less c));
+        } }
+    ensures ended { (c : CountedSection) → numbered directory.old.entries id.0 ≡ Some c →
+        result ≡ (if is_some (settled_by (one_handle_less c)) then None else Some (record {
+          0 = c.section.area;
+        })) }
 {
     let section = directory.section(id);
     if directory.drop_handle(id) {
@@ -37,8 +44,14 @@ fn drop_handle_of(directory: &mut Directory, id: SectionId) -> Option<Area>
 /// One view less refers to a section. Tells its control area, where it ended.
 pub(crate) fn drop_view_of(directory: &mut Directory, id: SectionId) -> Option<Area>
     requires lives { IsSomeAnd (numbered directory.old.entries id.0) (λ c. 1 ≤ c.views) }
-    ensures dropped { (c : CountedSection) → numbered directory.old.entries id.0 ≡ Some c → directory.new ≡ record directory.old { entries = slice_set directory.old.entries id.0 (settled_by (one_view_less c)) } }
-    ensures ended { (c : CountedSection) → numbered directory.old.entries id.0 ≡ Some c → result ≡ (if is_some (settled_by (one_view_less c)) then None else Some (record { 0 = c.section.area })) }
+    ensures dropped { (c : CountedSection) → numbered directory.old.entries id.0 ≡ Some c →
+        directory.new ≡ record directory.old {
+          entries = slice_set directory.old.entries id.0 (settled_by (one_view_less c));
+        } }
+    ensures ended { (c : CountedSection) → numbered directory.old.entries id.0 ≡ Some c →
+        result ≡ (if is_some (settled_by (one_view_less c)) then None else Some (record {
+          0 = c.section.area;
+        })) }
 {
     let section = directory.section(id);
     if directory.drop_view(id) {
@@ -55,11 +68,26 @@ pub(crate) fn close_in(
     handle: u32,
 ) -> Option<Area>
     requires lives { is_some process.old ≡ true }
-    requires held { (p : ProcessOf (Unit {0})) → option_map shown_process process.old ≡ Some p → is_some (held p.handles handle) ≡ true }
-    requires counted { (p : ProcessOf (Unit {0})) (n : ℕ) → option_map shown_process process.old ≡ Some p → held p.handles handle ≡ Some n → IsSomeAnd (numbered directory.old.entries n) (λ c. 1 ≤ c.handles) }
-    ensures closed { (p : ProcessOf (Unit {0})) → option_map shown_process process.old ≡ Some p → option_map shown_process process.new ≡ Some (record p { handles = slice_set p.handles (handle / 4) None }) }
-    ensures dropped { (p : ProcessOf (Unit {0})) (n : ℕ) (c : CountedSection) → option_map shown_process process.old ≡ Some p → held p.handles handle ≡ Some n → numbered directory.old.entries n ≡ Some c → directory.new ≡ record directory.old { entries = slice_set directory.old.entries n (settled_by (one_handle_less c)) } }
-    ensures ended { (p : ProcessOf (Unit {0})) (n : ℕ) (c : CountedSection) → option_map shown_process process.old ≡ Some p → held p.handles handle ≡ Some n → numbered directory.old.entries n ≡ Some c → result ≡ (if is_some (settled_by (one_handle_less c)) then None else Some (record { 0 = c.section.area })) }
+    requires held { (p : ProcessOf (Unit {0})) → option_map shown_process process.old ≡ Some p →
+        is_some (held p.handles handle) ≡ true }
+    requires counted { (p : ProcessOf (Unit {0})) (n : ℕ) →
+        option_map shown_process process.old ≡ Some p → held p.handles handle ≡ Some n →
+        IsSomeAnd (numbered directory.old.entries n) (λ c. 1 ≤ c.handles) }
+    ensures closed { (p : ProcessOf (Unit {0})) → option_map shown_process process.old ≡ Some p →
+        option_map shown_process process.new ≡ Some (record p {
+          handles = slice_set p.handles (handle / 4) None;
+        }) }
+    ensures dropped { (p : ProcessOf (Unit {0})) (n : ℕ) (c : CountedSection) →
+        option_map shown_process process.old ≡ Some p → held p.handles handle ≡ Some n →
+        numbered directory.old.entries n ≡ Some c → directory.new ≡ record directory.old {
+          entries = slice_set directory.old.entries n (settled_by (one_handle_less c));
+        } }
+    ensures ended { (p : ProcessOf (Unit {0})) (n : ℕ) (c : CountedSection) →
+        option_map shown_process process.old ≡ Some p → held p.handles handle ≡ Some n →
+        numbered directory.old.entries n ≡ Some c →
+        result ≡ (if is_some (settled_by (one_handle_less c)) then None else Some (record {
+          0 = c.section.area;
+        })) }
 {
     match process {
         Some(process) => {
@@ -74,7 +102,8 @@ pub(crate) fn close_in(
     }
 }
 
-/// Unmaps the view of a process that begins at the address and has these pages. Tells how many of them had a mark.
+/// Unmaps the view of a process that begins at the address and has these pages. Tells how many of
+/// them had a mark.
 pub(crate) fn unmap_in<G: Pages>(
     process: &mut Option<Process>,
     g: &mut G,
@@ -84,14 +113,26 @@ pub(crate) fn unmap_in<G: Pages>(
 ) -> u32
     requires end { end_of range ≤ end_of_user_pages }
     requires lives { is_some process.old ≡ true }
-    requires there { (p : ProcessOf (Unit {0})) → option_map shown_process process.old ≡ Some p → is_some (view_at p.regions addr) ≡ true }
-    requires around { (p : ProcessOf (Unit {0})) → option_map shown_process process.old ≡ Some p → is_some (region_around p.regions range) ≡ true }
-    requires can { (p : ProcessOf (Unit {0})) → option_map shown_process process.old ≡ Some p → CanRelease pid range p.regions (G.contents g.old) (G.store g.old) }
-    ensures removed { (p : ProcessOf (Unit {0})) (r : Found (RegionOf (Unit {0}))) → option_map shown_process process.old ≡ Some p → view_at p.regions addr ≡ Some r → option_map shown_process process.new ≡ Some (record p { regions = remove p.regions r.place }) }
-    ensures marked { (p : ProcessOf (Unit {0})) → option_map shown_process process.old ≡ Some p → result ≡ marked_in p.regions range }
-    ensures released { (p : ProcessOf (Unit {0})) → option_map shown_process process.old ≡ Some p → Released pid range p.regions (G.contents g.old) (G.contents g.new) (G.store g.old) (G.store g.new) }
+    requires there { (p : ProcessOf (Unit {0})) → option_map shown_process process.old ≡ Some p →
+        is_some (view_at p.regions addr) ≡ true }
+    requires around { (p : ProcessOf (Unit {0})) → option_map shown_process process.old ≡ Some p →
+        is_some (region_around p.regions range) ≡ true }
+    requires can { (p : ProcessOf (Unit {0})) → option_map shown_process process.old ≡ Some p →
+        CanRelease pid range p.regions (G.contents g.old) (G.store g.old) }
+    ensures removed { (p : ProcessOf (Unit {0})) (r : Found (RegionOf (Unit {0}))) →
+        option_map shown_process process.old ≡ Some p → view_at p.regions addr ≡ Some r →
+        option_map shown_process process.new ≡ Some (record p {
+          regions = remove p.regions r.place;
+        }) }
+    ensures marked { (p : ProcessOf (Unit {0})) → option_map shown_process process.old ≡ Some p →
+        result ≡ marked_in p.regions range }
+    ensures released { (p : ProcessOf (Unit {0})) → option_map shown_process process.old ≡ Some p →
+        Released pid range p.regions (G.contents g.old) (G.contents g.new) (G.store g.old)
+        (G.store g.new) }
     ensures unbound { AreUnbound pid range (G.store g.new) }
-    ensures passes { (held : Place → Bool) (from to : ℕ) → AreAmong held from to pid range → PassesIn G.unpaged (Turns (Ends held from to)) (G.store g.old) (G.store g.new) (G.behind g.old) (G.behind g.new) }
+    ensures passes { (held : Leaving) (from to : ℕ) → AreAmong held from to pid range →
+        PassesIn G.unpaged (Turns (Ends held from to)) (G.store g.old) (G.store g.new)
+        (G.behind g.old) (G.behind g.new) }
     ensures loans { G.loans g.new ≡ G.loans g.old }
 {
     match process {
@@ -105,7 +146,8 @@ pub(crate) fn unmap_in<G: Pages>(
     }
 }
 
-/// Releases the lowest region of a process, which has these pages. Tells how many of them had bytes of their own.
+/// Releases the lowest region of a process, which has these pages. Tells how many of them had bytes
+/// of their own.
 pub(crate) fn release_in<G: Pages>(
     process: &mut Option<Process>,
     g: &mut G,
@@ -114,13 +156,24 @@ pub(crate) fn release_in<G: Pages>(
 ) -> u32
     requires end { end_of range ≤ end_of_user_pages }
     requires lives { is_some process.old ≡ true }
-    requires there { (p : ProcessOf (Unit {0})) → option_map shown_process process.old ≡ Some p → 1 ≤ length p.regions }
-    requires around { (p : ProcessOf (Unit {0})) → option_map shown_process process.old ≡ Some p → is_some (region_around p.regions range) ≡ true }
-    requires can { (p : ProcessOf (Unit {0})) → option_map shown_process process.old ≡ Some p → CanRelease pid range p.regions (G.contents g.old) (G.store g.old) }
-    ensures removed { (p : ProcessOf (Unit {0})) → option_map shown_process process.old ≡ Some p → option_map shown_process process.new ≡ Some (record p { regions = remove p.regions 0 }) }
-    ensures owned { (p : ProcessOf (Unit {0})) → option_map shown_process process.old ≡ Some p → result ≡ owned_in p.regions range }
-    ensures released { (p : ProcessOf (Unit {0})) → option_map shown_process process.old ≡ Some p → Released pid range p.regions (G.contents g.old) (G.contents g.new) (G.store g.old) (G.store g.new) }
-    ensures passes { (held : Place → Bool) (from to : ℕ) → AreAmong held from to pid range → PassesIn G.unpaged (Turns (Ends held from to)) (G.store g.old) (G.store g.new) (G.behind g.old) (G.behind g.new) }
+    requires there { (p : ProcessOf (Unit {0})) → option_map shown_process process.old ≡ Some p →
+        1 ≤ length p.regions }
+    requires around { (p : ProcessOf (Unit {0})) → option_map shown_process process.old ≡ Some p →
+        is_some (region_around p.regions range) ≡ true }
+    requires can { (p : ProcessOf (Unit {0})) → option_map shown_process process.old ≡ Some p →
+        CanRelease pid range p.regions (G.contents g.old) (G.store g.old) }
+    ensures removed { (p : ProcessOf (Unit {0})) → option_map shown_process process.old ≡ Some p →
+        option_map shown_process process.new ≡ Some (record p {
+          regions = remove p.regions 0;
+        }) }
+    ensures owned { (p : ProcessOf (Unit {0})) → option_map shown_process process.old ≡ Some p →
+        result ≡ owned_in p.regions range }
+    ensures released { (p : ProcessOf (Unit {0})) → option_map shown_process process.old ≡ Some p →
+        Released pid range p.regions (G.contents g.old) (G.contents g.new) (G.store g.old)
+        (G.store g.new) }
+    ensures passes { (held : Leaving) (from to : ℕ) → AreAmong held from to pid range →
+        PassesIn G.unpaged (Turns (Ends held from to)) (G.store g.old) (G.store g.new)
+        (G.behind g.old) (G.behind g.new) }
     ensures loans { G.loans g.new ≡ G.loans g.old }
 {
     match process {

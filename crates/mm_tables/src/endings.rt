@@ -1,8 +1,9 @@
-ghost use Rattle.std.specs.Prelude.{◌≡◌, ◌/◌, ℕ, Bool, true, is_some, Some, None, option_map, slice_set, slice_get, remove};
+ghost use Rattle.std.specs.Prelude.{◌≡◌, ◌≤◌, ◌<◌, ◌+◌, ◌/◌, ℕ, Bool, true, is_some, Some, None, option_map, slice_set, slice_get, remove};
 ghost use Rattle.mm_types.specs.declared.moves.LineKind.TheVariants as line_kind;
 ghost use Rattle.mm_types.specs.declared.views.Kind.TheVariants as kind;
 ghost use Rattle.mm_types.specs.declared.numbers.Place.{Place};
-ghost use Rattle.mm_pages.specs.Housekeeping.{Turns, Ends};
+ghost use Rattle.mm_pages.specs.Housekeeping.{Turns, Ends, Goes};
+ghost use Rattle.mm_pages.specs.Leaving.{Leaving, leaving};
 ghost use Rattle.mm_pages.specs.Passing.{PassesIn};
 ghost use Rattle.mm_world.specs.World.{RegionOf, ProcessOf};
 ghost use Rattle.mm_world.specs.Find.{Found, process_of, set_regions, set_process};
@@ -10,9 +11,8 @@ ghost use Rattle.mm_world.specs.Sections.{handle_section, settle};
 ghost use Rattle.mm_world.specs.Views.{view_at};
 ghost use Rattle.mm_pages.specs.Conditions.{AreAmong, IsReleasing};
 ghost use Rattle.mm_spaces.specs.Tables.{found_info, info_of};
-ghost use Rattle.mm_types.specs.Address.{end_of_user_pages};
 ghost use Rattle.mm_tables.specs.Fits.{Fits, Settled, is_uncommitted};
-ghost use Rattle.mm_tables.specs.Endings.{Less, AreUnbound};
+ghost use Rattle.mm_tables.specs.Endings.{Less, AreUnbound, IsFor};
 
 use crate::Tables;
 use crate::closings::{close_in, drop_view_of, release_in, unmap_in};
@@ -28,11 +28,19 @@ impl Tables {
         requires fits { Fits self.old (G.contents g.old) (G.store g.old) }
         requires kind { IsReleasing (G.store g.old).kind }
         requires lives { is_some (process_of self.old pid.0) ≡ true }
-        requires there { (p : ProcessOf (Unit {0})) → process_of self.old pid.0 ≡ Some p → is_some (handle_section self.old p handle) ≡ true }
-        ensures closed { (p : ProcessOf (Unit {0})) → process_of self.old pid.0 ≡ Some p → self.new ≡ settle (set_process self.old pid.0 (Some (record p { handles = slice_set p.handles (handle / 4) None }))) }
-        ensures settled { Settled self.new (G.contents g.old) (G.contents g.new) (G.store g.old) (G.store g.new) }
+        requires there { (p : ProcessOf (Unit {0})) → process_of self.old pid.0 ≡ Some p →
+            is_some (handle_section self.old p handle) ≡ true }
+        ensures closed { (p : ProcessOf (Unit {0})) → process_of self.old pid.0 ≡ Some p →
+            self.new ≡ settle (set_process self.old pid.0 (Some (record p {
+              handles = slice_set p.handles (handle / 4) None;
+            }))) }
+        ensures settled { Settled self.new (G.contents g.old) (G.contents g.new) (G.store g.old)
+            (G.store g.new) }
         ensures less { Less (G.contents g.old) (G.contents g.new) }
-        ensures passes { (held : Place → Bool) (from to : ℕ) → PassesIn G.unpaged (Turns (Ends held from to)) (G.store g.old) (G.store g.new) (G.behind g.old) (G.behind g.new) }
+        ensures passes { (held : Leaving) (from to : ℕ) → IsFor held.rank pid.0 self.old
+            → from ≤ handle / 4 + 1 → handle / 4 + 1 < to →
+            PassesIn G.unpaged (Turns (Ends held from to)) (G.store g.old) (G.store g.new)
+            (G.behind g.old) (G.behind g.new) }
         ensures loans { G.loans g.new ≡ G.loans g.old }
     {
         let process = &mut self.processes[pid.0 as usize - 1];
@@ -55,12 +63,22 @@ impl Tables {
         requires fits { Fits self.old (G.contents g.old) (G.store g.old) }
         requires kind { (G.store g.old).kind ≡ line_kind.Unbind pid }
         requires lives { is_some (process_of self.old pid.0) ≡ true }
-        requires there { (p : ProcessOf (Unit {0})) → process_of self.old pid.0 ≡ Some p → option_map found_info (view_at p.regions addr) ≡ Some (record { pages = range; kind = kind.View view }) }
-        ensures removed { (p : ProcessOf (Unit {0})) (r : Found (RegionOf (Unit {0}))) → process_of self.old pid.0 ≡ Some p → view_at p.regions addr ≡ Some r → self.new ≡ settle (set_regions self.old pid.0 p (remove p.regions r.place)) }
-        ensures settled { Settled self.new (G.contents g.old) (G.contents g.new) (G.store g.old) (G.store g.new) }
+        requires there { (p : ProcessOf (Unit {0})) → process_of self.old pid.0 ≡ Some p →
+            option_map found_info (view_at p.regions addr) ≡ Some (record {
+              pages = range;
+              kind = kind.View view;
+            }) }
+        ensures removed { (p : ProcessOf (Unit {0})) (r : Found (RegionOf (Unit {0}))) →
+            process_of self.old pid.0 ≡ Some p → view_at p.regions addr ≡ Some r →
+            self.new ≡ settle (set_regions self.old pid.0 p (remove p.regions r.place)) }
+        ensures settled { Settled self.new (G.contents g.old) (G.contents g.new) (G.store g.old)
+            (G.store g.new) }
         ensures less { Less (G.contents g.old) (G.contents g.new) }
         ensures unbound { AreUnbound pid range (G.store g.new) }
-        ensures passes { (held : Place → Bool) (from to : ℕ) → AreAmong held from to pid range → PassesIn G.unpaged (Turns (Ends held from to)) (G.store g.old) (G.store g.new) (G.behind g.old) (G.behind g.new) }
+        ensures passes { (held : Leaving) (from to : ℕ) → IsFor held.rank pid.0 self.old
+            → AreAmong held from to pid range →
+            PassesIn G.unpaged (Turns (Ends held from to)) (G.store g.old) (G.store g.new)
+            (G.behind g.old) (G.behind g.new) }
         ensures loans { G.loans g.new ≡ G.loans g.old }
     {
         let process = &mut self.processes[pid.0 as usize - 1];
@@ -78,11 +96,19 @@ impl Tables {
         requires fits { Fits self.old (G.contents g.old) (G.store g.old) }
         requires kind { (G.store g.old).kind ≡ line_kind.Unbind pid }
         requires lives { is_some (process_of self.old pid.0) ≡ true }
-        requires there { (p : ProcessOf (Unit {0})) → process_of self.old pid.0 ≡ Some p → option_map info_of (slice_get p.regions 0) ≡ Some (record { pages = range; kind = kind.Private }) }
-        ensures removed { (p : ProcessOf (Unit {0})) → process_of self.old pid.0 ≡ Some p → self.new ≡ set_regions self.old pid.0 p (remove p.regions 0) }
-        ensures settled { Settled self.new (G.contents g.old) (G.contents g.new) (G.store g.old) (G.store g.new) }
+        requires there { (p : ProcessOf (Unit {0})) → process_of self.old pid.0 ≡ Some p →
+            option_map info_of (slice_get p.regions 0) ≡ Some (record {
+              pages = range;
+              kind = kind.Private;
+            }) }
+        ensures removed { (p : ProcessOf (Unit {0})) → process_of self.old pid.0 ≡ Some p →
+            self.new ≡ set_regions self.old pid.0 p (remove p.regions 0) }
+        ensures settled { Settled self.new (G.contents g.old) (G.contents g.new) (G.store g.old)
+            (G.store g.new) }
         ensures less { Less (G.contents g.old) (G.contents g.new) }
-        ensures passes { (held : Place → Bool) (from to : ℕ) → AreAmong held from to pid range → PassesIn G.unpaged (Turns (Ends held from to)) (G.store g.old) (G.store g.new) (G.behind g.old) (G.behind g.new) }
+        ensures passes { (held : Leaving) (from to : ℕ) → AreAmong held from to pid range →
+            PassesIn G.unpaged (Turns (Ends held from to)) (G.store g.old) (G.store g.new)
+            (G.behind g.old) (G.behind g.new) }
         ensures loans { G.loans g.new ≡ G.loans g.old }
     {
         let process = &mut self.processes[pid.0 as usize - 1];
@@ -90,24 +116,31 @@ impl Tables {
         self.commit.refund(owned);
     }
 
-    /// Closes a handle that a process has. A section to which nothing refers any more ends, and with a page-file section its pages; a
-    /// name is gone with the section's last handle.
+    /// Closes a handle that a process has. A section to which nothing refers any more ends, and
+    /// with a page-file section its pages; a name is gone with the section's last handle.
     pub fn drop_handle<G: Pages>(&mut self, g: &mut G, pid: Pid, handle: u32)
         requires fits { Fits self.old (G.contents g.old) (G.store g.old) }
         requires kind { IsReleasing (G.store g.old).kind }
         requires lives { is_some (process_of self.old pid.0) ≡ true }
-        requires there { (p : ProcessOf (Unit {0})) → process_of self.old pid.0 ≡ Some p → is_some (handle_section self.old p handle) ≡ true }
-        ensures closed { (p : ProcessOf (Unit {0})) → process_of self.old pid.0 ≡ Some p → self.new ≡ settle (set_process self.old pid.0 (Some (record p { handles = slice_set p.handles (handle / 4) None }))) }
-        ensures settled { Settled self.new (G.contents g.old) (G.contents g.new) (G.store g.old) (G.store g.new) }
-        ensures passes { (held : Place → Bool) (from to : ℕ) → PassesIn G.unpaged (Turns (Ends held from to)) (G.store g.old) (G.store g.new) (G.behind g.old) (G.behind g.new) }
+        requires there { (p : ProcessOf (Unit {0})) → process_of self.old pid.0 ≡ Some p →
+            is_some (handle_section self.old p handle) ≡ true }
+        ensures closed { (p : ProcessOf (Unit {0})) → process_of self.old pid.0 ≡ Some p →
+            self.new ≡ settle (set_process self.old pid.0 (Some (record p {
+              handles = slice_set p.handles (handle / 4) None;
+            }))) }
+        ensures settled { Settled self.new (G.contents g.old) (G.contents g.new) (G.store g.old)
+            (G.store g.new) }
+        ensures passes { (places : Place → Bool) →
+            PassesIn G.unpaged (Turns (Goes (leaving self.old pid.0 places))) (G.store g.old)
+            (G.store g.new) (G.behind g.old) (G.behind g.new) }
         ensures loans { G.loans g.new ≡ G.loans g.old }
     {
+        self.sound();
         self.close_handle(g, pid, handle);
     }
 
-    /// Unmaps the view of a process that begins at the address and has these pages. A section to which nothing refers any more ends,
-    /// and with a page-file section its pages.
-    #[tactic(auto, using(crate::proofs::Uncommitted::among_unbound))]
+    /// Unmaps the view of a process that begins at the address and has these pages. A section to
+    /// which nothing refers any more ends, and with a page-file section its pages.
     pub fn remove_view<G: Pages>(
         &mut self,
         g: &mut G,
@@ -119,13 +152,22 @@ impl Tables {
         requires fits { Fits self.old (G.contents g.old) (G.store g.old) }
         requires kind { (G.store g.old).kind ≡ line_kind.Unbind pid }
         requires lives { is_some (process_of self.old pid.0) ≡ true }
-        requires there { (p : ProcessOf (Unit {0})) → process_of self.old pid.0 ≡ Some p → option_map found_info (view_at p.regions addr) ≡ Some (record { pages = range; kind = kind.View view }) }
-        ensures removed { (p : ProcessOf (Unit {0})) (r : Found (RegionOf (Unit {0}))) → process_of self.old pid.0 ≡ Some p → view_at p.regions addr ≡ Some r → self.new ≡ settle (set_regions self.old pid.0 p (remove p.regions r.place)) }
-        ensures settled { Settled self.new (G.contents g.old) (G.contents g.new) (G.store g.old) (G.store g.new) }
-        ensures among { AreAmong (is_uncommitted self.new) 0 end_of_user_pages pid range }
-        ensures passes { (held : Place → Bool) (from to : ℕ) → AreAmong held from to pid range → PassesIn G.unpaged (Turns (Ends held from to)) (G.store g.old) (G.store g.new) (G.behind g.old) (G.behind g.new) }
+        requires there { (p : ProcessOf (Unit {0})) → process_of self.old pid.0 ≡ Some p →
+            option_map found_info (view_at p.regions addr) ≡ Some (record {
+              pages = range;
+              kind = kind.View view;
+            }) }
+        ensures removed { (p : ProcessOf (Unit {0})) (r : Found (RegionOf (Unit {0}))) →
+            process_of self.old pid.0 ≡ Some p → view_at p.regions addr ≡ Some r →
+            self.new ≡ settle (set_regions self.old pid.0 p (remove p.regions r.place)) }
+        ensures settled { Settled self.new (G.contents g.old) (G.contents g.new) (G.store g.old)
+            (G.store g.new) }
+        ensures passes { PassesIn G.unpaged
+            (Turns (Goes (leaving self.old pid.0 (is_uncommitted self.new)))) (G.store g.old)
+            (G.store g.new) (G.behind g.old) (G.behind g.new) }
         ensures loans { G.loans g.new ≡ G.loans g.old }
     {
+        self.sound();
         self.unmap_view(g, pid, addr, range, view);
     }
 }

@@ -1,8 +1,9 @@
-ghost use Rattle.std.specs.Prelude.{◌≡◌, ◌≤◌, ◌==◌, [], ℕ, Bool, true, is_some, map, Some, None, IfSome, option_map, position, slice_get};
+ghost use Rattle.std.specs.Prelude.{◌≡◌, ◌≤◌, ◌<◌, ◌^◌, ◌==◌, [], ℕ, Bool, true, is_some, map, Some, None, IfSome, option_map, position, slice_get};
 ghost use Rattle.mm_types.specs.declared.moves.LineKind.TheVariants as line_kind;
 ghost use Rattle.mm_types.specs.declared.numbers.Place.{Place};
 ghost use Rattle.mm_pages.specs.Conditions.{AreAmong, place_at};
-ghost use Rattle.mm_pages.specs.Housekeeping.{Turn, Turns, Ends};
+ghost use Rattle.mm_pages.specs.Housekeeping.{Turn, Turns, Ends, Goes};
+ghost use Rattle.mm_pages.specs.Leaving.{Leaving, leaving, page_rank};
 ghost use Rattle.mm_pages.specs.Passing.{PassesIn};
 ghost use Rattle.mm_types.specs.Address.{end_of, end_of_user_pages};
 ghost use Rattle.mm_world.specs.World.{ProcessOf};
@@ -15,7 +16,7 @@ ghost use Rattle.mm_spaces.specs.Tables.{info_of};
 ghost use Rattle.mm_tables.specs.References.{IsTidy, NobodyKeeps};
 ghost use Rattle.mm_tables.specs.Shown.{shown_process};
 ghost use Rattle.mm_tables.specs.Fits.{Fits, Settled};
-ghost use Rattle.mm_tables.specs.Endings.{Less, Toward, Fewer, HasNoHandle};
+ghost use Rattle.mm_tables.specs.Endings.{Less, Toward, Fewer, HasNoHandle, IsFor};
 
 use crate::Tables;
 use crate::tables::Process;
@@ -27,7 +28,8 @@ impl Tables {
     /// A living process.
     fn process(&self, pid: Pid) -> &Process
         requires lives { is_some (process_of self.now pid.0) ≡ true }
-        ensures shown { (p : ProcessOf (Unit {0})) → process_of self.now pid.0 ≡ Some p → shown_process result.now ≡ p }
+        ensures shown { (p : ProcessOf (Unit {0})) → process_of self.now pid.0 ≡ Some p →
+            shown_process result.now ≡ p }
         ensures sound { WellFormed self.now }
         ensures tidy { IsTidy self.now }
     {
@@ -40,7 +42,9 @@ impl Tables {
     /// The lowest handle of a living process. None exactly where it has no handle.
     fn lowest_handle(&self, pid: Pid) -> Option<u32>
         requires lives { is_some (process_of self.now pid.0) ≡ true }
-        ensures found { (p : ProcessOf (Unit {0})) → process_of self.now pid.0 ≡ Some p → result ≡ option_map handle_at (position is_some p.handles) }
+        ensures within { IfSome result (λ handle. handle < 2 ^ 32) }
+        ensures found { (p : ProcessOf (Unit {0})) → process_of self.now pid.0 ≡ Some p →
+            result ≡ option_map handle_at (position is_some p.handles) }
         ensures sound { WellFormed self.now }
         ensures tidy { IsTidy self.now }
     {
@@ -50,7 +54,8 @@ impl Tables {
     /// The lowest region of a living process. None exactly where it has no region.
     fn lowest(&self, pid: Pid) -> Option<RegionInfo>
         requires lives { is_some (process_of self.now pid.0) ≡ true }
-        ensures found { (p : ProcessOf (Unit {0})) → process_of self.now pid.0 ≡ Some p → result ≡ option_map info_of (slice_get p.regions 0) }
+        ensures found { (p : ProcessOf (Unit {0})) → process_of self.now pid.0 ≡ Some p →
+            result ≡ option_map info_of (slice_get p.regions 0) }
         ensures within { IfSome result (λ info. end_of info.pages ≤ end_of_user_pages) }
         ensures sound { WellFormed self.now }
     {
@@ -63,10 +68,14 @@ impl Tables {
         requires fits { Fits self.old (G.contents g.old) (G.store g.old) }
         requires kind { (G.store g.old).kind ≡ line_kind.Unbind pid }
         requires lives { is_some (process_of self.old pid.0) ≡ true }
-        ensures toward { Toward pid.0 self.old self.new (G.contents g.old) (G.contents g.new) (G.store g.old) (G.store g.new) }
+        ensures toward { Toward pid.0 self.old self.new (G.contents g.old) (G.contents g.new)
+            (G.store g.old) (G.store g.new) }
         ensures lives { is_some (process_of self.new pid.0) ≡ true }
-        ensures closed { (p : ProcessOf (Unit {0})) → process_of self.new pid.0 ≡ Some p → HasNoHandle p }
-        ensures passes { (held : Place → Bool) (from to : ℕ) → PassesIn G.unpaged (Turns (Ends held from to)) (G.store g.old) (G.store g.new) (G.behind g.old) (G.behind g.new) }
+        ensures closed { (p : ProcessOf (Unit {0})) → process_of self.new pid.0 ≡ Some p →
+            HasNoHandle p }
+        ensures passes { (held : Leaving) → IsFor held.rank pid.0 self.old →
+            PassesIn G.unpaged (Turns (Ends held 1 (page_rank 0))) (G.store g.old) (G.store g.new)
+            (G.behind g.old) (G.behind g.new) }
         ensures loans { G.loans g.new ≡ G.loans g.old }
     {
         while let Some(handle) = self.lowest_handle(pid) {
@@ -79,12 +88,20 @@ impl Tables {
         requires fits { Fits self.old (G.contents g.old) (G.store g.old) }
         requires kind { (G.store g.old).kind ≡ line_kind.Unbind pid }
         requires lives { is_some (process_of self.old pid.0) ≡ true }
-        requires there { (p : ProcessOf (Unit {0})) → process_of self.old pid.0 ≡ Some p → option_map info_of (slice_get p.regions 0) ≡ Some info }
+        requires there { (p : ProcessOf (Unit {0})) → process_of self.old pid.0 ≡ Some p →
+            option_map info_of (slice_get p.regions 0) ≡ Some info }
         requires within { end_of info.pages ≤ end_of_user_pages }
-        ensures toward { Toward pid.0 self.old self.new (G.contents g.old) (G.contents g.new) (G.store g.old) (G.store g.new) }
+        requires closed { (p : ProcessOf (Unit {0})) → process_of self.old pid.0 ≡ Some p →
+            HasNoHandle p }
+        ensures toward { Toward pid.0 self.old self.new (G.contents g.old) (G.contents g.new)
+            (G.store g.old) (G.store g.new) }
         ensures lives { is_some (process_of self.new pid.0) ≡ true }
-        ensures fewer { (p q : ProcessOf (Unit {0})) → process_of self.old pid.0 ≡ Some p → process_of self.new pid.0 ≡ Some q → Fewer p q }
-        ensures passes { (held : Place → Bool) (from to : ℕ) → AreAmong held from to pid info.pages → PassesIn G.unpaged (Turns (Ends held from to)) (G.store g.old) (G.store g.new) (G.behind g.old) (G.behind g.new) }
+        ensures fewer { (p q : ProcessOf (Unit {0})) → process_of self.old pid.0 ≡ Some p →
+            process_of self.new pid.0 ≡ Some q → Fewer p q }
+        ensures passes { (held : Leaving) (from to : ℕ) → IsFor held.rank pid.0 self.old
+            → AreAmong held from to pid info.pages →
+            PassesIn G.unpaged (Turns (Ends held from to)) (G.store g.old) (G.store g.new)
+            (G.behind g.old) (G.behind g.new) }
         ensures loans { G.loans g.new ≡ G.loans g.old }
     {
         let range = info.pages;
@@ -102,12 +119,19 @@ impl Tables {
         requires fits { Fits self.old (G.contents g.old) (G.store g.old) }
         requires kind { (G.store g.old).kind ≡ line_kind.Unbind pid }
         requires lives { is_some (process_of self.old pid.0) ≡ true }
-        requires closed { (p : ProcessOf (Unit {0})) → process_of self.old pid.0 ≡ Some p → HasNoHandle p }
-        ensures toward { Toward pid.0 self.old self.new (G.contents g.old) (G.contents g.new) (G.store g.old) (G.store g.new) }
+        requires closed { (p : ProcessOf (Unit {0})) → process_of self.old pid.0 ≡ Some p →
+            HasNoHandle p }
+        ensures toward { Toward pid.0 self.old self.new (G.contents g.old) (G.contents g.new)
+            (G.store g.old) (G.store g.new) }
         ensures lives { is_some (process_of self.new pid.0) ≡ true }
-        ensures closed { (p : ProcessOf (Unit {0})) → process_of self.new pid.0 ≡ Some p → HasNoHandle p }
-        ensures empty { (p : ProcessOf (Unit {0})) → process_of self.new pid.0 ≡ Some p → p.regions ≡ [] }
-        ensures passes { (held : Place → Bool) → ((page : ℕ) → held (place_at pid page) ≡ true) → PassesIn G.unpaged (Turns (Ends held 0 end_of_user_pages)) (G.store g.old) (G.store g.new) (G.behind g.old) (G.behind g.new) }
+        ensures closed { (p : ProcessOf (Unit {0})) → process_of self.new pid.0 ≡ Some p →
+            HasNoHandle p }
+        ensures empty { (p : ProcessOf (Unit {0})) → process_of self.new pid.0 ≡ Some p →
+            p.regions ≡ [] }
+        ensures passes { (held : Leaving) → IsFor held.rank pid.0 self.old
+            → ((page : ℕ) → held.places (place_at pid page) ≡ true) →
+            PassesIn G.unpaged (Turns (Ends held (page_rank 0) (page_rank end_of_user_pages)))
+            (G.store g.old) (G.store g.new) (G.behind g.old) (G.behind g.new) }
         ensures loans { G.loans g.new ≡ G.loans g.old }
     {
         while let Some(info) = self.lowest(pid) {
@@ -119,29 +143,42 @@ impl Tables {
     fn close_process<G: Pages>(&mut self, g: &mut G, pid: Pid)
         requires fits { Fits self.old (G.contents g.old) (G.store g.old) }
         requires lives { is_some (process_of self.old pid.0) ≡ true }
-        requires closed { (p : ProcessOf (Unit {0})) → process_of self.old pid.0 ≡ Some p → HasNoHandle p }
-        requires empty { (p : ProcessOf (Unit {0})) → process_of self.old pid.0 ≡ Some p → p.regions ≡ [] }
+        requires closed { (p : ProcessOf (Unit {0})) → process_of self.old pid.0 ≡ Some p →
+            HasNoHandle p }
+        requires empty { (p : ProcessOf (Unit {0})) → process_of self.old pid.0 ≡ Some p →
+            p.regions ≡ [] }
         requires nobody { NobodyKeeps pid.0 self.old }
         ensures ended { self.new ≡ settle (set_process self.old pid.0 None) }
-        ensures settled { Settled self.new (G.contents g.old) (G.contents g.new) (G.store g.old) (G.store g.new) }
+        ensures settled { Settled self.new (G.contents g.old) (G.contents g.new) (G.store g.old)
+            (G.store g.new) }
         ensures less { Less (G.contents g.old) (G.contents g.new) }
-        ensures passes { (turn : Turn) → PassesIn G.unpaged (Turns turn) (G.store g.old) (G.store g.new) (G.behind g.old) (G.behind g.new) }
+        ensures passes { (turn : Turn) →
+            PassesIn G.unpaged (Turns turn) (G.store g.old) (G.store g.new) (G.behind g.old)
+            (G.behind g.new) }
         ensures loans { G.loans g.new ≡ G.loans g.old }
     {
         g.close_process(pid);
         self.processes[pid.0 as usize - 1] = None;
     }
 
-    /// Ends a living process: what threads keep of it and its stacks are gone, its handles are closed in rising order, then its regions unmapped or released from the lowest on.
+    /// Ends a living process: what threads keep of it and its stacks are gone, its handles are
+    /// closed in rising order, then its regions unmapped or released from the lowest on.
     pub fn end_process<G: Pages>(&mut self, g: &mut G, pid: Pid)
         requires fits { Fits self.old (G.contents g.old) (G.store g.old) }
         requires kind { (G.store g.old).kind ≡ line_kind.Unbind pid }
         requires lives { is_some (process_of self.old pid.0) ≡ true }
-        ensures ended { self.new ≡ settle (set_process (end_stacks (record self.old { kept = map (kept_of_others pid.0) self.old.kept }) (λ s. s.pid == pid.0)) pid.0 None) }
-        ensures settled { Settled self.new (G.contents g.old) (G.contents g.new) (G.store g.old) (G.store g.new) }
-        ensures passes { (held : Place → Bool) → ((page : ℕ) → held (place_at pid page) ≡ true) → PassesIn G.unpaged (Turns (Ends held 0 end_of_user_pages)) (G.store g.old) (G.store g.new) (G.behind g.old) (G.behind g.new) }
+        ensures ended { self.new ≡ settle (set_process (end_stacks (record self.old {
+          kept = map (kept_of_others pid.0) self.old.kept;
+        }) (λ s. s.pid == pid.0)) pid.0 None) }
+        ensures settled { Settled self.new (G.contents g.old) (G.contents g.new) (G.store g.old)
+            (G.store g.new) }
+        ensures passes { (places : Place → Bool) →
+            ((page : ℕ) → places (place_at pid page) ≡ true) →
+            PassesIn G.unpaged (Turns (Goes (leaving self.old pid.0 places))) (G.store g.old)
+            (G.store g.new) (G.behind g.old) (G.behind g.new) }
         ensures loans { G.loans g.new ≡ G.loans g.old }
     {
+        self.sound();
         self.drop_kept(pid);
         self.end_stacks_in(pid);
         self.close_handles(g, pid);

@@ -26,7 +26,10 @@ fn grow_for_file(
     first: Block,
     pages: u32,
 ) -> Result<SectionPages, NoMemory>
-    ensures made { IfOk result (λ a. a ≡ record { file_block = Some first.0; pages = replicate pages (Some tt) }) }
+    ensures made { IfOk result (λ a. a ≡ record {
+      file_block = Some first.0;
+      pages = replicate pages (Some tt);
+    }) }
     ensures entries { directory.new.entries ≡ directory.old.entries }
     ensures files { directory.new.files ≡ directory.old.files }
     ensures areas { areas.new.items ≡ areas.old.items }
@@ -51,7 +54,10 @@ fn list_file(
     requires space { vec_len areas.old + 1 ≤ vec_capacity areas.old }
     requires unnamed { find (λ f. bytes_eq f.name name) directory.old.files ≡ None }
     ensures entries { directory.new.entries ≡ directory.old.entries }
-    ensures files { directory.new.files ≡ directory.old.files ++ record { name = name; area = area.0 } ∷ [] }
+    ensures files { directory.new.files ≡ directory.old.files ++ record {
+      name = name;
+      area = area.0;
+    } ∷ [] }
     ensures areas { areas.new.items ≡ areas.old.items ++ made ∷ [] }
 {
     directory.add_file(name, area);
@@ -62,8 +68,9 @@ fn list_file(
 }
 
 impl Tables {
-    /// Makes a file of `pages` pages in the lowest blocks that no file uses; no file has the name. Page i holds the byte `byte + i`
-    /// throughout. `Write` where a write of a block failed: then there is no file. After an error the tables are as before.
+    /// Makes a file of `pages` pages in the lowest blocks that no file uses; no file has the name.
+    /// Page i holds the byte `byte + i` throughout. `Write` where a write of a block failed: then
+    /// there is no file. After an error the tables are as before.
     pub fn add_file<G: Pages>(
         &mut self,
         alloc: Global,
@@ -80,17 +87,22 @@ impl Tables {
         requires room { self.old.blocks_used + pages ≤ self.old.machine.blocks }
         ensures ok { OnOk result (self.new ≡ (new_file blank self.old name pages byte).world) }
         ensures err { OnErr result (self.new ≡ self.old) }
-        ensures made { OnOk result (G.contents g.new ≡ with_file (length self.old.areas) pages byte (G.contents g.old)) }
+        ensures made { OnOk result (G.contents g.new ≡ with_file (length self.old.areas) pages byte
+            (G.contents g.old)) }
         ensures kept { OnErr result (G.contents g.new ≡ G.contents g.old) }
         ensures fits { Fits self.new (G.contents g.new) (G.store g.new) }
         ensures beside { G.store g.new ≡ beside_file (G.store g.old) (G.store g.new) }
         ensures memory { IsErrOf result make_fault.Memory → G.store g.new ≡ G.store g.old }
         ensures served { Served (G.store g.old) (G.store g.new) }
-        ensures quiet { OnOk result ((G.store g.new).report.file_writes.failed ≡ (G.store g.old).report.file_writes.failed) }
-        ensures failed { IsErrOf result make_fault.Write → 0 < (G.store g.new).report.file_writes.failed }
-        ensures blamed { IsErrOf result make_fault.Write → CallFailed (G.store g.old).file_device (G.store g.new).file_device }
+        ensures quiet { OnOk result ((G.store g.new).report.file_writes.failed ≡
+            (G.store g.old).report.file_writes.failed) }
+        ensures failed { IsErrOf result make_fault.Write →
+            0 < (G.store g.new).report.file_writes.failed }
+        ensures blamed { IsErrOf result make_fault.Write →
+            CallFailed (G.store g.old).file_device (G.store g.new).file_device }
         ensures notes { NotesIn G.unpaged (Turns Makes) (G.behind g.old) (G.behind g.new) }
-        ensures file { G.unpaged ≡ false → FileMade self.old.blocks_used pages result (G.store g.old) (G.store g.new) }
+        ensures file { G.unpaged ≡ false →
+            FileMade self.old.blocks_used pages result (G.store g.old) (G.store g.new) }
         ensures loans { G.loans g.new ≡ G.loans g.old }
     {
         let area = Area(self.areas.len() as u32);

@@ -77,18 +77,24 @@ impl Tables {
     /// The access that a thread keeps, of a process that lives. None exactly where it keeps none.
     pub fn kept(&self, tid: Tid) -> Option<Kept>
         ensures kept { option_map kept_of result ≡ kept_by self.now tid.0 }
-        ensures lives { (k : KeptOf) → kept_by self.now tid.0 ≡ Some k → is_some (process_of self.now k.pid) ≡ true }
+        ensures lives { (k : KeptOf) → kept_by self.now tid.0 ≡ Some k →
+            is_some (process_of self.now k.pid) ≡ true }
     {
         let kept = self.kept[tid.0 as usize].as_ref()?;
         Some(kept_access(kept.pid, &kept.access))
     }
 
-    /// A thread keeps this access of a living process, which lies in one page, in the place of what it kept.
+    /// A thread keeps this access of a living process, which lies in one page, in the place of what
+    /// it kept.
     pub fn keep(&mut self, tid: Tid, pid: Pid, access: &AccessSpec)
         requires lives { is_some (process_of self.old pid.0) ≡ true }
         requires fits { FitsPage access.now }
-        ensures kept { self.new ≡ keep self.old tid.0 (Some (record { pid = pid.0; access = access.now })) }
-        ensures fits { (c : Key → Option Page) (s : StoreOf) → Fits self.old c s → Fits self.new c s }
+        ensures kept { self.new ≡ keep self.old tid.0 (Some (record {
+          pid = pid.0;
+          access = access.now;
+        })) }
+        ensures fits { (c : Key → Option Page) (s : StoreOf) → Fits self.old c s →
+            Fits self.new c s }
     {
         self.kept[tid.0 as usize] = Some(kept_access(pid, access));
     }
@@ -96,16 +102,20 @@ impl Tables {
     /// A thread keeps no access any more.
     pub fn end_kept(&mut self, tid: Tid)
         ensures ended { self.new ≡ keep self.old tid.0 None }
-        ensures fits { (c : Key → Option Page) (s : StoreOf) → Fits self.old c s → Fits self.new c s }
+        ensures fits { (c : Key → Option Page) (s : StoreOf) → Fits self.old c s →
+            Fits self.new c s }
     {
         self.kept[tid.0 as usize] = None;
     }
 
     /// No thread keeps an access of this process any more.
     pub(crate) fn drop_kept(&mut self, pid: Pid)
-        ensures dropped { self.new ≡ record self.old { kept = map (kept_of_others pid.0) self.old.kept } }
+        ensures dropped { self.new ≡ record self.old {
+          kept = map (kept_of_others pid.0) self.old.kept;
+        } }
         ensures nobody { NobodyKeeps pid.0 self.new }
-        ensures fits { (c : Key → Option Page) (s : StoreOf) → Fits self.old c s → Fits self.new c s }
+        ensures fits { (c : Key → Option Page) (s : StoreOf) → Fits self.old c s →
+            Fits self.new c s }
     {
         drop_accesses(&mut self.kept, pid);
     }

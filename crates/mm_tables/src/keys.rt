@@ -1,6 +1,7 @@
 ghost use Rattle.std.specs.Prelude.{◌≡◌, ◌≤◌, ◌<◌, ◌+◌, ℕ, Bool, true, is_some};
 ghost use Rattle.mm_types.specs.Address.{end_of, end_of_user_pages};
 ghost use Rattle.mm_pages.specs.Housekeeping.{Turns, MakesFrom, Ends};
+ghost use Rattle.mm_pages.specs.Leaving.{Leaving, page_rank};
 ghost use Rattle.mm_pages.specs.Passing.{PassesIn};
 ghost use Rattle.mm_pages.specs.Conditions.{AreAmong, place_at};
 ghost use Rattle.mm_types.specs.declared.numbers.Place.{Place};
@@ -24,9 +25,11 @@ fn private_key(pid: Pid, page: u32) -> Key
 #[tactic(auto, using(mm_pages::proofs::Passed::turns_same))]
 fn add_page<G: Pages>(g: &mut G, space: &AddressSpace, pid: Pid, page: u32)
     requires can { CanAdd pid (only page) space.now.regions (G.contents g.old) (G.store g.old) }
-    ensures adds { Adds pid (only page) (G.contents g.old) (G.contents g.new) (G.store g.old) (G.store g.new) }
+    ensures adds { Adds pid (only page) (G.contents g.old) (G.contents g.new) (G.store g.old)
+        (G.store g.new) }
     ensures passes { (from to : ℕ) → from ≤ page → page < to →
-        PassesIn G.unpaged (Turns (MakesFrom from to)) (G.store g.old) (G.store g.new) (G.behind g.old) (G.behind g.new) }
+        PassesIn G.unpaged (Turns (MakesFrom from to)) (G.store g.old) (G.store g.new)
+        (G.behind g.old) (G.behind g.new) }
     ensures loans { G.loans g.new ≡ G.loans g.old }
 {
     if !space.is_owned(page) {
@@ -39,9 +42,11 @@ fn add_page<G: Pages>(g: &mut G, space: &AddressSpace, pid: Pid, page: u32)
 pub(crate) fn add_pages<G: Pages>(g: &mut G, space: &AddressSpace, pid: Pid, range: PageRange)
     requires end { end_of range ≤ end_of_user_pages }
     requires can { CanAdd pid range space.now.regions (G.contents g.old) (G.store g.old) }
-    ensures adds { Adds pid range (G.contents g.old) (G.contents g.new) (G.store g.old) (G.store g.new) }
+    ensures adds { Adds pid range (G.contents g.old) (G.contents g.new) (G.store g.old)
+        (G.store g.new) }
     ensures passes { (from to : ℕ) → StandsFrom from to range →
-        PassesIn G.unpaged (Turns (MakesFrom from to)) (G.store g.old) (G.store g.new) (G.behind g.old) (G.behind g.new) }
+        PassesIn G.unpaged (Turns (MakesFrom from to)) (G.store g.old) (G.store g.new)
+        (G.behind g.old) (G.behind g.new) }
     ensures loans { G.loans g.new ≡ G.loans g.old }
 {
     for i in 0..range.count {
@@ -53,8 +58,12 @@ pub(crate) fn add_pages<G: Pages>(g: &mut G, space: &AddressSpace, pid: Pid, ran
 #[tactic(auto, using(mm_pages::proofs::Passed::turns_same))]
 fn remove_page<G: Pages>(g: &mut G, space: &AddressSpace, pid: Pid, page: u32)
     requires can { CanRemove pid (only page) space.now.regions (G.contents g.old) (G.store g.old) }
-    ensures removes { Removes pid (only page) (G.contents g.old) (G.contents g.new) (G.store g.old) (G.store g.new) }
-    ensures passes { (held : Place → Bool) (from to : ℕ) → held (place_at pid page) ≡ true → from ≤ page → page < to → PassesIn G.unpaged (Turns (Ends held from to)) (G.store g.old) (G.store g.new) (G.behind g.old) (G.behind g.new) }
+    ensures removes { Removes pid (only page) (G.contents g.old) (G.contents g.new) (G.store g.old)
+        (G.store g.new) }
+    ensures passes { (held : Leaving) (from to : ℕ) → held.places (place_at pid page) ≡ true →
+        from ≤ page_rank page → page_rank (page + 1) ≤ to →
+        PassesIn G.unpaged (Turns (Ends held from to)) (G.store g.old) (G.store g.new)
+        (G.behind g.old) (G.behind g.new) }
     ensures loans { G.loans g.new ≡ G.loans g.old }
 {
     if space.is_owned(page) {
@@ -67,8 +76,11 @@ fn remove_page<G: Pages>(g: &mut G, space: &AddressSpace, pid: Pid, page: u32)
 fn remove_each<G: Pages>(g: &mut G, space: &AddressSpace, pid: Pid, range: PageRange)
     requires end { end_of range ≤ end_of_user_pages }
     requires can { CanRemove pid range space.now.regions (G.contents g.old) (G.store g.old) }
-    ensures removes { Removes pid range (G.contents g.old) (G.contents g.new) (G.store g.old) (G.store g.new) }
-    ensures passes { (held : Place → Bool) (from to : ℕ) → AreAmong held from to pid range → PassesIn G.unpaged (Turns (Ends held from to)) (G.store g.old) (G.store g.new) (G.behind g.old) (G.behind g.new) }
+    ensures removes { Removes pid range (G.contents g.old) (G.contents g.new) (G.store g.old)
+        (G.store g.new) }
+    ensures passes { (held : Leaving) (from to : ℕ) → AreAmong held from to pid range →
+        PassesIn G.unpaged (Turns (Ends held from to)) (G.store g.old) (G.store g.new)
+        (G.behind g.old) (G.behind g.new) }
     ensures loans { G.loans g.new ≡ G.loans g.old }
 {
     for i in 0..range.count {
@@ -76,8 +88,8 @@ fn remove_each<G: Pages>(g: &mut G, space: &AddressSpace, pid: Pid, range: PageR
     }
 }
 
-/// Removes the keys of those pages of a range of one region that are committed; `owned` are. Pages that are not are passed over by
-/// runs, found by halving.
+/// Removes the keys of those pages of a range of one region that are committed; `owned` are. Pages
+/// that are not are passed over by runs, found by halving.
 #[tactic(auto, using(mm_pages::proofs::Passed::turns_same))]
 pub(crate) fn remove_pages<G: Pages>(
     g: &mut G,
@@ -90,8 +102,11 @@ pub(crate) fn remove_pages<G: Pages>(
     requires around { is_some (region_around space.now.regions range) ≡ true }
     requires owned { owned ≡ owned_in space.now.regions range }
     requires can { CanRemove pid range space.now.regions (G.contents g.old) (G.store g.old) }
-    ensures removes { Removes pid range (G.contents g.old) (G.contents g.new) (G.store g.old) (G.store g.new) }
-    ensures passes { (held : Place → Bool) (from to : ℕ) → AreAmong held from to pid range → PassesIn G.unpaged (Turns (Ends held from to)) (G.store g.old) (G.store g.new) (G.behind g.old) (G.behind g.new) }
+    ensures removes { Removes pid range (G.contents g.old) (G.contents g.new) (G.store g.old)
+        (G.store g.new) }
+    ensures passes { (held : Leaving) (from to : ℕ) → AreAmong held from to pid range →
+        PassesIn G.unpaged (Turns (Ends held from to)) (G.store g.old) (G.store g.new)
+        (G.behind g.old) (G.behind g.new) }
     ensures loans { G.loans g.new ≡ G.loans g.old }
 {
     space.sound();

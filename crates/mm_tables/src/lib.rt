@@ -1,5 +1,5 @@
-//! The tables of a machine: what the calls go by, over a store that keeps the bytes. Each change of them is one call here, which
-//! changes tables and store together.
+//! The tables of a machine: what the calls go by, over a store that keeps the bytes. Each change of
+//! them is one call here, which changes tables and store together.
 #![tactic(auto)]
 
 mod closings;

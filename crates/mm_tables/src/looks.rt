@@ -55,7 +55,9 @@ impl Tables {
 
     /// The pid that the next process gets. None exactly where 64 were made.
     pub fn next_pid(&self) -> Option<Pid>
-        ensures { result ≡ (if nat_le (length self.now.processes) most_processes then Some (record { 0 = length self.now.processes }) else None) }
+        ensures { result ≡ (if nat_le (length self.now.processes) most_processes then Some (record {
+          0 = length self.now.processes;
+        }) else None) }
     {
         let made = self.processes.len();
         if made >= PROCESSES {
@@ -67,7 +69,8 @@ impl Tables {
     /// The regions of a living process.
     pub fn space(&self, pid: Pid) -> &AddressSpace
         requires { is_some (process_of self.now pid.0) ≡ true }
-        ensures { (p : ProcessOf (Unit {0})) → process_of self.now pid.0 ≡ Some p → result.now.regions ≡ p.regions }
+        ensures { (p : ProcessOf (Unit {0})) → process_of self.now pid.0 ≡ Some p →
+            result.now.regions ≡ p.regions }
     {
         match &self.processes[pid.0 as usize - 1] {
             Some(process) => &process.space,
@@ -78,7 +81,8 @@ impl Tables {
     /// The handles of a living process.
     pub(crate) fn handles(&self, pid: Pid) -> &Handles
         requires { is_some (process_of self.now pid.0) ≡ true }
-        ensures { (p : ProcessOf (Unit {0})) → process_of self.now pid.0 ≡ Some p → result.now.entries ≡ p.handles }
+        ensures { (p : ProcessOf (Unit {0})) → process_of self.now pid.0 ≡ Some p →
+            result.now.entries ≡ p.handles }
     {
         match &self.processes[pid.0 as usize - 1] {
             Some(process) => &process.handles,
@@ -86,10 +90,12 @@ impl Tables {
         }
     }
 
-    /// The key of the page `index` of a view, which lies in its control area. None exactly where it is not committed.
+    /// The key of the page `index` of a view, which lies in its control area. None exactly where it
+    /// is not committed.
     fn shared_key(&self, view: View, index: u32) -> Option<Key>
         requires inside { view.first + index < length (area_at self.now view.area.0).pages }
-        ensures { result ≡ option_map (λ page. Key.Shared view.area (view.first + index)) (shared_page self.now view.area.0 (view.first + index)) }
+        ensures { result ≡ option_map (λ page. Key.Shared view.area (view.first + index))
+            (shared_page self.now view.area.0 (view.first + index)) }
     {
         let pages = &self.areas[view.area.0 as usize];
         // Their number bounds the sum.
@@ -104,8 +110,10 @@ impl Tables {
 
     /// The key of a row's bytes. None exactly where the row is not committed.
     fn key_of_row(&self, pid: Pid, page: u32, row: &PageRow) -> Option<Key>
-        requires inside { (v : View) → row.now.kind ≡ kind.View v → v.first + row.now.index < length (area_at self.now v.area.0).pages }
-        ensures { result ≡ option_map (key_of pid.0 page) (home_in self.now row.now.index row.now.kind (if row.now.owned then Some tt else None)) }
+        requires inside { (v : View) → row.now.kind ≡ kind.View v →
+            v.first + row.now.index < length (area_at self.now v.area.0).pages }
+        ensures { result ≡ option_map (key_of pid.0 page)
+            (home_in self.now row.now.index row.now.kind (if row.now.owned then Some tt else None)) }
     {
         if row.owned {
             return Some(Key::Private(pid, Vpn(page)));
@@ -116,7 +124,8 @@ impl Tables {
         }
     }
 
-    /// What an access asks of a page. None exactly where the process does not live or the page has no committed row.
+    /// What an access asks of a page. None exactly where the process does not live or the page has
+    /// no committed row.
     pub fn committed_row(&self, pid: Pid, page: u32) -> Option<CommittedRow>
         ensures { result ≡ committed_row self.now pid.0 page }
     {
@@ -135,7 +144,8 @@ impl Tables {
         })
     }
 
-    /// The section of a handle of a process. None exactly where the process does not live or has no such handle.
+    /// The section of a handle of a process. None exactly where the process does not live or has no
+    /// such handle.
     pub fn section_at(&self, pid: Pid, handle: u32) -> Option<HandleSection>
         ensures { result ≡ section_at self.now pid.0 handle }
     {

@@ -3,6 +3,7 @@ ghost use Rattle.mm_types.specs.declared.moves.LineKind.TheVariants as line_kind
 ghost use Rattle.mm_types.specs.declared.numbers.Place.{Place};
 ghost use Rattle.mm_pages.specs.Conditions.{AreAmong};
 ghost use Rattle.mm_pages.specs.Housekeeping.{Turn, Turns, MakesFrom, Ends};
+ghost use Rattle.mm_pages.specs.Leaving.{Leaving, leaving, page_rank};
 ghost use Rattle.mm_pages.specs.Passing.{PassesIn};
 ghost use Rattle.mm_types.specs.Address.{is_free, end_of_user_pages};
 ghost use Rattle.mm_types.specs.Allocation.{reserve_type};
@@ -25,8 +26,9 @@ use mm_types::{NoMemory, Pid};
 use std::alloc::Global;
 
 impl Tables {
-    /// Commits a range of one private region of a process; `n` of its pages are not committed, and the limit allows them. After
-    /// `NoMemory`, which does not come where the store has room for them, tables and bytes are as before.
+    /// Commits a range of one private region of a process; `n` of its pages are not committed, and
+    /// the limit allows them. After `NoMemory`, which does not come where the store has room for
+    /// them, tables and bytes are as before.
     pub fn commit<G: Pages>(
         &mut self,
         g: &mut G,
@@ -38,20 +40,31 @@ impl Tables {
         requires fits { Fits self.old (G.contents g.old) (G.store g.old) }
         requires kind { (G.store g.old).kind ≡ line_kind.Call }
         requires lives { is_some (process_of self.old pid.0) ≡ true }
-        requires inside { (p : ProcessOf (Unit {0})) → process_of self.old pid.0 ≡ Some p → is_some (region_around p.regions range) ≡ true }
-        requires private { (p : ProcessOf (Unit {0})) (r : Found (RegionOf (Unit {0}))) → process_of self.old pid.0 ≡ Some p → region_around p.regions range ≡ Some r → is_private r.thing.kind ≡ true }
+        requires inside { (p : ProcessOf (Unit {0})) → process_of self.old pid.0 ≡ Some p →
+            is_some (region_around p.regions range) ≡ true }
+        requires private { (p : ProcessOf (Unit {0})) (r : Found (RegionOf (Unit {0}))) →
+            process_of self.old pid.0 ≡ Some p → region_around p.regions range ≡ Some r →
+            is_private r.thing.kind ≡ true }
         requires prot { is_protection_among private_protections prot ≡ true }
-        requires counted { (p : ProcessOf (Unit {0})) → process_of self.old pid.0 ≡ Some p → n + owned_in p.regions range ≡ range.count }
+        requires counted { (p : ProcessOf (Unit {0})) → process_of self.old pid.0 ≡ Some p →
+            n + owned_in p.regions range ≡ range.count }
         requires room { charge self.old + n ≤ limit self.old }
-        ensures ok { OnOk result ((p : ProcessOf (Unit {0})) (r : Found (RegionOf (Unit {0}))) → process_of self.old pid.0 ≡ Some p → region_around p.regions range ≡ Some r → self.new ≡ set_region self.old pid.0 p r.place (change_rows (commit tt prot) range r.thing)) }
+        ensures ok { OnOk result ((p : ProcessOf (Unit {0})) (r : Found (RegionOf (Unit {0}))) →
+            process_of self.old pid.0 ≡ Some p → region_around p.regions range ≡ Some r →
+            self.new ≡ set_region self.old pid.0 p r.place
+            (change_rows (commit tt prot) range r.thing)) }
         ensures enough { charge self.old + n ≤ (G.store g.old).room → IsOk result }
         ensures later { (G.store g.old).room ≤ (G.store g.new).room }
         ensures err { OnErr result ((self.new ≡ self.old) × (G.contents g.new ≡ G.contents g.old)) }
-        ensures settled { Settled self.new (G.contents g.old) (G.contents g.new) (G.store g.old) (G.store g.new) }
+        ensures settled { Settled self.new (G.contents g.old) (G.contents g.new) (G.store g.old)
+            (G.store g.new) }
         ensures among { StandsFrom 0 (2 ^ 32) range }
         ensures passes { (from to : ℕ) → StandsFrom from to range →
-            PassesIn G.unpaged (Turns (MakesFrom from to)) (G.store g.old) (G.store g.new) (G.behind g.old) (G.behind g.new) }
-        ensures idle { OnErr result ((turn : Turn) → PassesIn G.unpaged (Turns turn) (G.store g.old) (G.store g.new) (G.behind g.old) (G.behind g.new)) }
+            PassesIn G.unpaged (Turns (MakesFrom from to)) (G.store g.old) (G.store g.new)
+            (G.behind g.old) (G.behind g.new) }
+        ensures idle { OnErr result ((turn : Turn) →
+            PassesIn G.unpaged (Turns turn) (G.store g.old) (G.store g.new) (G.behind g.old)
+            (G.behind g.new)) }
         ensures loans { G.loans g.new ≡ G.loans g.old }
     {
         let total = self.commit.now() + n;
@@ -67,8 +80,8 @@ impl Tables {
         Ok(())
     }
 
-    /// Makes a private region of free pages, committed where the type says so, watched or not; the limit allows them. After `NoMemory` tables and
-    /// bytes are as before.
+    /// Makes a private region of free pages, committed where the type says so, watched or not; the
+    /// limit allows them. After `NoMemory` tables and bytes are as before.
     pub fn reserve<G: Pages>(
         &mut self,
         alloc: Global,
@@ -82,19 +95,27 @@ impl Tables {
         requires fits { Fits self.old (G.contents g.old) (G.store g.old) }
         requires kind { (G.store g.old).kind ≡ line_kind.Call }
         requires lives { is_some (process_of self.old pid.0) ≡ true }
-        requires free { (p : ProcessOf (Unit {0})) → process_of self.old pid.0 ≡ Some p → is_free (ranges_of p.regions) range ≡ true }
+        requires free { (p : ProcessOf (Unit {0})) → process_of self.old pid.0 ≡ Some p →
+            is_free (ranges_of p.regions) range ≡ true }
         requires granule { range.first % 16 ≡ 0 }
         requires some { 1 ≤ range.count }
         requires prot { is_protection_among private_protections prot ≡ true }
         requires room { charge self.old + new_pages kind range ≤ limit self.old }
-        ensures ok { OnOk result ((p : ProcessOf (Unit {0})) → process_of self.old pid.0 ≡ Some p → self.new ≡ set_regions self.old pid.0 p (add_region (private_region blank watched kind prot range) p.regions)) }
+        ensures ok { OnOk result ((p : ProcessOf (Unit {0})) → process_of self.old pid.0 ≡ Some p →
+            self.new ≡ set_regions self.old pid.0 p
+            (add_region (private_region blank watched kind prot range) p.regions)) }
         ensures later { (G.store g.old).room ≤ (G.store g.new).room }
         ensures err { OnErr result ((self.new ≡ self.old) × (G.contents g.new ≡ G.contents g.old)) }
-        ensures settled { Settled self.new (G.contents g.old) (G.contents g.new) (G.store g.old) (G.store g.new) }
+        ensures settled { Settled self.new (G.contents g.old) (G.contents g.new) (G.store g.old)
+            (G.store g.new) }
         ensures among { StandsFrom 0 (2 ^ 32) range }
-        ensures passes { (from to : ℕ) → ((kind == reserve_type) ≡ false → StandsFrom from to range) →
-            PassesIn G.unpaged (Turns (MakesFrom from to)) (G.store g.old) (G.store g.new) (G.behind g.old) (G.behind g.new) }
-        ensures idle { OnErr result ((turn : Turn) → PassesIn G.unpaged (Turns turn) (G.store g.old) (G.store g.new) (G.behind g.old) (G.behind g.new)) }
+        ensures passes { (from to : ℕ) →
+            ((kind == reserve_type) ≡ false → StandsFrom from to range) →
+            PassesIn G.unpaged (Turns (MakesFrom from to)) (G.store g.old) (G.store g.new)
+            (G.behind g.old) (G.behind g.new) }
+        ensures idle { OnErr result ((turn : Turn) →
+            PassesIn G.unpaged (Turns turn) (G.store g.old) (G.store g.new) (G.behind g.old)
+            (G.behind g.new)) }
         ensures loans { G.loans g.new ≡ G.loans g.old }
     {
         let pages = new_pages(kind, range);
@@ -110,12 +131,22 @@ impl Tables {
         requires fits { Fits self.old (G.contents g.old) (G.store g.old) }
         requires kind { (G.store g.old).kind ≡ line_kind.Unbind pid }
         requires lives { is_some (process_of self.old pid.0) ≡ true }
-        requires inside { (p : ProcessOf (Unit {0})) → process_of self.old pid.0 ≡ Some p → is_some (region_around p.regions range) ≡ true }
-        requires private { (p : ProcessOf (Unit {0})) (r : Found (RegionOf (Unit {0}))) → process_of self.old pid.0 ≡ Some p → region_around p.regions range ≡ Some r → is_private r.thing.kind ≡ true }
-        ensures changed { (p : ProcessOf (Unit {0})) (r : Found (RegionOf (Unit {0}))) → process_of self.old pid.0 ≡ Some p → region_around p.regions range ≡ Some r → self.new ≡ set_region self.old pid.0 p r.place (change_rows (λ row. reserved_row) range r.thing) }
-        ensures settled { Settled self.new (G.contents g.old) (G.contents g.new) (G.store g.old) (G.store g.new) }
-        ensures among { AreAmong (is_uncommitted self.new) 0 end_of_user_pages pid range }
-        ensures passes { (held : Place → Bool) (from to : ℕ) → AreAmong held from to pid range → PassesIn G.unpaged (Turns (Ends held from to)) (G.store g.old) (G.store g.new) (G.behind g.old) (G.behind g.new) }
+        requires inside { (p : ProcessOf (Unit {0})) → process_of self.old pid.0 ≡ Some p →
+            is_some (region_around p.regions range) ≡ true }
+        requires private { (p : ProcessOf (Unit {0})) (r : Found (RegionOf (Unit {0}))) →
+            process_of self.old pid.0 ≡ Some p → region_around p.regions range ≡ Some r →
+            is_private r.thing.kind ≡ true }
+        ensures changed { (p : ProcessOf (Unit {0})) (r : Found (RegionOf (Unit {0}))) →
+            process_of self.old pid.0 ≡ Some p → region_around p.regions range ≡ Some r →
+            self.new ≡ set_region self.old pid.0 p r.place
+            (change_rows (λ row. reserved_row) range r.thing) }
+        ensures settled { Settled self.new (G.contents g.old) (G.contents g.new) (G.store g.old)
+            (G.store g.new) }
+        ensures among { AreAmong (leaving self.old pid.0 (is_uncommitted self.new)) 1
+            (page_rank end_of_user_pages) pid range }
+        ensures passes { (held : Leaving) (from to : ℕ) → AreAmong held from to pid range →
+            PassesIn G.unpaged (Turns (Ends held from to)) (G.store g.old) (G.store g.new)
+            (G.behind g.old) (G.behind g.new) }
         ensures loans { G.loans g.new ≡ G.loans g.old }
     {
         let owned = decommit_pages(&mut self.processes[pid.0 as usize - 1], g, pid, range);
@@ -127,28 +158,43 @@ impl Tables {
         requires fits { Fits self.old (G.contents g.old) (G.store g.old) }
         requires kind { (G.store g.old).kind ≡ line_kind.Unbind pid }
         requires lives { is_some (process_of self.old pid.0) ≡ true }
-        requires there { (p : ProcessOf (Unit {0})) → process_of self.old pid.0 ≡ Some p → option_map (λ r. pages_of r.thing) (private_at p.regions addr) ≡ Some range }
-        ensures changed { (p : ProcessOf (Unit {0})) (r : Found (RegionOf (Unit {0}))) → process_of self.old pid.0 ≡ Some p → private_at p.regions addr ≡ Some r → self.new ≡ set_regions self.old pid.0 p (remove p.regions r.place) }
-        ensures settled { Settled self.new (G.contents g.old) (G.contents g.new) (G.store g.old) (G.store g.new) }
-        ensures among { AreAmong (is_uncommitted self.new) 0 end_of_user_pages pid range }
-        ensures passes { (held : Place → Bool) (from to : ℕ) → AreAmong held from to pid range → PassesIn G.unpaged (Turns (Ends held from to)) (G.store g.old) (G.store g.new) (G.behind g.old) (G.behind g.new) }
+        requires there { (p : ProcessOf (Unit {0})) → process_of self.old pid.0 ≡ Some p →
+            option_map (λ r. pages_of r.thing) (private_at p.regions addr) ≡ Some range }
+        ensures changed { (p : ProcessOf (Unit {0})) (r : Found (RegionOf (Unit {0}))) →
+            process_of self.old pid.0 ≡ Some p → private_at p.regions addr ≡ Some r →
+            self.new ≡ set_regions self.old pid.0 p (remove p.regions r.place) }
+        ensures settled { Settled self.new (G.contents g.old) (G.contents g.new) (G.store g.old)
+            (G.store g.new) }
+        ensures among { AreAmong (leaving self.old pid.0 (is_uncommitted self.new)) 1
+            (page_rank end_of_user_pages) pid range }
+        ensures passes { (held : Leaving) (from to : ℕ) → AreAmong held from to pid range →
+            PassesIn G.unpaged (Turns (Ends held from to)) (G.store g.old) (G.store g.new)
+            (G.behind g.old) (G.behind g.new) }
         ensures loans { G.loans g.new ≡ G.loans g.old }
     {
         let freed = release_pages(&mut self.processes[pid.0 as usize - 1], g, pid, addr, range);
         self.commit.refund(freed);
     }
 
-    /// Releases the private region of a process that begins at the address and has these pages. Where it was a thread's stack, the thread
-    /// has none any more.
+    /// Releases the private region of a process that begins at the address and has these pages.
+    /// Where it was a thread's stack, the thread has none any more.
     pub fn release<G: Pages>(&mut self, g: &mut G, pid: Pid, addr: u32, range: PageRange)
         requires fits { Fits self.old (G.contents g.old) (G.store g.old) }
         requires kind { (G.store g.old).kind ≡ line_kind.Unbind pid }
         requires lives { is_some (process_of self.old pid.0) ≡ true }
-        requires there { (p : ProcessOf (Unit {0})) → process_of self.old pid.0 ≡ Some p → option_map (λ r. pages_of r.thing) (private_at p.regions addr) ≡ Some range }
-        ensures changed { (p : ProcessOf (Unit {0})) (r : Found (RegionOf (Unit {0}))) → process_of self.old pid.0 ≡ Some p → private_at p.regions addr ≡ Some r → self.new ≡ end_stacks (set_regions self.old pid.0 p (remove p.regions r.place)) (is_stack_at pid.0 addr) }
-        ensures settled { Settled self.new (G.contents g.old) (G.contents g.new) (G.store g.old) (G.store g.new) }
-        ensures among { AreAmong (is_uncommitted self.new) 0 end_of_user_pages pid range }
-        ensures passes { (held : Place → Bool) (from to : ℕ) → AreAmong held from to pid range → PassesIn G.unpaged (Turns (Ends held from to)) (G.store g.old) (G.store g.new) (G.behind g.old) (G.behind g.new) }
+        requires there { (p : ProcessOf (Unit {0})) → process_of self.old pid.0 ≡ Some p →
+            option_map (λ r. pages_of r.thing) (private_at p.regions addr) ≡ Some range }
+        ensures changed { (p : ProcessOf (Unit {0})) (r : Found (RegionOf (Unit {0}))) →
+            process_of self.old pid.0 ≡ Some p → private_at p.regions addr ≡ Some r →
+            self.new ≡ end_stacks (set_regions self.old pid.0 p (remove p.regions r.place))
+            (is_stack_at pid.0 addr) }
+        ensures settled { Settled self.new (G.contents g.old) (G.contents g.new) (G.store g.old)
+            (G.store g.new) }
+        ensures among { AreAmong (leaving self.old pid.0 (is_uncommitted self.new)) 1
+            (page_rank end_of_user_pages) pid range }
+        ensures passes { (held : Leaving) (from to : ℕ) → AreAmong held from to pid range →
+            PassesIn G.unpaged (Turns (Ends held from to)) (G.store g.old) (G.store g.new)
+            (G.behind g.old) (G.behind g.new) }
         ensures loans { G.loans g.new ≡ G.loans g.old }
     {
         self.release_region(g, pid, addr, range);

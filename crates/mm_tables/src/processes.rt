@@ -26,7 +26,8 @@ use std::alloc::Global;
 impl Tables {
     // ---- processes and what is counted
 
-    /// Makes the next process, without regions, in tables and store. After `NoMemory` nothing has changed.
+    /// Makes the next process, without regions, in tables and store. After `NoMemory` nothing has
+    /// changed.
     pub fn add_process<G: Pages>(
         &mut self,
         allocator: Global,
@@ -40,12 +41,18 @@ impl Tables {
         requires kind { (G.store g.old).kind ≡ line_kind.Process pid min max }
         requires starts { Fits self.old (G.contents g.old) (before_process self.old (G.store g.old)) }
         requires last_pid { (G.store g.old).last_pid ≡ pid.0 }
-        ensures ok { OnOk result (self.new ≡ record self.old { processes = self.old.processes ++ Some no_regions ∷ [] }) }
-        ensures store { OnOk result (G.store g.new ≡ record (G.store g.old) { is_open = changed ◌==◌ (G.store g.old).is_open pid.0 true }) }
+        ensures ok { OnOk result (self.new ≡ record self.old {
+          processes = self.old.processes ++ Some no_regions ∷ [];
+        }) }
+        ensures store { OnOk result (G.store g.new ≡ record (G.store g.old) {
+          is_open = changed ◌==◌ (G.store g.old).is_open pid.0 true;
+        }) }
         ensures fits { OnOk result (Fits self.new (G.contents g.new) (G.store g.new)) }
         ensures kept { OnErr result ((self.new ≡ self.old) × (G.store g.new ≡ G.store g.old)) }
         ensures contents { G.contents g.new ≡ G.contents g.old }
-        ensures passes { (turn : Turn) → PassesIn G.unpaged (Turns turn) (G.store g.old) (G.store g.new) (G.behind g.old) (G.behind g.new) }
+        ensures passes { (turn : Turn) →
+            PassesIn G.unpaged (Turns turn) (G.store g.old) (G.store g.new) (G.behind g.old)
+            (G.behind g.new) }
         ensures loans { G.loans g.new ≡ G.loans g.old }
     {
         push_process(&mut self.processes, allocator, g, pid, min, max)?;
@@ -56,7 +63,9 @@ impl Tables {
     pub fn add_slots(&mut self, n: u32)
         requires most { self.old.machine.slots + n ≤ most_slots }
         ensures grown { self.new ≡ record self.old { machine = with_slots self.old.machine n } }
-        ensures fits { (contents : Key → Option Page) (s z : StoreOf) → Fits self.old contents s → z ≡ extended s z → z.machine ≡ with_slots s.machine n → s.room ≤ z.room → Fits self.new contents z }
+        ensures fits { (contents : Key → Option Page) (s z : StoreOf) → Fits self.old contents s →
+            z ≡ extended s z → z.machine ≡ with_slots s.machine n → s.room ≤ z.room →
+            Fits self.new contents z }
     {
         self.machine = with_slots(self.machine, n);
         self.commit.raise(n);
@@ -66,7 +75,8 @@ impl Tables {
     pub fn take_fail(&mut self)
         requires most { self.old.fails_taken < most_fails }
         ensures taken { self.new ≡ record self.old { fails_taken = self.old.fails_taken + 1 } }
-        ensures fits { (contents : Key → Option Page) (s z : StoreOf) → Fits self.old contents s → IsNamed s z → Fits self.new contents z }
+        ensures fits { (contents : Key → Option Page) (s z : StoreOf) → Fits self.old contents s →
+            IsNamed s z → Fits self.new contents z }
     {
         self.fails_taken += 1;
     }
@@ -76,25 +86,40 @@ impl Tables {
     /// Turns the guard of a committed page of a living process off.
     pub fn take_guard_off(&mut self, pid: Pid, page: u32)
         requires lives { is_some (process_of self.old pid.0) ≡ true }
-        requires committed { (p : ProcessOf (Unit {0})) → process_of self.old pid.0 ≡ Some p → is_some (committed_at self.old p.regions page) ≡ true }
-        ensures off { (p : ProcessOf (Unit {0})) (c : Committed (Unit {0})) → process_of self.old pid.0 ≡ Some p → committed_at self.old p.regions page ≡ Some c → self.new ≡ guard_off self.old pid.0 p c page }
-        ensures fits { (contents : Key → Option Page) (s : StoreOf) → Fits self.old contents s → Fits self.new contents s }
+        requires committed { (p : ProcessOf (Unit {0})) → process_of self.old pid.0 ≡ Some p →
+            is_some (committed_at self.old p.regions page) ≡ true }
+        ensures off { (p : ProcessOf (Unit {0})) (c : Committed (Unit {0})) →
+            process_of self.old pid.0 ≡ Some p → committed_at self.old p.regions page ≡ Some c →
+            self.new ≡ guard_off self.old pid.0 p c page }
+        ensures fits { (contents : Key → Option Page) (s : StoreOf) → Fits self.old contents s →
+            Fits self.new contents s }
     {
         take_guard_off(&mut self.processes[pid.0 as usize - 1], page);
     }
 
-    /// A committed page of a view with a mark, which was not copied, has bytes of its own from now on, and the protection READWRITE.
+    /// A committed page of a view with a mark, which was not copied, has bytes of its own from now
+    /// on, and the protection READWRITE.
     pub fn copy_page(&mut self, pid: Pid, page: u32)
         requires lives { is_some (process_of self.old pid.0) ≡ true }
-        requires marked { (p : ProcessOf (Unit {0})) → process_of self.old pid.0 ≡ Some p → IsSomeAnd (committed_at self.old p.regions page) (λ c. CanCopy c) }
-        ensures copied { (p : ProcessOf (Unit {0})) (c : Committed (Unit {0})) → process_of self.old pid.0 ≡ Some p → committed_at self.old p.regions page ≡ Some c → self.new ≡ set_row self.old pid.0 p c.region page (record c.row { own = Some tt; prot = 0x04 }) }
-        ensures fits { (contents : Key → Option Page) (s : StoreOf) (bytes : Page) → Fits self.old contents s → Fits self.new (changed same_key contents (private_key pid.0 page) (Some bytes)) (copied (place_at pid page) s) }
+        requires marked { (p : ProcessOf (Unit {0})) → process_of self.old pid.0 ≡ Some p →
+            IsSomeAnd (committed_at self.old p.regions page) (λ c. CanCopy c) }
+        ensures copied { (p : ProcessOf (Unit {0})) (c : Committed (Unit {0})) →
+            process_of self.old pid.0 ≡ Some p → committed_at self.old p.regions page ≡ Some c →
+            self.new ≡ set_row self.old pid.0 p c.region page (record c.row {
+              own = Some tt;
+              prot = 0x04;
+            }) }
+        ensures fits { (contents : Key → Option Page) (s : StoreOf) (bytes : Page) →
+            Fits self.old contents s →
+            Fits self.new (changed same_key contents (private_key pid.0 page) (Some bytes))
+            (copied (place_at pid page) s) }
     {
         copy_page(&mut self.processes[pid.0 as usize - 1], page);
     }
 
-    /// Gives a range of committed pages of one region of a process another protection, which they accept; in a view WRITECOPY marks
-    /// `n` of them, and the limit allows these. `NoMemory` comes only where pages are marked; then tables and bytes are as before.
+    /// Gives a range of committed pages of one region of a process another protection, which they
+    /// accept; in a view WRITECOPY marks `n` of them, and the limit allows these. `NoMemory` comes
+    /// only where pages are marked; then tables and bytes are as before.
     pub fn protect<G: Pages>(
         &mut self,
         g: &mut G,
@@ -106,17 +131,29 @@ impl Tables {
         requires fits { Fits self.old (G.contents g.old) (G.store g.old) }
         requires kind { (G.store g.old).kind ≡ line_kind.Call }
         requires lives { is_some (process_of self.old pid.0) ≡ true }
-        requires inside { (p : ProcessOf (Unit {0})) → process_of self.old pid.0 ≡ Some p → is_some (region_around p.regions range) ≡ true }
+        requires inside { (p : ProcessOf (Unit {0})) → process_of self.old pid.0 ≡ Some p →
+            is_some (region_around p.regions range) ≡ true }
         requires prot { is_protection_among all_protections prot ≡ true }
-        requires committed { (p : ProcessOf (Unit {0})) (r : Found (RegionOf (Unit {0}))) → process_of self.old pid.0 ≡ Some p → region_around p.regions range ≡ Some r → every_page (is_committed_at self.old r.thing) range ≡ true }
-        requires accepted { (p : ProcessOf (Unit {0})) (r : Found (RegionOf (Unit {0}))) → process_of self.old pid.0 ≡ Some p → region_around p.regions range ≡ Some r → every_page (accepts r.thing prot) range ≡ true }
-        requires counted { (p : ProcessOf (Unit {0})) → process_of self.old pid.0 ≡ Some p → n ≡ new_marks p.regions range prot }
+        requires committed { (p : ProcessOf (Unit {0})) (r : Found (RegionOf (Unit {0}))) →
+            process_of self.old pid.0 ≡ Some p → region_around p.regions range ≡ Some r →
+            every_page (is_committed_at self.old r.thing) range ≡ true }
+        requires accepted { (p : ProcessOf (Unit {0})) (r : Found (RegionOf (Unit {0}))) →
+            process_of self.old pid.0 ≡ Some p → region_around p.regions range ≡ Some r →
+            every_page (accepts r.thing prot) range ≡ true }
+        requires counted { (p : ProcessOf (Unit {0})) → process_of self.old pid.0 ≡ Some p →
+            n ≡ new_marks p.regions range prot }
         requires room { charge self.old + n ≤ limit self.old }
-        ensures ok { OnOk result ((p : ProcessOf (Unit {0})) (r : Found (RegionOf (Unit {0}))) → process_of self.old pid.0 ≡ Some p → region_around p.regions range ≡ Some r → self.new ≡ set_region self.old pid.0 p r.place (change_rows (protected r.thing.kind prot) range r.thing)) }
+        ensures ok { OnOk result ((p : ProcessOf (Unit {0})) (r : Found (RegionOf (Unit {0}))) →
+            process_of self.old pid.0 ≡ Some p → region_around p.regions range ≡ Some r →
+            self.new ≡ set_region self.old pid.0 p r.place
+            (change_rows (protected r.thing.kind prot) range r.thing)) }
         ensures err { OnErr result ((self.new ≡ self.old) × (G.contents g.new ≡ G.contents g.old)) }
         ensures some { n ≡ 0 → IsOk result }
-        ensures settled { Settled self.new (G.contents g.old) (G.contents g.new) (G.store g.old) (G.store g.new) }
-        ensures passes { (turn : Turn) → PassesIn G.unpaged (Turns turn) (G.store g.old) (G.store g.new) (G.behind g.old) (G.behind g.new) }
+        ensures settled { Settled self.new (G.contents g.old) (G.contents g.new) (G.store g.old)
+            (G.store g.new) }
+        ensures passes { (turn : Turn) →
+            PassesIn G.unpaged (Turns turn) (G.store g.old) (G.store g.new) (G.behind g.old)
+            (G.behind g.new) }
         ensures loans { G.loans g.new ≡ G.loans g.old }
     {
         let total = self.commit.now() + n;

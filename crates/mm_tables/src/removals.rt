@@ -1,8 +1,9 @@
-ghost use Rattle.std.specs.Prelude.{if◌then◌else◌, Bool, true, ℕ, ◌≡◌, ◌≤◌, ◌<◌, ◌&&◌, ◌-◌, Some, None, length, count_by, is_some};
+ghost use Rattle.std.specs.Prelude.{if◌then◌else◌, Bool, true, ℕ, ◌≡◌, ◌≤◌, ◌<◌, ◌+◌, ◌&&◌, ◌-◌, Some, None, length, count_by, is_some};
 ghost use Rattle.mm_types.specs.Address.{end_of, end_of_user_pages};
 ghost use Rattle.mm_types.specs.declared.numbers.Place.{Place};
 ghost use Rattle.mm_pages.specs.Conditions.{AreAmong, IsAmong, place_at};
 ghost use Rattle.mm_pages.specs.Housekeeping.{Turns, Ends};
+ghost use Rattle.mm_pages.specs.Leaving.{Leaving, page_rank};
 ghost use Rattle.mm_pages.specs.Passing.{PassesIn};
 ghost use Rattle.mm_world.specs.Charge.{area_charge};
 ghost use Rattle.mm_world.specs.Failure.{same_key};
@@ -23,8 +24,11 @@ use mm_types::{Area, Key, Pid, Vpn};
 #[tactic(auto, using(mm_pages::proofs::Passed::turns_same))]
 fn remove_if<G: Pages>(g: &mut G, owned: bool, key: Key)
     requires can { CanGo key owned (G.store g.old) }
-    ensures gone { Gone (λ k. owned && same_key k key) (if owned then 1 else 0) (G.contents g.old) (G.contents g.new) (G.store g.old) (G.store g.new) }
-    ensures passes { (held : Place → Bool) (from to : ℕ) → IsAmong (G.contents g.old) held from to key → PassesIn G.unpaged (Turns (Ends held from to)) (G.store g.old) (G.store g.new) (G.behind g.old) (G.behind g.new) }
+    ensures gone { Gone (λ k. owned && same_key k key) (if owned then 1 else 0) (G.contents g.old)
+        (G.contents g.new) (G.store g.old) (G.store g.new) }
+    ensures passes { (held : Leaving) (from to : ℕ) → IsAmong (G.contents g.old) held from to key →
+        PassesIn G.unpaged (Turns (Ends held from to)) (G.store g.old) (G.store g.new)
+        (G.behind g.old) (G.behind g.new) }
     ensures loans { G.loans g.new ≡ G.loans g.old }
 {
     if owned {
@@ -35,10 +39,17 @@ fn remove_if<G: Pages>(g: &mut G, owned: bool, key: Key)
 /// Removes the keys of an area's committed pages, in rising order.
 #[tactic(auto, using(mm_pages::proofs::Passed::turns_same))]
 fn remove_shared<G: Pages>(g: &mut G, pages: &SectionPages, area: Area)
-    requires can { CanGoAll (shared_at area) (is_committed_in pages.now) (length pages.now.pages) (G.store g.old) }
-    requires live { (i : ℕ) → is_some (G.contents g.old (shared_at area i)) ≡ is_committed_in pages.now i }
-    ensures gone { Gone (among (shared_at area) (is_committed_in pages.now) (length pages.now.pages)) (owned_among (is_committed_in pages.now) (length pages.now.pages)) (G.contents g.old) (G.contents g.new) (G.store g.old) (G.store g.new) }
-    ensures passes { (held : Place → Bool) (from to : ℕ) → PassesIn G.unpaged (Turns (Ends held from to)) (G.store g.old) (G.store g.new) (G.behind g.old) (G.behind g.new) }
+    requires can { CanGoAll (shared_at area) (is_committed_in pages.now) (length pages.now.pages)
+        (G.store g.old) }
+    requires live { (i : ℕ) → is_some (G.contents g.old (shared_at area i)) ≡
+        is_committed_in pages.now i }
+    ensures gone { Gone (among (shared_at area) (is_committed_in pages.now)
+        (length pages.now.pages)) (owned_among (is_committed_in pages.now) (length pages.now.pages))
+        (G.contents g.old) (G.contents g.new) (G.store g.old) (G.store g.new) }
+    ensures passes { (held : Leaving) (from to : ℕ) → from ≤ held.rank area.0 →
+        held.rank area.0 < to →
+        PassesIn G.unpaged (Turns (Ends held from to)) (G.store g.old) (G.store g.new)
+        (G.behind g.old) (G.behind g.new) }
     ensures loans { G.loans g.new ≡ G.loans g.old }
 {
     let count = pages.len();
@@ -49,9 +60,15 @@ fn remove_shared<G: Pages>(g: &mut G, pages: &SectionPages, area: Area)
 
 /// Gives up one page of a process: its key, where it has bytes of its own, and then its place.
 fn release_page<G: Pages>(g: &mut G, space: &AddressSpace, pid: Pid, page: u32)
-    requires can { CanGiveUp pid page (is_some (own_page space.now.regions page)) (G.contents g.old) (G.store g.old) }
-    ensures given_up { GivenUp pid (only page) (if is_some (own_page space.now.regions page) then 1 else 0) (G.contents g.old) (G.contents g.new) (G.store g.old) (G.store g.new) }
-    ensures passes { (held : Place → Bool) (from to : ℕ) → held (place_at pid page) ≡ true → from ≤ page → page < to → PassesIn G.unpaged (Turns (Ends held from to)) (G.store g.old) (G.store g.new) (G.behind g.old) (G.behind g.new) }
+    requires can { CanGiveUp pid page (is_some (own_page space.now.regions page)) (G.contents g.old)
+        (G.store g.old) }
+    ensures given_up { GivenUp pid (only page)
+        (if is_some (own_page space.now.regions page) then 1 else 0) (G.contents g.old)
+        (G.contents g.new) (G.store g.old) (G.store g.new) }
+    ensures passes { (held : Leaving) (from to : ℕ) → held.places (place_at pid page) ≡ true →
+        from ≤ page_rank page → page_rank (page + 1) ≤ to →
+        PassesIn G.unpaged (Turns (Ends held from to)) (G.store g.old) (G.store g.new)
+        (G.behind g.old) (G.behind g.new) }
     ensures loans { G.loans g.new ≡ G.loans g.old }
 {
     remove_if(g, space.is_owned(page), Key::Private(pid, Vpn(page)));
@@ -62,8 +79,12 @@ fn release_page<G: Pages>(g: &mut G, space: &AddressSpace, pid: Pid, page: u32)
 fn release_each<G: Pages>(g: &mut G, space: &AddressSpace, pid: Pid, range: PageRange)
     requires end { end_of range ≤ end_of_user_pages }
     requires can { CanRelease pid range space.now.regions (G.contents g.old) (G.store g.old) }
-    ensures given_up { GivenUp pid range (owned_among (is_owned_at space.now.regions range.first) range.count) (G.contents g.old) (G.contents g.new) (G.store g.old) (G.store g.new) }
-    ensures passes { (held : Place → Bool) (from to : ℕ) → AreAmong held from to pid range → PassesIn G.unpaged (Turns (Ends held from to)) (G.store g.old) (G.store g.new) (G.behind g.old) (G.behind g.new) }
+    ensures given_up { GivenUp pid range
+        (owned_among (is_owned_at space.now.regions range.first) range.count) (G.contents g.old)
+        (G.contents g.new) (G.store g.old) (G.store g.new) }
+    ensures passes { (held : Leaving) (from to : ℕ) → AreAmong held from to pid range →
+        PassesIn G.unpaged (Turns (Ends held from to)) (G.store g.old) (G.store g.new)
+        (G.behind g.old) (G.behind g.new) }
     ensures loans { G.loans g.new ≡ G.loans g.old }
 {
     for i in 0..range.count {
@@ -75,22 +96,30 @@ fn release_each<G: Pages>(g: &mut G, space: &AddressSpace, pid: Pid, range: Page
 fn release_empty<G: Pages>(g: &mut G, space: &AddressSpace, pid: Pid, range: PageRange)
     requires can { CanRelease pid range space.now.regions (G.contents g.old) (G.store g.old) }
     requires none { owned_among (is_owned_at space.now.regions range.first) range.count ≡ 0 }
-    ensures given_up { GivenUp pid range (owned_among (is_owned_at space.now.regions range.first) range.count) (G.contents g.old) (G.contents g.new) (G.store g.old) (G.store g.new) }
-    ensures passes { (held : Place → Bool) (from to : ℕ) → AreAmong held from to pid range → PassesIn G.unpaged (Turns (Ends held from to)) (G.store g.old) (G.store g.new) (G.behind g.old) (G.behind g.new) }
+    ensures given_up { GivenUp pid range
+        (owned_among (is_owned_at space.now.regions range.first) range.count) (G.contents g.old)
+        (G.contents g.new) (G.store g.old) (G.store g.new) }
+    ensures passes { (held : Leaving) (from to : ℕ) → AreAmong held from to pid range →
+        PassesIn G.unpaged (Turns (Ends held from to)) (G.store g.old) (G.store g.new)
+        (G.behind g.old) (G.behind g.new) }
     ensures loans { G.loans g.new ≡ G.loans g.old }
 {
     g.unbind(pid, Vpn(range.first), range.count);
 }
 
-/// Gives up pages of one region of a process in rising order, each key before its place; `owned` of them have bytes of
-/// their own. Pages without are passed over by runs, found by halving.
+/// Gives up pages of one region of a process in rising order, each key before its place; `owned` of
+/// them have bytes of their own. Pages without are passed over by runs, found by halving.
 fn release_some<G: Pages>(g: &mut G, space: &AddressSpace, pid: Pid, range: PageRange, owned: u32)
     requires end { end_of range ≤ end_of_user_pages }
     requires around { is_some (region_around space.now.regions range) ≡ true }
     requires owned { owned ≡ owned_in space.now.regions range }
     requires can { CanRelease pid range space.now.regions (G.contents g.old) (G.store g.old) }
-    ensures given_up { GivenUp pid range (owned_among (is_owned_at space.now.regions range.first) range.count) (G.contents g.old) (G.contents g.new) (G.store g.old) (G.store g.new) }
-    ensures passes { (held : Place → Bool) (from to : ℕ) → AreAmong held from to pid range → PassesIn G.unpaged (Turns (Ends held from to)) (G.store g.old) (G.store g.new) (G.behind g.old) (G.behind g.new) }
+    ensures given_up { GivenUp pid range
+        (owned_among (is_owned_at space.now.regions range.first) range.count) (G.contents g.old)
+        (G.contents g.new) (G.store g.old) (G.store g.new) }
+    ensures passes { (held : Leaving) (from to : ℕ) → AreAmong held from to pid range →
+        PassesIn G.unpaged (Turns (Ends held from to)) (G.store g.old) (G.store g.new)
+        (G.behind g.old) (G.behind g.new) }
     ensures loans { G.loans g.new ≡ G.loans g.old }
 {
     space.sound();
@@ -107,7 +136,8 @@ fn release_some<G: Pages>(g: &mut G, space: &AddressSpace, pid: Pid, range: Page
     }
 }
 
-/// Gives up pages of one region of a process in rising order, each with its key before the next. Tells how many had bytes of their own.
+/// Gives up pages of one region of a process in rising order, each with its key before the next.
+/// Tells how many had bytes of their own.
 pub(crate) fn release_pages<G: Pages>(
     g: &mut G,
     space: &AddressSpace,
@@ -118,9 +148,14 @@ pub(crate) fn release_pages<G: Pages>(
     requires around { is_some (region_around space.now.regions range) ≡ true }
     requires can { CanRelease pid range space.now.regions (G.contents g.old) (G.store g.old) }
     ensures owned { result ≡ owned_in space.now.regions range }
-    ensures given_up { GivenUp pid range (passing (is_live pid (G.contents g.old)) range.first range.count) (G.contents g.old) (G.contents g.new) (G.store g.old) (G.store g.new) }
-    ensures released { Released pid range space.now.regions (G.contents g.old) (G.contents g.new) (G.store g.old) (G.store g.new) }
-    ensures passes { (held : Place → Bool) (from to : ℕ) → AreAmong held from to pid range → PassesIn G.unpaged (Turns (Ends held from to)) (G.store g.old) (G.store g.new) (G.behind g.old) (G.behind g.new) }
+    ensures given_up { GivenUp pid range
+        (passing (is_live pid (G.contents g.old)) range.first range.count) (G.contents g.old)
+        (G.contents g.new) (G.store g.old) (G.store g.new) }
+    ensures released { Released pid range space.now.regions (G.contents g.old) (G.contents g.new)
+        (G.store g.old) (G.store g.new) }
+    ensures passes { (held : Leaving) (from to : ℕ) → AreAmong held from to pid range →
+        PassesIn G.unpaged (Turns (Ends held from to)) (G.store g.old) (G.store g.new)
+        (G.behind g.old) (G.behind g.new) }
     ensures loans { G.loans g.new ≡ G.loans g.old }
 {
     let owned = space.owned(range);
@@ -133,9 +168,15 @@ fn empty_area<G: Pages>(g: &mut G, pages: &mut SectionPages, commit: &mut Commit
     requires can { CanEnd area pages.old (G.contents g.old) (G.store g.old) }
     requires charged { count_by is_some pages.old.pages ≤ commit.old.charge }
     ensures ended { pages.new ≡ no_area }
-    ensures refunded { commit.new ≡ record commit.old { charge = commit.old.charge - count_by is_some pages.old.pages } }
-    ensures emptied { Emptied area pages.old (G.contents g.old) (G.contents g.new) (G.store g.old) (G.store g.new) }
-    ensures passes { (held : Place → Bool) (from to : ℕ) → PassesIn G.unpaged (Turns (Ends held from to)) (G.store g.old) (G.store g.new) (G.behind g.old) (G.behind g.new) }
+    ensures refunded { commit.new ≡ record commit.old {
+      charge = commit.old.charge - count_by is_some pages.old.pages;
+    } }
+    ensures emptied { Emptied area pages.old (G.contents g.old) (G.contents g.new) (G.store g.old)
+        (G.store g.new) }
+    ensures passes { (held : Leaving) (from to : ℕ) → from ≤ held.rank area.0 →
+        held.rank area.0 < to →
+        PassesIn G.unpaged (Turns (Ends held from to)) (G.store g.old) (G.store g.new)
+        (G.behind g.old) (G.behind g.new) }
     ensures loans { G.loans g.new ≡ G.loans g.old }
 {
     let freed = pages.committed();
@@ -153,14 +194,22 @@ pub(crate) fn end_area<G: Pages>(
     commit: &mut Commit,
     area: Area,
 )
-    requires can { pages.old.file_block ≡ None → CanEnd area pages.old (G.contents g.old) (G.store g.old) }
+    requires can { pages.old.file_block ≡ None →
+        CanEnd area pages.old (G.contents g.old) (G.store g.old) }
     requires charged { area_charge pages.old ≤ commit.old.charge }
     ensures ended { pages.new ≡ ended_area pages.old }
-    ensures refunded { commit.new ≡ record commit.old { charge = commit.old.charge - area_charge pages.old } }
-    ensures file { (first : ℕ) → pages.old.file_block ≡ Some first → (G.contents g.new ≡ G.contents g.old) × (G.store g.new ≡ G.store g.old) }
+    ensures refunded { commit.new ≡ record commit.old {
+      charge = commit.old.charge - area_charge pages.old;
+    } }
+    ensures file { (first : ℕ) → pages.old.file_block ≡ Some first →
+        (G.contents g.new ≡ G.contents g.old) × (G.store g.new ≡ G.store g.old) }
     ensures bound { (place : Place) → (G.store g.new).bound place ≡ (G.store g.old).bound place }
-    ensures emptied { pages.old.file_block ≡ None → Emptied area pages.old (G.contents g.old) (G.contents g.new) (G.store g.old) (G.store g.new) }
-    ensures passes { (held : Place → Bool) (from to : ℕ) → PassesIn G.unpaged (Turns (Ends held from to)) (G.store g.old) (G.store g.new) (G.behind g.old) (G.behind g.new) }
+    ensures emptied { pages.old.file_block ≡ None →
+        Emptied area pages.old (G.contents g.old) (G.contents g.new) (G.store g.old) (G.store g.new) }
+    ensures passes { (held : Leaving) (from to : ℕ)
+        → (pages.old.file_block ≡ None → (from ≤ held.rank area.0) × (held.rank area.0 < to)) →
+        PassesIn G.unpaged (Turns (Ends held from to)) (G.store g.old) (G.store g.new)
+        (G.behind g.old) (G.behind g.new) }
     ensures loans { G.loans g.new ≡ G.loans g.old }
 {
     if pages.first_block().is_none() {

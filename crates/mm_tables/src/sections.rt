@@ -41,9 +41,14 @@ fn grow_handles(process: &mut Option<Process>) -> Result<(), NoMemory>
 /// The next handle of a living process, to this section. There is room for it.
 fn give_handle(process: &mut Option<Process>, id: SectionId) -> u32
     requires room { has_spare process.old ≡ true }
-    requires few { (p : ProcessOf (Unit {0})) → option_map shown_process process.old ≡ Some p → length p.handles < 2 ^ 28 }
-    ensures handle { (p : ProcessOf (Unit {0})) → option_map shown_process process.old ≡ Some p → result ≡ next_handle p }
-    ensures given { (p : ProcessOf (Unit {0})) → option_map shown_process process.old ≡ Some p → option_map shown_process process.new ≡ Some (record p { handles = p.handles ++ Some id.0 ∷ [] }) }
+    requires few { (p : ProcessOf (Unit {0})) → option_map shown_process process.old ≡ Some p →
+        length p.handles < 2 ^ 28 }
+    ensures handle { (p : ProcessOf (Unit {0})) → option_map shown_process process.old ≡ Some p →
+        result ≡ next_handle p }
+    ensures given { (p : ProcessOf (Unit {0})) → option_map shown_process process.old ≡ Some p →
+        option_map shown_process process.new ≡ Some (record p {
+          handles = p.handles ++ Some id.0 ∷ [];
+        }) }
 {
     match process {
         Some(process) => process.handles.add(id),
@@ -64,14 +69,22 @@ fn grow_handles_of(processes: &mut Vec<Option<Process>>, pid: Pid) -> Result<(),
 fn give_handle_of(processes: &mut Vec<Option<Process>>, pid: Pid, id: SectionId) -> u32
     requires lives { is_some (numbered (shown_processes processes.old.items) pid.0) ≡ true }
     requires room { has_room processes.old.items pid.0 ≡ true }
-    requires few { (p : ProcessOf (Unit {0})) → numbered (shown_processes processes.old.items) pid.0 ≡ Some p → length p.handles < 2 ^ 28 }
-    ensures handle { (p : ProcessOf (Unit {0})) → numbered (shown_processes processes.old.items) pid.0 ≡ Some p → result ≡ next_handle p }
-    ensures given { (p : ProcessOf (Unit {0})) → numbered (shown_processes processes.old.items) pid.0 ≡ Some p → shown_processes processes.new.items ≡ slice_set (shown_processes processes.old.items) pid.0 (Some (record p { handles = p.handles ++ Some id.0 ∷ [] })) }
+    requires few { (p : ProcessOf (Unit {0})) →
+        numbered (shown_processes processes.old.items) pid.0 ≡ Some p → length p.handles < 2 ^ 28 }
+    ensures handle { (p : ProcessOf (Unit {0})) →
+        numbered (shown_processes processes.old.items) pid.0 ≡ Some p → result ≡ next_handle p }
+    ensures given { (p : ProcessOf (Unit {0})) →
+        numbered (shown_processes processes.old.items) pid.0 ≡ Some p →
+        shown_processes processes.new.items ≡ slice_set (shown_processes processes.old.items) pid.0
+        (Some (record p {
+          handles = p.handles ++ Some id.0 ∷ [];
+        })) }
 {
     give_handle(&mut processes[pid.0 as usize - 1], id)
 }
 
-/// Sees that there is room for one section more and a handle to it. After `NoMemory` all is as before but for room.
+/// Sees that there is room for one section more and a handle to it. After `NoMemory` all is as
+/// before but for room.
 fn grow_for_section(
     directory: &mut Directory,
     processes: &mut Vec<Option<Process>>,
@@ -88,7 +101,8 @@ fn grow_for_section(
     grow_handles_of(processes, pid)
 }
 
-/// Makes a section to which one handle of the process refers, which is answered. There is room for both.
+/// Makes a section to which one handle of the process refers, which is answered. There is room for
+/// both.
 fn list_section(
     directory: &mut Directory,
     processes: &mut Vec<Option<Process>>,
@@ -101,11 +115,20 @@ fn list_section(
     requires spare { 1 ≤ directory.old.spare }
     requires room { has_room processes.old.items pid.0 ≡ true }
     requires few { length directory.old.entries < 2 ^ 28 }
-    requires held { (p : ProcessOf (Unit {0})) → numbered (shown_processes processes.old.items) pid.0 ≡ Some p → length p.handles < 2 ^ 28 }
-    requires unnamed { IfSome name (λ n. position (is_named n) (sections_of directory.old.entries) ≡ None) }
-    ensures handle { (p : ProcessOf (Unit {0})) → numbered (shown_processes processes.old.items) pid.0 ≡ Some p → result ≡ next_handle p }
-    ensures given { (p : ProcessOf (Unit {0})) → numbered (shown_processes processes.old.items) pid.0 ≡ Some p → shown_processes processes.new.items ≡ slice_set (shown_processes processes.old.items) pid.0 (Some (record p { handles = p.handles ++ Some (length directory.old.entries) ∷ [] })) }
-    ensures entries { directory.new.entries ≡ directory.old.entries ++ Some (one_handle_more (new_entry prot.0 name area.0)) ∷ [] }
+    requires held { (p : ProcessOf (Unit {0})) →
+        numbered (shown_processes processes.old.items) pid.0 ≡ Some p → length p.handles < 2 ^ 28 }
+    requires unnamed { IfSome name (λ n. position (is_named n) (sections_of directory.old.entries) ≡
+        None) }
+    ensures handle { (p : ProcessOf (Unit {0})) →
+        numbered (shown_processes processes.old.items) pid.0 ≡ Some p → result ≡ next_handle p }
+    ensures given { (p : ProcessOf (Unit {0})) →
+        numbered (shown_processes processes.old.items) pid.0 ≡ Some p →
+        shown_processes processes.new.items ≡ slice_set (shown_processes processes.old.items) pid.0
+        (Some (record p {
+          handles = p.handles ++ Some (length directory.old.entries) ∷ [];
+        })) }
+    ensures entries { directory.new.entries ≡ directory.old.entries ++
+        Some (one_handle_more (new_entry prot.0 name area.0)) ∷ [] }
     ensures files { directory.new.files ≡ directory.old.files }
 {
     let id = directory.add_section(prot, name, area);
@@ -124,7 +147,10 @@ fn grow_for_paging(
     committed: bool,
 ) -> Result<SectionPages, NoMemory>
     requires lives { is_some (numbered (shown_processes processes.old.items) pid.0) ≡ true }
-    ensures made { IfOk result (λ a. a ≡ record { file_block = None; pages = replicate pages (page_if committed) }) }
+    ensures made { IfOk result (λ a. a ≡ record {
+      file_block = None;
+      pages = replicate pages (page_if committed);
+    }) }
     ensures processes { shown_processes processes.new.items ≡ shown_processes processes.old.items }
     ensures entries { directory.new.entries ≡ directory.old.entries }
     ensures files { directory.new.files ≡ directory.old.files }
@@ -143,8 +169,10 @@ fn grow_for_paging(
 #[tactic(auto, using(mm_pages::proofs::Passed::turns_same))]
 fn fill_area<G: Pages>(g: &mut G, area: Area, n: u32)
     requires can { CanFill area n (G.contents g.old) (G.store g.old) }
-    ensures fills { Fills area n (G.contents g.old) (G.contents g.new) (G.store g.old) (G.store g.new) }
-    ensures passes { PassesIn G.unpaged (Turns Makes) (G.store g.old) (G.store g.new) (G.behind g.old) (G.behind g.new) }
+    ensures fills { Fills area n (G.contents g.old) (G.contents g.new) (G.store g.old)
+        (G.store g.new) }
+    ensures passes { PassesIn G.unpaged (Turns Makes) (G.store g.old) (G.store g.new)
+        (G.behind g.old) (G.behind g.new) }
     ensures loans { G.loans g.new ≡ G.loans g.old }
 {
     for i in 0..n {
@@ -152,8 +180,8 @@ fn fill_area<G: Pages>(g: &mut G, area: Area, n: u32)
     }
 }
 
-/// Opens an area of the store, and adds the keys of its first `n` pages. `total` is what all keys then come to at most.
-/// After `NoMemory` there may be more room.
+/// Opens an area of the store, and adds the keys of its first `n` pages. `total` is what all keys
+/// then come to at most. After `NoMemory` there may be more room.
 #[tactic(auto, using(mm_pages::proofs::Passed::turns_same, mm_pages::proofs::Passed::idle_before))]
 fn open_paging_area<G: Pages>(
     g: &mut G,
@@ -170,11 +198,17 @@ fn open_paging_area<G: Pages>(
     requires limit { total ≤ limit_of (G.store g.old).machine }
     requires keys { (G.store g.old).paging_keys + n ≤ total }
     requires kind { (G.store g.old).kind ≡ line_kind.Call }
-    ensures ok { OnOk result (Opens area pages n (G.contents g.old) (G.contents g.new) (G.store g.old) (G.store g.new)) }
+    ensures ok { OnOk result (Opens area pages n (G.contents g.old) (G.contents g.new)
+        (G.store g.old) (G.store g.new)) }
     ensures room { OnOk result (total ≤ (G.store g.new).room) }
-    ensures err { OnErr result (Roomier (G.contents g.old) (G.contents g.new) (G.store g.old) (G.store g.new)) }
-    ensures passes { PassesIn G.unpaged (Turns Makes) (G.store g.old) (G.store g.new) (G.behind g.old) (G.behind g.new) }
-    ensures idle { OnErr result ((turn : Turn) → PassesIn G.unpaged (Turns turn) (G.store g.old) (G.store g.new) (G.behind g.old) (G.behind g.new)) }
+    ensures err { OnErr result
+        (Roomier (G.contents g.old) (G.contents g.new) (G.store g.old) (G.store g.new)) }
+    ensures passes { PassesIn G.unpaged (Turns Makes) (G.store g.old) (G.store g.new)
+        (G.behind g.old) (G.behind g.new) }
+    ensures idle { OnErr result
+        ((turn : Turn) →
+        PassesIn G.unpaged (Turns turn) (G.store g.old) (G.store g.new) (G.behind g.old)
+        (G.behind g.new)) }
     ensures loans { G.loans g.new ≡ G.loans g.old }
 {
     g.reserve(total)?;
@@ -213,8 +247,9 @@ fn take(commit: &mut Commit, n: u32)
 }
 
 impl Tables {
-    /// Makes a page-file section with a control area of its own, and a handle to it, which is answered. No section has the name, if
-    /// one is given; where its pages are committed the limit allows them. After `NoMemory` tables and bytes are as before.
+    /// Makes a page-file section with a control area of its own, and a handle to it, which is
+    /// answered. No section has the name, if one is given; where its pages are committed the limit
+    /// allows them. After `NoMemory` tables and bytes are as before.
     #[tactic(auto, using(mm_pages::proofs::Passed::turns_same))]
     pub fn add_paging_section<G: Pages>(
         &mut self,
@@ -233,13 +268,21 @@ impl Tables {
         requires some { 1 ≤ pages }
         requires unnamed { IfSome name (λ n. section_named self.old n ≡ None) }
         requires room { charge self.old + (if committed then pages else 0) ≤ limit self.old }
-        ensures ok { IfOk result (λ handle. (p : ProcessOf (Unit {0})) → process_of self.old pid.0 ≡ Some p →
-            new_section (record self.old { areas = self.old.areas ++ record { file_block = None; pages = replicate pages (page_if committed) } ∷ [] }) pid.0 p (record { prot = prot.0; name = name; area = length self.old.areas })
+        ensures ok { IfOk result (λ handle. (p : ProcessOf (Unit {0})) →
+            process_of self.old pid.0 ≡ Some p →
+            new_section (record self.old {
+              areas = self.old.areas ++
+                  record { file_block = None; pages = replicate pages (page_if committed) } ∷ [];
+            }) pid.0 p (record { prot = prot.0; name = name; area = length self.old.areas })
             ≡ record { answer = answer.Created handle false; world = self.new }) }
         ensures err { OnErr result ((self.new ≡ self.old) × (G.contents g.new ≡ G.contents g.old)) }
-        ensures settled { Settled self.new (G.contents g.old) (G.contents g.new) (G.store g.old) (G.store g.new) }
-        ensures passes { PassesIn G.unpaged (Turns Makes) (G.store g.old) (G.store g.new) (G.behind g.old) (G.behind g.new) }
-        ensures idle { OnErr result ((turn : Turn) → PassesIn G.unpaged (Turns turn) (G.store g.old) (G.store g.new) (G.behind g.old) (G.behind g.new)) }
+        ensures settled { Settled self.new (G.contents g.old) (G.contents g.new) (G.store g.old)
+            (G.store g.new) }
+        ensures passes { PassesIn G.unpaged (Turns Makes) (G.store g.old) (G.store g.new)
+            (G.behind g.old) (G.behind g.new) }
+        ensures idle { OnErr result ((turn : Turn) →
+            PassesIn G.unpaged (Turns turn) (G.store g.old) (G.store g.new) (G.behind g.old)
+            (G.behind g.new)) }
         ensures loans { G.loans g.new ≡ G.loans g.old }
     {
         let area = Area(self.areas.len() as u32);
@@ -268,8 +311,8 @@ impl Tables {
         Ok(handle)
     }
 
-    /// Makes a section of a file, and a handle to it, which is answered. No section has the name, if one is given. After `NoMemory`
-    /// the tables are as before.
+    /// Makes a section of a file, and a handle to it, which is answered. No section has the name,
+    /// if one is given. After `NoMemory` the tables are as before.
     pub fn add_file_section(
         &mut self,
         pid: Pid,
@@ -281,10 +324,16 @@ impl Tables {
         requires few { IsFew self.old }
         requires file { is_some (area_at self.old area.0).file_block ≡ true }
         requires unnamed { IfSome name (λ n. section_named self.old n ≡ None) }
-        ensures ok { IfOk result (λ handle. (p : ProcessOf (Unit {0})) → process_of self.old pid.0 ≡ Some p →
-            new_section self.old pid.0 p (record { prot = prot.0; name = name; area = area.0 }) ≡ record { answer = answer.Created handle false; world = self.new }) }
+        ensures ok { IfOk result (λ handle. (p : ProcessOf (Unit {0})) →
+            process_of self.old pid.0 ≡ Some p →
+            new_section self.old pid.0 p (record {
+              prot = prot.0;
+              name = name;
+              area = area.0;
+            }) ≡ record { answer = answer.Created handle false; world = self.new }) }
         ensures err { OnErr result (self.new ≡ self.old) }
-        ensures settled { (c : Key → Option Page) (s : StoreOf) → Fits self.old c s → Settled self.new c c s s }
+        ensures settled { (c : Key → Option Page) (s : StoreOf) → Fits self.old c s →
+            Settled self.new c c s s }
     {
         grow_for_section(&mut self.directory, &mut self.processes, pid)?;
         Ok(list_section(
@@ -302,10 +351,12 @@ impl Tables {
         requires lives { is_some (process_of self.old pid.0) ≡ true }
         requires few { IsFew self.old }
         requires section { is_some (section_of self.old id.0) ≡ true }
-        ensures ok { IfOk result (λ handle. (p : ProcessOf (Unit {0})) → process_of self.old pid.0 ≡ Some p →
+        ensures ok { IfOk result (λ handle. (p : ProcessOf (Unit {0})) →
+            process_of self.old pid.0 ≡ Some p →
             (handle ≡ next_handle p) × (self.new ≡ with_handle self.old pid.0 p id.0)) }
         ensures err { OnErr result (self.new ≡ self.old) }
-        ensures settled { (c : Key → Option Page) (s : StoreOf) → Fits self.old c s → Settled self.new c c s s }
+        ensures settled { (c : Key → Option Page) (s : StoreOf) → Fits self.old c s →
+            Settled self.new c c s s }
     {
         grow_handles_of(&mut self.processes, pid)?;
         self.directory.add_handle(id);

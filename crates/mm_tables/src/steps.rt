@@ -11,6 +11,7 @@ ghost use Rattle.mm_world.specs.Rows.{row_at, is_protection_among, private_prote
 ghost use Rattle.mm_pages.specs.Conditions.{AllBound};
 ghost use Rattle.mm_pages.specs.Conditions.{AreAmong};
 ghost use Rattle.mm_pages.specs.Housekeeping.{Turn, Turns, MakesFrom, Ends as Ending};
+ghost use Rattle.mm_pages.specs.Leaving.{Leaving};
 ghost use Rattle.mm_pages.specs.Passing.{PassesIn};
 ghost use Rattle.mm_types.specs.declared.numbers.Place.{Place};
 ghost use Rattle.std.specs.Prelude.{Bool};
@@ -41,8 +42,12 @@ const RESERVE_TYPE: u32 = 0x2000;
 pub(crate) fn take_guard_off(process: &mut Option<Process>, page: u32)
     requires lives { is_some process.old ≡ true }
     requires there { is_some (region_with (regions_of process.old) page) ≡ true }
-    ensures changed { (r : Found (RegionOf (Unit {0}))) (row : RowOf (Unit {0})) → region_with (regions_of process.old) page ≡ Some r → row_at r.thing page ≡ Some row
-        → Became process.old process.new (slice_set (regions_of process.old) r.place (record r.thing { rows = slice_set r.thing.rows (page - r.thing.base) (record row { guard = false }) })) }
+    ensures changed { (r : Found (RegionOf (Unit {0}))) (row : RowOf (Unit {0})) →
+        region_with (regions_of process.old) page ≡ Some r → row_at r.thing page ≡ Some row
+        → Became process.old process.new
+        (slice_set (regions_of process.old) r.place (record r.thing {
+          rows = slice_set r.thing.rows (page - r.thing.base) (record row { guard = false });
+        })) }
 {
     match process {
         Some(process) => process.space.take_guard_off(page),
@@ -50,14 +55,21 @@ pub(crate) fn take_guard_off(process: &mut Option<Process>, page: u32)
     }
 }
 
-/// Gives a page of a view, which has a mark and was not copied, bytes of its own and the protection READWRITE.
+/// Gives a page of a view, which has a mark and was not copied, bytes of its own and the protection
+/// READWRITE.
 pub(crate) fn copy_page(process: &mut Option<Process>, page: u32)
     requires lives { is_some process.old ≡ true }
     requires there { is_some (region_with (regions_of process.old) page) ≡ true }
-    requires marked { (r : Found (RegionOf (Unit {0}))) (row : RowOf (Unit {0})) → region_with (regions_of process.old) page ≡ Some r → row_at r.thing page ≡ Some row
+    requires marked { (r : Found (RegionOf (Unit {0}))) (row : RowOf (Unit {0})) →
+        region_with (regions_of process.old) page ≡ Some r → row_at r.thing page ≡ Some row
         → (is_private r.thing.kind ≡ false) × (row.marked ≡ true) }
-    ensures changed { (r : Found (RegionOf (Unit {0}))) (row : RowOf (Unit {0})) → region_with (regions_of process.old) page ≡ Some r → row_at r.thing page ≡ Some row
-        → Became process.old process.new (slice_set (regions_of process.old) r.place (record r.thing { rows = slice_set r.thing.rows (page - r.thing.base) (record row { own = Some tt; prot = 0x04 }) })) }
+    ensures changed { (r : Found (RegionOf (Unit {0}))) (row : RowOf (Unit {0})) →
+        region_with (regions_of process.old) page ≡ Some r → row_at r.thing page ≡ Some row
+        → Became process.old process.new
+        (slice_set (regions_of process.old) r.place (record r.thing {
+          rows = slice_set r.thing.rows (page - r.thing.base)
+              (record row { own = Some tt; prot = 0x04 });
+        })) }
 {
     match process {
         Some(process) => process.space.copy_page(page),
@@ -65,8 +77,8 @@ pub(crate) fn copy_page(process: &mut Option<Process>, page: u32)
     }
 }
 
-/// Commits pages of one private region of a living process, and adds their keys. `total` is what all keys then come to at most.
-/// After `NoMemory` there may be more room.
+/// Commits pages of one private region of a living process, and adds their keys. `total` is what
+/// all keys then come to at most. After `NoMemory` there may be more room.
 #[tactic(auto, using(mm_pages::proofs::Passed::turns_same, mm_pages::proofs::Passed::idle_before))]
 pub(crate) fn commit_pages<G: Pages>(
     process: &mut Option<Process>,
@@ -80,20 +92,35 @@ pub(crate) fn commit_pages<G: Pages>(
     requires within { total ≤ limit_of (G.store g.old).machine }
     requires end { end_of range ≤ end_of_user_pages }
     requires inside { is_some (region_around (regions_of process.old) range) ≡ true }
-    requires private { (r : Found (RegionOf (Unit {0}))) → region_around (regions_of process.old) range ≡ Some r → is_private r.thing.kind ≡ true }
+    requires private { (r : Found (RegionOf (Unit {0}))) →
+        region_around (regions_of process.old) range ≡ Some r → is_private r.thing.kind ≡ true }
     requires prot { is_protection_among private_protections prot ≡ true }
-    requires can { CanAdd pid range (regions_of process.old) (G.contents g.old) (record (G.store g.old) { room = total }) }
-    ensures changed { OnOk result ((r : Found (RegionOf (Unit {0}))) → region_around (regions_of process.old) range ≡ Some r → Became process.old process.new (slice_set (regions_of process.old) r.place (change_rows (commit tt prot) range r.thing))) }
-    ensures stored { OnOk result (Stored pid range Makes Leaves false (G.contents g.old) (G.contents g.new) (G.store g.old) (G.store g.new)) }
-    ensures counted { OnOk result ((G.store g.new).paging_keys ≡ (G.store g.old).paging_keys + passing (is_dead pid (G.contents g.old)) range.first range.count) }
+    requires can { CanAdd pid range (regions_of process.old) (G.contents g.old)
+        (record (G.store g.old) {
+          room = total;
+        }) }
+    ensures changed { OnOk result ((r : Found (RegionOf (Unit {0}))) →
+        region_around (regions_of process.old) range ≡ Some r →
+        Became process.old process.new
+        (slice_set (regions_of process.old) r.place (change_rows (commit tt prot) range r.thing))) }
+    ensures stored { OnOk result (Stored pid range Makes Leaves false (G.contents g.old)
+        (G.contents g.new) (G.store g.old) (G.store g.new)) }
+    ensures counted { OnOk result ((G.store g.new).paging_keys ≡
+        (G.store g.old).paging_keys + passing (is_dead pid (G.contents g.old)) range.first
+        range.count) }
     ensures room { OnOk result (total ≤ (G.store g.new).room) }
     ensures enough { total ≤ (G.store g.old).room → IsOk result }
     ensures later { (G.store g.old).room ≤ (G.store g.new).room }
     ensures kept { OnErr result (Became process.old process.new (regions_of process.old)) }
-    ensures err { OnErr result (Roomier (G.contents g.old) (G.contents g.new) (G.store g.old) (G.store g.new)) }
+    ensures err { OnErr result
+        (Roomier (G.contents g.old) (G.contents g.new) (G.store g.old) (G.store g.new)) }
     ensures passes { (from to : ℕ) → StandsFrom from to range →
-        PassesIn G.unpaged (Turns (MakesFrom from to)) (G.store g.old) (G.store g.new) (G.behind g.old) (G.behind g.new) }
-    ensures idle { OnErr result ((turn : Turn) → PassesIn G.unpaged (Turns turn) (G.store g.old) (G.store g.new) (G.behind g.old) (G.behind g.new)) }
+        PassesIn G.unpaged (Turns (MakesFrom from to)) (G.store g.old) (G.store g.new)
+        (G.behind g.old) (G.behind g.new) }
+    ensures idle { OnErr result
+        ((turn : Turn) →
+        PassesIn G.unpaged (Turns turn) (G.store g.old) (G.store g.new) (G.behind g.old)
+        (G.behind g.new)) }
     ensures loans { G.loans g.new ≡ G.loans g.old }
 {
     let Some(process) = process else {
@@ -105,7 +132,8 @@ pub(crate) fn commit_pages<G: Pages>(
     Ok(())
 }
 
-/// Decommits pages of one private region of a living process, and removes their keys. Tells how many were committed.
+/// Decommits pages of one private region of a living process, and removes their keys. Tells how
+/// many were committed.
 pub(crate) fn decommit_pages<G: Pages>(
     process: &mut Option<Process>,
     g: &mut G,
@@ -115,14 +143,24 @@ pub(crate) fn decommit_pages<G: Pages>(
     requires lives { is_some process.old ≡ true }
     requires end { end_of range ≤ end_of_user_pages }
     requires inside { is_some (region_around (regions_of process.old) range) ≡ true }
-    requires private { (r : Found (RegionOf (Unit {0}))) → region_around (regions_of process.old) range ≡ Some r → is_private r.thing.kind ≡ true }
+    requires private { (r : Found (RegionOf (Unit {0}))) →
+        region_around (regions_of process.old) range ≡ Some r → is_private r.thing.kind ≡ true }
     requires can { CanRemove pid range (regions_of process.old) (G.contents g.old) (G.store g.old) }
     ensures owned { result ≡ owned_in (regions_of process.old) range }
-    ensures changed { (r : Found (RegionOf (Unit {0}))) → region_around (regions_of process.old) range ≡ Some r → Became process.old process.new (slice_set (regions_of process.old) r.place (change_rows (λ row. reserved_row) range r.thing)) }
-    ensures stored { Stored pid range Ends Leaves true (G.contents g.old) (G.contents g.new) (G.store g.old) (G.store g.new) }
-    ensures counted { (G.store g.new).paging_keys ≡ (G.store g.old).paging_keys - passing (is_live pid (G.contents g.old)) range.first range.count }
+    ensures changed { (r : Found (RegionOf (Unit {0}))) →
+        region_around (regions_of process.old) range ≡ Some r →
+        Became process.old process.new
+        (slice_set (regions_of process.old) r.place
+        (change_rows (λ row. reserved_row) range r.thing)) }
+    ensures stored { Stored pid range Ends Leaves true (G.contents g.old) (G.contents g.new)
+        (G.store g.old) (G.store g.new) }
+    ensures counted { (G.store g.new).paging_keys ≡
+        (G.store g.old).paging_keys - passing (is_live pid (G.contents g.old)) range.first
+        range.count }
     ensures room { (G.store g.new).room ≡ (G.store g.old).room }
-    ensures passes { (held : Place → Bool) (from to : ℕ) → AreAmong held from to pid range → PassesIn G.unpaged (Turns (Ending held from to)) (G.store g.old) (G.store g.new) (G.behind g.old) (G.behind g.new) }
+    ensures passes { (held : Leaving) (from to : ℕ) → AreAmong held from to pid range →
+        PassesIn G.unpaged (Turns (Ending held from to)) (G.store g.old) (G.store g.new)
+        (G.behind g.old) (G.behind g.new) }
     ensures loans { G.loans g.new ≡ G.loans g.old }
 {
     let Some(process) = process else {
@@ -134,8 +172,8 @@ pub(crate) fn decommit_pages<G: Pages>(
     owned
 }
 
-/// Releases the private region of a living process that begins at the address and has these pages: their keys and their places go,
-/// page by page. Tells how many were committed.
+/// Releases the private region of a living process that begins at the address and has these pages:
+/// their keys and their places go, page by page. Tells how many were committed.
 #[tactic(auto, using(crate::proofs::EndingPages::can_release, crate::proofs::EndingPages::stored))]
 pub(crate) fn release_pages<G: Pages>(
     process: &mut Option<Process>,
@@ -146,16 +184,24 @@ pub(crate) fn release_pages<G: Pages>(
 ) -> u32
     requires lives { is_some process.old ≡ true }
     requires end { end_of range ≤ end_of_user_pages }
-    requires there { option_map (λ r. pages_of r.thing) (private_at (regions_of process.old) addr) ≡ Some range }
+    requires there { option_map (λ r. pages_of r.thing) (private_at (regions_of process.old) addr) ≡
+        Some range }
     requires inside { is_some (region_around (regions_of process.old) range) ≡ true }
     requires bound { AllBound (G.store g.old) pid range true }
     requires can { CanRemove pid range (regions_of process.old) (G.contents g.old) (G.store g.old) }
     ensures owned { result ≡ owned_in (regions_of process.old) range }
-    ensures changed { (r : Found (RegionOf (Unit {0}))) → private_at (regions_of process.old) addr ≡ Some r → Became process.old process.new (remove (regions_of process.old) r.place) }
-    ensures stored { Stored pid range Ends Ends true (G.contents g.old) (G.contents g.new) (G.store g.old) (G.store g.new) }
-    ensures counted { (G.store g.new).paging_keys ≡ (G.store g.old).paging_keys - passing (is_live pid (G.contents g.old)) range.first range.count }
+    ensures changed { (r : Found (RegionOf (Unit {0}))) →
+        private_at (regions_of process.old) addr ≡ Some r →
+        Became process.old process.new (remove (regions_of process.old) r.place) }
+    ensures stored { Stored pid range Ends Ends true (G.contents g.old) (G.contents g.new)
+        (G.store g.old) (G.store g.new) }
+    ensures counted { (G.store g.new).paging_keys ≡
+        (G.store g.old).paging_keys - passing (is_live pid (G.contents g.old)) range.first
+        range.count }
     ensures room { (G.store g.new).room ≡ (G.store g.old).room }
-    ensures passes { (held : Place → Bool) (from to : ℕ) → AreAmong held from to pid range → PassesIn G.unpaged (Turns (Ending held from to)) (G.store g.old) (G.store g.new) (G.behind g.old) (G.behind g.new) }
+    ensures passes { (held : Leaving) (from to : ℕ) → AreAmong held from to pid range →
+        PassesIn G.unpaged (Turns (Ending held from to)) (G.store g.old) (G.store g.new)
+        (G.behind g.old) (G.behind g.new) }
     ensures loans { G.loans g.new ≡ G.loans g.old }
 {
     let Some(process) = process else {
@@ -181,12 +227,16 @@ fn grow_for_region<G: Pages>(
     requires unbound { AllBound (G.store g.old) pid range false }
     ensures regions { space.new.regions ≡ space.old.regions }
     ensures spare { OnOk result (1 ≤ space.new.spare) }
-    ensures stored { OnOk result (Stored pid range Leaves Makes true (G.contents g.old) (G.contents g.new) (G.store g.old) (G.store g.new)) }
+    ensures stored { OnOk result (Stored pid range Leaves Makes true (G.contents g.old)
+        (G.contents g.new) (G.store g.old) (G.store g.new)) }
     ensures counted { (G.store g.new).paging_keys ≡ (G.store g.old).paging_keys }
     ensures room { OnOk result (total ≤ (G.store g.new).room) }
     ensures later { (G.store g.old).room ≤ (G.store g.new).room }
-    ensures err { OnErr result (Roomier (G.contents g.old) (G.contents g.new) (G.store g.old) (G.store g.new)) }
-    ensures passes { (turn : Turn) → PassesIn G.unpaged (Turns turn) (G.store g.old) (G.store g.new) (G.behind g.old) (G.behind g.new) }
+    ensures err { OnErr result
+        (Roomier (G.contents g.old) (G.contents g.new) (G.store g.old) (G.store g.new)) }
+    ensures passes { (turn : Turn) →
+        PassesIn G.unpaged (Turns turn) (G.store g.old) (G.store g.new) (G.behind g.old)
+        (G.behind g.new) }
     ensures loans { G.loans g.new ≡ G.loans g.old }
 {
     space.reserve()?;
@@ -199,13 +249,18 @@ fn grow_for_region<G: Pages>(
 #[tactic(auto, using(mm_pages::proofs::Passed::turns_same))]
 fn fill_region<G: Pages>(space: &AddressSpace, g: &mut G, pid: Pid, range: PageRange, kind: u32)
     requires end { end_of range ≤ end_of_user_pages }
-    requires can { (kind == reserve_type) ≡ false → CanAdd pid range space.now.regions (G.contents g.old) (G.store g.old) }
-    requires dead { (page : ℕ) → holds_page range page ≡ true → is_live pid (G.contents g.old) page ≡ false }
-    ensures stored { Stored pid range (keys_of kind) Leaves false (G.contents g.old) (G.contents g.new) (G.store g.old) (G.store g.new) }
-    ensures counted { (G.store g.new).paging_keys ≡ (G.store g.old).paging_keys + new_pages kind range }
+    requires can { (kind == reserve_type) ≡ false →
+        CanAdd pid range space.now.regions (G.contents g.old) (G.store g.old) }
+    requires dead { (page : ℕ) → holds_page range page ≡ true →
+        is_live pid (G.contents g.old) page ≡ false }
+    ensures stored { Stored pid range (keys_of kind) Leaves false (G.contents g.old)
+        (G.contents g.new) (G.store g.old) (G.store g.new) }
+    ensures counted { (G.store g.new).paging_keys ≡ (G.store g.old).paging_keys + new_pages kind
+        range }
     ensures room { (G.store g.new).room ≡ (G.store g.old).room }
     ensures passes { (from to : ℕ) → ((kind == reserve_type) ≡ false → StandsFrom from to range) →
-        PassesIn G.unpaged (Turns (MakesFrom from to)) (G.store g.old) (G.store g.new) (G.behind g.old) (G.behind g.new) }
+        PassesIn G.unpaged (Turns (MakesFrom from to)) (G.store g.old) (G.store g.new)
+        (G.behind g.old) (G.behind g.new) }
     ensures loans { G.loans g.new ≡ G.loans g.old }
 {
     if kind != RESERVE_TYPE {
@@ -213,8 +268,9 @@ fn fill_region<G: Pages>(space: &AddressSpace, g: &mut G, pid: Pid, range: PageR
     }
 }
 
-/// Makes a private region of free pages in a living process, and adds its keys where it is committed. `total` is what all keys then
-/// come to at most. After `NoMemory` there may be more room.
+/// Makes a private region of free pages in a living process, and adds its keys where it is
+/// committed. `total` is what all keys then come to at most. After `NoMemory` there may be more
+/// room.
 #[tactic(auto, using(mm_pages::proofs::Passed::turns_same, mm_pages::proofs::Passed::idle_before))]
 pub(crate) fn make_region<G: Pages>(
     alloc: Global,
@@ -232,17 +288,26 @@ pub(crate) fn make_region<G: Pages>(
     requires granule { range.first % 16 ≡ 0 }
     requires some { 1 ≤ range.count }
     requires prot { is_protection_among private_protections prot ≡ true }
-    requires can { CanMake pid range kind total (regions_of process.old) (G.contents g.old) (G.store g.old) }
-    ensures changed { OnOk result (Became process.old process.new (add_region (private_region blank watched kind prot range) (regions_of process.old))) }
-    ensures stored { OnOk result (Stored pid range (keys_of kind) Makes true (G.contents g.old) (G.contents g.new) (G.store g.old) (G.store g.new)) }
-    ensures counted { OnOk result ((G.store g.new).paging_keys ≡ (G.store g.old).paging_keys + new_pages kind range) }
+    requires can { CanMake pid range kind total (regions_of process.old) (G.contents g.old)
+        (G.store g.old) }
+    ensures changed { OnOk result (Became process.old process.new
+        (add_region (private_region blank watched kind prot range) (regions_of process.old))) }
+    ensures stored { OnOk result (Stored pid range (keys_of kind) Makes true (G.contents g.old)
+        (G.contents g.new) (G.store g.old) (G.store g.new)) }
+    ensures counted { OnOk result ((G.store g.new).paging_keys ≡
+        (G.store g.old).paging_keys + new_pages kind range) }
     ensures room { OnOk result (total ≤ (G.store g.new).room) }
     ensures later { (G.store g.old).room ≤ (G.store g.new).room }
     ensures kept { OnErr result (Became process.old process.new (regions_of process.old)) }
-    ensures err { OnErr result (Roomier (G.contents g.old) (G.contents g.new) (G.store g.old) (G.store g.new)) }
+    ensures err { OnErr result
+        (Roomier (G.contents g.old) (G.contents g.new) (G.store g.old) (G.store g.new)) }
     ensures passes { (from to : ℕ) → ((kind == reserve_type) ≡ false → StandsFrom from to range) →
-        PassesIn G.unpaged (Turns (MakesFrom from to)) (G.store g.old) (G.store g.new) (G.behind g.old) (G.behind g.new) }
-    ensures idle { OnErr result ((turn : Turn) → PassesIn G.unpaged (Turns turn) (G.store g.old) (G.store g.new) (G.behind g.old) (G.behind g.new)) }
+        PassesIn G.unpaged (Turns (MakesFrom from to)) (G.store g.old) (G.store g.new)
+        (G.behind g.old) (G.behind g.new) }
+    ensures idle { OnErr result
+        ((turn : Turn) →
+        PassesIn G.unpaged (Turns turn) (G.store g.old) (G.store g.new) (G.behind g.old)
+        (G.behind g.new)) }
     ensures loans { G.loans g.new ≡ G.loans g.old }
 {
     let Some(process) = process else {
@@ -255,8 +320,8 @@ pub(crate) fn make_region<G: Pages>(
     Ok(())
 }
 
-/// Sees that there is room for `total` keys, as there was where `n` is 0. After `NoMemory`, which comes only where it is not, there may
-/// be more room.
+/// Sees that there is room for `total` keys, as there was where `n` is 0. After `NoMemory`, which
+/// comes only where it is not, there may be more room.
 #[tactic(auto, using(mm_pages::proofs::Passed::turns_same))]
 pub(crate) fn grow_for_marks<G: Pages>(g: &mut G, n: u32, total: u32) -> Result<(), NoMemory>
     requires within { total ≤ limit_of (G.store g.old).machine }
@@ -264,7 +329,9 @@ pub(crate) fn grow_for_marks<G: Pages>(g: &mut G, n: u32, total: u32) -> Result<
     ensures room { OnOk result (total ≤ (G.store g.new).room) }
     ensures some { n ≡ 0 → IsOk result }
     ensures more { Roomier (G.contents g.old) (G.contents g.new) (G.store g.old) (G.store g.new) }
-    ensures passes { (turn : Turn) → PassesIn G.unpaged (Turns turn) (G.store g.old) (G.store g.new) (G.behind g.old) (G.behind g.new) }
+    ensures passes { (turn : Turn) →
+        PassesIn G.unpaged (Turns turn) (G.store g.old) (G.store g.new) (G.behind g.old)
+        (G.behind g.new) }
     ensures loans { G.loans g.new ≡ G.loans g.old }
 {
     if n > 0 {
@@ -278,9 +345,17 @@ pub(crate) fn protect_pages(process: &mut Option<Process>, range: PageRange, pro
     requires lives { is_some process.old ≡ true }
     requires inside { is_some (region_around (regions_of process.old) range) ≡ true }
     requires prot { is_protection_among all_protections prot ≡ true }
-    requires accepted { (r : Found (RegionOf (Unit {0}))) → region_around (regions_of process.old) range ≡ Some r → every_page (accepts r.thing prot) range ≡ true }
-    requires committed { (r : Found (RegionOf (Unit {0}))) → region_around (regions_of process.old) range ≡ Some r → is_private r.thing.kind ≡ true → owned_in (regions_of process.old) range ≡ range.count }
-    ensures changed { (r : Found (RegionOf (Unit {0}))) → region_around (regions_of process.old) range ≡ Some r → Became process.old process.new (slice_set (regions_of process.old) r.place (change_rows (protected r.thing.kind prot) range r.thing)) }
+    requires accepted { (r : Found (RegionOf (Unit {0}))) →
+        region_around (regions_of process.old) range ≡ Some r →
+        every_page (accepts r.thing prot) range ≡ true }
+    requires committed { (r : Found (RegionOf (Unit {0}))) →
+        region_around (regions_of process.old) range ≡ Some r → is_private r.thing.kind ≡ true →
+        owned_in (regions_of process.old) range ≡ range.count }
+    ensures changed { (r : Found (RegionOf (Unit {0}))) →
+        region_around (regions_of process.old) range ≡ Some r →
+        Became process.old process.new
+        (slice_set (regions_of process.old) r.place
+        (change_rows (protected r.thing.kind prot) range r.thing)) }
 {
     match process {
         Some(process) => process.space.protect(range, prot),
@@ -288,7 +363,8 @@ pub(crate) fn protect_pages(process: &mut Option<Process>, range: PageRange, pro
     }
 }
 
-/// Makes a process without regions in the store, at the end of those that there are. After `NoMemory` nothing has changed.
+/// Makes a process without regions in the store, at the end of those that there are. After
+/// `NoMemory` nothing has changed.
 #[tactic(auto, using(mm_pages::proofs::Passed::turns_same))]
 pub(crate) fn push_process<G: Pages>(
     processes: &mut Vec<Option<Process>>,
@@ -300,12 +376,17 @@ pub(crate) fn push_process<G: Pages>(
 ) -> Result<(), NoMemory>
     requires new { (G.store g.old).is_open pid.0 ≡ false }
     requires kind { (G.store g.old).kind ≡ line_kind.Process pid min max }
-    ensures added { OnOk result (shown_processes processes.new.items ≡ shown_processes processes.old.items ++ Some no_regions ∷ []) }
+    ensures added { OnOk result (shown_processes processes.new.items ≡
+        shown_processes processes.old.items ++ Some no_regions ∷ []) }
     ensures same { OnErr result (processes.new.items ≡ processes.old.items) }
-    ensures store { OnOk result (G.store g.new ≡ record (G.store g.old) { is_open = changed ◌==◌ (G.store g.old).is_open pid.0 true }) }
+    ensures store { OnOk result (G.store g.new ≡ record (G.store g.old) {
+      is_open = changed ◌==◌ (G.store g.old).is_open pid.0 true;
+    }) }
     ensures kept { OnErr result (G.store g.new ≡ G.store g.old) }
     ensures contents { G.contents g.new ≡ G.contents g.old }
-    ensures passes { (turn : Turn) → PassesIn G.unpaged (Turns turn) (G.store g.old) (G.store g.new) (G.behind g.old) (G.behind g.new) }
+    ensures passes { (turn : Turn) →
+        PassesIn G.unpaged (Turns turn) (G.store g.old) (G.store g.new) (G.behind g.old)
+        (G.behind g.new) }
     ensures loans { G.loans g.new ≡ G.loans g.old }
 {
     processes.push(Some(Process {

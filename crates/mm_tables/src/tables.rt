@@ -21,8 +21,9 @@ pub(crate) struct Process {
     pub(crate) handles: Handles,
 }
 
-/// What the calls go by: a machine, its processes with their regions and handles, its sections, control areas and files, and the
-/// commit charge, and what access and what stack each thread has. Pages' bytes are not here.
+/// What the calls go by: a machine, its processes with their regions and handles, its sections,
+/// control areas and files, and the commit charge, and what access and what stack each thread has.
+/// Pages' bytes are not here.
 ///
 /// Contracts see it as the tables of a world.
 #[derive(Drop)]

@@ -11,7 +11,8 @@ use crate::Tables;
 use mm_types::{PAGE_SIZE, Pid, THREADS, Tid};
 use std::marker::Model;
 
-/// The stack of a thread. Its guard page stands above its lowest page, below the end of the user pages.
+/// The stack of a thread. Its guard page stands above its lowest page, below the end of the user
+/// pages.
 #[derive(Clone, Copy, PartialEq, Eq, Debug)]
 pub struct ThreadStack {
     /// The process in which it lies.
@@ -144,15 +145,18 @@ impl Tables {
     /// A thread has this stack from now on, in the place of one that it had.
     pub fn set_stack(&mut self, tid: Tid, stack: ThreadStack)
         ensures set { self.new ≡ set_stack self.old tid.0 stack }
-        ensures fits { (c : Key → Option Page) (s : StoreOf) → Fits self.old c s → Fits self.new c s }
+        ensures fits { (c : Key → Option Page) (s : StoreOf) → Fits self.old c s →
+            Fits self.new c s }
     {
         self.stacks.put(tid, stack);
     }
 
-    /// The region of the process that begins at the address is gone: where it was a thread's stack, the thread has none.
+    /// The region of the process that begins at the address is gone: where it was a thread's stack,
+    /// the thread has none.
     pub(crate) fn end_stack_at(&mut self, pid: Pid, addr: u32)
         ensures ended { self.new ≡ end_stacks self.old (is_stack_at pid.0 addr) }
-        ensures fits { (c : Key → Option Page) (s : StoreOf) → Fits self.old c s → Fits self.new c s }
+        ensures fits { (c : Key → Option Page) (s : StoreOf) → Fits self.old c s →
+            Fits self.new c s }
     {
         self.stacks.end_at(pid, addr);
     }
@@ -160,7 +164,8 @@ impl Tables {
     /// No thread has a stack in this process any more.
     pub(crate) fn end_stacks_in(&mut self, pid: Pid)
         ensures ended { self.new ≡ end_stacks self.old (λ s. s.pid == pid.0) }
-        ensures fits { (c : Key → Option Page) (s : StoreOf) → Fits self.old c s → Fits self.new c s }
+        ensures fits { (c : Key → Option Page) (s : StoreOf) → Fits self.old c s →
+            Fits self.new c s }
     {
         self.stacks.end_in(pid);
     }

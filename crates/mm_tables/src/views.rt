@@ -52,7 +52,8 @@ fn marked_pages(view: View, range: PageRange) -> u32
     }
 }
 
-/// What a new view takes of an address space and of the store: room for it and for all keys, and its places.
+/// What a new view takes of an address space and of the store: room for it and for all keys, and
+/// its places.
 #[tactic(auto, using(mm_pages::proofs::Passed::turns_same))]
 fn grow_for_view<G: Pages>(
     space: &mut AddressSpace,
@@ -71,7 +72,9 @@ fn grow_for_view<G: Pages>(
     ensures room { OnOk result (total ≤ (G.store g.new).room) }
     ensures contents { G.contents g.new ≡ G.contents g.old }
     ensures err { OnErr result (MoreRoom (G.store g.old) (G.store g.new)) }
-    ensures passes { (turn : Turn) → PassesIn G.unpaged (Turns turn) (G.store g.old) (G.store g.new) (G.behind g.old) (G.behind g.new) }
+    ensures passes { (turn : Turn) →
+        PassesIn G.unpaged (Turns turn) (G.store g.old) (G.store g.new) (G.behind g.old)
+        (G.behind g.new) }
     ensures loans { G.loans g.new ≡ G.loans g.old }
 {
     space.reserve()?;
@@ -80,8 +83,8 @@ fn grow_for_view<G: Pages>(
     Ok(())
 }
 
-/// Makes a view of free pages in an address space. `total` is what all keys come to at most. After `NoMemory` there may be more
-/// room, and nothing else is other.
+/// Makes a view of free pages in an address space. `total` is what all keys come to at most. After
+/// `NoMemory` there may be more room, and nothing else is other.
 #[tactic(auto, using(mm_pages::proofs::Passed::turns_same))]
 fn make_view<G: Pages>(
     alloc: Global,
@@ -97,13 +100,16 @@ fn make_view<G: Pages>(
     requires within { total ≤ limit_of (G.store g.old).machine }
     requires opened { (G.store g.old).is_open pid.0 ≡ true }
     requires unbound { AllBound (G.store g.old) pid range false }
-    ensures regions { OnOk result (space.new.regions ≡ add_region (region_of_view view range) space.old.regions) }
+    ensures regions { OnOk result (space.new.regions ≡
+        add_region (region_of_view view range) space.old.regions) }
     ensures bound { OnOk result (NewPlaces pid range (G.store g.old) (G.store g.new)) }
     ensures room { OnOk result (total ≤ (G.store g.new).room) }
     ensures contents { G.contents g.new ≡ G.contents g.old }
     ensures kept { OnErr result (space.new.regions ≡ space.old.regions) }
     ensures err { OnErr result (MoreRoom (G.store g.old) (G.store g.new)) }
-    ensures passes { (turn : Turn) → PassesIn G.unpaged (Turns turn) (G.store g.old) (G.store g.new) (G.behind g.old) (G.behind g.new) }
+    ensures passes { (turn : Turn) →
+        PassesIn G.unpaged (Turns turn) (G.store g.old) (G.store g.new) (G.behind g.old)
+        (G.behind g.new) }
     ensures loans { G.loans g.new ≡ G.loans g.old }
 {
     let region = NewRegion::view(alloc, view, range)?;
@@ -124,19 +130,27 @@ fn make_view_in<G: Pages>(
     total: u32,
 ) -> Result<(), NoMemory>
     requires lives { is_some (living processes.old.items pid.0) ≡ true }
-    requires free { (p : ProcessOf (Unit {0})) → living processes.old.items pid.0 ≡ Some p → is_free (ranges_of p.regions) range ≡ true }
+    requires free { (p : ProcessOf (Unit {0})) → living processes.old.items pid.0 ≡ Some p →
+        is_free (ranges_of p.regions) range ≡ true }
     requires granule { range.first % 16 ≡ 0 }
     requires within { total ≤ limit_of (G.store g.old).machine }
     requires opened { (G.store g.old).is_open pid.0 ≡ true }
     requires unbound { AllBound (G.store g.old) pid range false }
-    ensures made { OnOk result ((p : ProcessOf (Unit {0})) → living processes.old.items pid.0 ≡ Some p →
-        shown_processes processes.new.items ≡ slice_set (shown_processes processes.old.items) pid.0 (Some (record p { regions = add_region (region_of_view view range) p.regions }))) }
+    ensures made { OnOk result ((p : ProcessOf (Unit {0})) →
+        living processes.old.items pid.0 ≡ Some p →
+        shown_processes processes.new.items ≡ slice_set (shown_processes processes.old.items) pid.0
+        (Some (record p {
+          regions = add_region (region_of_view view range) p.regions;
+        }))) }
     ensures bound { OnOk result (NewPlaces pid range (G.store g.old) (G.store g.new)) }
     ensures room { OnOk result (total ≤ (G.store g.new).room) }
     ensures contents { G.contents g.new ≡ G.contents g.old }
-    ensures kept { OnErr result (shown_processes processes.new.items ≡ shown_processes processes.old.items) }
+    ensures kept { OnErr result
+        (shown_processes processes.new.items ≡ shown_processes processes.old.items) }
     ensures err { OnErr result (MoreRoom (G.store g.old) (G.store g.new)) }
-    ensures passes { (turn : Turn) → PassesIn G.unpaged (Turns turn) (G.store g.old) (G.store g.new) (G.behind g.old) (G.behind g.new) }
+    ensures passes { (turn : Turn) →
+        PassesIn G.unpaged (Turns turn) (G.store g.old) (G.store g.new) (G.behind g.old)
+        (G.behind g.new) }
     ensures loans { G.loans g.new ≡ G.loans g.old }
 {
     match &mut processes[pid.0 as usize - 1] {
@@ -145,12 +159,17 @@ fn make_view_in<G: Pages>(
     }
 }
 
-/// The view in which the pages of a range of a living process lie, and how many of its pages stand before them.
+/// The view in which the pages of a range of a living process lie, and how many of its pages stand
+/// before them.
 fn view_around(processes: &Vec<Option<Process>>, pid: Pid, range: PageRange) -> (View, u32)
     requires lives { is_some (living processes.now.items pid.0) ≡ true }
-    requires inside { (p : ProcessOf (Unit {0})) → living processes.now.items pid.0 ≡ Some p → is_some (region_around p.regions range) ≡ true }
-    requires view { (p : ProcessOf (Unit {0})) (r : Found (RegionOf (Unit {0}))) → living processes.now.items pid.0 ≡ Some p → region_around p.regions range ≡ Some r → is_private r.thing.kind ≡ false }
-    ensures { (p : ProcessOf (Unit {0})) (r : Found (RegionOf (Unit {0}))) → living processes.now.items pid.0 ≡ Some p → region_around p.regions range ≡ Some r →
+    requires inside { (p : ProcessOf (Unit {0})) → living processes.now.items pid.0 ≡ Some p →
+        is_some (region_around p.regions range) ≡ true }
+    requires view { (p : ProcessOf (Unit {0})) (r : Found (RegionOf (Unit {0}))) →
+        living processes.now.items pid.0 ≡ Some p → region_around p.regions range ≡ Some r →
+        is_private r.thing.kind ≡ false }
+    ensures { (p : ProcessOf (Unit {0})) (r : Found (RegionOf (Unit {0}))) →
+        living processes.now.items pid.0 ≡ Some p → region_around p.regions range ≡ Some r →
         (r.thing.kind ≡ kind.View result.0) × (result.1 ≡ range.first - r.thing.base) }
 {
     match &processes[pid.0 as usize - 1] {
@@ -170,7 +189,8 @@ fn pages_before(pages: PageRange, range: PageRange) -> u32
 /// The view in which the pages of a range lie, and how many of its pages stand before them.
 fn view_of(space: &AddressSpace, range: PageRange) -> (View, u32)
     requires inside { is_some (region_around space.now.regions range) ≡ true }
-    requires view { (r : Found (RegionOf (Unit {0}))) → region_around space.now.regions range ≡ Some r → is_private r.thing.kind ≡ false }
+    requires view { (r : Found (RegionOf (Unit {0}))) →
+        region_around space.now.regions range ≡ Some r → is_private r.thing.kind ≡ false }
     ensures { (r : Found (RegionOf (Unit {0}))) → region_around space.now.regions range ≡ Some r →
         (r.thing.kind ≡ kind.View result.0) × (result.1 ≡ range.first - r.thing.base) }
 {
@@ -188,9 +208,11 @@ fn view_of(space: &AddressSpace, range: PageRange) -> (View, u32)
 fn share_page<G: Pages>(g: &mut G, pages: &SectionPages, area: Area, index: u32)
     requires inside { index < length pages.now.pages }
     requires can { CanShare area index 1 pages.now (G.contents g.old) (G.store g.old) }
-    ensures shares { Shares area index 1 pages.now (G.contents g.old) (G.contents g.new) (G.store g.old) (G.store g.new) }
+    ensures shares { Shares area index 1 pages.now (G.contents g.old) (G.contents g.new)
+        (G.store g.old) (G.store g.new) }
     ensures passes { (from to : ℕ) → from ≤ index → index < to →
-        PassesIn G.unpaged (Turns (MakesFrom from to)) (G.store g.old) (G.store g.new) (G.behind g.old) (G.behind g.new) }
+        PassesIn G.unpaged (Turns (MakesFrom from to)) (G.store g.old) (G.store g.new)
+        (G.behind g.old) (G.behind g.new) }
     ensures loans { G.loans g.new ≡ G.loans g.old }
 {
     if !pages.is_committed(index) {
@@ -203,8 +225,10 @@ fn share_page<G: Pages>(g: &mut G, pages: &SectionPages, area: Area, index: u32)
 fn share_range<G: Pages>(g: &mut G, pages: &SectionPages, area: Area, first: u32, count: u32)
     requires end { first + count < 2 ^ 32 }
     requires can { CanShare area first count pages.now (G.contents g.old) (G.store g.old) }
-    ensures shares { Shares area first count pages.now (G.contents g.old) (G.contents g.new) (G.store g.old) (G.store g.new) }
-    ensures passes { PassesIn G.unpaged (Turns Makes) (G.store g.old) (G.store g.new) (G.behind g.old) (G.behind g.new) }
+    ensures shares { Shares area first count pages.now (G.contents g.old) (G.contents g.new)
+        (G.store g.old) (G.store g.new) }
+    ensures passes { PassesIn G.unpaged (Turns Makes) (G.store g.old) (G.store g.new)
+        (G.behind g.old) (G.behind g.new) }
     ensures loans { G.loans g.new ≡ G.loans g.old }
 {
     for i in 0..count {
@@ -227,10 +251,13 @@ fn index_behind(pages: &SectionPages, first: u32, offset: u32) -> u32
 /// Commits pages of a section, from the page that stands `offset` pages after the first of a view.
 fn share_in<G: Pages>(pages: &mut SectionPages, g: &mut G, view: View, offset: u32, count: u32)
     requires some { 1 ≤ count }
-    requires can { CanShare view.area (view.first + offset) count pages.old (G.contents g.old) (G.store g.old) }
+    requires can { CanShare view.area (view.first + offset) count pages.old (G.contents g.old)
+        (G.store g.old) }
     ensures pages { pages.new ≡ commit_shared blank (view.first + offset) count pages.old }
-    ensures shares { Shares view.area (view.first + offset) count pages.old (G.contents g.old) (G.contents g.new) (G.store g.old) (G.store g.new) }
-    ensures passes { PassesIn G.unpaged (Turns Makes) (G.store g.old) (G.store g.new) (G.behind g.old) (G.behind g.new) }
+    ensures shares { Shares view.area (view.first + offset) count pages.old (G.contents g.old)
+        (G.contents g.new) (G.store g.old) (G.store g.new) }
+    ensures passes { PassesIn G.unpaged (Turns Makes) (G.store g.old) (G.store g.new)
+        (G.behind g.old) (G.behind g.new) }
     ensures loans { G.loans g.new ≡ G.loans g.old }
 {
     let first = index_behind(pages, view.first, offset);
@@ -247,10 +274,16 @@ fn share_pages<G: Pages>(
     count: u32,
 )
     requires some { 1 ≤ count }
-    requires can { CanShare view.area (view.first + offset) count (area_in areas.old.items view.area.0) (G.contents g.old) (G.store g.old) }
-    ensures areas { areas.new.items ≡ slice_set areas.old.items view.area.0 (commit_shared blank (view.first + offset) count (area_in areas.old.items view.area.0)) }
-    ensures shares { Shares view.area (view.first + offset) count (area_in areas.old.items view.area.0) (G.contents g.old) (G.contents g.new) (G.store g.old) (G.store g.new) }
-    ensures passes { PassesIn G.unpaged (Turns Makes) (G.store g.old) (G.store g.new) (G.behind g.old) (G.behind g.new) }
+    requires can { CanShare view.area (view.first + offset) count
+        (area_in areas.old.items view.area.0) (G.contents g.old) (G.store g.old) }
+    ensures areas { areas.new.items ≡
+        slice_set areas.old.items view.area.0
+        (commit_shared blank (view.first + offset) count (area_in areas.old.items view.area.0)) }
+    ensures shares { Shares view.area (view.first + offset) count
+        (area_in areas.old.items view.area.0) (G.contents g.old) (G.contents g.new) (G.store g.old)
+        (G.store g.new) }
+    ensures passes { PassesIn G.unpaged (Turns Makes) (G.store g.old) (G.store g.new)
+        (G.behind g.old) (G.behind g.new) }
     ensures loans { G.loans g.new ≡ G.loans g.old }
 {
     share_in(&mut areas[view.area.0 as usize], g, view, offset, count);
@@ -259,10 +292,16 @@ fn share_pages<G: Pages>(
 /// Gives pages of a view of a living process the protection, which they accept.
 fn protect_view(processes: &mut Vec<Option<Process>>, pid: Pid, range: PageRange, prot: u32)
     requires lives { is_some (living processes.old.items pid.0) ≡ true }
-    requires inside { (p : ProcessOf (Unit {0})) → living processes.old.items pid.0 ≡ Some p → CanProtect p.regions range prot }
+    requires inside { (p : ProcessOf (Unit {0})) → living processes.old.items pid.0 ≡ Some p →
+        CanProtect p.regions range prot }
     requires prot { is_protection_among all_protections prot ≡ true }
-    ensures { (p : ProcessOf (Unit {0})) (r : Found (RegionOf (Unit {0}))) → living processes.old.items pid.0 ≡ Some p → region_around p.regions range ≡ Some r →
-        shown_processes processes.new.items ≡ slice_set (shown_processes processes.old.items) pid.0 (Some (record p { regions = slice_set p.regions r.place (change_rows (protected r.thing.kind prot) range r.thing) })) }
+    ensures { (p : ProcessOf (Unit {0})) (r : Found (RegionOf (Unit {0}))) →
+        living processes.old.items pid.0 ≡ Some p → region_around p.regions range ≡ Some r →
+        shown_processes processes.new.items ≡ slice_set (shown_processes processes.old.items) pid.0
+        (Some (record p {
+          regions = slice_set p.regions r.place
+              (change_rows (protected r.thing.kind prot) range r.thing);
+        })) }
 {
     match &mut processes[pid.0 as usize - 1] {
         Some(process) => process.space.protect(range, prot),
@@ -271,9 +310,10 @@ fn protect_view(processes: &mut Vec<Option<Process>>, pid: Pid, range: PageRange
 }
 
 impl Tables {
-    /// Commits the section pages under a range of one view of a page-file section, and gives the view's rows the protection, which
-    /// they accept. `n` of the section pages are not committed, and the limit allows them. After `NoMemory`, which does not come where
-    /// the store has room for them, tables and bytes are as before.
+    /// Commits the section pages under a range of one view of a page-file section, and gives the
+    /// view's rows the protection, which they accept. `n` of the section pages are not committed,
+    /// and the limit allows them. After `NoMemory`, which does not come where the store has room
+    /// for them, tables and bytes are as before.
     #[tactic(auto, using(mm_pages::proofs::Passed::idle_before))]
     pub fn commit_view<G: Pages>(
         &mut self,
@@ -286,20 +326,41 @@ impl Tables {
         requires fits { Fits self.old (G.contents g.old) (G.store g.old) }
         requires kind { (G.store g.old).kind ≡ line_kind.Call }
         requires lives { is_some (process_of self.old pid.0) ≡ true }
-        requires inside { (p : ProcessOf (Unit {0})) → process_of self.old pid.0 ≡ Some p → is_some (region_around p.regions range) ≡ true }
-        requires view { (p : ProcessOf (Unit {0})) (r : Found (RegionOf (Unit {0}))) → process_of self.old pid.0 ≡ Some p → region_around p.regions range ≡ Some r → is_private r.thing.kind ≡ false }
-        requires paging { (p : ProcessOf (Unit {0})) (r : Found (RegionOf (Unit {0}))) (v : View) → process_of self.old pid.0 ≡ Some p → region_around p.regions range ≡ Some r → r.thing.kind ≡ kind.View v → (area_at self.old v.area.0).file_block ≡ None }
+        requires inside { (p : ProcessOf (Unit {0})) → process_of self.old pid.0 ≡ Some p →
+            is_some (region_around p.regions range) ≡ true }
+        requires view { (p : ProcessOf (Unit {0})) (r : Found (RegionOf (Unit {0}))) →
+            process_of self.old pid.0 ≡ Some p → region_around p.regions range ≡ Some r →
+            is_private r.thing.kind ≡ false }
+        requires paging { (p : ProcessOf (Unit {0})) (r : Found (RegionOf (Unit {0}))) (v : View) →
+            process_of self.old pid.0 ≡ Some p → region_around p.regions range ≡ Some r →
+            r.thing.kind ≡ kind.View v → (area_at self.old v.area.0).file_block ≡ None }
         requires prot { is_protection_among private_protections prot ≡ true }
-        requires accepted { (p : ProcessOf (Unit {0})) (r : Found (RegionOf (Unit {0}))) → process_of self.old pid.0 ≡ Some p → region_around p.regions range ≡ Some r → every_page (accepts r.thing prot) range ≡ true }
-        requires counted { (p : ProcessOf (Unit {0})) (r : Found (RegionOf (Unit {0}))) (v : View) → process_of self.old pid.0 ≡ Some p → region_around p.regions range ≡ Some r → r.thing.kind ≡ kind.View v → n ≡ uncommitted_in (area_at self.old v.area.0) (v.first + (range.first - r.thing.base)) range.count }
+        requires accepted { (p : ProcessOf (Unit {0})) (r : Found (RegionOf (Unit {0}))) →
+            process_of self.old pid.0 ≡ Some p → region_around p.regions range ≡ Some r →
+            every_page (accepts r.thing prot) range ≡ true }
+        requires counted { (p : ProcessOf (Unit {0})) (r : Found (RegionOf (Unit {0}))) (v : View) →
+            process_of self.old pid.0 ≡ Some p → region_around p.regions range ≡ Some r →
+            r.thing.kind ≡ kind.View v →
+            n ≡ uncommitted_in (area_at self.old v.area.0) (v.first + (range.first - r.thing.base))
+            range.count }
         requires room { charge self.old + n ≤ limit self.old }
-        ensures ok { OnOk result ((p : ProcessOf (Unit {0})) (r : Found (RegionOf (Unit {0}))) (v : View) → process_of self.old pid.0 ≡ Some p → region_around p.regions range ≡ Some r → r.thing.kind ≡ kind.View v →
-            self.new ≡ set_area (set_region self.old pid.0 p r.place (change_rows (protected r.thing.kind prot) range r.thing)) v.area.0 (commit_shared blank (v.first + (range.first - r.thing.base)) range.count (area_at self.old v.area.0))) }
+        ensures ok { OnOk result ((p : ProcessOf (Unit {0})) (r : Found (RegionOf (Unit {0})))
+            (v : View) → process_of self.old pid.0 ≡ Some p →
+            region_around p.regions range ≡ Some r → r.thing.kind ≡ kind.View v →
+            self.new ≡ set_area
+            (set_region self.old pid.0 p r.place
+            (change_rows (protected r.thing.kind prot) range r.thing)) v.area.0
+            (commit_shared blank (v.first + (range.first - r.thing.base)) range.count
+            (area_at self.old v.area.0))) }
         ensures enough { charge self.old + n ≤ (G.store g.old).room → IsOk result }
         ensures err { OnErr result ((self.new ≡ self.old) × (G.contents g.new ≡ G.contents g.old)) }
-        ensures settled { Settled self.new (G.contents g.old) (G.contents g.new) (G.store g.old) (G.store g.new) }
-        ensures passes { PassesIn G.unpaged (Turns Makes) (G.store g.old) (G.store g.new) (G.behind g.old) (G.behind g.new) }
-        ensures idle { OnErr result ((turn : Turn) → PassesIn G.unpaged (Turns turn) (G.store g.old) (G.store g.new) (G.behind g.old) (G.behind g.new)) }
+        ensures settled { Settled self.new (G.contents g.old) (G.contents g.new) (G.store g.old)
+            (G.store g.new) }
+        ensures passes { PassesIn G.unpaged (Turns Makes) (G.store g.old) (G.store g.new)
+            (G.behind g.old) (G.behind g.new) }
+        ensures idle { OnErr result ((turn : Turn) →
+            PassesIn G.unpaged (Turns turn) (G.store g.old) (G.store g.new) (G.behind g.old)
+            (G.behind g.new)) }
         ensures loans { G.loans g.new ≡ G.loans g.old }
     {
         let (view, offset) = view_around(&self.processes, pid, range);
@@ -311,8 +372,8 @@ impl Tables {
         Ok(())
     }
 
-    /// Makes a view of free pages, which lies within its section; a copy view's pages are charged, and the limit allows them. After
-    /// `NoMemory` tables and bytes are as before.
+    /// Makes a view of free pages, which lies within its section; a copy view's pages are charged,
+    /// and the limit allows them. After `NoMemory` tables and bytes are as before.
     pub fn add_view<G: Pages>(
         &mut self,
         alloc: Global,
@@ -324,15 +385,23 @@ impl Tables {
         requires fits { Fits self.old (G.contents g.old) (G.store g.old) }
         requires kind { (G.store g.old).kind ≡ line_kind.Call }
         requires lives { is_some (process_of self.old pid.0) ≡ true }
-        requires free { (p : ProcessOf (Unit {0})) → process_of self.old pid.0 ≡ Some p → is_free (ranges_of p.regions) range ≡ true }
+        requires free { (p : ProcessOf (Unit {0})) → process_of self.old pid.0 ≡ Some p →
+            is_free (ranges_of p.regions) range ≡ true }
         requires granule { range.first % 16 ≡ 0 }
         requires section { ViewFits self.old view range.count }
-        requires room { charge self.old + (if is_copy view.access then range.count else 0) ≤ limit self.old }
-        ensures ok { OnOk result ((p : ProcessOf (Unit {0})) (s : Found SectionOf) → process_of self.old pid.0 ≡ Some p → s.place ≡ view.section.0 → section_of self.old s.place ≡ Some s.thing →
-            self.new ≡ set_regions self.old pid.0 p (add_region (view_region s view.access view.first range) p.regions)) }
+        requires room { charge self.old + (if is_copy view.access then range.count else 0) ≤ limit
+            self.old }
+        ensures ok { OnOk result ((p : ProcessOf (Unit {0})) (s : Found SectionOf) →
+            process_of self.old pid.0 ≡ Some p → s.place ≡ view.section.0 →
+            section_of self.old s.place ≡ Some s.thing →
+            self.new ≡ set_regions self.old pid.0 p
+            (add_region (view_region s view.access view.first range) p.regions)) }
         ensures err { OnErr result ((self.new ≡ self.old) × (G.contents g.new ≡ G.contents g.old)) }
-        ensures settled { Settled self.new (G.contents g.old) (G.contents g.new) (G.store g.old) (G.store g.new) }
-        ensures passes { (turn : Turn) → PassesIn G.unpaged (Turns turn) (G.store g.old) (G.store g.new) (G.behind g.old) (G.behind g.new) }
+        ensures settled { Settled self.new (G.contents g.old) (G.contents g.new) (G.store g.old)
+            (G.store g.new) }
+        ensures passes { (turn : Turn) →
+            PassesIn G.unpaged (Turns turn) (G.store g.old) (G.store g.new) (G.behind g.old)
+            (G.behind g.new) }
         ensures loans { G.loans g.new ≡ G.loans g.old }
     {
         let charged = marked_pages(view, range);

@@ -1,5 +1,5 @@
 -- A log that is told, move by move.
-use Rattle.std.proofs.Common.{◌≡◌, ℕ, ◌<◌, Bool, true, false, List, [], ◌∷◌, ◌++◌, Option, refl, sym, ap, ◌∙◌, subst, inl, inr, append_assoc, arith}
+use Rattle.std.proofs.Common.{◌≡◌, ℕ, ◌<◌, Bool, true, false, List, [], ◌∷◌, ◌++◌, Option, refl, sym, ap, ◌∙◌, subst, append_assoc, arith}
 use Rattle.mm_types.specs.Spelling.{Text}
 use Rattle.mm_types.specs.Outside.{Appended}
 use Rattle.mm_types.proofs.Bytes.{append_nil, appended_none, appended_then}
@@ -10,13 +10,12 @@ use Rattle.mm_life.specs.Effect.{after_move}
 use Rattle.mm_life.specs.Legal.{IsLegal}
 use Rattle.mm_life.proofs.Replays.{replays_then}
 use Rattle.mm_log.specs.Verdict.{most_bytes}
-use Rattle.mm_log.specs.Exact.{IsFault}
 use Rattle.mm_log.specs.Reading.{IsReady, Lines, Reading, Reads, Stops}
 use Rattle.mm_log.specs.declared.endings.Ending.TheVariants as ending
 use Rattle.mm_log.specs.declared.readers.LogReader.{LogReader}
 use Rattle.mm_log.specs.declared.endings.Ending.{Ending}
 use Rattle.mm_tell.specs.Fitting.{fits, AreFit, IsMisfit}
-use Rattle.mm_tell.specs.Telling.{RestOf, Poured, Tells, Closes, is_broken}
+use Rattle.mm_tell.specs.Telling.{RestOf, Poured, Tells, Closes}
 use Rattle.mm_tell.specs.Answering.{Why, ends_well, close_words, said_by, closing_text, closing_status, HasTold}
 use Rattle.mm_tell.specs.declared.closings.Closing.{Closing}
 use Rattle.mm_tell.specs.declared.closings.Closing.TheVariants as closing
@@ -112,16 +111,6 @@ has_told left left' took now took' script rest why c rest' l kept closed s end w
 pub closes_full : (left left' took took' : Option Text) (script : Option (List Text)) (r : LogReader) (rest rest' : RestOf) (l : FrameLife) (kept : Text)
     → IsReady r → most_bytes < r.lines → Closes left left' took took' script rest (closing.Ended ending.TooLong) rest' l kept
 closes_full left left' took took' script r rest rest' l kept ready many = absurd (omega (arith, ready.few, ready.lines, many))
-
--- a broken telling has its own status
-pub broken_status : (c : Closing) → is_broken c ≡ true → IsFault (closing_status c)
-broken_status (closing.Ended ending.Yes) e = cc
-broken_status (closing.Ended (ending.No n o)) e = cc
-broken_status (closing.Ended ending.TooLong) e = cc
-broken_status (closing.Ended ending.ReadFault) e = cc
-broken_status (closing.Ended ending.NoMemory) e = inl refl
-broken_status (closing.Misfit n) e = cc
-broken_status closing.OutFault e = inr (inr refl)
 
 -- nothing of a text was written, or all
 pub poured_none : (took : Option Text) (text : Text) → Poured took took text text

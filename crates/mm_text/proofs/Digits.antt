@@ -71,6 +71,3 @@ pub ruleset digits = (digits_last, digits_more, digits_none, hex_more, pairs_mor
 pub decimal_tail : (n from : ℕ) (xs : Text) → length xs ≡ 20 → digits_onto 10 20 n [] ≡ drop from xs → take (20 - from) (drop from xs) ≡ decimal n
 decimal_tail n from xs len e =
     take_all (20 - from) (drop from xs) (omega (arith, length-drop from xs)) ∙ sym e ∙ sym (decimal_is 20 n [])
-
-pub short_tail : (n from : ℕ) (xs : Text) → length xs ≡ 8 → digits_onto 16 8 n [] ≡ drop from xs → take (8 - from) (drop from xs) ≡ digits_onto 16 8 n []
-short_tail n from xs len e = take_all (8 - from) (drop from xs) (omega (arith, length-drop from xs)) ∙ sym e

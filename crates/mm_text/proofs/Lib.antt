@@ -2,6 +2,9 @@ pub mod Digits
 pub mod Values
 pub mod Pairs
 pub mod Splits
+pub mod Runs
 pub mod Made
 pub mod Spelled
 pub mod Spaces
+pub mod DigitCounts
+pub mod Lines

@@ -1,20 +1,14 @@
 -- The words of a line that was put together from words, and the line that a line's words make.
-use Rattle.std.proofs.Common.{◌≡◌, ◌≢◌, ℕ, ◌+◌, ◌≤◌, ◌<◌, Bool, true, false, cond, List, [], ◌∷◌, ◌++◌, length, map, Some, None, refl, sym, ap, ◌∙◌, inl, inr, arith, append_assoc}
-use Rattle.std.specs.Prelude.{◌==◌, nat_le, ◌&&◌}
-use Rattle.std.specs.List.{AllByRecursion, list_all}
+use Rattle.std.proofs.Common.{◌≡◌, ◌≢◌, ℕ, ◌+◌, ◌≤◌, ◌<◌, Bool, true, false, cond, List, [], ◌∷◌, ◌++◌, length, map, refl, sym, ap, ◌∙◌, inl, inr, arith, append_assoc}
+use Rattle.std.specs.Prelude.{◌==◌, ◌&&◌}
+use Rattle.std.specs.List.{AllByRecursion}
 use Rattle.std.proofs.lemmas.List.{append-nil}
-use Rattle.std.proofs.lemmas.Bool.{ne_eqb, eqb-true, eqb-false, cases_Bool, cases_lt, agree_below_at, and_parts}
+use Rattle.std.proofs.lemmas.Bool.{ne_eqb, eqb-true, cases_Bool}
 use Rattle.mm_types.specs.Spelling.{Text, spaced}
 use Rattle.mm_text.specs.Word.{Word, words_from, words_of}
-use Rattle.mm_text.specs.Field.{is_letter, is_name_byte, is_name, name_of}
-use Rattle.mm_text.proofs.Spelled.{IsPlain}
 
 abbrev pub HasNoSpace : Text → Type 0
 HasNoSpace text = AllByRecursion (λ c. c ≢ 0x20) text
-
-pub no_space-plain : (text : Text) → IsPlain text → HasNoSpace text
-no_space-plain [] p = tt
-no_space-plain (c ∷ cs) p = let above : 0x20 < c = p.0 in ((λ e. omega (arith, e)), no_space-plain cs p.1)
 
 -- words at their places, with one byte between each and the next
 abbrev pub placed : ℕ → Text → List Text → List Word
@@ -79,55 +73,4 @@ joined-from from text (c ∷ cs) =
 pub joined-words_of : (line : Text) → joined (words_of line) ≡ line
 joined-words_of line = joined-from 0 [] line
 
-no_space-push : (text : Text) (c : ℕ) → HasNoSpace text → c ≢ 0x20 → HasNoSpace (text ++ c ∷ [])
-no_space-push [] c h n = (n, tt)
-no_space-push (d ∷ ds) c h n = (h.0, no_space-push ds c h.1 n)
-
-spaceless-from : (from : ℕ) (text cs : Text) → HasNoSpace text → AllByRecursion (λ w. HasNoSpace (text_of w)) (words_from from text cs)
-spaceless-from from text [] h = (h, tt)
-spaceless-from from text (c ∷ cs) h =
-    elim (c == 0x20) as (λ b. (c == 0x20) ≡ b → AllByRecursion (λ w. HasNoSpace (text_of w)) (pick b (record { from = from; text = text } ∷ words_from (from + length text + 1) [] cs) (words_from from (text ++ c ∷ []) cs))) [
-      | true ↦ λ e. (h, spaceless-from (from + length text + 1) [] cs tt)
-      | false ↦ λ e. spaceless-from from (text ++ c ∷ []) cs (no_space-push text c h (eqb-false c 0x20 e))
-    ] refl
-
--- and no space stands in a word of a line
-pub spaceless-words_of : (line : Text) → AllByRecursion (λ w. HasNoSpace (text_of w)) (words_of line)
-spaceless-words_of line = spaceless-from 0 [] line tt
-
 -- ---- names
-
-plain_byte : (c : ℕ) → is_name_byte c ≡ true → 0x20 < c
-plain_byte c good = elim (cases_lt 0x20 c) [
-  | inl above ↦ above
-  | inr below ↦
-      (let bad : true ≡ false = sym good ∙ agree_below_at is_name_byte (λ _. false) 0x21 c refl (omega arith) in
-      cc)
-]
-
-plain_letter : (c : ℕ) → is_letter c ≡ true → 0x20 < c
-plain_letter c good = elim (cases_lt 0x20 c) [
-  | inl above ↦ above
-  | inr below ↦
-      (let bad : true ≡ false = sym good ∙ agree_below_at is_letter (λ _. false) 0x21 c refl (omega arith) in
-      cc)
-]
-
-plain_bytes : (cs : Text) → list_all is_name_byte cs ≡ true → IsPlain cs
-plain_bytes [] e = tt
-plain_bytes (c ∷ cs) e =
-    let parts = and_parts (is_name_byte c) (list_all is_name_byte cs) e in
-    (plain_byte c parts.0, plain_bytes cs parts.1)
-
-pub plain-name : (cs : Text) → is_name cs ≡ true → IsPlain cs
-plain-name [] e = tt
-plain-name (c ∷ cs) e =
-    let parts = and_parts (is_letter c) (list_all is_name_byte cs) e in
-    (plain_letter c parts.0, plain_bytes cs parts.1)
-
--- a name is read as itself
-pub name_of-name : (cs n : Text) → name_of cs ≡ Some n → n ≡ cs
-name_of-name cs n e = elim (is_name cs && nat_le (length cs) 32) as (λ b. cond b (Some cs) None ≡ Some n → n ≡ cs) [
-  | true ↦ λ h. (let same : Some cs ≡ Some n = h in cc)
-  | false ↦ λ h. (let bad : None ≡ Some n = h in cc)
-] e

@@ -25,10 +25,6 @@ IsPlain text = AllByRecursion (λ c. 0x20 < c) text
 glyph_plain : (d : ℕ) → d < 16 → 0x20 < glyph d
 glyph_plain d low = ltb-true 0x20 (glyph d) (agree_below_at (λ k. nat_lt 0x20 (glyph k)) (λ _. true) 16 d refl low)
 
-pub plain-append : (s t : Text) → IsPlain s → IsPlain t → IsPlain (s ++ t)
-plain-append [] t p q = q
-plain-append (c ∷ cs) t p q = (p.0, plain-append cs t p.1 q)
-
 -- ---- the digits of a number in a base
 
 pow-one : (b : ℕ) → b ^ 1 ≡ b
@@ -132,15 +128,8 @@ length-decimal n low = omega (arith, ap length (decimal_digits n), length-digits
 pub length-decimal-32 : (n : ℕ) → n < 2 ^ 32 → length (decimal n) ≤ 10
 length-decimal-32 n low = omega (arith, ap length (decimal_digits n), length-digits 10 (lit≤ tt) (lit≤ tt) 20 9 n [] (omega arith))
 
-pub plain-decimal : (n : ℕ) → IsPlain (decimal n)
-plain-decimal n = subst IsPlain (sym (decimal_digits n)) (plain-digits 10 (lit≤ tt) (lit≤ tt) 20 n [] tt)
-
 decimal_value : (n : ℕ) → n < 10 ^ 20 → value_in 10 0 (decimal n) ≡ n
 decimal_value n low = ap (value_in 10 0) (decimal_digits n) ∙ value_in-digits 10 (lit≤ tt) (lit≤ tt) 20 n [] low
-
--- two numbers below 2 ^ 64 are one where they are written alike
-pub decimal_same : (m n : ℕ) → m < 2 ^ 64 → n < 2 ^ 64 → decimal m ≡ decimal n → m ≡ n
-decimal_same m n low high e = sym (decimal_value m (omega arith)) ∙ ap (value_in 10 0) e ∙ decimal_value n (omega arith)
 
 are_decimal : (n : ℕ) → are_digits 10 (decimal n) ≡ true
 are_decimal n = ap (are_digits 10) (decimal_digits n) ∙ are_digits-digits 10 (lit≤ tt) (lit≤ tt) 20 n [] refl
@@ -186,9 +175,6 @@ number_of-hex_short n low =
 pub length-hex_short : (n : ℕ) → n < 2 ^ 32 → length (hex_short n) ≤ 10
 length-hex_short n low = omega (arith, length-digits 16 (lit≤ tt) (lit≤ tt) 8 7 n [] (omega arith))
 
-pub plain-hex_short : (n : ℕ) → IsPlain (hex_short n)
-plain-hex_short n = (lit< tt, (lit< tt, plain-digits 16 (lit≤ tt) (lit≤ tt) 8 n [] tt))
-
 pub length-hex_onto : (count n : ℕ) (rest : Text) → length (hex_onto count n rest) ≡ count + length rest
 length-hex_onto zero n rest = omega arith
 length-hex_onto (suc count) n rest = length-hex_onto count (n / 16) (glyph (n % 16) ∷ rest) ∙ omega arith
@@ -196,22 +182,11 @@ length-hex_onto (suc count) n rest = length-hex_onto count (n / 16) (glyph (n % 
 pub length-hex8 : (n : ℕ) → length (hex8 n) ≡ 10
 length-hex8 n = omega (arith, length-hex_onto 8 n [])
 
-pub plain-hex_onto : (count n : ℕ) (rest : Text) → IsPlain rest → IsPlain (hex_onto count n rest)
-plain-hex_onto zero n rest p = p
-plain-hex_onto (suc count) n rest p = plain-hex_onto count (n / 16) (glyph (n % 16) ∷ rest) (glyph_plain (n % 16) (mod_below n 16 (lit< tt)), p)
-
-pub plain-hex8 : (n : ℕ) → IsPlain (hex8 n)
-plain-hex8 n = (lit< tt, (lit< tt, plain-hex_onto 8 n [] tt))
-
 -- ---- bytes
 
 pub length-byte_pairs : (bs : List ℕ) → length (byte_pairs bs) ≡ 2 * length bs
 length-byte_pairs [] = refl
 length-byte_pairs (b ∷ bs) = omega (arith, length-byte_pairs bs)
-
-pub plain-byte_pairs : (bs : List ℕ) → IsPlain (byte_pairs bs)
-plain-byte_pairs [] = tt
-plain-byte_pairs (b ∷ bs) = plain-hex_onto 2 b (byte_pairs bs) (plain-byte_pairs bs)
 
 pair_of-glyphs : (h l : ℕ) → h < 16 → l < 16 → pair_of (glyph h) (glyph l) ≡ Some (16 * h + l)
 pair_of-glyphs h l p q =

@@ -11,9 +11,6 @@ abbrev pick : Bool → List Word → List Word → List Word
 pick b ended longer = cond b ended longer
 
 module _ (line : Text) (from to : ℕ) (order : from ≤ to) where
-  here : ℕ → List Word → List Word
-  here end rest = record { from = from; text = slice_range line from end } ∷ rest
-
   pub word_longer : to < length line → get_or line to 0 ≢ 32 → words_from from (slice_range line from to) (drop to line) ≡ words_from from (slice_range line from (to + 1)) (drop (to + 1) line)
   word_longer within other =
       let text : Text = slice_range line from to in

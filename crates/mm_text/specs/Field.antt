@@ -23,7 +23,8 @@ are_digits base cs = list_all (λ c. nat_lt (digit_value c) base) cs
 -- the value of 1 to `most` digits of a base
 abbrev pub digits_in : ℕ → ℕ → Text → Option ℕ
 digits_in base most cs =
-    if nat_le 1 (length cs) && nat_le (length cs) most && are_digits base cs then Some (value_in base 0 cs) else None
+    if nat_le 1 (length cs) && nat_le (length cs) most && are_digits base cs then
+    Some (value_in base 0 cs) else None
 
 -- what stands after `0x`
 abbrev pub hex_digits : Text → Option Text
@@ -48,7 +49,8 @@ number_of cs = limited (number_in cs (hex_digits cs))
 
 -- the byte of two hexadecimal digits
 abbrev pub pair_of : ℕ → ℕ → Option ℕ
-pair_of c d = if nat_lt (digit_value c) 16 && nat_lt (digit_value d) 16 then Some (16 * digit_value c + digit_value d) else None
+pair_of c d = if nat_lt (digit_value c) 16 && nat_lt (digit_value d) 16 then
+    Some (16 * digit_value c + digit_value d) else None
 
 abbrev pub byte_before : Option ℕ → Option (List ℕ) → Option (List ℕ)
 byte_before None bs = None
@@ -72,7 +74,8 @@ is_letter c = (nat_le 0x41 c && nat_le c 0x5A) || (nat_le 0x61 c && nat_le c 0x7
 
 -- a letter, a digit, `_`, `.` or `-`
 abbrev pub is_name_byte : ℕ → Bool
-is_name_byte c = is_letter c || (nat_le 0x30 c && nat_le c 0x39) || (c == 0x5F) || (c == 0x2E) || (c == 0x2D)
+is_name_byte c = is_letter c || (nat_le 0x30 c && nat_le c 0x39) || (c == 0x5F) || (c == 0x2E) ||
+    (c == 0x2D)
 
 -- a letter, and bytes of a name after it
 abbrev pub is_name : Text → Bool

@@ -1,4 +1,7 @@
 pub mod Shortest
 pub mod Word
 pub mod Place
+pub mod Run
 pub mod Field
+pub mod Columns
+pub mod Following

@@ -8,7 +8,8 @@ pub record Word : Type 0 where
   pub from : ℕ
   pub text : Text
 
--- the words from a place on, the first of which has begun with `text`: each space ends a word and begins the next
+-- the words from a place on, the first of which has begun with `text`: each space ends a word and
+-- begins the next
 abbrev pub words_from : ℕ → Text → Text → List Word
 words_from from text [] = record { from = from; text = text } ∷ []
 words_from from text (c ∷ cs) =

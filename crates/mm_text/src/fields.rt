@@ -27,7 +27,7 @@ static DIGIT_VALUES: [u8; 256] = [
 
 /// The value of a hexadecimal digit of either case, or 16 for another byte.
 #[inline(always)]
-fn digit(byte: u8) -> u8
+pub(crate) fn digit(byte: u8) -> u8
     ensures value { result ≡ digit_value byte }
     ensures most { result ≤ 16 }
 {
@@ -45,8 +45,8 @@ fn hex_digits(word: &[u8]) -> Option<&[u8]>
     }
 }
 
-/// The number below 2^32 of 1 to `most` digits of a base. No more than ten digits of base 16 or below fit a `u64`, so
-/// that the limit is tested once, after the last.
+/// The number below 2^32 of 1 to `most` digits of a base. No more than ten digits of base 16 or
+/// below fit a `u64`, so that the limit is tested once, after the last.
 #[inline(always)]
 #[tactic(auto, using(crate::proofs::Values::values))]
 fn value(base: u8, most: usize, digits: &[u8]) -> Option<u32>
@@ -72,8 +72,9 @@ fn value(base: u8, most: usize, digits: &[u8]) -> Option<u32>
     Some(sum as u32)
 }
 
-/// The number that a word is: decimal, of 1 to 10 digits, or `0x` and 1 to 8 hexadecimal digits of either case; leading
-/// zeros are allowed. `None` where the word is another, or the number is 2^32 or more.
+/// The number that a word is: decimal, of 1 to 10 digits, or `0x` and 1 to 8 hexadecimal digits of
+/// either case; leading zeros are allowed. `None` where the word is another, or the number is 2^32
+/// or more.
 #[inline(always)]
 pub fn number(word: &[u8]) -> Option<u32>
     ensures { result ≡ number_of word.now }
@@ -98,7 +99,8 @@ fn pair(high: u8, low: u8) -> Option<u8>
     }
 }
 
-/// The bytes that a word is: 1 to 64 pairs of hexadecimal digits of either case; `None` where it is not that.
+/// The bytes that a word is: 1 to 64 pairs of hexadecimal digits of either case; `None` where it is
+/// not that.
 #[inline(always)]
 #[tactic(auto, using(crate::proofs::Pairs::pairs))]
 pub fn bytes(word: &[u8]) -> Option<ByteBuf>
@@ -156,8 +158,8 @@ fn is_name(word: &[u8]) -> bool
     }
 }
 
-/// The name that a word is: a letter, and at most 31 letters, digits, `_`, `.` or `-` after it, in ASCII; `None` where
-/// it is not that.
+/// The name that a word is: a letter, and at most 31 letters, digits, `_`, `.` or `-` after it, in
+/// ASCII; `None` where it is not that.
 #[tactic(auto, using(crate::proofs::Made::made))]
 pub fn name(word: &[u8]) -> Option<Name>
     ensures { result ≡ name_of word.now }

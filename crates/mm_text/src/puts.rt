@@ -16,7 +16,8 @@ fn glyph(digit: u8) -> u8
     }
 }
 
-/// Writes a number's digits at the end of `digits`, without leading zeros, and answers where they begin.
+/// Writes a number's digits at the end of `digits`, without leading zeros, and answers where they
+/// begin.
 #[inline]
 #[tactic(auto, using(crate::proofs::Digits::digits))]
 fn fill_short(base: u64, n: u64, digits: &mut [u8]) -> usize
@@ -62,7 +63,8 @@ pub fn put_decimal(out: &mut LineBuf, n: u64)
     out.push_slice(&digits[from..]);
 }
 
-/// Writes `0x` and a number's hexadecimal digits in upper case, without leading zeros, at the end of a line.
+/// Writes `0x` and a number's hexadecimal digits in upper case, without leading zeros, at the end
+/// of a line.
 pub fn put_hex_short(out: &mut LineBuf, n: u32)
     requires { length out.old + length (hex_short n) ≤ 256 }
     ensures { out.new ≡ out.old ++ hex_short n }

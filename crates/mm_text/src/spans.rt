@@ -1,7 +1,10 @@
-ghost use Rattle.std.specs.Prelude.{◌≡◌, ◌≤◌, ◌<◌, ◌+◌, ◌^◌, ◌∷◌, [], length, drop, slice_range, MatchOption, IfNone, IfSome};
+ghost use Rattle.std.specs.Prelude.{◌≡◌, ◌≤◌, ◌<◌, ◌+◌, ◌^◌, ◌∷◌, [], true, length, drop};
+ghost use Rattle.std.specs.Prelude.{slice_range, MatchOption, IfNone, IfSome};
 ghost use Rattle.mm_text.specs.Word.{WordsOf, words_of, words_from, rest_from};
 ghost use Rattle.mm_text.specs.Place.{word_at};
+ghost use Rattle.mm_text.specs.Run.{IsRun, IsNumberAt, EndsWord, BeginsHex, TakesNumber};
 
+use crate::fields::digit;
 use std::marker::Model;
 
 /// The place of a word in a line: from its first byte up to the byte after it, counted from 0.
@@ -22,8 +25,16 @@ impl Span {
     }
 }
 
-/// The words of a line from left to right. Each space ends a word and begins the next, so two spaces side by side
-/// enclose an empty word, a space at the end is followed by one, and an empty line is one.
+/// A number that is a word of a line, and the place of the word's first byte, counted from 0.
+#[derive(Clone, Copy, PartialEq, Eq, Debug)]
+pub struct Numbered {
+    pub from: u32,
+    pub value: u32,
+}
+
+/// The words of a line from left to right. Each space ends a word and begins the next, so two
+/// spaces side by side enclose an empty word, a space at the end is followed by one, and an empty
+/// line is one.
 #[derive(Drop)]
 pub struct Words<'a> {
     line: &'a [u8],
@@ -50,12 +61,33 @@ impl<'a> Words<'a> {
         Words { line, at: 0 }
     }
 
+    /// The next word as a number, in one pass. `None` leaves the word, which may be a number all
+    /// the same.
+    #[inline(always)]
+    #[tactic(auto, using(crate::proofs::Runs::taken))]
+    pub fn next_number(&mut self) -> Option<Numbered>
+        ensures some { IfSome result (λ n. TakesNumber self.old self.new n.from n.value) }
+        ensures none { IfNone result (self.new ≡ self.old) }
+    {
+        let from = self.at as usize;
+        if from > self.line.len() {
+            return None;
+        }
+        let (value, to) = number_at(self.line, from)?;
+        self.at = to as u32 + 1;
+        Some(Numbered {
+            from: from as u32,
+            value,
+        })
+    }
+
     /// The place of the next word; `None` where no word is left.
     #[inline(always)]
     #[tactic(auto, using(crate::proofs::Splits::splits))]
     pub fn next(&mut self) -> Option<Span>
         ensures line { self.new.line ≡ self.old.line }
-        ensures word { MatchOption result (self.old.left ≡ []) (λ s. self.old.left ≡ word_at self.old.line s ∷ self.new.left) }
+        ensures word { MatchOption result (self.old.left ≡ [])
+            (λ s. self.old.left ≡ word_at self.old.line s ∷ self.new.left) }
         ensures none { IfNone result (self.new.left ≡ []) }
         ensures order { IfSome result (λ s. s.from ≤ s.to) }
         ensures within { IfSome result (λ s. s.to ≤ length self.old.line) }
@@ -73,14 +105,18 @@ impl<'a> Words<'a> {
     }
 }
 
-/// Where the word ends that begins at `from`: at the next space, or at the line's end. Four bytes a turn, then the last ones.
+/// Where the word ends that begins at `from`: at the next space, or at the line's end. Four bytes a
+/// turn, then the last ones.
 #[inline(always)]
 #[tactic(auto, using(crate::proofs::Splits::fours))]
 fn end_of_word(line: &[u8], from: usize) -> usize
     requires { from ≤ length line.now }
     ensures order { from ≤ result }
     ensures within { result ≤ length line.now }
-    ensures word { words_from from [] (drop from line.now) ≡ record { from = from; text = slice_range line.now from result } ∷ rest_from (result + 1) line.now }
+    ensures word { words_from from [] (drop from line.now) ≡ record {
+      from = from;
+      text = slice_range line.now from result;
+    } ∷ rest_from (result + 1) line.now }
 {
     let mut to = from;
     'fours: while line.len() - to >= 4 {
@@ -102,4 +138,113 @@ fn end_of_word(line: &[u8], from: usize) -> usize
         to += 1;
     }
     to
+}
+
+/// Whether a word ends at a place.
+#[inline(always)]
+fn ends_word(line: &[u8], at: usize) -> bool
+    ensures { result ≡ true → EndsWord line.now at }
+{
+    if at >= line.len() {
+        return true;
+    }
+    line[at] == b' '
+}
+
+/// Whether `0x` stands at a place.
+#[inline(always)]
+fn begins_hex(line: &[u8], at: usize) -> bool
+    requires { at ≤ length line.now }
+    ensures { result ≡ true → BeginsHex line.now at }
+{
+    if line.len() - at < 2 {
+        return false;
+    }
+    if line[at] != b'0' {
+        return false;
+    }
+    line[at + 1] == b'x'
+}
+
+/// The number of 1 to `most` digits of a base from a place on, up to the end of the word, and
+/// where that is. `None` where the word is anything else.
+#[inline(always)]
+#[tactic(auto, using(crate::proofs::Runs::runs))]
+fn run(base: u8, most: usize, line: &[u8], start: usize) -> Option<(u32, usize)>
+    requires low { 1 ≤ base }
+    requires high { base ≤ 16 }
+    requires few { most ≤ 10 }
+    requires within { start ≤ length line.now }
+    requires short { length line.now + 1 < 2 ^ 32 }
+    ensures { IfSome result (λ r. IsRun base most line.now start r.1 r.0) }
+{
+    let end = line.len().min(start + most);
+    let mut to = start;
+    let mut sum = 0u64;
+    while to < end {
+        let digit = digit(line[to]);
+        if digit >= base {
+            break;
+        }
+        sum = sum * u64::from(base) + u64::from(digit);
+        to += 1;
+    }
+    if to == start || sum > 0xFFFF_FFFF {
+        return None;
+    }
+    if ends_word(line, to) {
+        Some((sum as u32, to))
+    } else {
+        None
+    }
+}
+
+/// The digit that is all of the word that begins at a place, and where the word ends.
+#[inline(always)]
+#[tactic(auto, using(crate::proofs::Runs::digits))]
+fn one_digit(line: &[u8], from: usize) -> Option<(u32, usize)>
+    requires { from ≤ length line.now }
+    ensures { IfSome result (λ r. IsNumberAt line.now from r.1 r.0) }
+{
+    if from == line.len() {
+        return None;
+    }
+    let digit = digit(line[from]);
+    if digit >= 10 {
+        return None;
+    }
+    if ends_word(line, from + 1) {
+        Some((u32::from(digit), from + 1))
+    } else {
+        None
+    }
+}
+
+/// The number of digits that the word is that begins at a place, and where the word ends.
+#[inline(always)]
+#[tactic(auto, using(crate::proofs::Runs::numbers))]
+fn digits_at(line: &[u8], from: usize) -> Option<(u32, usize)>
+    requires within { from ≤ length line.now }
+    requires short { length line.now + 1 < 2 ^ 32 }
+    ensures { IfSome result (λ r. IsNumberAt line.now from r.1 r.0) }
+{
+    if begins_hex(line, from) {
+        run(16, 8, line, from + 2)
+    } else {
+        run(10, 10, line, from)
+    }
+}
+
+/// The number that the word is that begins at a place, and where the word ends; `None` where
+/// this pass does not tell it.
+#[inline(always)]
+fn number_at(line: &[u8], from: usize) -> Option<(u32, usize)>
+    requires within { from ≤ length line.now }
+    requires short { length line.now + 1 < 2 ^ 32 }
+    ensures { IfSome result (λ r. IsNumberAt line.now from r.1 r.0) }
+{
+    match one_digit(line, from) {
+        Some(found) => Some(found),
+        None => digits_at(line, from),
+    }
 }

@@ -35,5 +35,3 @@ pub get_within : {A : Type 0} (xs : List A) (i : ℕ) (x : A) → slice_get xs i
 get_within [] i x e = cc
 get_within (y ∷ xs) zero x e = omega arith
 get_within (y ∷ xs) (suc i) x e = let h = get_within xs i x e in omega arith
-
-pub ruleset cells = (set_cases, get_within)

@@ -1,6 +1,6 @@
 -- Numbers by their tests.
-use Rattle.std.proofs.Common.{◌≡◌, ◌≤◌, ◌<◌, ℕ, zero, suc, true, false, refl, inl, inr, arith}
-use Rattle.std.specs.Prelude.{◌==◌, not, nat_lt}
+use Rattle.std.proofs.Common.{◌≡◌, ◌≤◌, ◌<◌, ℕ, suc, true, false, refl, inl, inr, arith}
+use Rattle.std.specs.Prelude.{◌==◌, nat_lt}
 use Rattle.std.specs.Cmp.{unsigned_Decides}
 use Rattle.std.proofs.lemmas.Bool.{leb-true}
 use Rattle.std.proofs.lemmas.Bool.Decides.{leb_tells}
@@ -8,10 +8,6 @@ use Rattle.mm_types.proofs.Booleans.{not_true}
 
 pub same_number : (n : ℕ) → (n == n) ≡ true
 same_number n = (unsigned_Decides n n).1 refl
-
-pub not_zero : (n : ℕ) → not (n == 0) ≡ true → 1 ≤ n
-not_zero zero e = cc
-not_zero (suc n) e = omega arith
 
 pub less : (a b : ℕ) → nat_lt a b ≡ true → a < b
 less a b e = leb-true (suc a) b e

@@ -48,9 +48,13 @@ pub record Range : Type 0 where
 abbrev pub end_of : Range → ℕ
 end_of r = r.first + r.count
 
--- the pages that hold one of the `size` bytes from `addr` on, where the size is at least 1; sums are formed without a bound
+-- the pages that hold one of the `size` bytes from `addr` on, where the size is at least 1; sums
+-- are formed without a bound
 abbrev pub range_of : ℕ → ℕ → Range
-range_of addr size = record { first = page_of addr; count = page_of (addr + size - 1) + 1 - page_of addr }
+range_of addr size = record {
+  first = page_of addr;
+  count = page_of (addr + size - 1) + 1 - page_of addr;
+}
 
 -- the same, from the granule of `addr` on
 abbrev pub granule_range_of : ℕ → ℕ → Range
@@ -78,7 +82,8 @@ is_free taken r = are_user_pages r && not (list_any (meets r) taken)
 -- the least number from `start` on, among `count`, that passes the test
 unfoldable pub least_from : (ℕ → Bool) → ℕ → ℕ → Option ℕ
 least_from test zero start = None
-least_from test (suc count) start = let later = least_from test count (start + 1) in if test start then Some start else later
+least_from test (suc count) start = let later = least_from test count (start + 1) in
+    if test start then Some start else later
 
 -- `count` pages from the granule with this number on
 abbrev pub granule_range : ℕ → ℕ → Range
@@ -86,4 +91,6 @@ granule_range count granule = record { first = granule * granule_pages; count = 
 
 -- the lowest granule from which `count` user pages are free, as a page
 abbrev pub lowest_gap : List Range → ℕ → Option ℕ
-lowest_gap taken count = option_map (λ g. g * granule_pages) (least_from (λ g. is_free taken (granule_range count g)) granules 0)
+lowest_gap taken count =
+    option_map (λ g. g * granule_pages)
+    (least_from (λ g. is_free taken (granule_range count g)) granules 0)

@@ -1,5 +1,5 @@
--- The allocation types of VirtualAlloc and the free types of VirtualFree (MEM_COMMIT and the others, by Microsoft's numbers).
--- Profile, "Calls".
+-- The allocation types of VirtualAlloc and the free types of VirtualFree (MEM_COMMIT and the
+-- others, by Microsoft's numbers). Profile, "Calls".
 use Rattle.std.specs.Prelude.{ℕ}
 
 abbrev pub commit_type : ℕ

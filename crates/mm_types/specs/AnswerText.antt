@@ -37,20 +37,25 @@ why_text why.Full = codes "full"
 abbrev pub ok_text : List Text → Text
 ok_text parts = spaced (codes "ok") parts
 
--- the words of an answer: addresses, sizes, protections, states, types and statuses as `0x` and eight
--- digits, other numbers in decimal, bytes as pairs of digits
+-- the words of an answer: addresses, sizes, protections, states, types and statuses as `0x` and
+-- eight digits, other numbers in decimal, bytes as pairs of digits
 abbrev pub answer_text : Answer → Text
 answer_text answer.Ok = codes "ok"
 answer_text (answer.Limit limit) = ok_text (decimal limit ∷ [])
 answer_text (answer.NewProcess pid) = ok_text (decimal pid.0 ∷ [])
 answer_text (answer.At addr) = ok_text (hex8 addr ∷ [])
 answer_text (answer.OldProt prot) = ok_text (hex8 prot.0 ∷ [])
-answer_text (answer.Info i) = ok_text (hex8 i.base ∷ hex8 i.alloc_base ∷ hex8 i.alloc_prot ∷ hex8 i.size ∷ hex8 i.state ∷ hex8 i.prot ∷ hex8 i.kind ∷ [])
-answer_text (answer.Created handle existed) = ok_text (decimal handle ∷ decimal (if existed then 183 else 0) ∷ [])
+answer_text (answer.Info i) =
+    ok_text (hex8 i.base ∷ hex8 i.alloc_base ∷ hex8 i.alloc_prot ∷ hex8 i.size ∷ hex8 i.state ∷
+    hex8 i.prot ∷ hex8 i.kind ∷ [])
+answer_text (answer.Created handle existed) =
+    ok_text (decimal handle ∷ decimal (if existed then 183 else 0) ∷ [])
 answer_text (answer.Opened handle) = ok_text (decimal handle ∷ [])
 answer_text (answer.Bytes bytes) = ok_text (byte_pairs bytes ∷ [])
 answer_text (answer.Charge charge limit) = ok_text (decimal charge ∷ decimal limit ∷ [])
-answer_text (answer.Counts c) = ok_text (decimal c.zeroed ∷ decimal c.free ∷ decimal c.standby ∷ decimal c.modified ∷ decimal c.active ∷ decimal c.transition ∷ decimal c.free_slots ∷ decimal c.requests ∷ [])
+answer_text (answer.Counts c) =
+    ok_text (decimal c.zeroed ∷ decimal c.free ∷ decimal c.standby ∷ decimal c.modified ∷
+    decimal c.active ∷ decimal c.transition ∷ decimal c.free_slots ∷ decimal c.requests ∷ [])
 answer_text (answer.Error why) = spaced (codes "error") (decimal (code_number why) ∷ [])
 answer_text (answer.Raised status) = spaced (codes "raise") (hex8 (status_number status) ∷ [])
 answer_text (answer.Pending what) = spaced (codes "pending") (why_text what ∷ [])

@@ -13,9 +13,13 @@ abbrev pub padded : ℕ → List ℕ → List ℕ
 padded room elements = elements ++ replicate (room - length elements) 0
 
 -- what counts gives the array back
-pub padded-take : {A : Type 0} (make : ℕ → List ℕ → A) (room n : ℕ) (elements : List ℕ) → IsPadded room n elements → make (length (take n elements)) (padded room (take n elements)) ≡ make n elements
+pub padded-take : {A : Type 0} (make : ℕ → List ℕ → A) (room n : ℕ) (elements : List ℕ) →
+    IsPadded room n elements →
+    make (length (take n elements)) (padded room (take n elements)) ≡ make n elements
 padded-take make room n elements h =
-    let len : length (take n elements) ≡ n = omega (arith, length-take n elements, h.within, h.whole) in
+    let len : length (take n elements) ≡ n =
+    omega (arith, length-take n elements, h.within, h.whole) in
     let same : padded room (take n elements) ≡ elements =
-    ap (λ k. take n elements ++ replicate (room - k) 0) len ∙ ap (λ xs. take n elements ++ xs) (sym h.zeros) ∙ take-append-drop n elements in
+    ap (λ k. take n elements ++ replicate (room - k) 0) len ∙ ap (λ xs. take n elements ++ xs)
+    (sym h.zeros) ∙ take-append-drop n elements in
     ap (λ k. make k (padded room (take n elements))) len ∙ ap (λ xs. make n xs) same

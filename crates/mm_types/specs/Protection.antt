@@ -62,13 +62,15 @@ base_of prot = prot % guard_flag
 
 abbrev pub permission_in : List Permission → ℕ → Permission
 permission_in [] prot = no_access
-permission_in (p ∷ ps) prot = let later = permission_in ps prot in if p.prot == prot then p else later
+permission_in (p ∷ ps) prot = let later = permission_in ps prot in if p.prot == prot then p else
+    later
 
 abbrev pub permitted : Permission → Access → Bool
 permitted p access.Read = p.reads
 permitted p access.Write = p.writes
 permitted p access.Execute = p.executes
 
--- whether a protection permits an access, its guard aside; what is none of the eight permits nothing
+-- whether a protection permits an access, its guard aside; what is none of the eight permits
+-- nothing
 abbrev pub permits : ℕ → Access → Bool
 permits prot what = permitted (permission_in permissions (base_of prot)) what

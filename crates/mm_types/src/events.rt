@@ -1,6 +1,7 @@
 use crate::{ByteBuf, Device, Direction, Machine, Name, Pid, Tid};
 
-/// What a thread's access does: reads so many bytes from an address on, or writes these bytes there.
+/// What a thread's access does: reads so many bytes from an address on, or writes these bytes
+/// there.
 #[derive(Drop)]
 pub enum AccessSpec {
     Read { addr: u32, len: u32 },
@@ -9,8 +10,8 @@ pub enum AccessSpec {
 
 /// A line of a script, with its fields in order.
 ///
-/// Addresses, sizes, lengths, `reserve` and `commit` are bytes; `pages`, `min` and `max` count pages; `form` is the allocation type of
-/// VirtualAlloc or the free type of VirtualFree.
+/// Addresses, sizes, lengths, `reserve` and `commit` are bytes; `pages`, `min` and `max` count
+/// pages; `form` is the allocation type of VirtualAlloc or the free type of VirtualFree.
 #[derive(Drop)]
 pub enum Event {
     /// `machine <frames> <slots> <depth> <blocks>`

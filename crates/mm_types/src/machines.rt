@@ -3,8 +3,8 @@ ghost use Rattle.mm_types.specs.Machine.{MachineOf, IsMachine, limit_of};
 
 use std::marker::Model;
 
-/// A machine's four numbers, in range: 6 to 262,144 frames, at most 262,144 slots, a depth of 1 to 64
-/// requests with at least `2 * depth + 4` frames, at most 65,536 blocks.
+/// A machine's four numbers, in range: 6 to 262,144 frames, at most 262,144 slots, a depth of 1 to
+/// 64 requests with at least `2 * depth + 4` frames, at most 65,536 blocks.
 pub struct Machine {
     frames: u32,
     slots: u32,
@@ -33,8 +33,18 @@ impl Copy for Machine {}
 impl Machine {
     /// A machine of these numbers.
     pub fn new(frames: u32, slots: u32, depth: u32, blocks: u32) -> Machine
-        requires { IsMachine (record { frames = frames; slots = slots; depth = depth; blocks = blocks }) }
-        ensures { result ≡ record { frames = frames; slots = slots; depth = depth; blocks = blocks } }
+        requires { IsMachine (record {
+          frames = frames;
+          slots = slots;
+          depth = depth;
+          blocks = blocks;
+        }) }
+        ensures { result ≡ record {
+          frames = frames;
+          slots = slots;
+          depth = depth;
+          blocks = blocks;
+        } }
     {
         Machine {
             frames,

@@ -3,7 +3,8 @@ use crate::{Block, Frame, Key, Pid, Place, Slot};
 /// What a line is to the life of the frames.
 #[derive(Clone, Copy, PartialEq, Eq, Debug)]
 pub enum LineKind {
-    /// `machine`: frames, slots, depth, blocks. The numbers may be any; the rules say which are legal.
+    /// `machine`: frames, slots, depth, blocks. The numbers may be any; the rules say which are
+    /// legal.
     Machine(u32, u32, u32, u32),
     /// `process` that answers a pid: the pid, min, max.
     Process(Pid, u32, u32),

@@ -89,8 +89,8 @@ impl Clone for Name {
 impl Copy for Name {}
 
 impl Name {
-    /// A name of these bytes; `None` where there is none, or more than 32. Which bytes a name may have is
-    /// the grammar's.
+    /// A name of these bytes; `None` where there is none, or more than 32. Which bytes a name may
+    /// have is the grammar's.
     pub fn from_slice(bytes: &[u8]) -> Option<Name>
         ensures fits { IsSome result ↔ ((1 ≤ length bytes.now) × (length bytes.now ≤ 32)) }
         ensures value { IfSome result (λ n. n ≡ bytes.now) }

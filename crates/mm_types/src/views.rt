@@ -11,7 +11,8 @@ pub enum ViewAccess {
     Copy,
 }
 
-/// A view of a section: its section, that section's control area, and the section page of its first page.
+/// A view of a section: its section, that section's control area, and the section page of its first
+/// page.
 #[derive(Clone, Copy, PartialEq, Eq, Debug)]
 pub struct View {
     pub section: SectionId,

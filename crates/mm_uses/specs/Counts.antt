@@ -5,7 +5,7 @@ use Rattle.mm_types.specs.Spelling.{Text, decimal}
 use Rattle.mm_types.specs.declared.answers.Counts.{Counts}
 use Rattle.mm_types.specs.declared.moves.Move.{Move}
 use Rattle.mm_life.specs.Life.{FrameLife, counts_of, unstarted}
-use Rattle.mm_columns.specs.Columns.{right_in, numbers_in}
+use Rattle.mm_text.specs.Columns.{right_in, numbers_in}
 use Rattle.mm_uses.specs.Lines.{line_ends}
 
 abbrev pub counts_head : Text

@@ -14,7 +14,7 @@ use Rattle.mm_life.specs.declared.sets.ResidentSet.{ResidentSet}
 use Rattle.mm_life.specs.Frames.{record_at, has_request}
 use Rattle.mm_life.specs.Life.{FrameLife, unstarted, counts_of, is_active, is_in_transition}
 use Rattle.mm_life.specs.MoveText.{numbered}
-use Rattle.mm_columns.specs.Columns.{right_in, numbers_in}
+use Rattle.mm_text.specs.Columns.{right_in, numbers_in}
 use Rattle.mm_uses.specs.Lines.{line_ends, said_of, is_among, unless_found}
 use Rattle.mm_uses.specs.declared.uses.Use.{Use}
 use Rattle.mm_uses.specs.declared.uses.Use.TheVariants as use_of_frames

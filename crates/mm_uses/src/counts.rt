@@ -3,17 +3,17 @@ ghost use Rattle.mm_types.specs.declared.moves.Move.{Move};
 ghost use Rattle.mm_life.specs.Effect.{after_move};
 ghost use Rattle.mm_life.specs.Life.{unstarted, counts_of};
 ghost use Rattle.mm_moves.specs.Standing.{life as life_of};
-ghost use Rattle.mm_columns.specs.Columns.{numbers_in};
+ghost use Rattle.mm_text.specs.Columns.{numbers_in};
 ghost use Rattle.mm_uses.specs.Counts.{counts_head, counts_row, counts_rows, numbers_of};
 ghost use Rattle.mm_uses.specs.Lines.{ended, ended_by, is_among, line_ends, said_of, unless_found};
 ghost use Rattle.mm_uses.specs.Rest.{head_left};
 ghost use Rattle.mm_uses.specs.Uses.{use_rows, use_text};
 
 use crate::tables::put_use;
-use mm_columns::{put_numbers, put_right_number};
 use mm_moves::Life;
 use mm_sentences::{put_why, put_words};
 use mm_tell::Teller;
+use mm_text::{put_numbers, put_right_number};
 use mm_types::{Counts, Move, NoMemory};
 use std::alloc::Global;
 

@@ -9,10 +9,10 @@ ghost use Rattle.mm_uses.specs.Uses.{slots_row, requests_row, set_row, set_rows,
 
 use crate::lists::{FrameLists, frame_lists};
 use crate::uses::{Use, cells};
-use mm_columns::{put_numbers, put_right_number};
 use mm_life::ResidentSet;
 use mm_moves::Life;
 use mm_sentences::{put_number, put_words};
+use mm_text::{put_numbers, put_right_number};
 use mm_types::{Counts, NoMemory};
 use std::alloc::Global;
 

@@ -6,12 +6,12 @@ use Rattle.std.specs.HashMap.{HashMap, get, spare, Updates, UpdatesBy, WritesThr
 use Rattle.std.proofs.lemmas.Bool.{ne_eqb, and_parts, not-true}
 use Rattle.std.proofs.lemmas.List.{length-set}
 use Rattle.mm_types.specs.Address.{Range, meets, is_free, are_user_pages, holds_page, page_of, first_user_page}
-use Rattle.mm_gaps.specs.Ranges.{LieApart, add_range, remove_range}
+use Rattle.mm_vad.specs.Ranges.{LieApart, add_range, remove_range}
 use Rattle.mm_vad.specs.declared.pages.Row.{Row}
 use Rattle.mm_vad.specs.declared.regions.Region.{Region}
 use Rattle.mm_world.specs.Find.{change_range}
 use Rattle.mm_world.specs.Watch.{unwritten}
-use Rattle.mm_watch.proofs.FlagLemmas.{length-change}
+use Rattle.mm_vad.proofs.FlagLemmas.{length-change}
 use Rattle.mm_vad.specs.Regions.{SpaceOf, HasFlags, pages_of, add_region, remove_region, change_region, with_row, with_equal_rows, with_marks, with_unwritten}
 use Rattle.mm_vad.specs.Index.{regions_of, AllHeld, IsIndex}
 use Rattle.mm_vad.proofs.Held.{Adds, Keeps, Rewrites, add_held, remove_held, change_held}

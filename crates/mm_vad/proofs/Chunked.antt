@@ -1,5 +1,5 @@
 -- What rows in chunks hold, as chunks are filled and written out.
-use Rattle.std.proofs.Common.{◌≡◌, ◌≢◌, ◌⊎◌, ℕ, zero, suc, ◌+◌, ◌-◌, ◌^◌, ◌<◌, ◌≤◌, List, [], ◌∷◌, ◌++◌, length, get_or, set, map, take, replicate, Option, Some, None, refl, sym, ap, ◌∙◌, subst, inl, inr, arith, length-set, length-append, get_or-set_same, get_or-set_other}
+use Rattle.std.proofs.Common.{◌≡◌, ◌≢◌, ◌⊎◌, ℕ, zero, suc, ◌+◌, ◌^◌, ◌<◌, ◌≤◌, List, [], ◌∷◌, ◌++◌, length, get_or, set, replicate, Option, Some, None, refl, sym, ap, ◌∙◌, subst, inl, inr, arith, length-set, length-append, get_or-set_same, get_or-set_other}
 use Rattle.std.proofs.Math.Seq.{get_or-append_seam}
 use Rattle.std.proofs.lemmas.List.{ext_get_or, length-map, length-replicate, get_or_append_left, get_or_read, get_or-replicate, get_or-map, map-set, set-get_or}
 use Rattle.mm_vad.specs.declared.pages.Row.{Row}
@@ -220,11 +220,11 @@ each_read places rows x k at d e there read h =
     let is : rows ≡ x = e ∙ sym (get_or_read places k x there read []) in
     ap (λ (rs : List Row). slice_get rs at) is ∙ slice_get-get_or x at d (omega (arith, h, ap length is))
 
--- a row of a chunk that was written out is written
-pub row_written : (chunks : List Chunk) (places : List (List Row)) (room i k at : ℕ) (row : Row) (x : List Row) → AreWritten chunks places room → i < length chunks → get_or chunks i (chunk.Each k) ≡ chunk.Each k → x ≡ get_or places k [] → chunks_of chunks (set places k (set x at row)) ≡ set (chunks_of chunks places) i (set (get_or (chunks_of chunks places) i []) at row)
-row_written chunks places room i k at row x s there e read =
+-- rows of a chunk that was written out are changed
+pub rows_written : (chunks : List Chunk) (places : List (List Row)) (room i k : ℕ) (change : List Row → List Row) (x : List Row) → AreWritten chunks places room → i < length chunks → get_or chunks i (chunk.Each k) ≡ chunk.Each k → x ≡ get_or places k [] → chunks_of chunks (set places k (change x)) ≡ set (chunks_of chunks places) i (change (get_or (chunks_of chunks places) i []))
+rows_written chunks places room i k change x s there e read =
     let whole : set chunks i (chunk.Each k) ≡ chunks = ap (λ (c : Chunk). set chunks i c) (sym e) ∙ set-get_or chunks i (chunk.Each k) in
     let rows : get_or (chunks_of chunks places) i [] ≡ x = chunk_rows chunks places i (chunk.Each k) there e ∙ sym read in
-    ap (λ (cs : List Chunk). chunks_of cs (set places k (set x at row))) (sym whole)
-    ∙ chunk_written chunks places room i (Some k) (set x at row) s there (chunk_place chunks i (chunk.Each k) there e)
-    ∙ ap (λ (rs : List Row). set (chunks_of chunks places) i (set rs at row)) (sym rows)
+    ap (λ (cs : List Chunk). chunks_of cs (set places k (change x))) (sym whole)
+    ∙ chunk_written chunks places room i (Some k) (change x) s there (chunk_place chunks i (chunk.Each k) there e)
+    ∙ ap (λ (rs : List Row). set (chunks_of chunks places) i (change rs)) (sym rows)

@@ -1,12 +1,12 @@
 -- What a change of the ranges and of the regions found at them makes of the list of regions.
-use Rattle.std.proofs.Common.{◌≡◌, ◌≢◌, ℕ, suc, ◌+◌, ◌-◌, ◌<◌, ◌≤◌, Bool, true, false, cond, List, [], ◌∷◌, length, Option, Some, None, refl, sym, ap, ◌∙◌, subst, arith}
+use Rattle.std.proofs.Common.{◌≡◌, ◌≢◌, ℕ, suc, ◌+◌, ◌<◌, ◌≤◌, Bool, true, false, cond, List, [], ◌∷◌, length, Option, Some, None, refl, sym, ap, ◌∙◌, subst, arith}
 use Rattle.std.specs.Prelude.{find, insert, remove, count_by, nat_lt, ◌==◌, not, option_and_then, IsSomeAnd, All}
 use Rattle.std.specs.List.{cons_option, position_or_len, list_any}
 use Rattle.std.proofs.lemmas.Bool.{eqb-true, eqb-false, ltb-true, ltb-false, lt-ltb, le-ltb, and_from, or_parts}
 use Rattle.std.proofs.lemmas.List.Elements.{All-nil, All-cons}
 use Rattle.std.proofs.lemmas.List.Sums.{sum_by-cons}
 use Rattle.mm_types.specs.Address.{Range, end_of, meets, holds_page, first_user_page}
-use Rattle.mm_gaps.specs.Ranges.{LieApart, add_range, remove_range}
+use Rattle.mm_vad.specs.Ranges.{LieApart, add_range, remove_range}
 use Rattle.mm_vad.specs.declared.regions.Region.{Region}
 use Rattle.mm_vad.specs.Regions.{IsSpace, HasFlags, pages_of, ranges_of, holds, begins_at, add_region, remove_region, change_region}
 use Rattle.mm_vad.specs.Index.{regions_of, IsHeld, AllHeld, IsIndex}

@@ -1,13 +1,14 @@
 -- Rows in whole chunks and the rows behind them, as one list.
-use Rattle.std.proofs.Common.{◌≡◌, ◌≢◌, ◌⊎◌, ℕ, zero, suc, ◌+◌, ◌-◌, ◌*◌, ◌/◌, ◌%◌, ◌^◌, ◌<◌, ◌≤◌, List, [], ◌∷◌, ◌++◌, length, get_or, set, take, drop, replicate, Some, refl, sym, ap, ◌∙◌, subst, inl, inr, arith, length-set, length-append, get_or-set_same, get_or-set_other}
+use Rattle.std.proofs.Common.{◌≡◌, ◌⊎◌, ℕ, zero, suc, ◌+◌, ◌-◌, ◌*◌, ◌/◌, ◌%◌, ◌<◌, ◌≤◌, List, [], ◌∷◌, ◌++◌, length, get_or, set, take, drop, replicate, Some, Bool, true, false, not, ◌&&◌, eqb, refl, sym, ap, ◌∙◌, subst, inl, inr, arith, length-set, length-append, get_or-set_same, get_or-set_other}
+use mathlib.Core.Bool.{beq}
 use Rattle.std.specs.List.{All}
 use Rattle.std.specs.Prelude.{slice_get}
 use Rattle.std.proofs.lemmas.Nat.{div-add-mod', mod_below}
 use Rattle.std.proofs.lemmas.Option.{slice_get-get_or, get_or_from_slice_get}
 use Rattle.mm_types.proofs.Cells.{same_or_not}
-use Rattle.std.proofs.lemmas.List.{ext_get_or, same_lists, length-replicate, length-take-le, length-drop, get_or_append_left, get_or-append_right, set-append_left, set-append_right, replicate-append-replicate, get_or-replicate, get_or-take, get_or-drop, take-append-drop, drop-drop}
+use Rattle.std.proofs.lemmas.List.{ext_get_or, same_lists, length-replicate, length-take-le, length-drop, get_or_past, set-set, set-get_or, get_or_append_left, get_or-append_right, set-append_left, set-append_right, replicate-append-replicate, get_or-replicate, get_or-take, get_or-drop}
 use Rattle.mm_vad.specs.declared.pages.Row.{Row}
-use Rattle.mm_vad.specs.Chunks.{joined, AreRows, filled}
+use Rattle.mm_vad.specs.Chunks.{rows_joined, AreRows, filled}
 
 abbrev pub AreWhole : List (List Row) → Type 0
 AreWhole chunks = All (λ rows. length rows ≡ 512) chunks
@@ -18,45 +19,45 @@ whole_rest rows chunks whole = λ k d h. whole (suc k) d (omega arith)
 whole_first : (rows : List Row) (chunks : List (List Row)) → AreWhole (rows ∷ chunks) → length rows ≡ 512
 whole_first rows chunks whole = whole zero [] (omega arith)
 
-pub length-joined : (chunks : List (List Row)) (rest : List Row) → AreWhole chunks → length (joined chunks rest) ≡ length chunks * 512 + length rest
+pub length-joined : (chunks : List (List Row)) (rest : List Row) → AreWhole chunks → length (rows_joined chunks rest) ≡ length chunks * 512 + length rest
 length-joined [] rest whole = omega arith
-length-joined (rows ∷ chunks) rest whole = omega (arith, length-append rows (joined chunks rest), whole_first rows chunks whole, length-joined chunks rest (whole_rest rows chunks whole))
+length-joined (rows ∷ chunks) rest whole = omega (arith, length-append rows (rows_joined chunks rest), whole_first rows chunks whole, length-joined chunks rest (whole_rest rows chunks whole))
 
 none_before : (o : ℕ) → 0 * 512 + o ≡ o
 none_before o = omega arith
 
 -- a row of a chunk, and one behind the chunks
-pub joined_within : (chunks : List (List Row)) (rest : List Row) (k o : ℕ) (d : Row) → AreWhole chunks → k < length chunks → o < 512 → get_or (joined chunks rest) (k * 512 + o) d ≡ get_or (get_or chunks k []) o d
+pub joined_within : (chunks : List (List Row)) (rest : List Row) (k o : ℕ) (d : Row) → AreWhole chunks → k < length chunks → o < 512 → get_or (rows_joined chunks rest) (k * 512 + o) d ≡ get_or (get_or chunks k []) o d
 joined_within [] rest k o d whole h l = absurd (omega arith)
 joined_within (rows ∷ chunks) rest zero o d whole h l =
-    ap (λ (q : ℕ). get_or (rows ++ joined chunks rest) q d) (none_before o) ∙ get_or_append_left rows (joined chunks rest) d o (omega (arith, l, whole_first rows chunks whole))
+    ap (λ (q : ℕ). get_or (rows ++ rows_joined chunks rest) q d) (none_before o) ∙ get_or_append_left rows (rows_joined chunks rest) d o (omega (arith, l, whole_first rows chunks whole))
 joined_within (rows ∷ chunks) rest (suc k) o d whole h l =
-    get_or-append_right rows (joined chunks rest) 512 (suc k * 512 + o) d (whole_first rows chunks whole) (omega arith)
-    ∙ ap (λ (q : ℕ). get_or (joined chunks rest) q d) (omega arith)
+    get_or-append_right rows (rows_joined chunks rest) 512 (suc k * 512 + o) d (whole_first rows chunks whole) (omega arith)
+    ∙ ap (λ (q : ℕ). get_or (rows_joined chunks rest) q d) (omega arith)
     ∙ joined_within chunks rest k o d (whole_rest rows chunks whole) (omega arith) l
 
-pub joined_behind : (chunks : List (List Row)) (rest : List Row) (o : ℕ) (d : Row) → AreWhole chunks → get_or (joined chunks rest) (length chunks * 512 + o) d ≡ get_or rest o d
+pub joined_behind : (chunks : List (List Row)) (rest : List Row) (o : ℕ) (d : Row) → AreWhole chunks → get_or (rows_joined chunks rest) (length chunks * 512 + o) d ≡ get_or rest o d
 joined_behind [] rest o d whole = ap (λ (q : ℕ). get_or rest q d) (none_before o)
 joined_behind (rows ∷ chunks) rest o d whole =
-    get_or-append_right rows (joined chunks rest) 512 (suc (length chunks) * 512 + o) d (whole_first rows chunks whole) (omega arith)
-    ∙ ap (λ (q : ℕ). get_or (joined chunks rest) q d) (omega arith)
+    get_or-append_right rows (rows_joined chunks rest) 512 (suc (length chunks) * 512 + o) d (whole_first rows chunks whole) (omega arith)
+    ∙ ap (λ (q : ℕ). get_or (rows_joined chunks rest) q d) (omega arith)
     ∙ joined_behind chunks rest o d (whole_rest rows chunks whole)
 
 -- a row is written
-pub joined-set : (chunks : List (List Row)) (rest : List Row) (k o : ℕ) (row : Row) → AreWhole chunks → k < length chunks → o < 512 → set (joined chunks rest) (k * 512 + o) row ≡ joined (set chunks k (set (get_or chunks k []) o row)) rest
+pub joined-set : (chunks : List (List Row)) (rest : List Row) (k o : ℕ) (row : Row) → AreWhole chunks → k < length chunks → o < 512 → set (rows_joined chunks rest) (k * 512 + o) row ≡ rows_joined (set chunks k (set (get_or chunks k []) o row)) rest
 joined-set [] rest k o row whole h l = absurd (omega arith)
 joined-set (rows ∷ chunks) rest zero o row whole h l =
-    ap (λ (q : ℕ). set (rows ++ joined chunks rest) q row) (none_before o) ∙ set-append_left rows (joined chunks rest) o row (omega (arith, l, whole_first rows chunks whole))
+    ap (λ (q : ℕ). set (rows ++ rows_joined chunks rest) q row) (none_before o) ∙ set-append_left rows (rows_joined chunks rest) o row (omega (arith, l, whole_first rows chunks whole))
 joined-set (rows ∷ chunks) rest (suc k) o row whole h l =
-    set-append_right rows (joined chunks rest) 512 (suc k * 512 + o) row (whole_first rows chunks whole) (omega arith)
-    ∙ ap (λ (q : ℕ). rows ++ set (joined chunks rest) q row) (omega arith)
+    set-append_right rows (rows_joined chunks rest) 512 (suc k * 512 + o) row (whole_first rows chunks whole) (omega arith)
+    ∙ ap (λ (q : ℕ). rows ++ set (rows_joined chunks rest) q row) (omega arith)
     ∙ ap (λ (xs : List Row). rows ++ xs) (joined-set chunks rest k o row (whole_rest rows chunks whole) (omega arith) l)
 
-pub joined-set_behind : (chunks : List (List Row)) (rest : List Row) (o : ℕ) (row : Row) → AreWhole chunks → set (joined chunks rest) (length chunks * 512 + o) row ≡ joined chunks (set rest o row)
+pub joined-set_behind : (chunks : List (List Row)) (rest : List Row) (o : ℕ) (row : Row) → AreWhole chunks → set (rows_joined chunks rest) (length chunks * 512 + o) row ≡ rows_joined chunks (set rest o row)
 joined-set_behind [] rest o row whole = ap (λ (q : ℕ). set rest q row) (none_before o)
 joined-set_behind (rows ∷ chunks) rest o row whole =
-    set-append_right rows (joined chunks rest) 512 (suc (length chunks) * 512 + o) row (whole_first rows chunks whole) (omega arith)
-    ∙ ap (λ (q : ℕ). rows ++ set (joined chunks rest) q row) (omega arith)
+    set-append_right rows (rows_joined chunks rest) 512 (suc (length chunks) * 512 + o) row (whole_first rows chunks whole) (omega arith)
+    ∙ ap (λ (q : ℕ). rows ++ set (rows_joined chunks rest) q row) (omega arith)
     ∙ ap (λ (xs : List Row). rows ++ xs) (joined-set_behind chunks rest o row (whole_rest rows chunks whole))
 
 -- chunks stay whole
@@ -72,12 +73,23 @@ whole-replicate zero rows long k d h = absurd (omega arith)
 whole-replicate (suc n) rows long zero d h = long
 whole-replicate (suc n) rows long (suc k) d h = whole-replicate n rows long k d (omega arith)
 
-pub joined-replicate : (n m : ℕ) (row : Row) → joined (replicate n (replicate 512 row)) (replicate m row) ≡ replicate (n * 512 + m) row
+pub joined-replicate : (n m : ℕ) (row : Row) → rows_joined (replicate n (replicate 512 row)) (replicate m row) ≡ replicate (n * 512 + m) row
 joined-replicate zero m row = ap (λ (q : ℕ). replicate q row) (sym (none_before m))
 joined-replicate (suc n) m row =
     ap (λ (xs : List Row). replicate 512 row ++ xs) (joined-replicate n m row)
     ∙ replicate-append-replicate 512 (n * 512 + m) row
     ∙ ap (λ (q : ℕ). replicate q row) (omega arith)
+
+-- rows that compare as equal
+pub equal_if_eq : (a b : Row) → (beq a.committed b.committed && (eqb a.prot.0 b.prot.0 && (beq a.guard b.guard && (beq a.copied b.copied && beq a.marked b.marked)))) ≡ true → a ≡ b
+equal_if_eq a b e = grind (arith, e)
+
+pub equal_unless_other : (a b : Row) → not (beq a.committed b.committed && (eqb a.prot.0 b.prot.0 && (beq a.guard b.guard && (beq a.copied b.copied && beq a.marked b.marked)))) ≡ false → a ≡ b
+equal_unless_other a b e = equal_if_eq a b (is_true _ e)
+  where
+    is_true : (b : Bool) → not b ≡ false → b ≡ true
+    is_true true e = refl
+    is_true false e = cc
 
 -- equal rows
 pub equal_run : (rows : List Row) (i n : ℕ) (row : Row) → i + n ≤ length rows → ((k : ℕ) → k < n → get_or rows (i + k) row ≡ row) → take n (drop i rows) ≡ replicate n row
@@ -86,60 +98,65 @@ equal_run rows i n row h each =
     ext_get_or row (take n (drop i rows)) (replicate n row) (long ∙ sym (length-replicate n row))
     (λ k l. get_or-take n (drop i rows) k row (omega arith) ∙ get_or-drop i rows k row ∙ each k (omega arith) ∙ sym (get_or-replicate n k row row (omega arith)))
 
--- the rows from one on to the end of a chunk of equal ones
-pub equal_chunk : (chunks : List (List Row)) (rest : List Row) (k o : ℕ) (row : Row) → AreWhole chunks → k < length chunks → o < 512 → get_or chunks k [] ≡ replicate 512 row → take (512 - o) (drop (k * 512 + o) (joined chunks rest)) ≡ replicate (512 - o) row
-equal_chunk chunks rest k o row whole h l e =
-    equal_run (joined chunks rest) (k * 512 + o) (512 - o) row (chunk_inside chunks rest k o whole h l)
+-- a row of a run of equal ones
+run_at : (rows : List Row) (o n j : ℕ) (row : Row) → take n (drop o rows) ≡ replicate n row → j < n → get_or rows (o + j) row ≡ row
+run_at rows o n j row e m =
+    sym (get_or-drop o rows j row)
+    ∙ sym (get_or-take n (drop o rows) j row m)
+    ∙ ap (λ (rs : List Row). get_or rs j row) e
+    ∙ get_or-replicate n j row row m
+
+pub equal_part : (rows : List Row) (at n : ℕ) (row : Row) → rows ≡ replicate 512 row → at + n ≤ 512 → take n (drop at rows) ≡ replicate n row
+equal_part rows at n row e h =
+    ap (λ (rs : List Row). take n (drop at rs)) e
+    ∙ equal_run (replicate 512 row) at n row (omega (arith, h, length-replicate 512 row)) (λ k l. get_or-replicate 512 (at + k) row row (omega (arith, h)))
+
+-- what is equal in a chunk, and behind the chunks, is equal in all rows
+pub equal_within : (chunks : List (List Row)) (rest shown : List Row) (i n : ℕ) (row : Row) → AreWhole chunks → rows_joined chunks rest ≡ shown → i / 512 < length chunks → i % 512 + n ≤ 512 → take n (drop (i % 512) (get_or chunks (i / 512) [])) ≡ replicate n row → take n (drop i shown) ≡ replicate n row
+equal_within chunks rest shown i n row whole is low high e =
+    let all = rows_joined chunks rest in
+    let k = i / 512 in
+    let o = i % 512 in
+    let split : k * 512 + o ≡ i = div-add-mod' i 512 in
+    let long = length-joined chunks rest whole in
+    ap (λ (rs : List Row). take n (drop i rs)) (sym is)
+    ∙ equal_run all i n row (omega (arith, split, low, high, long))
     (λ j m.
-    ap (λ (q : ℕ). get_or (joined chunks rest) q row) (omega arith)
-    ∙ joined_within chunks rest k (o + j) row whole h (omega arith)
-    ∙ ap (λ (rs : List Row). get_or rs (o + j) row) e
-    ∙ get_or-replicate 512 (o + j) row row (omega arith))
-  where
-    chunk_inside : (chunks : List (List Row)) (rest : List Row) (k o : ℕ) → AreWhole chunks → k < length chunks → o < 512 → k * 512 + o + (512 - o) ≤ length (joined chunks rest)
-    chunk_inside chunks rest k o whole h l = omega (arith, length-joined chunks rest whole)
+    ap (λ (q : ℕ). get_or all q row) (let q : i + j ≡ k * 512 + (o + j) = omega (arith, split) in q)
+    ∙ joined_within chunks rest k (o + j) row whole low (omega (arith, high))
+    ∙ run_at (get_or chunks k []) o n j row e m)
 
-pub equal_within : (chunks : List (List Row)) (rest shown : List Row) (i : ℕ) (row : Row) → AreWhole chunks → joined chunks rest ≡ shown → i / 512 < length chunks → get_or chunks (i / 512) [] ≡ replicate 512 row → take (512 - i % 512) (drop i shown) ≡ replicate (512 - i % 512) row
-equal_within chunks rest shown i row whole is low e =
-    ap (λ (rs : List Row). take (512 - i % 512) (drop i rs)) (sym is)
-    ∙ ap (λ (q : ℕ). take (512 - i % 512) (drop q (joined chunks rest))) (sym (div-add-mod' i 512))
-    ∙ equal_chunk chunks rest (i / 512) (i % 512) row whole low (mod_below i 512 (omega arith)) e
-
-pub one_run : (rows : List Row) (i : ℕ) (row : Row) → i < length rows → slice_get rows i ≡ Some row → take 1 (drop i rows) ≡ replicate 1 row
-one_run rows i row h e = equal_run rows i 1 row (omega arith) (λ k l. ap (λ (q : ℕ). get_or rows q row) (let q : i + k ≡ i = omega arith in q) ∙ get_or_from_slice_get rows i row row e)
+pub equal_behind : (chunks : List (List Row)) (rest shown : List Row) (i n : ℕ) (row : Row) → AreWhole chunks → rows_joined chunks rest ≡ shown → length chunks ≤ i / 512 → i + n ≤ length shown → take n (drop (i - length chunks * 512) rest) ≡ replicate n row → take n (drop i shown) ≡ replicate n row
+equal_behind chunks rest shown i n row whole is high inside e =
+    let all = rows_joined chunks rest in
+    let o = i - length chunks * 512 in
+    let split : i ≡ length chunks * 512 + o = omega (arith, div-add-mod' i 512, high) in
+    ap (λ (rs : List Row). take n (drop i rs)) (sym is)
+    ∙ equal_run all i n row (omega (arith, inside, ap length is))
+    (λ j m.
+    ap (λ (q : ℕ). get_or all q row) (let q : i + j ≡ length chunks * 512 + (o + j) = omega (arith, split) in q)
+    ∙ joined_behind chunks rest (o + j) row whole
+    ∙ run_at rest o n j row e m)
 
 -- a row as it is read
-pub read_within : (chunks : List (List Row)) (rest shown : List Row) (i : ℕ) (row : Row) → AreWhole chunks → joined chunks rest ≡ shown → i < length shown → i / 512 < length chunks → slice_get (get_or chunks (i / 512) []) (i % 512) ≡ Some row → slice_get shown i ≡ Some row
+pub read_within : (chunks : List (List Row)) (rest shown : List Row) (i : ℕ) (row : Row) → AreWhole chunks → rows_joined chunks rest ≡ shown → i < length shown → i / 512 < length chunks → slice_get (get_or chunks (i / 512) []) (i % 512) ≡ Some row → slice_get shown i ≡ Some row
 read_within chunks rest shown i row whole is there low e =
     slice_get-get_or shown i row there
     ∙ ap (λ (r : Row). Some r)
     (ap (λ (rs : List Row). get_or rs i row) (sym is)
-    ∙ ap (λ (q : ℕ). get_or (joined chunks rest) q row) (sym (div-add-mod' i 512))
+    ∙ ap (λ (q : ℕ). get_or (rows_joined chunks rest) q row) (sym (div-add-mod' i 512))
     ∙ joined_within chunks rest (i / 512) (i % 512) row whole low (mod_below i 512 (omega arith))
     ∙ get_or_from_slice_get (get_or chunks (i / 512) []) (i % 512) row row e)
 
-pub read_behind : (chunks : List (List Row)) (rest shown : List Row) (i : ℕ) (row : Row) → AreWhole chunks → joined chunks rest ≡ shown → i < length shown → length chunks ≤ i / 512 → row ≡ get_or rest (i - length chunks * 512) row → slice_get shown i ≡ Some row
+pub read_behind : (chunks : List (List Row)) (rest shown : List Row) (i : ℕ) (row : Row) → AreWhole chunks → rows_joined chunks rest ≡ shown → i < length shown → length chunks ≤ i / 512 → row ≡ get_or rest (i - length chunks * 512) row → slice_get shown i ≡ Some row
 read_behind chunks rest shown i row whole is there high e =
     let split : i ≡ length chunks * 512 + (i - length chunks * 512) = omega (arith, div-add-mod' i 512, high) in
     slice_get-get_or shown i row there
     ∙ ap (λ (r : Row). Some r)
     (ap (λ (rs : List Row). get_or rs i row) (sym is)
-    ∙ ap (λ (q : ℕ). get_or (joined chunks rest) q row) split
+    ∙ ap (λ (q : ℕ). get_or (rows_joined chunks rest) q row) split
     ∙ joined_behind chunks rest (i - length chunks * 512) row whole
     ∙ sym e)
-
--- the same as it is written
-pub write_within : (chunks : List (List Row)) (rest shown : List Row) (i : ℕ) (row : Row) → AreWhole chunks → joined chunks rest ≡ shown → i / 512 < length chunks → joined (set chunks (i / 512) (set (get_or chunks (i / 512) []) (i % 512) row)) rest ≡ set shown i row
-write_within chunks rest shown i row whole is low =
-    sym (joined-set chunks rest (i / 512) (i % 512) row whole low (mod_below i 512 (omega arith)))
-    ∙ ap (λ (q : ℕ). set (joined chunks rest) q row) (div-add-mod' i 512)
-    ∙ ap (λ (rs : List Row). set rs i row) is
-
-pub write_behind : (chunks : List (List Row)) (rest shown : List Row) (i : ℕ) (row : Row) → AreWhole chunks → joined chunks rest ≡ shown → length chunks ≤ i / 512 → joined chunks (set rest (i - length chunks * 512) row) ≡ set shown i row
-write_behind chunks rest shown i row whole is high =
-    sym (joined-set_behind chunks rest (i - length chunks * 512) row whole)
-    ∙ ap (λ (q : ℕ). set (joined chunks rest) q row) (omega (arith, div-add-mod' i 512, high))
-    ∙ ap (λ (rs : List Row). set rs i row) is
 
 pub rows_kept : (chunks chunks' : List (List Row)) (rest rest' : List Row) → AreRows chunks rest → AreWhole chunks' → length chunks' ≡ length chunks → length rest' ≡ length rest → AreRows chunks' rest'
 rows_kept chunks chunks' rest rest' s whole long longer = record {
@@ -147,18 +164,12 @@ rows_kept chunks chunks' rest rest' s whole long longer = record {
   few = omega (arith, s.few, length-joined chunks rest s.whole, length-joined chunks' rest' whole, long, longer);
 }
 
-pub kept_within : (chunks chunks' : List (List Row)) (rest : List Row) (k o : ℕ) (row : Row) → AreRows chunks rest → k < length chunks → chunks' ≡ set chunks k (set (get_or chunks k []) o row) → AreRows chunks' rest
-kept_within chunks chunks' rest k o row s low e =
-    let rows = set (get_or chunks k []) o row in
-    let long : length rows ≡ 512 = length-set (get_or chunks k []) o row ∙ s.whole k [] low in
+pub kept_within : (chunks chunks' : List (List Row)) (rest : List Row) (k : ℕ) (rows : List Row) → AreRows chunks rest → length rows ≡ 512 → chunks' ≡ set chunks k rows → AreRows chunks' rest
+kept_within chunks chunks' rest k rows s long e =
     rows_kept chunks chunks' rest rest s (subst AreWhole (sym e) (whole-set chunks k rows s.whole long)) (ap length e ∙ length-set chunks k rows) refl
 
-pub kept_filled : (chunks chunks' : List (List Row)) (rest : List Row) (k : ℕ) (row : Row) → AreRows chunks rest → chunks' ≡ set chunks k (replicate 512 row) → AreRows chunks' rest
-kept_filled chunks chunks' rest k row s e =
-    rows_kept chunks chunks' rest rest s (subst AreWhole (sym e) (whole-set chunks k (replicate 512 row) s.whole (length-replicate 512 row))) (ap length e ∙ length-set chunks k (replicate 512 row)) refl
-
-pub kept_behind : (chunks : List (List Row)) (rest : List Row) (o : ℕ) (row : Row) → AreRows chunks rest → AreRows chunks (set rest o row)
-kept_behind chunks rest o row s = rows_kept chunks chunks rest (set rest o row) s s.whole refl (length-set rest o row)
+pub kept_behind : (chunks : List (List Row)) (rest rest' : List Row) → AreRows chunks rest → length rest' ≡ length rest → AreRows chunks rest'
+kept_behind chunks rest rest' s long = rows_kept chunks chunks rest rest' s s.whole refl long
 
 -- ---- rows that are filled
 
@@ -188,7 +199,7 @@ filled_behind rows first n row k d h high =
     ∙ get_or-drop (first + n) rows (k - (first + n)) d
     ∙ ap (λ (q : ℕ). get_or rows q d) (omega arith)
 
-below_or_not : (k n : ℕ) → (k < n) ⊎ (n ≤ k)
+pub below_or_not : (k n : ℕ) → (k < n) ⊎ (n ≤ k)
 below_or_not k n = elim (same_or_not (n - k) 0) [
   | inl e ↦ inr (omega (arith, e))
   | inr d ↦ inl (omega (arith, d))
@@ -229,6 +240,12 @@ filled-more rows first a b row h =
     ])
     (λ k d high. filled_behind once (first + a) b row k d more (omega arith) ∙ filled_behind rows first a row k d (omega arith) (omega arith))
 
+filled_next : (rows : List Row) (first n : ℕ) (row : Row) → first + suc n ≤ length rows → filled rows first (suc n) row ≡ set (filled rows first n row) (first + n) row
+filled_next rows first n row h =
+    ap (λ (q : ℕ). filled rows first q row) (let q : suc n ≡ n + 1 = omega arith in q)
+    ∙ sym (filled-more rows first n 1 row (omega (arith, h)))
+    ∙ sym (filled_one (filled rows first n row) (first + n) row (omega (arith, h, length-filled rows first n row (omega (arith, h)))))
+
 -- rows that are equal already
 pub filled_same : (rows : List Row) (first n m : ℕ) (row : Row) → first + m ≤ length rows → n ≤ m → take m (drop first rows) ≡ replicate m row → rows ≡ filled rows first n row
 filled_same rows first n m row h l e =
@@ -242,42 +259,60 @@ filled_same rows first n m row h l e =
     (λ k d high. refl)
 
 -- a whole chunk
-pub filled_chunk : (chunks : List (List Row)) (rest shown : List Row) (k : ℕ) (row : Row) → AreWhole chunks → joined chunks rest ≡ shown → k < length chunks → joined (set chunks k (replicate 512 row)) rest ≡ filled shown (k * 512) 512 row
-filled_chunk chunks rest shown k row whole is h =
-    chunk_by chunks rest k row whole h ∙ ap (λ (rs : List Row). filled rs (k * 512) 512 row) is
-  where
-    chunk_by : (chunks : List (List Row)) (rest : List Row) (k : ℕ) (row : Row) → AreWhole chunks → k < length chunks → joined (set chunks k (replicate 512 row)) rest ≡ filled (joined chunks rest) (k * 512) 512 row
-    chunk_by [] rest k row whole h = absurd (omega arith)
-    chunk_by (rows ∷ chunks) rest zero row whole h =
-        let long = whole_first rows chunks whole in
-        filled_is (rows ++ joined chunks rest) (replicate 512 row ++ joined chunks rest) 0 512 row
-        (omega (arith, long, length-append rows (joined chunks rest)))
-        (omega (arith, long, length-append rows (joined chunks rest), length-append (replicate 512 row) (joined chunks rest), length-replicate 512 row))
-        (λ j d low. absurd (omega arith))
-        (λ j d low high. get_or_append_left (replicate 512 row) (joined chunks rest) d j (omega (arith, length-replicate 512 row)) ∙ get_or-replicate 512 j row d (omega arith))
-        (λ j d high. get_or-append_right (replicate 512 row) (joined chunks rest) 512 j d (length-replicate 512 row) (omega arith) ∙ sym (get_or-append_right rows (joined chunks rest) 512 j d long (omega arith)))
-    chunk_by (rows ∷ chunks) rest (suc k) row whole h =
-        let long = whole_first rows chunks whole in
-        let later = chunk_by chunks rest k row (whole_rest rows chunks whole) (omega arith) in
-        let all = joined chunks rest in
-        let there : k * 512 + 512 ≤ length all = omega (arith, length-joined chunks rest (whole_rest rows chunks whole)) in
-        filled_is (rows ++ all) (rows ++ joined (set chunks k (replicate 512 row)) rest) (suc k * 512) 512 row
-        (omega (arith, long, there, length-append rows all))
-        (omega (arith, length-append rows all, length-append rows (joined (set chunks k (replicate 512 row)) rest), ap length later, length-filled all (k * 512) 512 row there))
-        (λ j d low. elim (below_or_not j 512) [
-          | inl mid ↦ get_or_append_left rows (joined (set chunks k (replicate 512 row)) rest) d j (omega (arith, long)) ∙ sym (get_or_append_left rows all d j (omega (arith, long)))
-          | inr past ↦
-              get_or-append_right rows (joined (set chunks k (replicate 512 row)) rest) 512 j d long past
-              ∙ ap (λ (rs : List Row). get_or rs (j - 512) d) later
-              ∙ filled_before all (k * 512) 512 row (j - 512) d there (omega arith)
-              ∙ sym (get_or-append_right rows all 512 j d long past)
-        ])
-        (λ j d low high.
-        get_or-append_right rows (joined (set chunks k (replicate 512 row)) rest) 512 j d long (omega arith)
-        ∙ ap (λ (rs : List Row). get_or rs (j - 512) d) later
-        ∙ filled_within all (k * 512) 512 row (j - 512) d there (omega arith) (omega arith))
-        (λ j d high.
-        get_or-append_right rows (joined (set chunks k (replicate 512 row)) rest) 512 j d long (omega arith)
-        ∙ ap (λ (rs : List Row). get_or rs (j - 512) d) later
-        ∙ filled_behind all (k * 512) 512 row (j - 512) d there (omega arith)
-        ∙ sym (get_or-append_right rows all 512 j d long (omega arith)))
+pub filled_whole : (rows : List Row) (at n : ℕ) (row : Row) → length rows ≡ 512 → n ≡ 512 → at ≡ 0 → replicate 512 row ≡ filled rows at n row
+filled_whole rows at n row long all first =
+    filled_is rows (replicate 512 row) at n row (omega (arith, long, all, first)) (length-replicate 512 row ∙ sym long)
+    (λ k d low. absurd (omega (arith, first)))
+    (λ k d low high. get_or-replicate 512 k row d (omega (arith, all, first)))
+    (λ k d high. get_or_past (replicate 512 row) k d (omega (arith, all, first, length-replicate 512 row)) ∙ sym (get_or_past rows k d (omega (arith, all, first, long))))
+
+-- rows of a chunk, one after another, and rows behind the chunks
+filled_part : (chunks : List (List Row)) (rest : List Row) (k o n : ℕ) (row : Row) → AreWhole chunks → k < length chunks → o + n ≤ 512 → rows_joined (set chunks k (filled (get_or chunks k []) o n row)) rest ≡ filled (rows_joined chunks rest) (k * 512 + o) n row
+filled_part chunks rest k o zero row whole h l =
+    let r = get_or chunks k [] in
+    let all = rows_joined chunks rest in
+    let long : length r ≡ 512 = whole k [] h in
+    ap (λ (rs : List Row). rows_joined (set chunks k rs) rest) (sym (filled_none r o row (omega (arith, l, long))))
+    ∙ ap (λ (cs : List (List Row)). rows_joined cs rest) (set-get_or chunks k [])
+    ∙ filled_none all (k * 512 + o) row (omega (arith, l, h, length-joined chunks rest whole))
+filled_part chunks rest k o (suc n) row whole h l =
+    let r = get_or chunks k [] in
+    let all = rows_joined chunks rest in
+    let long : length r ≡ 512 = whole k [] h in
+    let part = filled r o n row in
+    let size : length part ≡ 512 = length-filled r o n row (omega (arith, l, long)) ∙ long in
+    let now = set chunks k part in
+    let stands : get_or now k [] ≡ part = get_or-set_same chunks k part [] h in
+    let room : k * 512 + o + suc n ≤ length all = omega (arith, l, h, length-joined chunks rest whole) in
+    ap (λ (rs : List Row). rows_joined (set chunks k rs) rest) (filled_next r o n row (omega (arith, l, long)))
+    ∙ ap (λ (cs : List (List Row)). rows_joined cs rest) (sym (set-set chunks k part (set part (o + n) row)))
+    ∙ ap (λ (rs : List Row). rows_joined (set now k (set rs (o + n) row)) rest) (sym stands)
+    ∙ sym (joined-set now rest k (o + n) row (whole-set chunks k part whole size) (omega (arith, h, length-set chunks k part)) (omega (arith, l)))
+    ∙ ap (λ (rs : List Row). set rs (k * 512 + (o + n)) row) (filled_part chunks rest k o n row whole h (omega (arith, l)))
+    ∙ ap (λ (q : ℕ). set (filled all (k * 512 + o) n row) q row) (let q : k * 512 + (o + n) ≡ k * 512 + o + n = omega arith in q)
+    ∙ sym (filled_next all (k * 512 + o) n row room)
+
+filled_rest : (chunks : List (List Row)) (rest : List Row) (o n : ℕ) (row : Row) → AreWhole chunks → o + n ≤ length rest → rows_joined chunks (filled rest o n row) ≡ filled (rows_joined chunks rest) (length chunks * 512 + o) n row
+filled_rest chunks rest o zero row whole l =
+    ap (rows_joined chunks) (sym (filled_none rest o row (omega (arith, l))))
+    ∙ filled_none (rows_joined chunks rest) (length chunks * 512 + o) row (omega (arith, l, length-joined chunks rest whole))
+filled_rest chunks rest o (suc n) row whole l =
+    let all = rows_joined chunks rest in
+    ap (rows_joined chunks) (filled_next rest o n row l)
+    ∙ sym (joined-set_behind chunks (filled rest o n row) (o + n) row whole)
+    ∙ ap (λ (rs : List Row). set rs (length chunks * 512 + (o + n)) row) (filled_rest chunks rest o n row whole (omega (arith, l)))
+    ∙ ap (λ (q : ℕ). set (filled all (length chunks * 512 + o) n row) q row) (let q : length chunks * 512 + (o + n) ≡ length chunks * 512 + o + n = omega arith in q)
+    ∙ sym (filled_next all (length chunks * 512 + o) n row (omega (arith, l, length-joined chunks rest whole)))
+
+-- the same from row i of all on
+pub filled_within_chunk : (chunks : List (List Row)) (rest shown : List Row) (i n : ℕ) (row : Row) → AreWhole chunks → rows_joined chunks rest ≡ shown → i / 512 < length chunks → i % 512 + n ≤ 512 → rows_joined (set chunks (i / 512) (filled (get_or chunks (i / 512) []) (i % 512) n row)) rest ≡ filled shown i n row
+filled_within_chunk chunks rest shown i n row whole is low high =
+    filled_part chunks rest (i / 512) (i % 512) n row whole low high
+    ∙ ap (λ (q : ℕ). filled (rows_joined chunks rest) q n row) (div-add-mod' i 512)
+    ∙ ap (λ (rs : List Row). filled rs i n row) is
+
+pub filled_behind_chunks : (chunks : List (List Row)) (rest shown : List Row) (i n : ℕ) (row : Row) → AreWhole chunks → rows_joined chunks rest ≡ shown → length chunks ≤ i / 512 → i - length chunks * 512 + n ≤ length rest → rows_joined chunks (filled rest (i - length chunks * 512) n row) ≡ filled shown i n row
+filled_behind_chunks chunks rest shown i n row whole is high room =
+    filled_rest chunks rest (i - length chunks * 512) n row whole room
+    ∙ ap (λ (q : ℕ). filled (rows_joined chunks rest) q n row) (omega (arith, div-add-mod' i 512, high))
+    ∙ ap (λ (rs : List Row). filled rs i n row) is

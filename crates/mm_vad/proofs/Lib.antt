@@ -7,3 +7,17 @@ pub mod Runs
 pub mod Unwritten
 pub mod Chunked
 pub mod Joined
+pub mod Apart
+pub mod RangeChanges
+pub mod Counted
+pub mod Edits
+pub mod Few
+pub mod Finds
+pub mod Forks
+pub mod FreeAt
+pub mod Heights
+pub mod LowestGap
+pub mod WorkedRanges
+pub mod Widest
+pub mod BitLemmas
+pub mod FlagLemmas

@@ -7,8 +7,8 @@ use Rattle.std.proofs.lemmas.List.Elements.{All-head, All-tail}
 use Rattle.std.proofs.lemmas.Option.{some_pair_parts}
 use Rattle.mm_types.specs.declared.numbers.Vpn.{Vpn}
 use Rattle.mm_types.specs.Address.{Range, end_of, holds_page}
-use Rattle.mm_gaps.specs.Ranges.{page_number, is_begun_at}
-use Rattle.mm_gaps.specs.Ranges.{pages_of as told_of}
+use Rattle.mm_vad.specs.Ranges.{page_number, is_begun_at}
+use Rattle.mm_vad.specs.Ranges.{first_and_count as told_of}
 use Rattle.mm_vad.specs.declared.regions.Region.{Region}
 use Rattle.mm_vad.specs.Regions.{HasFlags, LieInRegion, LieAmong, LieWithPage, pages_of, holds, region_at, region_with_base}
 use Rattle.mm_vad.specs.Index.{regions_of, IsHeld, AllHeld, IsIndex}

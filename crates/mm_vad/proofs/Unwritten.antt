@@ -5,7 +5,7 @@ use Rattle.std.proofs.lemmas.List.{drop_more}
 use Rattle.mm_types.specs.Address.{page_of}
 use Rattle.mm_world.specs.Find.{change_range}
 use Rattle.mm_world.specs.Watch.{unwritten}
-use Rattle.mm_watch.proofs.FlagLemmas.{length-change}
+use Rattle.mm_vad.proofs.FlagLemmas.{length-change}
 use Rattle.mm_vad.specs.Regions.{LieAmong}
 
 -- so far the flags are these, and the later addresses are left

@@ -48,13 +48,13 @@ places_after places None rows = places ++ rows ∷ []
 places_after places (Some k) rows = slice_set places k rows
 
 -- whole chunks, and the rows behind them
-abbrev pub joined : List (List Row) → List Row → List Row
-joined [] rest = rest
-joined (rows ∷ chunks) rest = rows ++ joined chunks rest
+abbrev pub rows_joined : List (List Row) → List Row → List Row
+rows_joined [] rest = rest
+rows_joined (rows ∷ chunks) rest = rows ++ rows_joined chunks rest
 
 pub record AreRows (chunks : List (List Row)) (rest : List Row) : Type 0 where
   pub whole : All (λ rows. length rows ≡ 512) chunks
-  pub few : length (joined chunks rest) < 2 ^ 32
+  pub few : length (rows_joined chunks rest) < 2 ^ 32
 
 -- the rows with n of them, from the first on, equal to this one
 abbrev pub filled : List Row → ℕ → ℕ → Row → List Row

@@ -2,7 +2,7 @@
 use Rattle.std.specs.Prelude.{◌≡◌, ℕ, List, [], ◌∷◌, length, Option, IsSomeAnd}
 use Rattle.std.specs.List.{cons_option}
 use Rattle.mm_types.specs.Address.{Range, first_user_page}
-use Rattle.mm_gaps.specs.Ranges.{LieApart}
+use Rattle.mm_vad.specs.Ranges.{LieApart}
 use Rattle.mm_vad.specs.declared.regions.Region.{Region}
 use Rattle.mm_vad.specs.Regions.{pages_of, HasFlags}
 
@@ -11,9 +11,12 @@ abbrev pub regions_of : (ℕ → Option Region) → List Range → List Region
 regions_of found [] = []
 regions_of found (r ∷ rs) = cons_option (found r.first) (regions_of found rs)
 
--- a region of just these pages is found at the first of them, with a row for each and, where it is watched, a flag
+-- a region of just these pages is found at the first of them, with a row for each and, where it is
+-- watched, a flag
 abbrev pub IsHeld : (ℕ → Option Region) → Range → Type 0
-IsHeld found r = IsSomeAnd (found r.first) (λ region. (pages_of region ≡ r) × (length region.rows ≡ r.count) × HasFlags r.count region)
+IsHeld found r =
+    IsSomeAnd (found r.first) (λ region. (pages_of region ≡ r) × (length region.rows ≡ r.count) ×
+    HasFlags r.count region)
 
 abbrev pub AllHeld : (ℕ → Option Region) → List Range → Type 0
 AllHeld found [] = Unit {0}

@@ -2,3 +2,9 @@ pub mod Looks
 pub mod Regions
 pub mod Index
 pub mod Chunks
+pub mod Ranges
+pub mod Visits
+pub mod Room
+pub mod Shape
+pub mod Nodes
+pub mod Bits

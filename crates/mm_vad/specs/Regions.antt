@@ -1,14 +1,13 @@
 -- The regions of an address space, in rising order of base, as contracts see them.
 -- Profile, "Regions, rows, sections".
-use Rattle.std.specs.Prelude.{◌≡◌, ℕ, ◌+◌, ◌-◌, ◌<◌, ◌≤◌, Bool, nat_le, nat_lt, ◌==◌, if◌then◌else◌, List, [], ◌∷◌, length, map, All, Option, IfSome, IsSomeAnd, option_map, unwrap_or, find, insert, remove, count_by, slice_set}
+use Rattle.std.specs.Prelude.{◌≡◌, ℕ, ◌+◌, ◌-◌, ◌<◌, ◌≤◌, Bool, nat_le, nat_lt, ◌==◌, if◌then◌else◌, List, [], ◌∷◌, length, map, All, Option, IfSome, IsSomeAnd, option_map, find, insert, remove, count_by, slice_set}
 use Rattle.std.specs.List.{position_or_len}
 use Rattle.mm_types.specs.Address.{Range, holds_page, page_of, first_user_page}
 use Rattle.mm_world.specs.Find.{change_range}
 use Rattle.mm_world.specs.Watch.{unwritten}
-use Rattle.mm_gaps.specs.Ranges.{LieApart}
+use Rattle.mm_vad.specs.Ranges.{LieApart}
 use Rattle.mm_vad.specs.declared.pages.Row.{Row}
 use Rattle.mm_vad.specs.declared.regions.Region.{Region}
-use Rattle.mm_vad.specs.Looks.{run_from}
 use Rattle.mm_vad.specs.Chunks.{filled}
 
 -- what a `Space` is seen as: its regions, and how many more can be added without memory
@@ -26,8 +25,8 @@ ranges_of regions = map pages_of regions
 abbrev pub HasFlags : ℕ → Region → Type 0
 HasFlags n r = IfSome r.watched (λ flags. length flags ≡ n)
 
--- each region has a page, all are user pages, no page lies in two regions, and the bases rise; a region has as many rows as
--- pages, and a watched one as many flags
+-- each region has a page, all are user pages, no page lies in two regions, and the bases rise; a
+-- region has as many rows as pages, and a watched one as many flags
 pub record IsSpace (regions : List Region) : Type 0 where
   pub apart : LieApart first_user_page (ranges_of regions)
   pub whole : All (λ r. length r.rows ≡ r.pages) regions
@@ -64,7 +63,8 @@ with_row page row r = record r { rows = slice_set r.rows (page - r.base.0) row }
 -- the regions with the one changed in which the page lies
 abbrev pub change_region : (Region → Region) → List Region → ℕ → List Region
 change_region change [] page = []
-change_region change (r ∷ rs) page = let later = change_region change rs page in if holds page r then change r ∷ rs else r ∷ later
+change_region change (r ∷ rs) page = let later = change_region change rs page in
+    if holds page r then change r ∷ rs else r ∷ later
 
 -- the regions with the row of one page changed
 abbrev pub set_row : List Region → ℕ → Row → List Region
@@ -79,28 +79,30 @@ fill_rows regions page n row = change_region (with_equal_rows page n row) region
 
 -- where the region is watched, `n` of its pages from this one on are written or not from now on
 abbrev pub with_marks : Bool → ℕ → ℕ → Region → Region
-with_marks b page n r = record r { watched = option_map (change_range (λ was. b) (page - r.base.0) n) r.watched }
+with_marks b page n r = record r {
+  watched = option_map (change_range (λ was. b) (page - r.base.0) n) r.watched;
+}
 
 abbrev pub set_marks : Bool → List Region → ℕ → ℕ → List Region
 set_marks b regions page n = change_region (with_marks b page n) regions page
 
 -- where the region is watched, the pages of these addresses are unwritten from now on
 abbrev pub with_unwritten : List ℕ → Region → Region
-with_unwritten addresses r = record r { watched = option_map (unwritten r.base.0 (map page_of addresses)) r.watched }
+with_unwritten addresses r = record r {
+  watched = option_map (unwritten r.base.0 (map page_of addresses)) r.watched;
+}
 
 -- each of the addresses is in one of so many pages from this one on
 abbrev pub LieAmong : ℕ → ℕ → List ℕ → Type 0
 LieAmong first n [] = Unit {0}
-LieAmong first n (a ∷ later) = (first ≤ page_of a) × (page_of a < first + n) × LieAmong first n later
+LieAmong first n (a ∷ later) = (first ≤ page_of a) × (page_of a < first + n) ×
+    LieAmong first n later
 
 -- each of the addresses is in the region of this page
 abbrev pub LieWithPage : List Region → ℕ → List ℕ → Type 0
-LieWithPage regions page addresses = IsSomeAnd (region_at regions page) (λ r. LieAmong r.base.0 r.pages addresses)
+LieWithPage regions page addresses =
+    IsSomeAnd (region_at regions page) (λ r. LieAmong r.base.0 r.pages addresses)
 
 -- so many pages from this one on lie in one region
 abbrev pub LieInRegion : List Region → ℕ → ℕ → Type 0
 LieInRegion regions page n = IsSomeAnd (region_at regions page) (λ r. page - r.base.0 + n ≤ r.pages)
-
--- how many pages from this one on, inside its region, are alike in state, protection and guard
-abbrev pub run_of_equal : List Region → ℕ → ℕ
-run_of_equal regions page = unwrap_or (option_map (λ r. run_from r.rows (page - r.base.0)) (region_at regions page)) 0

@@ -1,5 +1,5 @@
-ghost use Rattle.std.specs.Prelude.{◌≡◌, ◌<◌, ◌^◌, [], Some, None, IfOk, IfSome, length, replicate, slice_get, slice_set, slice_index_or, vec_len, vec_capacity};
-ghost use Rattle.mm_vad.specs.Chunks.{own_place, place_after, places_after};
+ghost use Rattle.std.specs.Prelude.{◌≡◌, ◌+◌, ◌<◌, ◌≤◌, ◌^◌, [], Some, None, IfOk, IfSome, length, replicate, take, drop, slice_get, slice_set, slice_index_or, vec_len, vec_capacity};
+ghost use Rattle.mm_vad.specs.Chunks.{own_place, place_after, places_after, filled};
 
 use crate::Row;
 use mm_types::NoMemory;
@@ -31,8 +31,9 @@ impl Chunk {
 
 /// Rows in chunks, of which only those whose rows differ are written out.
 ///
-/// Contracts see the list of all chunks' rows. There is room to write out every chunk, which is taken ahead and left
-/// unwritten, so the system maps it as it is first touched, and no write needs memory.
+/// Contracts see the list of all chunks' rows. There is room to write out every chunk, which is
+/// taken ahead and left unwritten, so the system maps it as it is first touched, and no write needs
+/// memory.
 #[derive(Drop)]
 pub(crate) struct Chunks {
     chunks: Vec<Chunk>,
@@ -83,19 +84,26 @@ impl Chunks {
         }
     }
 
-    /// The row that all rows of a chunk are known to be equal to.
-    pub(crate) fn equal_row(&self, index: usize) -> Option<Row>
-        requires { index < length self.now }
-        ensures { IfSome result (λ row. slice_index_or self.now index [] ≡ replicate 512 row) }
+    /// Row `at` of chunk `index`, and how many rows from it on are known to be equal to it: at
+    /// least one, at most `most`.
+    pub(crate) fn equal_from(&self, index: usize, at: usize, most: usize) -> (Row, usize)
+        requires there { index < length self.now }
+        requires inside { at + most ≤ 512 }
+        requires asked { 0 < most }
+        requires whole { length (slice_index_or self.now index []) ≡ 512 }
+        ensures some { 0 < result.1 }
+        ensures within { result.1 ≤ most }
+        ensures equal { take result.1 (drop at (slice_index_or self.now index []))
+            ≡ replicate result.1 result.0 }
     {
         match self.chunks[index] {
-            Chunk::Equal(row, _) => Some(row),
-            Chunk::Each(_) => None,
+            Chunk::Equal(row, _) => (row, most),
+            Chunk::Each(place) => equal_in(&self.places[place as usize], at, most),
         }
     }
 
-    /// All rows of chunk `index` become `row`.
-    pub(crate) fn fill(&mut self, index: usize, row: Row)
+    // All rows of chunk `index` become `row`.
+    fn fill_whole(&mut self, index: usize, row: Row)
         requires { index < length self.old }
         ensures { self.new ≡ slice_set self.old index (replicate 512 row) }
     {
@@ -103,41 +111,77 @@ impl Chunks {
         self.chunks[index] = Chunk::Equal(row, place);
     }
 
-    /// Writes `row` over row `at` of chunk `index`.
-    pub(crate) fn set(&mut self, index: usize, at: usize, row: Row)
+    /// The `n` rows of chunk `index` from row `at` on become `row`.
+    pub(crate) fn fill(&mut self, index: usize, at: usize, n: usize, row: Row)
         requires there { index < length self.old }
-        requires inside { at < 512 }
-        ensures { self.new ≡ slice_set self.old index (slice_set (slice_index_or self.old index []) at row) }
+        requires inside { at + n ≤ 512 }
+        requires whole { length (slice_index_or self.old index []) ≡ 512 }
+        ensures { self.new ≡ slice_set self.old index
+            (filled (slice_index_or self.old index []) at n row) }
     {
+        if n == CHUNK {
+            self.fill_whole(index, row);
+            return;
+        }
         match self.chunks[index] {
-            Chunk::Each(place) => self.places[place as usize][at] = row,
+            Chunk::Each(place) => fill_in(&mut self.places[place as usize], at, n, row),
             Chunk::Equal(before, place) => {
-                let place = write_out(&mut self.places, place, before, at, row);
-                self.chunks[index] = Chunk::Each(place);
+                if before != row {
+                    let place = write_out(&mut self.places, place, before, at, n, row);
+                    self.chunks[index] = Chunk::Each(place);
+                }
             }
         }
     }
 }
 
-// Writes a chunk's rows to its place, or to the next where it has none, and gives its place: rows equal to `before`
-// but for row `at`. A function of its own, since its array is cleared at each call.
+/// Row `at`, and how many rows from it on, up to the first other one, are equal to it: at most
+/// `most`.
+pub(crate) fn equal_in(rows: &[Row], at: usize, most: usize) -> (Row, usize)
+    requires inside { at + most ≤ length rows.now }
+    requires asked { 0 < most }
+    ensures some { 0 < result.1 }
+    ensures within { result.1 ≤ most }
+    ensures equal { take result.1 (drop at rows.now) ≡ replicate result.1 result.0 }
+{
+    let row = rows[at];
+    let mut n = 1;
+    while n < most && rows[at + n] == row {
+        n += 1;
+    }
+    (row, n)
+}
+
+/// The `n` rows from row `at` on become `row`.
+pub(crate) fn fill_in(rows: &mut [Row], at: usize, n: usize, row: Row)
+    requires { at + n ≤ length rows.old }
+    ensures { rows.new ≡ filled rows.old at n row }
+{
+    rows[at..at + n].fill(row);
+}
+
+// Writes a chunk's rows to its place, or to the next where it has none, and gives its place: rows
+// equal to `before` but for the `n` rows from row `at` on. A function of its own, since its array
+// is cleared at each call.
 fn write_out(
     places: &mut Vec<[Row; CHUNK]>,
     place: Option<u32>,
     before: Row,
     at: usize,
+    n: usize,
     row: Row,
 ) -> u32
-    requires inside { at < 512 }
+    requires inside { at + n ≤ 512 }
     requires few { vec_len places.old < 2 ^ 32 }
     requires there { IfSome place (λ k. k < vec_len places.old) }
     requires room { place ≡ None → vec_len places.old < vec_capacity places.old }
     ensures place { result ≡ place_after places.old.items place }
-    ensures items { places.new.items ≡ places_after places.old.items place (slice_set (replicate 512 before) at row) }
+    ensures items { places.new.items
+        ≡ places_after places.old.items place (filled (replicate 512 before) at n row) }
     ensures capacity { vec_capacity places.new ≡ vec_capacity places.old }
 {
     let mut rows = [before; CHUNK];
-    rows[at] = row;
+    fill_in(&mut rows, at, n, row);
     match place {
         Some(place) => {
             places[place as usize] = rows;

@@ -1,6 +1,6 @@
 ghost use Rattle.std.specs.Prelude.{◌≡◌, ◌+◌, ◌-◌, ◌<◌, ◌≤◌, ◌^◌, length, replicate, slice_get, slice_set, Some, IfOk, IsTrue, ◌↔◌, take, drop};
 
-use crate::chunks::{CHUNK, Chunks};
+use crate::chunks::{CHUNK, Chunks, equal_in, fill_in};
 use mm_types::{NoMemory, Prot};
 use std::alloc::Global;
 use std::marker::Model;
@@ -23,8 +23,8 @@ pub struct Row {
 impl Row {
     ghost use Rattle.mm_vad.specs.Looks.{are_alike};
 
-    /// Whether VirtualQuery tells the same of both pages: their state, and where they are committed their
-    /// protection and guard.
+    /// Whether VirtualQuery tells the same of both pages: their state, and where they are committed
+    /// their protection and guard.
     fn is_like(self, other: Row) -> bool
         ensures { result ≡ are_alike self other }
     {
@@ -50,11 +50,11 @@ pub struct Rows {
 impl Model for Rows {
     ghost use Rattle.std.specs.Prelude.{List};
     ghost use Rattle.mm_vad.specs.declared.pages.Row.{Row};
-    ghost use Rattle.mm_vad.specs.Chunks.{joined, AreRows};
+    ghost use Rattle.mm_vad.specs.Chunks.{rows_joined, AreRows};
 
     ghost Value = { List Row };
 
-    ghost view = { λ r. joined r.chunks r.rest.items };
+    ghost view = { λ r. rows_joined r.chunks r.rest.items };
 
     ghost invariant = { λ r. AreRows r.chunks r.rest.items };
 }
@@ -118,30 +118,28 @@ impl Rows {
         requires { i < length self.old }
         ensures { self.new ≡ slice_set self.old i row }
     {
-        let (index, at) = (i as usize / CHUNK, i as usize % CHUNK);
-        let whole = self.chunks.count();
-        if index < whole {
-            self.chunks.set(index, at, row);
-        } else {
-            self.rest[i as usize - whole * CHUNK] = row;
-        }
+        self.fill_some(i, 1, row);
     }
 
-    /// Row `i`, and how many rows from it on are known to be equal to it: at least one, and those up to the end of a
-    /// chunk that was not written out.
-    pub fn equal_from(&self, i: u32) -> (Row, u32)
-        requires { i < length self.now }
+    /// Row `i`, and how many rows from it on are known to be equal to it: at least one, at most
+    /// `most`, and none behind the end of its chunk.
+    pub fn equal_from(&self, i: u32, most: u32) -> (Row, u32)
+        requires inside { i + most ≤ length self.now }
+        requires asked { 0 < most }
         ensures some { 0 < result.1 }
-        ensures within { i + result.1 ≤ length self.now }
+        ensures within { result.1 ≤ most }
         ensures equal { take result.1 (drop i self.now) ≡ replicate result.1 result.0 }
     {
         let (index, at) = (i as usize / CHUNK, i as usize % CHUNK);
-        if index < self.chunks.count()
-            && let Some(row) = self.chunks.equal_row(index)
-        {
-            return (row, (CHUNK - at) as u32);
+        let whole = self.chunks.count();
+        if index < whole {
+            let (row, n) = self
+                .chunks
+                .equal_from(index, at, (most as usize).min(CHUNK - at));
+            return (row, n as u32);
         }
-        (self.get(i), 1)
+        let (row, n) = equal_in(&self.rest, i as usize - whole * CHUNK, most as usize);
+        (row, n as u32)
     }
 
     /// The `n` rows from row `first` on become `row`.
@@ -149,46 +147,49 @@ impl Rows {
         requires { first + n ≤ length self.old }
         ensures { self.new ≡ filled self.old first n row }
     {
-        // that their number is a `u32`
-        let _ = &self.chunks;
         let mut done = 0;
         while done < n {
             done += self.fill_some(first + done, n - done, row);
         }
     }
 
-    // Some of the `n` rows from row `first` on, at least one, become `row`; how many.
+    // The rows from row `first` on become `row`, up to the end of its chunk, at most `n`; how many.
     fn fill_some(&mut self, first: u32, n: u32, row: Row) -> u32
         requires inside { first + n ≤ length self.old }
         requires some { 0 < n }
         ensures some { 0 < result }
         ensures within { result ≤ n }
+        ensures fits { first + result < 2 ^ 32 }
         ensures after { self.new ≡ filled self.old first result row }
     {
-        let index = first as usize / CHUNK;
-        if first as usize % CHUNK == 0 && n as usize >= CHUNK && index < self.chunks.count() {
-            self.chunks.fill(index, row);
-            return CHUNK as u32;
+        let (index, at) = (first as usize / CHUNK, first as usize % CHUNK);
+        let whole = self.chunks.count();
+        if index >= whole {
+            fill_in(
+                &mut self.rest,
+                first as usize - whole * CHUNK,
+                n as usize,
+                row,
+            );
+            return n;
         }
-        let (before, equal) = self.equal_from(first);
-        if before == row {
-            return equal.min(n);
-        }
-        self.set(first, row);
-        1
+        let some = (n as usize).min(CHUNK - at);
+        self.chunks.fill(index, at, some, row);
+        some as u32
     }
 
-    /// How many rows from row `i` on are alike in state, protection and guard; at least one.
-    pub(crate) fn run_from(&self, i: u32) -> u32
+    /// How many rows from row `i` on are alike in state, protection and guard; at least one. A page
+    /// that is not committed counts as one of protection 0 without a guard.
+    pub fn run_from(&self, i: u32) -> u32
         requires { i < length self.now }
         ensures run { result ≡ run_from self.now i }
         ensures within { i + result ≤ length self.now }
     {
         let len = self.len();
-        let (first, equal) = self.equal_from(i);
+        let (first, equal) = self.equal_from(i, len - i);
         let mut end = i + equal;
         while end < len {
-            let (row, equal) = self.equal_from(end);
+            let (row, equal) = self.equal_from(end, len - end);
             if !first.is_like(row) {
                 return end - i;
             }

@@ -3,9 +3,8 @@ ghost use Rattle.mm_types.specs.Address.{page_of};
 ghost use Rattle.mm_world.specs.Watch.{unwritten};
 ghost use Rattle.mm_vad.specs.Regions.{HasFlags, LieAmong, with_row, with_equal_rows, with_marks, with_unwritten};
 
-use crate::{Row, Rows};
+use crate::{Bits, Row, Rows};
 use mm_types::{Kind, PAGE_SIZE, PageList, Prot, Vpn};
-use mm_watch::Bits;
 
 /// One reservation or one view (a VAD): some pages in a row, with a row for each.
 #[derive(Drop)]
@@ -23,7 +22,8 @@ pub struct Region {
     pub watched: Option<Bits>,
 }
 
-// Clears the flags of the pages at these addresses, all of them pages from `base` on that have a flag.
+// Clears the flags of the pages at these addresses, all of them pages from `base` on that have a
+// flag.
 fn clear_pages(flags: &mut Bits, base: u32, addresses: &[u32])
     requires among { LieAmong base (length flags.old) addresses.now }
     ensures { flags.new ≡ unwritten base (map page_of addresses.now) flags.old }
@@ -64,7 +64,8 @@ impl Region {
         }
     }
 
-    // The `n` pages from `first` on, all of them the region's, are unwritten from now on, where it is watched.
+    // The `n` pages from `first` on, all of them the region's, are unwritten from now on, where it
+    // is watched.
     pub(crate) fn clear_marks(&mut self, first: Vpn, n: u32)
         requires low { self.old.base.0 ≤ first.0 }
         requires high { first.0 - self.old.base.0 + n ≤ self.old.pages }
@@ -76,7 +77,8 @@ impl Region {
         }
     }
 
-    // The pages at these addresses, all of them the region's, are unwritten from now on, where it is watched.
+    // The pages at these addresses, all of them the region's, are unwritten from now on, where it
+    // is watched.
     pub(crate) fn unwrite(&mut self, pages: &PageList)
         requires among { LieAmong self.old.base.0 self.old.pages pages.now }
         requires flags { HasFlags self.old.pages self.old }

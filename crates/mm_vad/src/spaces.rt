@@ -1,10 +1,9 @@
 ghost use Rattle.std.specs.Prelude.{◌≡◌, ◌+◌, ◌-◌, ◌<◌, ◌≤◌, true, false, [], length, IsTrue, IsSome, OnOk, OnErr, option_map};
 ghost use Rattle.std.specs.Option.{option_copied};
 ghost use Rattle.mm_types.specs.Address.{is_free, lowest_gap};
-ghost use Rattle.mm_gaps.specs.Ranges.{page_number};
+ghost use Rattle.mm_vad.specs.Ranges.{page_number};
 
-use crate::{Region, Row};
-use mm_gaps::{Gaps, Steps, Uncounted};
+use crate::{Gaps, Region, Row, Steps, Uncounted};
 use mm_types::{FIRST_USER_PAGE, NoMemory, PageList, Vpn};
 use std::alloc::Global;
 use std::collections::HashMap;
@@ -33,7 +32,7 @@ impl Model for Space {
 }
 
 impl Space {
-    ghost use Rattle.mm_vad.specs.Regions.{IsSpace, ranges_of, pages_of, region_at, region_from, region_with_base, HasFlags, LieInRegion, LieWithPage, add_region, remove_region, change_region, set_row, fill_rows, set_marks, with_unwritten, run_of_equal};
+    ghost use Rattle.mm_vad.specs.Regions.{IsSpace, ranges_of, pages_of, region_at, region_from, region_with_base, HasFlags, LieInRegion, LieWithPage, add_region, remove_region, change_region, set_row, fill_rows, set_marks, with_unwritten};
 
     /// No region, and no spare room.
     pub fn new(alloc: Global) -> Space
@@ -81,7 +80,9 @@ impl Space {
     /// Writes `row` over the rows of the `n` pages from `first` on, which lie in one region.
     pub fn fill_rows(&mut self, first: Vpn, n: u32, row: Row)
         requires { LieInRegion self.old.regions first.0 n }
-        ensures after { self.new ≡ record self.old { regions = fill_rows self.old.regions first.0 n row } }
+        ensures after { self.new ≡ record self.old {
+          regions = fill_rows self.old.regions first.0 n row;
+        } }
         ensures sound { IsSpace self.new.regions }
     {
         let Some((base, _)) = self.taken.at(first) else {
@@ -93,11 +94,13 @@ impl Space {
         region.fill_rows(first, n, row);
     }
 
-    /// A write to page `v`, which lies in a region, was done: the page is written from now on, where the region is
-    /// watched.
+    /// A write to page `v`, which lies in a region, was done: the page is written from now on,
+    /// where the region is watched.
     pub fn mark(&mut self, v: Vpn)
         requires { IsSome (region_at self.old.regions v.0) }
-        ensures after { self.new ≡ record self.old { regions = set_marks true self.old.regions v.0 1 } }
+        ensures after { self.new ≡ record self.old {
+          regions = set_marks true self.old.regions v.0 1;
+        } }
         ensures sound { IsSpace self.new.regions }
     {
         let Some((base, _)) = self.taken.at(v) else {
@@ -109,10 +112,13 @@ impl Space {
         region.mark(v);
     }
 
-    /// The `n` pages from `first` on, which lie in one region, are unwritten from now on, where the region is watched.
+    /// The `n` pages from `first` on, which lie in one region, are unwritten from now on, where the
+    /// region is watched.
     pub fn clear_marks(&mut self, first: Vpn, n: u32)
         requires { LieInRegion self.old.regions first.0 n }
-        ensures after { self.new ≡ record self.old { regions = set_marks false self.old.regions first.0 n } }
+        ensures after { self.new ≡ record self.old {
+          regions = set_marks false self.old.regions first.0 n;
+        } }
         ensures sound { IsSpace self.new.regions }
     {
         let Some((base, _)) = self.taken.at(first) else {
@@ -124,8 +130,8 @@ impl Space {
         region.clear_marks(first, n);
     }
 
-    /// The pages at these addresses, all of them in the region of page `first`, are unwritten from now on, where that
-    /// region is watched.
+    /// The pages at these addresses, all of them in the region of page `first`, are unwritten from
+    /// now on, where that region is watched.
     pub fn unwrite(&mut self, first: Vpn, pages: &PageList)
         requires { LieWithPage self.old.regions first.0 pages.now }
         ensures after { self.new ≡ record self.old {
@@ -142,7 +148,8 @@ impl Space {
         region.unwrite(pages);
     }
 
-    /// The lowest granule from which `n` user pages are free, as its first page. None exactly where there is none.
+    /// The lowest granule from which `n` user pages are free, as its first page. None exactly where
+    /// there is none.
     pub fn lowest_gap(&self, n: u32) -> Option<Vpn>
         ensures found { result ≡ option_map page_number (lowest_gap (ranges_of self.now.regions) n) }
         ensures sound { IsSpace self.now.regions }
@@ -158,13 +165,16 @@ impl Space {
     /// Whether the `n` pages from `first` on are user pages that lie in no region.
     pub fn is_free(&self, first: Vpn, n: u32) -> bool
         requires { 0 < n }
-        ensures { result ≡ is_free (ranges_of self.now.regions) (record { first = first.0; count = n }) }
+        ensures { result ≡ is_free (ranges_of self.now.regions) (record {
+          first = first.0;
+          count = n;
+        }) }
     {
         self.taken.is_free(first, n)
     }
 
-    /// Sees that there is room for one more region at least. `NoMemory` only where there was none and a request for
-    /// memory was refused; then the regions are as they were.
+    /// Sees that there is room for one more region at least. `NoMemory` only where there was none
+    /// and a request for memory was refused; then the regions are as they were.
     pub fn reserve(&mut self) -> Result<(), NoMemory>
         ensures regions { self.new.regions ≡ self.old.regions }
         ensures room { OnOk result (1 ≤ self.new.spare) }
@@ -193,7 +203,8 @@ impl Space {
         };
     }
 
-    /// Takes the region out whose base is `base`. None exactly where none has it, and then nothing changed.
+    /// Takes the region out whose base is `base`. None exactly where none has it, and then nothing
+    /// changed.
     pub fn remove(&mut self, base: Vpn) -> Option<Region>
         ensures removed { result ≡ region_with_base self.old.regions base.0 }
         ensures after { self.new.regions ≡ remove_region self.old.regions base.0 }
@@ -205,18 +216,5 @@ impl Space {
         }
         self.taken.remove(base);
         self.regions.remove(&base.0)
-    }
-
-    /// How many pages from page `v` on, inside its region, are alike in state, protection and guard; a page that is
-    /// not committed counts as one of protection 0 without a guard. Page `v` lies in a region.
-    pub fn run_of_equal(&self, v: Vpn) -> u32
-        requires { IsSome (region_at self.now.regions v.0) }
-        ensures run { result ≡ run_of_equal self.now.regions v.0 }
-        ensures sound { IsSpace self.now.regions }
-    {
-        let Some(region) = self.find(v) else {
-            unreachable!()
-        };
-        region.rows.run_from(v.0 - region.base.0)
     }
 }

@@ -9,12 +9,12 @@ use Rattle.std.proofs.lemmas.Bool.{ltb-true}
 use Rattle.mm_types.proofs.Cells.{same_or_not, get_set_same, get_set_other}
 use Rattle.mm_types.proofs.Tables.{differ}
 use Rattle.mm_life.specs.Life.{changed}
-use Rattle.mm_entry.specs.Words.{IsEntry, word_of}
-use Rattle.mm_entry.specs.declared.entries.Entry.{Entry}
-use Rattle.mm_entry.specs.declared.entries.Entry.TheVariants as entry
-use Rattle.mm_areas.specs.Prototypes.{AreaWords, word_at, words_of}
-use Rattle.mm_entry.specs.Entries.{entry_in, entry_or}
-use Rattle.mm_entry.proofs.EntryLemmas.{entry_again, zero_is_empty}
+use Rattle.mm_words.specs.Layout.{IsEntry, word_of}
+use Rattle.mm_words.specs.declared.layout.Entry.{Entry}
+use Rattle.mm_words.specs.declared.layout.Entry.TheVariants as entry
+use Rattle.mm_words.specs.Prototypes.{AreaWords, word_at, words_of}
+use Rattle.mm_words.specs.Entries.{entry_in, entry_or}
+use Rattle.mm_words.proofs.EntryLemmas.{entry_again, zero_is_empty}
 use Rattle.mm_words.specs.Words.{bare, changed_at}
 use Rattle.mm_words.specs.declared.processes.Process.{Process}
 use Rattle.mm_words.specs.declared.aside.Aside.{Aside}

@@ -10,12 +10,12 @@ use Rattle.mm_types.proofs.Finite.{same, len_more, len_less}
 use Rattle.mm_types.specs.Address.{holds_page}
 use Rattle.mm_types.specs.declared.numbers.Frame.{Frame}
 use Rattle.mm_wset.specs.Ages.{WorkingSetOf, AgesBy, older}
-use Rattle.mm_entry.specs.Words.{IsEntry, word_of}
-use Rattle.mm_entry.specs.declared.entries.Entry.{Entry}
-use Rattle.mm_entry.specs.declared.entries.Entry.TheVariants as entry
-use Rattle.mm_entry.specs.Entries.{entry_or}
-use Rattle.mm_entry.proofs.EntryLemmas.{entry_again}
-use Rattle.mm_radix.specs.Pages.{pages, Releases}
+use Rattle.mm_words.specs.Layout.{IsEntry, word_of}
+use Rattle.mm_words.specs.declared.layout.Entry.{Entry}
+use Rattle.mm_words.specs.declared.layout.Entry.TheVariants as entry
+use Rattle.mm_words.specs.Entries.{entry_or}
+use Rattle.mm_words.proofs.EntryLemmas.{entry_again}
+use Rattle.mm_words.specs.Pages.{pages, Releases}
 use Rattle.mm_words.specs.Words.{bare, is_valid}
 use Rattle.mm_words.specs.Processes.{IsProcess, place_in, set_place}
 use Rattle.mm_words.proofs.ReadWords.{no_set_place, plain_place}
@@ -251,19 +251,8 @@ module _ (t : FinMap nat_cmp ℕ) (s : WorkingSetOf) (o : Bool) (is : IsProcess 
 
   -- ---- a process is opened or closed
 
-  pub open_kept : (r : WorkingSetOf) → r ≡ record s { reserved = true } → IsProcess t r true
-  open_kept r re = subst (λ (x : WorkingSetOf). IsProcess t x true) (sym re) (record {
-    named = is.named;
-    held = is.held;
-    aged = is.aged;
-    young = is.young;
-    within = is.within;
-    room = refl;
-    closed = λ nay. (let bad : true ≡ false = nay in cc);
-  })
-
   module _ (none : (page : ℕ) → is_some (finite.get t page) ≡ false) where
-    no_word : (page : ℕ) → finite.get t page ≡ None
+    pub no_word : (page : ℕ) → finite.get t page ≡ None
     no_word page = none_of (finite.get t page) (none page)
       where
         none_of : (a : Option ℕ) → is_some a ≡ false → a ≡ None

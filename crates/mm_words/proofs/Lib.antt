@@ -4,3 +4,7 @@ pub mod KeptProcesses
 pub mod TableChanges
 pub mod AreaWords
 pub mod SetLaws
+pub mod AreaLemmas
+pub mod WordLemmas
+pub mod LeafLemmas
+pub mod EntryLemmas

@@ -9,13 +9,12 @@ use Rattle.mm_types.proofs.Finite.{get-insert, get-remove, len_more, len_less}
 use Rattle.mm_types.proofs.Tables.{differ}
 use Rattle.mm_types.specs.Address.{Range, holds_page}
 use Rattle.mm_wset.specs.Ages.{WorkingSetOf}
-use Rattle.mm_entry.specs.Words.{IsEntry, word_of}
-use Rattle.mm_entry.specs.declared.entries.Entry.{Entry}
-use Rattle.mm_entry.specs.declared.entries.Entry.TheVariants as entry
-use Rattle.mm_entry.specs.Entries.{entry_in, entry_or}
-use Rattle.mm_entry.proofs.EntryLemmas.{entry_again, zero_is_empty}
+use Rattle.mm_words.specs.Layout.{IsEntry, word_of}
+use Rattle.mm_words.specs.declared.layout.Entry.{Entry}
+use Rattle.mm_words.specs.Entries.{entry_in, entry_or}
+use Rattle.mm_words.proofs.EntryLemmas.{entry_again, zero_is_empty}
 use Rattle.mm_words.specs.Words.{bare, is_valid}
-use Rattle.mm_radix.specs.Pages.{Reserves, Releases, reserved_word}
+use Rattle.mm_words.specs.Pages.{Reserves, reserved_word}
 use Rattle.std.specs.Prelude.{Result, Ok, Err, OnOk, OnErr}
 use Rattle.mm_words.specs.Changes.{bound_of, at_of, resident_set, resident_by_numbers, Becomes}
 use Rattle.mm_words.specs.declared.processes.Process.{Process}
@@ -98,30 +97,9 @@ cond_reserved : (b : Bool) (o : Option ℕ) → entry_or (cond b (reserved_word 
 cond_reserved true o = entry_reserved o
 cond_reserved false o = refl
 
-cond_bound : (b : Bool) (o : Option ℕ) → is_some (cond b (reserved_word o) o) ≡ cond b true (is_some o)
-cond_bound true o = refl
-cond_bound false o = refl
-
 bind_entry : (t u : FinMap nat_cmp ℕ) (r : Range) → Reserves t u r → (q : ℕ) → entry_or (finite.get u q) ≡ entry_or (finite.get t q)
 bind_entry t u r is q = ap entry_or (is q) ∙ cond_reserved (holds_page r q) (finite.get t q)
-
-pub bind_bound : (t u : FinMap nat_cmp ℕ) (r : Range) → Reserves t u r → (q : ℕ) → is_some (finite.get u q) ≡ (if holds_page r q then true else is_some (finite.get t q))
-bind_bound t u r is q = ap is_some (is q) ∙ cond_bound (holds_page r q) (finite.get t q)
 
 pub after_bind : {T E : Type 0} (res : Result T E) (t u : FinMap nat_cmp ℕ) (r : Range) → OnOk res (Reserves t u r) → OnErr res (u ≡ t) → (q : ℕ) → entry_or (finite.get u q) ≡ entry_or (finite.get t q)
 after_bind (Ok x) t u r good bad q = bind_entry t u r good q
 after_bind (Err e) t u r good bad q = ap (λ (m : FinMap nat_cmp ℕ). entry_or (finite.get m q)) bad
-
-cond_released : (b : Bool) (o : Option ℕ) → bare (entry_or (cond b None o)) ≡ cond b entry.Empty (bare (entry_or o))
-cond_released true o = refl
-cond_released false o = refl
-
-cond_unbound : (b : Bool) (o : Option ℕ) → is_some (cond b None o) ≡ cond b false (is_some o)
-cond_unbound true o = refl
-cond_unbound false o = refl
-
-pub unbind_at : (t u : FinMap nat_cmp ℕ) (r : Range) → Releases t u r → (q : ℕ) → bare (entry_or (finite.get u q)) ≡ (if holds_page r q then entry.Empty else bare (entry_or (finite.get t q)))
-unbind_at t u r is q = ap (λ o. bare (entry_or o)) (is q) ∙ cond_released (holds_page r q) (finite.get t q)
-
-pub unbind_bound : (t u : FinMap nat_cmp ℕ) (r : Range) → Releases t u r → (q : ℕ) → is_some (finite.get u q) ≡ (if holds_page r q then false else is_some (finite.get t q))
-unbind_bound t u r is q = ap is_some (is q) ∙ cond_unbound (holds_page r q) (finite.get t q)

@@ -1,8 +1,8 @@
 -- What an entry says, told without its place in a working set.
 use Rattle.std.proofs.Common.{◌≡◌, false, None, refl, ap, ◌∙◌}
 use Rattle.std.specs.Prelude.{is_some}
-use Rattle.mm_entry.specs.declared.entries.Entry.{Entry}
-use Rattle.mm_entry.specs.declared.entries.Entry.TheVariants as entry
+use Rattle.mm_words.specs.declared.layout.Entry.{Entry}
+use Rattle.mm_words.specs.declared.layout.Entry.TheVariants as entry
 use Rattle.mm_words.specs.Processes.{set_place}
 use Rattle.mm_words.specs.Words.{bare, is_valid}
 
@@ -14,15 +14,6 @@ bare_plain (entry.InFile b) h = refl
 bare_plain (entry.Transition f) h = refl
 bare_plain (entry.Valid f n) h = cc
 bare_plain (entry.Proto a i) h = refl
-
-pub bare_bare : (e : Entry) → bare (bare e) ≡ bare e
-bare_bare entry.Empty = refl
-bare_bare entry.Zero = refl
-bare_bare (entry.Paged s) = refl
-bare_bare (entry.InFile b) = refl
-bare_bare (entry.Transition f) = refl
-bare_bare (entry.Valid f n) = refl
-bare_bare (entry.Proto a i) = refl
 
 -- exactly the valid entries name a place in a working set
 pub valid_place : (e : Entry) → is_some (set_place e) ≡ is_valid (bare e)

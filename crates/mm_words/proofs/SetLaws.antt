@@ -5,8 +5,8 @@ use Rattle.std.specs.FinMap as finite
 use Rattle.mm_types.specs.declared.numbers.Place.{Place}
 use Rattle.mm_life.specs.declared.sets.ResidentSet.{ResidentSet}
 use Rattle.mm_life.specs.Life.{set_in}
-use Rattle.mm_entry.specs.Entries.{entry_or}
-use Rattle.mm_entry.specs.declared.entries.Entry.TheVariants as entry
+use Rattle.mm_words.specs.Entries.{entry_or}
+use Rattle.mm_words.specs.declared.layout.Entry.TheVariants as entry
 use Rattle.mm_words.specs.Words.{is_valid}
 use Rattle.mm_words.specs.declared.processes.Process.{Process}
 use Rattle.mm_words.specs.Changes.{bound_of, at_of, age_of, resident_of}

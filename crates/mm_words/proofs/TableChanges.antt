@@ -9,19 +9,19 @@ use Rattle.mm_types.specs.declared.numbers.Pid.{Pid}
 use Rattle.mm_words.specs.Oldest.{ages_in}
 use Rattle.mm_types.specs.declared.numbers.Place.{Place}
 use Rattle.mm_life.specs.Life.{changed, same_place, with_resident, resident_by, set_in}
-use Rattle.mm_entry.specs.declared.entries.Entry.{Entry}
-use Rattle.mm_entry.specs.declared.entries.Entry.TheVariants as entry
+use Rattle.mm_words.specs.declared.layout.Entry.{Entry}
+use Rattle.mm_words.specs.declared.layout.Entry.TheVariants as entry
 use Rattle.std.specs.Ordering.{nat_cmp}
 use Rattle.std.specs.FinMap as finite
 use Rattle.std.specs.FinMap.{FinMap}
 use Rattle.mm_wset.specs.Ages.{WorkingSetOf}
-use Rattle.mm_entry.specs.Entries.{entry_or}
+use Rattle.mm_words.specs.Entries.{entry_or}
 use Rattle.mm_words.specs.Words.{WordsOf, bare, changed_in, is_valid}
 use Rattle.std.proofs.Math.Path.{fun_ext}
 use Rattle.std.proofs.lemmas.Option.{slice_get-get_or}
-use Rattle.mm_areas.specs.Prototypes.{AreaWords}
+use Rattle.mm_words.specs.Prototypes.{AreaWords}
 use Rattle.mm_words.specs.declared.aside.Aside.{Aside}
-use Rattle.mm_words.specs.Shown.{shown, bare_aside}
+use Rattle.mm_words.specs.Shown.{shown}
 use Rattle.mm_words.specs.declared.processes.Process.{Process}
 use Rattle.mm_words.specs.Changes.{bound_of, at_of, age_of, resident_of, resident_set, resident_by_numbers, Becomes, Rebinds, Begins, KeepsPages}
 use Rattle.mm_words.specs.Tables.{process_in, read_or, bound_in, at_in, age_in, is_open_in, AsideBound}
@@ -154,14 +154,6 @@ pub set_at_index : (ps : List Process) (k pid : ℕ) (p : Process) → k < lengt
 set_at_index ps k pid p within value next =
     ap (λ n. set_in (map resident_of ps) n) (next_is pid k next) ∙ map-get resident_of ps k p (slice_get-get_or ps k p within ∙ ap (λ (x : Process). Some x) (sym value))
 
-pub open_at_index : (ps : List Process) (pid : ℕ) (p : Process) → pid ≢ 0 → pid - 1 < length ps → p ≡ slice_index_or ps (pid - 1) p → is_open_in ps pid ≡ p.is_open
-open_at_index ps zero p some within value = absurd (some refl)
-open_at_index ps (suc k) p some within value =
-    let e : suc k - 1 ≡ k = omega arith in
-    let w : k < length ps = omega (arith, within, e) in
-    let v : p ≡ slice_index_or ps k p = value ∙ ap (λ n. slice_index_or ps n p) e in
-    ap (read_or (λ (r : Process). r.is_open) false) (slice_get-get_or ps k p w ∙ ap (λ (x : Process). Some x) (sym v))
-
 open_by : (o : Option Process) → read_or (λ (p : Process). p.is_open) false o ≡ true → is_some o ≡ true
 open_by None h = cc
 open_by (Some p) h = refl
@@ -276,11 +268,6 @@ module _ (ps : List Process) (k : ℕ) (p q : Process) (within : k < length ps) 
 pub ages_of_process : (ps : List Process) (k : ℕ) (p : Process) (pid : Pid) → k < length ps → p ≡ slice_index_or ps k p → pid.0 ≡ k + 1 → age_of p ≡ ages_in (age_in ps) pid
 ages_of_process ps k p pid within value next = fun_ext (λ v. sym (read_was ps k p p within value pid.0 next (λ r. age_of r v) None pid.0 refl))
 
--- nothing beside the tables
-pub no_aside : (aside : Option Aside) → bare_aside aside ≡ None → (ps : List Process) → AsideBound ps aside
-no_aside None h ps a is = cc
-no_aside (Some b) h ps a is = cc
-
 -- ---- one process more
 
 append_other : {A : Type 0} (xs : List A) (x : A) (k : ℕ) → k ≢ length xs → slice_get (xs ++ x ∷ []) k ≡ slice_get xs k
@@ -296,10 +283,6 @@ past_end (y ∷ ys) = past_end ys
 map-append : {A B : Type 0} (f : A → B) (xs : List A) (x : A) → map f (xs ++ x ∷ []) ≡ map f xs ++ f x ∷ []
 map-append f [] x = refl
 map-append f (y ∷ ys) x = ap (λ t. f y ∷ t) (map-append f ys x)
-
-pub length-map : {A B : Type 0} (f : A → B) (xs : List A) → length (map f xs) ≡ length xs
-length-map f [] = refl
-length-map f (y ∷ ys) = ap suc (length-map f ys)
 
 module _ (ps : List Process) (p : Process) where
   pub more_reads : {A : Type 0} (read : Process → A) (none : A) → read p ≡ none → (pid : ℕ) → read_or read none (process_in (ps ++ p ∷ []) pid) ≡ read_or read none (process_in ps pid)

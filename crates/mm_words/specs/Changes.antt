@@ -5,8 +5,8 @@ use Rattle.mm_types.specs.Address.{Range, holds_page}
 use Rattle.mm_life.specs.declared.sets.ResidentSet.{ResidentSet}
 use Rattle.mm_wset.specs.Ages.{WorkingSetOf}
 use Rattle.mm_life.specs.Life.{changed}
-use Rattle.mm_entry.specs.declared.entries.Entry.{Entry}
-use Rattle.mm_entry.specs.Entries.{entry_or}
+use Rattle.mm_words.specs.declared.layout.Entry.{Entry}
+use Rattle.mm_words.specs.Entries.{entry_or}
 use Rattle.mm_words.specs.Words.{bare}
 use Rattle.mm_words.specs.declared.processes.Process.{Process}
 
@@ -43,7 +43,13 @@ pub record Rebinds (old new : Process) (r : Range) (b : Bool) : Type 0 where
 -- a closed process without a page
 pub record Begins (p : Process) (min max : ℕ) : Type 0 where
   pub table : p.table ≡ finite.empty
-  pub set : p.set ≡ record { min = min; max = max; reserved = false; ages = finite.empty; places = finite.empty }
+  pub set : p.set ≡ record {
+    min = min;
+    max = max;
+    reserved = false;
+    ages = finite.empty;
+    places = finite.empty;
+  }
   pub opened : p.is_open ≡ false
 
 -- nothing of a process changed but whether it is open

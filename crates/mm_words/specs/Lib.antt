@@ -4,3 +4,9 @@ pub mod Changes
 pub mod Tables
 pub mod Shown
 pub mod Oldest
+pub mod Prototypes
+pub mod Pages
+pub mod LeafWords
+pub mod Directory
+pub mod Layout
+pub mod Entries

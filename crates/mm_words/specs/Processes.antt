@@ -3,9 +3,9 @@ use Rattle.std.specs.Prelude.{◌≡◌, ℕ, ◌≤◌, Bool, false, is_some, O
 use Rattle.std.specs.Ordering.{nat_cmp}
 use Rattle.std.specs.FinMap as finite
 use Rattle.std.specs.FinMap.{FinMap}
-use Rattle.mm_entry.specs.Entries.{entry_or}
-use Rattle.mm_entry.specs.declared.entries.Entry.{Entry}
-use Rattle.mm_entry.specs.declared.entries.Entry.TheVariants as entry
+use Rattle.mm_words.specs.Entries.{entry_or}
+use Rattle.mm_words.specs.declared.layout.Entry.{Entry}
+use Rattle.mm_words.specs.declared.layout.Entry.TheVariants as entry
 use Rattle.mm_wset.specs.Ages.{WorkingSetOf}
 
 -- the place in a working set that a valid entry names
@@ -22,7 +22,8 @@ set_place (entry.Proto a i) = None
 abbrev pub place_in : FinMap nat_cmp ℕ → ℕ → Option ℕ
 place_in table page = set_place (entry_or (finite.get table page))
 
-pub record IsProcess (table : FinMap nat_cmp ℕ) (set : WorkingSetOf) (open_now : Bool) : Type 0 where
+pub record IsProcess (table : FinMap nat_cmp ℕ) (set : WorkingSetOf) (open_now : Bool) :
+    Type 0 where
   -- a page's word names a place exactly where that place holds the page
   pub named : (page n : ℕ) → place_in table page ≡ Some n → finite.get set.places n ≡ Some page
   pub held : (n page : ℕ) → finite.get set.places n ≡ Some page → place_in table page ≡ Some n

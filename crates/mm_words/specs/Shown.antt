@@ -2,10 +2,10 @@
 use Rattle.std.specs.Prelude.{ℕ, false, [], List, map, length, Option, Some, None, option_map}
 use Rattle.std.specs.FinMap as finite
 use Rattle.mm_types.specs.declared.numbers.Place.{Place}
-use Rattle.mm_entry.specs.declared.entries.Entry.{Entry}
-use Rattle.mm_entry.specs.declared.entries.Entry.TheVariants as entry
-use Rattle.mm_areas.specs.Prototypes.{AreaWords, word_at}
-use Rattle.mm_entry.specs.Entries.{entry_or}
+use Rattle.mm_words.specs.declared.layout.Entry.{Entry}
+use Rattle.mm_words.specs.declared.layout.Entry.TheVariants as entry
+use Rattle.mm_words.specs.Prototypes.{AreaWords, word_at}
+use Rattle.mm_words.specs.Entries.{entry_or}
 use Rattle.mm_words.specs.Words.{WordsOf, bare}
 use Rattle.mm_words.specs.declared.aside.Aside.{Aside}
 use Rattle.mm_words.specs.declared.processes.Process.{Process}
@@ -42,7 +42,15 @@ abbrev pub ages : Words → Place → Option ℕ
 ages w place = age_in w.processes.items place
 
 abbrev pub no_words : WordsOf
-no_words = record { bound = λ _. false; is_open = λ _. false; at = λ _. entry.Empty; sizes = λ _. None; proto = λ _ _. entry.Empty; aside = None; sets = [] }
+no_words = record {
+  bound = λ _. false;
+  is_open = λ _. false;
+  at = λ _. entry.Empty;
+  sizes = λ _. None;
+  proto = λ _ _. entry.Empty;
+  aside = None;
+  sets = [];
+}
 
 abbrev pub no_ages : Place → Option ℕ
 no_ages place = None

@@ -1,7 +1,7 @@
 ghost use Rattle.std.specs.Prelude.{◌≡◌};
-ghost use Rattle.mm_entry.specs.Entries.{entry_in};
+ghost use Rattle.mm_words.specs.Entries.{entry_in};
 
-use mm_entry::{Entry, decode};
+use crate::{Entry, decode};
 
 /// The entry of a word; a word that no entry has is read as `Empty`.
 pub fn entry_of(word: u64) -> Entry

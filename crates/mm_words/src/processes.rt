@@ -1,27 +1,27 @@
 ghost use Rattle.std.specs.Prelude.{◌≡◌, ◌+◌, ◌-◌, ◌^◌, ◌<◌, ◌≤◌, ◌==◌, if◌then◌else◌, OnOk, OnErr, MatchOption, is_some, option_map, true, false, Some, None, ℕ};
 ghost use Rattle.std.specs.FinMap as finite;
 ghost use Rattle.mm_life.specs.Life.{changed};
-ghost use Rattle.mm_entry.specs.Words.{IsEntry};
-ghost use Rattle.mm_entry.specs.declared.entries.Entry.TheVariants as entry;
+ghost use Rattle.mm_words.specs.Layout.{IsEntry};
+ghost use Rattle.mm_words.specs.declared.layout.Entry.TheVariants as entry;
 ghost use Rattle.mm_wset.specs.Ages.{older};
 ghost use Rattle.mm_wset.specs.InOrder.{IsNextFrom};
-ghost use Rattle.mm_radix.specs.Pages.{pages};
+ghost use Rattle.mm_words.specs.Pages.{pages};
 ghost use Rattle.mm_types.specs.Address.{holds_page, first_user_page, end_of_user_pages};
-ghost use Rattle.mm_entry.specs.Entries.{entry_or};
+ghost use Rattle.mm_words.specs.Entries.{entry_or};
 ghost use Rattle.mm_words.specs.Words.{is_valid};
 ghost use Rattle.std.specs.Option.{ForSome};
 ghost use Rattle.mm_words.specs.Oldest.{NoneBehind, IsOldestOf};
 ghost use Rattle.mm_words.specs.Processes.{IsProcess};
 
 use crate::entries::entry_of;
-use mm_entry::{Entry, encode};
+use crate::{Entry, Table, encode};
 use mm_life::ResidentSet;
-use mm_radix::Table;
 use mm_types::{Frame, NoMemory, Vpn};
 use mm_wset::WorkingSet;
 use std::alloc::Global;
 
-/// A process's page table and its working set. The set keeps its sizes always, and has room while the process is open.
+/// A process's page table and its working set. The set keeps its sizes always, and has room while
+/// the process is open.
 #[derive(Drop)]
 pub struct Process {
     pub table: Table,
@@ -60,7 +60,9 @@ impl Process {
         requires room { finite.len self.old.set.places < self.old.set.max }
         requires fits { f.0 < 2 ^ 28 }
         ensures becomes { Becomes self.old self.new v.0 (entry.Valid f 0) }
-        ensures resident { resident_of self.new ≡ record (resident_of self.old) { resident = finite.len self.old.set.places + 1 } }
+        ensures resident { resident_of self.new ≡ record (resident_of self.old) {
+          resident = finite.len self.old.set.places + 1;
+        } }
         ensures ages { (q : ℕ) → age_of self.new q ≡ changed ◌==◌ (age_of self.old) v.0 (Some 0) q }
     {
         let place = self.set.insert(v);
@@ -73,7 +75,9 @@ impl Process {
         requires other { is_valid e ≡ false }
         requires fits { IsEntry e }
         ensures becomes { Becomes self.old self.new v.0 e }
-        ensures resident { resident_of self.new ≡ record (resident_of self.old) { resident = finite.len self.old.set.places - 1 } }
+        ensures resident { resident_of self.new ≡ record (resident_of self.old) {
+          resident = finite.len self.old.set.places - 1;
+        } }
         ensures ages { (q : ℕ) → age_of self.new q ≡ changed ◌==◌ (age_of self.old) v.0 None q }
     {
         match self.entry(v) {
@@ -149,19 +153,23 @@ impl Process {
     /// Gives bound pages up, none of which is valid.
     pub fn unbind(&mut self, first: Vpn, n: u32)
         requires bound { (q : ℕ) → first.0 ≤ q → q < first.0 + n → bound_of self.old q ≡ true }
-        requires invalid { (q : ℕ) → first.0 ≤ q → q < first.0 + n → is_valid (at_of self.old q) ≡ false }
+        requires invalid { (q : ℕ) → first.0 ≤ q → q < first.0 + n →
+            is_valid (at_of self.old q) ≡ false }
         ensures rebinds { Rebinds self.old self.new (pages first.0 n) false }
-        ensures at { (q : ℕ) → at_of self.new q ≡ (if holds_page (pages first.0 n) q then entry.Empty else at_of self.old q) }
+        ensures at { (q : ℕ) → at_of self.new q ≡
+            (if holds_page (pages first.0 n) q then entry.Empty else at_of self.old q) }
     {
         self.table.release(first, n);
     }
 
-    /// A process without a bound page is closed, and gives the room of its working set back.
+    /// A process without a bound page is closed, and gives the room of its page table and of its
+    /// working set back.
     pub fn close(&mut self)
         requires { (q : ℕ) → bound_of self.old q ≡ false }
         ensures opened { self.new.is_open ≡ false }
         ensures kept { KeepsPages self.old self.new }
     {
+        self.table.give_back();
         self.set.release();
         self.is_open = false;
     }
@@ -179,7 +187,8 @@ impl Process {
     /// The page that goes first, or the one that goes next after a valid page.
     pub fn oldest(&self, after: Option<Vpn>) -> Option<Vpn>
         requires { ForSome after (λ v. is_some (age_of self.now v.0) ≡ true) }
-        ensures { MatchOption result (NoneBehind (age_of self.now) (option_map (λ w. w.0) after)) (λ v. IsOldestOf (age_of self.now) (option_map (λ w. w.0) after) v.0) }
+        ensures { MatchOption result (NoneBehind (age_of self.now) (option_map (λ w. w.0) after))
+            (λ v. IsOldestOf (age_of self.now) (option_map (λ w. w.0) after) v.0) }
     {
         self.set.oldest(after)
     }

@@ -3,14 +3,14 @@ ghost use Rattle.mm_life.specs.declared.sets.ResidentSet.{ResidentSet};
 ghost use Rattle.mm_types.specs.declared.numbers.Key.TheVariants.{Private, Shared};
 ghost use Rattle.mm_life.specs.Life.{changed, same_place, set_in};
 ghost use Rattle.mm_life.specs.Legal.{is_below_max};
-ghost use Rattle.mm_entry.specs.Words.{IsEntry};
+ghost use Rattle.mm_words.specs.Layout.{IsEntry};
 ghost use Rattle.mm_words.specs.Words.{word_of, has_word, own_word, with_own, is_valid, is_there, is_aside, bare, keeps_places, with_word, with_aside, without_aside, made_valid, made_invalid, changed_at, changed_in, place_of};
-ghost use Rattle.mm_entry.specs.declared.entries.Entry.TheVariants as entry;
+ghost use Rattle.mm_words.specs.declared.layout.Entry.TheVariants as entry;
 ghost use Rattle.mm_types.specs.declared.numbers.Key.{Key};
 ghost use Rattle.mm_types.specs.declared.numbers.Place.{Place};
 ghost use Rattle.mm_wset.specs.Ages.{older};
 ghost use Rattle.mm_wset.specs.InOrder.{IsNextFrom};
-ghost use Rattle.mm_radix.specs.Pages.{pages};
+ghost use Rattle.mm_words.specs.Pages.{pages};
 ghost use Rattle.mm_types.specs.Address.{first_user_page, end_of_user_pages};
 ghost use Rattle.std.specs.Option.{ForSome};
 ghost use Rattle.mm_words.specs.Oldest.{ages_in, NoneBehind, IsOldestOf};
@@ -19,17 +19,18 @@ ghost use Rattle.mm_words.specs.Tables.{AsideBound, process_in, bound_in};
 use crate::aside::Aside;
 use crate::entries::entry_of;
 use crate::processes::Process;
-use mm_areas::Protos;
-use mm_entry::{Entry, encode};
+use crate::{Entry, Protos, encode};
 use mm_life::ResidentSet;
 use mm_types::{Area, Frame, Key, NoMemory, Pid, Place, Vpn};
 use std::alloc::Global;
 
 const MOST_PROCESSES: usize = 64;
 
-/// Page tables, working sets and prototype words, and the one private key whose entry stands beside the tables.
+/// Page tables, working sets and prototype words, and the one private key whose entry stands beside
+/// the tables.
 ///
-/// Contracts see it as `words`, a `WordsOf`: entries of places and keys; and as `ages`, the age of each valid place.
+/// Contracts see it as `words`, a `WordsOf`: entries of places and keys; and as `ages`, the age of
+/// each valid place.
 #[derive(Drop)]
 pub struct Words {
     alloc: Global,
@@ -60,7 +61,8 @@ fn index_of(processes: &Vec<Process>, pid: Pid) -> usize
 impl Words {
     ghost use Rattle.mm_words.specs.Shown.{words, ages, no_words, no_ages};
 
-    /// No process is there, no area is open, and nothing stands beside the tables. It takes the room for 64 processes.
+    /// No process is there, no area is open, and nothing stands beside the tables. It takes the
+    /// room for 64 processes.
     pub fn new(alloc: Global) -> Result<Words, NoMemory>
         ensures words { IfOk result (λ w. words w ≡ no_words) }
         ensures ages { IfOk result (λ w. ages w ≡ no_ages) }
@@ -74,20 +76,26 @@ impl Words {
         })
     }
 
-    /// The next process is there, closed, with these sizes of its working set and no page. It takes no memory.
+    /// The next process is there, closed, with these sizes of its working set and no page. It takes
+    /// no memory.
     pub fn begin_process(&mut self, min: u32, max: u32)
         requires { length (words self.old).sets < 64 }
-        ensures words { words self.new ≡ record (words self.old) { sets = (words self.old).sets ++ record { min = min; max = max; resident = 0 } ∷ [] } }
+        ensures words { words self.new ≡ record (words self.old) {
+          sets = (words self.old).sets ++ record { min = min; max = max; resident = 0 } ∷ [];
+        } }
         ensures ages { ages self.new ≡ ages self.old }
     {
         let process = Process::begin(self.alloc, min, max);
         self.processes.push_reserved(process);
     }
 
-    /// Opens a process that has begun, and takes the room of its working set. After `NoMemory` nothing has changed.
+    /// Opens a process that has begun, and takes the room of its working set. After `NoMemory`
+    /// nothing has changed.
     pub fn open_process(&mut self, pid: Pid) -> Result<(), NoMemory>
         requires { is_some (set_in (words self.old).sets pid.0) ≡ true }
-        ensures ok { OnOk result (words self.new ≡ record (words self.old) { is_open = changed ◌==◌ (words self.old).is_open pid.0 true }) }
+        ensures ok { OnOk result (words self.new ≡ record (words self.old) {
+          is_open = changed ◌==◌ (words self.old).is_open pid.0 true;
+        }) }
         ensures err { OnErr result (words self.new ≡ words self.old) }
         ensures ages { ages self.new ≡ ages self.old }
     {
@@ -98,20 +106,27 @@ impl Words {
     /// Closes an open process that has no bound place, and gives the room of its working set back.
     pub fn close_process(&mut self, pid: Pid)
         requires open { (words self.old).is_open pid.0 ≡ true }
-        requires unbound { (v : ℕ) → (words self.old).bound (place_of pid (record { 0 = v })) ≡ false }
-        ensures words { words self.new ≡ record (words self.old) { is_open = changed ◌==◌ (words self.old).is_open pid.0 false } }
+        requires unbound { (v : ℕ) → (words self.old).bound (place_of pid (record {
+          0 = v;
+        })) ≡ false }
+        ensures words { words self.new ≡ record (words self.old) {
+          is_open = changed ◌==◌ (words self.old).is_open pid.0 false;
+        } }
         ensures ages { ages self.new ≡ ages self.old }
     {
         let at = index_of(&self.processes, pid);
         self.processes[at].close();
     }
 
-    /// Binds `n` user pages of an open process from `first` on; those that were bound keep their entries. After `NoMemory` nothing has changed.
+    /// Binds `n` user pages of an open process from `first` on; those that were bound keep their
+    /// entries. After `NoMemory` nothing has changed.
     pub fn bind(&mut self, pid: Pid, first: Vpn, n: u32) -> Result<(), NoMemory>
         requires open { (words self.old).is_open pid.0 ≡ true }
         requires low { first_user_page ≤ first.0 }
         requires high { first.0 + n ≤ end_of_user_pages }
-        ensures ok { OnOk result (words self.new ≡ record (words self.old) { bound = changed_in (words self.old).bound pid.0 (pages first.0 n) true }) }
+        ensures ok { OnOk result (words self.new ≡ record (words self.old) {
+          bound = changed_in (words self.old).bound pid.0 (pages first.0 n) true;
+        }) }
         ensures err { OnErr result (words self.new ≡ words self.old) }
         ensures ages { ages self.new ≡ ages self.old }
     {
@@ -119,11 +134,18 @@ impl Words {
         self.processes[at].bind(first, n)
     }
 
-    /// Gives `n` bound pages of a process from `first` on up, none of which is valid. Nothing stands beside the tables.
+    /// Gives `n` bound pages of a process from `first` on up, none of which is valid. Nothing
+    /// stands beside the tables.
     pub fn unbind(&mut self, pid: Pid, first: Vpn, n: u32)
         requires open { (words self.old).is_open pid.0 ≡ true }
-        requires bound { (v : ℕ) → first.0 ≤ v → v < first.0 + n → (words self.old).bound (place_of pid (record { 0 = v })) ≡ true }
-        requires invalid { (v : ℕ) → first.0 ≤ v → v < first.0 + n → is_valid ((words self.old).at (place_of pid (record { 0 = v }))) ≡ false }
+        requires bound { (v : ℕ) → first.0 ≤ v → v < first.0 + n →
+            (words self.old).bound (place_of pid (record {
+              0 = v;
+            })) ≡ true }
+        requires invalid { (v : ℕ) → first.0 ≤ v → v < first.0 + n →
+            is_valid ((words self.old).at (place_of pid (record {
+              0 = v;
+            }))) ≡ false }
         requires none { (words self.old).aside ≡ None }
         ensures words { words self.new ≡ record (words self.old) {
           bound = changed_in (words self.old).bound pid.0 (pages first.0 n) false;
@@ -135,10 +157,13 @@ impl Words {
         self.processes[at].unbind(first, n);
     }
 
-    /// Opens an area that is not open, with `n` words of no entry. After `NoMemory` nothing has changed.
+    /// Opens an area that is not open, with `n` words of no entry. After `NoMemory` nothing has
+    /// changed.
     pub fn open_area(&mut self, a: Area, n: u32) -> Result<(), NoMemory>
         requires { (words self.old).sizes a.0 ≡ None }
-        ensures ok { OnOk result (words self.new ≡ record (words self.old) { sizes = changed ◌==◌ (words self.old).sizes a.0 (Some n) }) }
+        ensures ok { OnOk result (words self.new ≡ record (words self.old) {
+          sizes = changed ◌==◌ (words self.old).sizes a.0 (Some n);
+        }) }
         ensures err { OnErr result (words self.new ≡ words self.old) }
         ensures ages { ages self.new ≡ ages self.old }
     {
@@ -149,7 +174,9 @@ impl Words {
     pub fn close_area(&mut self, a: Area)
         requires open { is_some ((words self.old).sizes a.0) ≡ true }
         requires none { (i : ℕ) → (words self.old).proto a.0 i ≡ entry.Empty }
-        ensures words { words self.new ≡ record (words self.old) { sizes = changed ◌==◌ (words self.old).sizes a.0 None } }
+        ensures words { words self.new ≡ record (words self.old) {
+          sizes = changed ◌==◌ (words self.old).sizes a.0 None;
+        } }
         ensures ages { ages self.new ≡ ages self.old }
     {
         self.protos.close(a);
@@ -183,7 +210,8 @@ impl Words {
         }
     }
 
-    /// The entry of a key that has a word; the number of a valid entry is its place in the working set.
+    /// The entry of a key that has a word; the number of a valid entry is its place in the working
+    /// set.
     pub fn word(&self, key: Key) -> Entry
         requires { has_word (words self.now) key ≡ true }
         ensures { bare result ≡ word_of (words self.now) key }
@@ -196,21 +224,26 @@ impl Words {
 
     /// A key has a word where it has an entry, and no entry is told with a number.
     pub fn words_hold(&self)
-        ensures there { (k : Key) → is_there (word_of (words self.now) k) ≡ true → has_word (words self.now) k ≡ true }
-        ensures bound { (p : Place) → is_there ((words self.now).at p) ≡ true → (words self.now).bound p ≡ true }
+        ensures there { (k : Key) → is_there (word_of (words self.now) k) ≡ true →
+            has_word (words self.now) k ≡ true }
+        ensures bound { (p : Place) → is_there ((words self.now).at p) ≡ true →
+            (words self.now).bound p ≡ true }
         ensures bare { (p : Place) → bare ((words self.now).at p) ≡ (words self.now).at p }
     {
         let _whole = &self.aside;
     }
 
-    /// Exactly the valid places have an age, at most 7. A bound place is of an open process, an open process has begun, and
-    /// no working set has more pages than its greatest size.
+    /// Exactly the valid places have an age, at most 7. A bound place is of an open process, an
+    /// open process has begun, and no working set has more pages than its greatest size.
     pub fn working_sets_hold(&self)
         ensures aged { (p : Place) → is_some (ages self.now p) ≡ is_valid ((words self.now).at p) }
         ensures young { (p : Place) (age : ℕ) → ages self.now p ≡ Some age → age ≤ 7 }
-        ensures open { (p : Place) → (words self.now).bound p ≡ true → (words self.now).is_open p.pid.0 ≡ true }
-        ensures begun { (pid : ℕ) → (words self.now).is_open pid ≡ true → is_some (set_in (words self.now).sets pid) ≡ true }
-        ensures within { (pid : ℕ) (s : ResidentSet) → set_in (words self.now).sets pid ≡ Some s → s.resident ≤ s.max }
+        ensures open { (p : Place) → (words self.now).bound p ≡ true →
+            (words self.now).is_open p.pid.0 ≡ true }
+        ensures begun { (pid : ℕ) → (words self.now).is_open pid ≡ true →
+            is_some (set_in (words self.now).sets pid) ≡ true }
+        ensures within { (pid : ℕ) (s : ResidentSet) → set_in (words self.now).sets pid ≡ Some s →
+            s.resident ≤ s.max }
     {
         let _whole = &self.aside;
     }
@@ -231,7 +264,9 @@ impl Words {
         requires invalid { is_valid ((words self.old).at place) ≡ false }
         requires other { is_valid e ≡ false }
         requires fits { IsEntry e }
-        ensures words { words self.new ≡ record (words self.old) { at = changed same_place (words self.old).at place e } }
+        ensures words { words self.new ≡ record (words self.old) {
+          at = changed same_place (words self.old).at place e;
+        } }
         ensures ages { ages self.new ≡ ages self.old }
     {
         let at = index_of(&self.processes, place.pid);
@@ -244,7 +279,8 @@ impl Words {
         requires invalid { is_valid (own_word (words self.old) place) ≡ false }
         requires other { is_valid e ≡ false }
         requires fits { IsEntry e }
-        ensures words { words self.new ≡ with_own (is_aside (words self.old).aside place) (words self.old) place e }
+        ensures words { words self.new ≡ with_own (is_aside (words self.old).aside place)
+            (words self.old) place e }
         ensures ages { ages self.new ≡ ages self.old }
     {
         if self.is_beside(place) {
@@ -259,7 +295,9 @@ impl Words {
         requires has { has_word (words self.old) (Shared a i) ≡ true }
         requires plain { bare e ≡ e }
         requires fits { IsEntry e }
-        ensures words { words self.new ≡ record (words self.old) { proto = changed_at (words self.old).proto a.0 i e } }
+        ensures words { words self.new ≡ record (words self.old) {
+          proto = changed_at (words self.old).proto a.0 i e;
+        } }
         ensures ages { ages self.new ≡ ages self.old }
     {
         self.protos.set(a, i, encode(e));
@@ -304,7 +342,9 @@ impl Words {
 
     /// The key beside the tables, if it is that of the place, is there no more.
     fn forget_aside(&mut self, place: Place)
-        ensures words { words self.new ≡ record (words self.old) { aside = without_aside (words self.old).aside place } }
+        ensures words { words self.new ≡ record (words self.old) {
+          aside = without_aside (words self.old).aside place;
+        } }
         ensures ages { ages self.new ≡ ages self.old }
     {
         match self.aside {
@@ -353,17 +393,22 @@ impl Words {
     pub fn age_all(&mut self, pid: Pid)
         requires { (words self.old).is_open pid.0 ≡ true }
         ensures words { words self.new ≡ words self.old }
-        ensures ages { (x : Place) → ages self.new x ≡ (if x.pid.0 == pid.0 then option_map older (ages self.old x) else ages self.old x) }
+        ensures ages { (x : Place) →
+            ages self.new x ≡
+            (if x.pid.0 == pid.0 then option_map older (ages self.old x) else ages self.old x) }
     {
         let at = index_of(&self.processes, pid);
         self.processes[at].age_all();
     }
 
-    /// The valid page of a process that goes first, or with a valid page the one that goes next after it; none where there is none.
+    /// The valid page of a process that goes first, or with a valid page the one that goes next
+    /// after it; none where there is none.
     pub fn oldest(&self, pid: Pid, after: Option<Vpn>) -> Option<Vpn>
         requires open { (words self.now).is_open pid.0 ≡ true }
         requires held { ForSome after (λ v. is_some (ages_in (ages self.now) pid v.0) ≡ true) }
-        ensures { MatchOption result (NoneBehind (ages_in (ages self.now) pid) (option_map (λ w. w.0) after)) (λ v. IsOldestOf (ages_in (ages self.now) pid) (option_map (λ w. w.0) after) v.0) }
+        ensures { MatchOption result
+            (NoneBehind (ages_in (ages self.now) pid) (option_map (λ w. w.0) after))
+            (λ v. IsOldestOf (ages_in (ages self.now) pid) (option_map (λ w. w.0) after) v.0) }
     {
         let at = index_of(&self.processes, pid);
         self.processes[at].oldest(after)

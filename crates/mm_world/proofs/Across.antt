@@ -34,10 +34,11 @@ use Rattle.mm_world.proofs.Natural.{some-map, at_process, map-shared_page, map-r
 use Rattle.mm_world.proofs.NaturalSections.{with}
 use Rattle.mm_world.proofs.KeptPages.{own_in, own_page-cons, own_of}
 use Rattle.mm_world.proofs.LaidOut.{and-true}
-use Rattle.mm_world.proofs.Spaces as spaces
-use Rattle.mm_world.proofs.Spaces.{KeepsSpaces}
+use Rattle.mm_world.proofs.Spaces.{spaces_kept}
+use Rattle.mm_world.proofs.Edits.{any_terms, Edited}
+use Rattle.mm_world.proofs.CallEdits as calls
 use Rattle.mm_world.proofs.KeptCalls as kept
-use Rattle.mm_world.proofs.WellFormed as lines
+use Rattle.mm_world.proofs.LineEdits as lines
 use Rattle.mm_world.proofs.KeptCalls.{KeepsPages, key_kept}
 use Rattle.mm_world.proofs.Reconstruct.{tables_back, full_world}
 use Rattle.std.proofs.lemmas.Option.{IfSome_then}
@@ -194,8 +195,8 @@ bytes_at c k false a (Some y) new eb ea held kept = cc
 bytes_at c k b true old None eb ea held kept = cc
 bytes_at c k b false old (Some x) eb ea held kept = cc
 
-pub across_by : (t : Tables) (c : Key → Page) (q : OutcomeOf (Unit {0})) (o : OutcomeOf Page) → Spaces t → q ≡ tables_outcome o → Holds (KeepsPages (filled 0) (world_with t c)) o → Holds (KeepsSpaces (world_with t c)) o → AcrossBytes t c q o
-across_by t c q o spaces natural pages kept =
+pub across_by : (t : Tables) (c : Key → Page) (q : OutcomeOf (Unit {0})) (o : OutcomeOf Page) → Spaces t → q ≡ tables_outcome o → Holds (KeepsPages (filled 0) (world_with t c)) o → Holds (Edited any_terms (world_with t c)) o → AcrossBytes t c q o
+across_by t c q o spaces natural pages edits =
     let w = world_with t c in
     let before : Spaces w = spaces_back no_bytes w (subst (λ t. Spaces t) (sym (tables_back c t)) spaces) in
     let answers : q.answer ≡ o.answer = ap (λ (q : OutcomeOf (Unit {0})). q.answer) natural in
@@ -209,7 +210,7 @@ across_by t c q o spaces natural pages kept =
           ∙ bytes_at c k (is_some (content_of t k)) (is_some (content_of q.world k)) (content_of w k) (content_of o.world k) live_before live_after
           (λ x e. holds_bytes c t k x e) (λ x e. key_kept (filled 0) w o k x pages before e)) in
           let worlds : o.world ≡ world_with q.world new =
-          sym (full_world o.world (kept.it.kept before)) ∙ (λ i. world_with (sym tables i) (sym same i)) in
+          sym (full_world o.world (spaces_kept (any_terms o.answer) w o.world edits.it.edits before)) ∙ (λ i. world_with (sym tables i) (sym same i)) in
           λ i. record { answer = sym answers i; world = worlds i };
     }
 
@@ -219,89 +220,89 @@ module _ (t : Tables) (c : Key → Page) (fits : Spaces t) where
   pub alloc_across : (pid addr size type prot : ℕ) → AcrossBytes t c (alloc blank t pid addr size type prot) (alloc filled (world_with t c) pid addr size type prot)
   alloc_across pid addr size type prot =
       across_by t c (alloc blank t pid addr size type prot) (alloc filled (world_with t c) pid addr size type prot) fits (ap (λ t. alloc blank t pid addr size type prot) (sym (tables_back c t)) ∙ (natural.in_alloc no_bytes filled (world_with t c) pid addr size type prot).same)
-      (kept.in_alloc filled (world_with t c) pid addr size type prot) (spaces.in_alloc filled (world_with t c) pid addr size type prot)
+      (kept.in_alloc filled (world_with t c) pid addr size type prot) (calls.in_alloc any_terms filled (world_with t c) pid addr size type prot (λ a e. cc) (λ a n m. tt))
 
   pub free_across : (pid addr size type : ℕ) → AcrossBytes t c (free t pid addr size type) (free (world_with t c) pid addr size type)
   free_across pid addr size type =
       across_by t c (free t pid addr size type) (free (world_with t c) pid addr size type) fits (ap (λ t. free t pid addr size type) (sym (tables_back c t)) ∙ (natural.in_free no_bytes (world_with t c) pid addr size type).same)
-      (kept.in_free (filled 0) (world_with t c) pid addr size type) (spaces.in_free (world_with t c) pid addr size type)
+      (kept.in_free (filled 0) (world_with t c) pid addr size type) (calls.in_free any_terms (world_with t c) pid addr size type refl (λ is x here at. refl) (λ n m h. tt))
 
   pub protect_across : (pid addr size prot : ℕ) → AcrossBytes t c (protect t pid addr size prot) (protect (world_with t c) pid addr size prot)
   protect_across pid addr size prot =
       across_by t c (protect t pid addr size prot) (protect (world_with t c) pid addr size prot) fits (ap (λ t. protect t pid addr size prot) (sym (tables_back c t)) ∙ (natural.in_protect no_bytes (world_with t c) pid addr size prot).same)
-      (kept.in_protect (filled 0) (world_with t c) pid addr size prot) (spaces.in_protect (world_with t c) pid addr size prot)
+      (kept.in_protect (filled 0) (world_with t c) pid addr size prot) (calls.in_protect any_terms (world_with t c) pid addr size prot (λ a n m. tt))
 
   pub query_across : (pid addr : ℕ) → AcrossBytes t c (query t pid addr) (query (world_with t c) pid addr)
   query_across pid addr =
       across_by t c (query t pid addr) (query (world_with t c) pid addr) fits (ap (λ t. query t pid addr) (sym (tables_back c t)) ∙ (sections.in_query no_bytes (world_with t c) pid addr).same)
-      (kept.in_query (filled 0) (world_with t c) pid addr) (spaces.in_query (world_with t c) pid addr)
+      (kept.in_query (filled 0) (world_with t c) pid addr) (calls.in_query any_terms (world_with t c) pid addr)
 
   pub watch_across : (pid : ℕ) (unwrites : Bool) (addr size count : ℕ) → AcrossBytes t c (watch t pid unwrites addr size count) (watch (world_with t c) pid unwrites addr size count)
   watch_across pid unwrites addr size count =
       across_by t c (watch t pid unwrites addr size count) (watch (world_with t c) pid unwrites addr size count) fits (ap (λ t. watch t pid unwrites addr size count) (sym (tables_back c t)) ∙ (sections.in_watch no_bytes (world_with t c) pid unwrites addr size count).same)
-      (kept.in_watch (filled 0) (world_with t c) pid unwrites addr size count) (spaces.in_watch (world_with t c) pid unwrites addr size count)
+      (kept.in_watch (filled 0) (world_with t c) pid unwrites addr size count) (calls.in_watch any_terms (world_with t c) pid unwrites addr size count (λ a. refl))
 
   pub reset_watch_across : (pid addr size : ℕ) → AcrossBytes t c (reset_watch t pid addr size) (reset_watch (world_with t c) pid addr size)
   reset_watch_across pid addr size =
       across_by t c (reset_watch t pid addr size) (reset_watch (world_with t c) pid addr size) fits (ap (λ t. reset_watch t pid addr size) (sym (tables_back c t)) ∙ (sections.in_reset_watch no_bytes (world_with t c) pid addr size).same)
-      (kept.in_reset_watch (filled 0) (world_with t c) pid addr size) (spaces.in_reset_watch (world_with t c) pid addr size)
+      (kept.in_reset_watch (filled 0) (world_with t c) pid addr size) (calls.in_reset_watch any_terms (world_with t c) pid addr size (λ a. refl))
 
   pub close_across : (pid handle : ℕ) → AcrossBytes t c (close t pid handle) (close (world_with t c) pid handle)
   close_across pid handle =
       across_by t c (close t pid handle) (close (world_with t c) pid handle) fits (ap (λ t. close t pid handle) (sym (tables_back c t)) ∙ (sections.in_close no_bytes (world_with t c) pid handle).same)
-      (kept.in_close (filled 0) (world_with t c) pid handle) (spaces.in_close (world_with t c) pid handle)
+      (kept.in_close (filled 0) (world_with t c) pid handle) (calls.in_close any_terms (world_with t c) pid handle (λ n m h. tt))
 
   pub map_across : (pid handle access offset len addr : ℕ) → AcrossBytes t c (map_view t pid handle access offset len addr) (map_view (world_with t c) pid handle access offset len addr)
   map_across pid handle access offset len addr =
       across_by t c (map_view t pid handle access offset len addr) (map_view (world_with t c) pid handle access offset len addr) fits (ap (λ t. map_view t pid handle access offset len addr) (sym (tables_back c t)) ∙ (sections.in_map no_bytes (world_with t c) pid handle access offset len addr).same)
-      (kept.in_map (filled 0) (world_with t c) pid handle access offset len addr) (spaces.in_map (world_with t c) pid handle access offset len addr)
+      (kept.in_map (filled 0) (world_with t c) pid handle access offset len addr) (calls.in_map any_terms (world_with t c) pid handle access offset len addr (λ a n m. tt))
 
   pub unmap_across : (pid addr : ℕ) → AcrossBytes t c (unmap t pid addr) (unmap (world_with t c) pid addr)
   unmap_across pid addr =
       across_by t c (unmap t pid addr) (unmap (world_with t c) pid addr) fits (ap (λ t. unmap t pid addr) (sym (tables_back c t)) ∙ (sections.in_unmap no_bytes (world_with t c) pid addr).same)
-      (kept.in_unmap (filled 0) (world_with t c) pid addr) (spaces.in_unmap (world_with t c) pid addr)
+      (kept.in_unmap (filled 0) (world_with t c) pid addr) (calls.in_unmap any_terms (world_with t c) pid addr (λ n m h. tt))
 
   pub flush_across : (pid addr size : ℕ) → AcrossBytes t c (flush t pid addr size) (flush (world_with t c) pid addr size)
   flush_across pid addr size =
       across_by t c (flush t pid addr size) (flush (world_with t c) pid addr size) fits (ap (λ t. flush t pid addr size) (sym (tables_back c t)) ∙ (sections.in_flush no_bytes (world_with t c) pid addr size).same)
-      (kept.in_flush (filled 0) (world_with t c) pid addr size) (spaces.in_flush (world_with t c) pid addr size)
+      (kept.in_flush (filled 0) (world_with t c) pid addr size) (calls.in_flush any_terms (world_with t c) pid addr size)
 
   pub exit_across : (pid : ℕ) → AcrossBytes t c (exit t pid) (exit (world_with t c) pid)
   exit_across pid =
       across_by t c (exit t pid) (exit (world_with t c) pid) fits (ap (λ t. exit t pid) (sym (tables_back c t)) ∙ (sections.in_exit no_bytes (world_with t c) pid).same)
-      (kept.in_exit (filled 0) (world_with t c) pid) (spaces.in_exit (world_with t c) pid)
+      (kept.in_exit (filled 0) (world_with t c) pid) (calls.in_exit any_terms (world_with t c) pid refl refl (λ x here. refl) (λ n m h. tt))
 
   pub grow_across : (n : ℕ) → AcrossBytes t c (grow t n) (grow (world_with t c) n)
   grow_across n =
       across_by t c (grow t n) (grow (world_with t c) n) fits (ap (λ t. grow t n) (sym (tables_back c t)) ∙ (sections.in_grow no_bytes (world_with t c) n).same)
-      (kept.in_grow (filled 0) (world_with t c) n) (spaces.in_grow (world_with t c) n)
+      (kept.in_grow (filled 0) (world_with t c) n) (calls.in_grow any_terms (world_with t c) n)
 
   pub create_across : (pid size flags : ℕ) (name : Option Text) → AcrossBytes t c (create blank t pid size flags name) (create filled (world_with t c) pid size flags name)
   create_across pid size flags name =
       across_by t c (create blank t pid size flags name) (create filled (world_with t c) pid size flags name) fits (ap (λ t. create blank t pid size flags name) (sym (tables_back c t)) ∙ (sections.in_create no_bytes filled (world_with t c) pid size flags name).same)
-      (kept.in_create filled (world_with t c) pid size flags name) (spaces.in_create filled (world_with t c) pid size flags name)
+      (kept.in_create filled (world_with t c) pid size flags name) (calls.in_create any_terms filled (world_with t c) pid size flags name (λ a n m. tt))
 
   pub create_file_across : (pid : ℕ) (file : Text) (flags : ℕ) (name : Option Text) → AcrossBytes t c (create_file t pid file flags name) (create_file (world_with t c) pid file flags name)
   create_file_across pid file flags name =
       across_by t c (create_file t pid file flags name) (create_file (world_with t c) pid file flags name) fits (ap (λ t. create_file t pid file flags name) (sym (tables_back c t)) ∙ (sections.in_create_file no_bytes (world_with t c) pid file flags name).same)
-      (kept.in_create_file (filled 0) (world_with t c) pid file flags name) (spaces.in_create_file (world_with t c) pid file flags name)
+      (kept.in_create_file (filled 0) (world_with t c) pid file flags name) (calls.in_create_file any_terms (world_with t c) pid file flags name)
 
   pub open_across : (pid : ℕ) (name : Text) → AcrossBytes t c (open_section t pid name) (open_section (world_with t c) pid name)
   open_across pid name =
       across_by t c (open_section t pid name) (open_section (world_with t c) pid name) fits (ap (λ t. open_section t pid name) (sym (tables_back c t)) ∙ (sections.in_open no_bytes (world_with t c) pid name).same)
-      (kept.in_open (filled 0) (world_with t c) pid name) (spaces.in_open (world_with t c) pid name)
+      (kept.in_open (filled 0) (world_with t c) pid name) (calls.in_open any_terms (world_with t c) pid name)
 
   pub new_process_across : AcrossBytes t c (new_process t) (new_process (world_with t c))
   new_process_across =
       across_by t c (new_process t) (new_process (world_with t c)) fits (ap (λ t. new_process t) (sym (tables_back c t)) ∙ (sections.in_new_process no_bytes (world_with t c)).same)
-      (kept.in_new_process (filled 0) (world_with t c)) (spaces.in_new_process (world_with t c))
+      (kept.in_new_process (filled 0) (world_with t c)) (calls.in_new_process any_terms (world_with t c))
 
   pub take_fail_across : AcrossBytes t c (take_fail t) (take_fail (world_with t c))
   take_fail_across =
       across_by t c (take_fail t) (take_fail (world_with t c)) fits (ap (λ t. take_fail t) (sym (tables_back c t)) ∙ (sections.in_take_fail no_bytes (world_with t c)).same)
-      (kept.in_take_fail (filled 0) (world_with t c)) (spaces.in_take_fail (world_with t c))
+      (kept.in_take_fail (filled 0) (world_with t c)) (calls.in_take_fail any_terms (world_with t c))
 
   pub stack_across : (tid pid reserve commit : ℕ) → AcrossBytes t c (stack blank t tid pid reserve commit) (stack filled (world_with t c) tid pid reserve commit)
   stack_across tid pid reserve commit =
       across_by t c (stack blank t tid pid reserve commit) (stack filled (world_with t c) tid pid reserve commit) fits (ap (λ t. stack blank t tid pid reserve commit) (sym (tables_back c t)) ∙ (sections.in_stack no_bytes filled (world_with t c) tid pid reserve commit).same)
-      (kept.in_stack filled (world_with t c) tid pid reserve commit) (lines.in_stack (world_with t c) tid pid reserve commit)
+      (kept.in_stack filled (world_with t c) tid pid reserve commit) (lines.in_stack filled any_terms (λ a. refl) (λ a n m. tt) (world_with t c) tid pid reserve commit)

@@ -16,7 +16,9 @@ use Rattle.mm_world.specs.Contents.{Tables, no_bytes, tables_of, tables_outcome,
 use Rattle.mm_world.specs.WellFormed.{Spaces}
 use Rattle.mm_world.proofs.Tables.{Holds, tables}
 use Rattle.mm_world.proofs.NaturalSections as sections
-use Rattle.mm_world.proofs.Spaces as spaces
+use Rattle.mm_world.proofs.Spaces.{spaces_kept}
+use Rattle.mm_world.proofs.Edits.{any_terms}
+use Rattle.mm_world.proofs.CallEdits as calls
 use Rattle.mm_world.proofs.KeptPages.{Kept, kept_same, shared_pushed, own_of}
 use Rattle.mm_world.proofs.Reconstruct.{tables_back, full_world}
 use Rattle.mm_world.proofs.Across.{spaces_back, live_back, holds_bytes}
@@ -80,6 +82,6 @@ new_file_across t c fits name pages byte =
           ∙ bytes_at (c k) (file_bytes byte k) (is_some (content_of t k)) (is_some (content_of q.world k)) (content_of w k) (content_of o.world k) live_before live_after
           (λ x e. holds_bytes c t k x e) (((in_new_file w name pages byte).it.kept k).kept)) in
           let worlds : o.world ≡ world_with q.world new =
-          sym (full_world o.world ((spaces.in_new_file filled w name pages byte).it.kept before)) ∙ (λ i. world_with (sym tables i) (sym same i)) in
+          sym (full_world o.world (spaces_kept (any_terms o.answer) w o.world (calls.in_new_file any_terms filled w name pages byte).it.edits before)) ∙ (λ i. world_with (sym tables i) (sym same i)) in
           λ i. record { answer = sym answers i; world = worlds i };
     }

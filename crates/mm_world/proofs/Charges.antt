@@ -1,5 +1,5 @@
 -- What lines do to the charge.
-use Rattle.std.proofs.Common.{◌≡◌, ℕ, ◌+◌, ◌-◌, ◌≤◌, ◌<◌, Bool, true, false, Option, Some, None, List, [], ◌∷◌, ◌++◌, refl, sym, ◌∙◌, ap, cond, arith, length, is_some, is_none, sum_by, count_by, set, map, take, drop, ◌&&◌, ◌||◌, slice_get}
+use Rattle.std.proofs.Common.{zero, suc, subst, unwrap_or, nat_lt, ◌≡◌, ℕ, ◌+◌, ◌-◌, ◌≤◌, ◌<◌, Bool, true, false, Option, Some, None, List, [], ◌∷◌, ◌++◌, refl, sym, ◌∙◌, ap, cond, arith, length, is_some, is_none, sum_by, count_by, set, map, take, drop, ◌&&◌, ◌||◌, slice_get}
 use Rattle.std.specs.Prelude.{remove}
 use Rattle.std.specs.List.{list_any}
 use Rattle.std.proofs.lemmas.List.{take-append-drop}
@@ -7,27 +7,24 @@ use Rattle.std.proofs.lemmas.List.Sums.{sum_by-set, sum_by-cons, sum_by-append, 
 use Rattle.std.proofs.lemmas.Option.{get_or_from_slice_get, slice_get_within}
 use Rattle.mm_types.specs.declared.codes.Code.{Code}
 use Rattle.mm_types.specs.declared.answers.Answer.{Answer}
-use Rattle.mm_types.specs.declared.answers.Answer.TheVariants as answer
 use Rattle.mm_types.specs.declared.views.Kind.{Kind}
 use Rattle.mm_types.specs.declared.views.Kind.TheVariants as kind
 use Rattle.mm_types.specs.Address.{Range}
 use Rattle.mm_types.specs.Spelling.{Text}
-use Rattle.mm_world.specs.World.{StackOf, WorldOf, ProcessOf, RegionOf, RowOf, AreaOf, SectionOf, FileOf, Numbered}
-use Rattle.mm_world.specs.Find.{end_stacks, Found, first_where, change_range, process_of, set_process, set_regions, set_region, no_area}
+use Rattle.mm_world.specs.World.{WorldOf, ProcessOf, RegionOf, RowOf, AreaOf, SectionOf, Numbered}
+use Rattle.mm_world.specs.Find.{add_region, set_area, Found, change_range, process_of, set_process, set_regions, set_region, no_area}
 use Rattle.mm_world.specs.Charge.{charge, limit, is_charged, region_charge, process_charge, area_charge}
-use Rattle.mm_world.specs.Outcome.{OutcomeOf, done, refused, with_process}
-use Rattle.mm_world.specs.Watch.{watch, reset_watch}
-use Rattle.mm_world.specs.Rows.{change_flags, reserved_row, change_rows}
+use Rattle.mm_world.specs.Outcome.{OutcomeOf, done, refused}
+use Rattle.mm_world.specs.Rows.{reserved_row, change_rows}
 use Rattle.mm_world.specs.Alloc.{alloc, commit_in}
-use Rattle.mm_world.specs.Free.{free, decommit}
 use Rattle.mm_world.specs.Protect.{protect}
-use Rattle.mm_world.specs.Query.{query}
-use Rattle.mm_world.specs.Sections.{create, create_file, open_section, close, handle_or, with_handle, new_section, settle, settled_area, settled_areas, settled_sections, uses}
-use Rattle.mm_world.specs.Views.{map_view, unmap, flush}
-use Rattle.mm_world.specs.Processes.{new_process, exit, new_file, take_fail, grow, with_slots, no_regions}
+use Rattle.mm_world.specs.Sections.{create, handle_or, with_handle, settle, settled_area, settled_areas, settled_sections, uses}
+use Rattle.mm_world.specs.Views.{map_view}
+use Rattle.mm_world.specs.Processes.{no_regions}
 use Rattle.mm_world.specs.Laws.{KeepsLimit}
 use Rattle.mm_world.proofs.Tables.{Holds, tables}
-use Rattle.mm_world.proofs.Finding.{found_stands, numbered_inside}
+use Rattle.mm_world.proofs.Edits.{Moves, Rises, Falls, Stays, Charged, Terms, RegionEdit, RegionComes, RegionGoes, RegionChanges, Edit, Rest, Regions, HandleComes, HandleGoes, SectionComes, AreaComes, AreaChanges, FileComes, Settles, ProcessComes, ProcessGoes, Edits, Nothing, Then}
+use Rattle.mm_world.proofs.Finding.{numbered_inside}
 
 -- ---- sums
 
@@ -70,6 +67,24 @@ count_by-change_range test change first count xs none =
     let rest : count_by test later ≡ count_by test (take count later) + count_by test (drop count later) = sum_by-split f later count in
     omega (arith, whole, front, count_by-none test change (take count later) none, before, rest)
 
+-- ---- what edits may do
+
+pub stays_charged : (c : Moves) (old new : ℕ) → new ≡ old → Charged c old new
+stays_charged Rises old new same = tt
+stays_charged Falls old new same = omega (arith, same)
+stays_charged Stays old new same = same
+
+-- one thing in a sum is changed
+moved : (c : Moves) (old new before after : ℕ) → after + old ≡ before + new → Charged c old new → Charged c before after
+moved Rises old new before after sum h = tt
+moved Falls old new before after sum h = omega (arith, sum, h)
+moved Stays old new before after sum h = omega (arith, sum, h)
+
+then_charged : (c : Moves) (before middle after : ℕ) → Charged c before middle → Charged c middle after → Charged c before after
+then_charged Rises before middle after h k = tt
+then_charged Falls before middle after h k = omega (arith, h, k)
+then_charged Stays before middle after h k = k ∙ h
+
 module _ {B : Type 0} where
   -- ---- processes and regions
 
@@ -82,6 +97,11 @@ module _ {B : Type 0} where
 
   pub charge-set_regions : (w : WorldOf B) (pid : ℕ) (p : ProcessOf B) (rs : List (RegionOf B)) → process_of w pid ≡ Some p → charge (set_regions w pid p rs) + sum_by region_charge p.regions ≡ charge w + sum_by region_charge rs
   charge-set_regions w pid p rs lives = charge-set_process w pid p (Some (record p { regions = rs })) lives
+
+  charge-add_region : (new : RegionOf B) (rs : List (RegionOf B)) → sum_by region_charge (add_region new rs) ≡ sum_by region_charge rs + region_charge new
+  charge-add_region new rs =
+      let i = count_by (λ r. nat_lt r.base new.base) rs in
+      omega (arith, sum_by-append region_charge (take i rs) (new ∷ drop i rs), sum_by-cons region_charge new (drop i rs), sum_by-split region_charge rs i)
 
   pub charge-same_regions : (w : WorldOf B) (pid : ℕ) (p : ProcessOf B) (handles : Numbered ℕ) → process_of w pid ≡ Some p → charge (set_process w pid (Some (record p { handles = handles }))) ≡ charge w
   charge-same_regions w pid p handles lives = omega (arith, charge-set_process w pid p (Some (record p { handles = handles })) lives)
@@ -119,21 +139,7 @@ module _ {B : Type 0} where
   pub charge-settle : (w : WorldOf B) → charge (settle w) ≤ charge w
   charge-settle w = omega (arith, settled_sum (settled_sections w.processes 0 w.sections) 0 w.areas)
 
-  -- ---- lines that add no charge
-
-  -- the charge does not rise, and the limit does not fall
-  pub record NoRise (w : WorldOf B) (o : OutcomeOf B) : Type 0 where
-    pub less : charge o.world ≤ charge w
-    pub more : limit w ≤ limit o.world
-
-  no_rise : (w v : WorldOf B) (a : Answer) → charge v ≤ charge w → limit w ≤ limit v → Holds (NoRise w) (done a v)
-  no_rise w v a less more = record { it = record { less = less; more = more } }
-
-  by_refusal : (w : WorldOf B) (why : Code) → Holds (NoRise w) (refused w why)
-  by_refusal w why = record { it = record { less = omega arith; more = omega arith } }
-
-  pub by_same : (w : WorldOf B) (a : Answer) → Holds (NoRise w) (done a w)
-  by_same w a = record { it = record { less = omega arith; more = omega arith } }
+  -- ---- decommitted rows, and files
 
   abbrev cleared : RowOf B → RowOf B
   cleared row = reserved_row
@@ -142,121 +148,30 @@ module _ {B : Type 0} where
   none_charged kind.Private row = refl
   none_charged (kind.View v) row = refl
 
-  decommit_less : (r : RegionOf B) (range : Range) → region_charge (change_rows cleared range r) ≤ region_charge r
+  pub decommit_less : (r : RegionOf B) (range : Range) → region_charge (change_rows cleared range r) ≤ region_charge r
   decommit_less r range = count_by-change_range (is_charged r.kind) cleared (range.first - r.base) range.count r.rows (none_charged r.kind)
 
-  by_decommit : (w : WorldOf B) (pid : ℕ) (p : ProcessOf B) (r : Found (RegionOf B)) (range : Range) (test : RegionOf B → Bool) → process_of w pid ≡ Some p → first_where test p.regions ≡ Some r → Holds (NoRise w) (decommit w pid p r range)
-  by_decommit w pid p r range test lives found =
-      no_rise w _ _
-      (omega (arith, charge-set_region w pid p r.place r.thing (change_rows cleared range r.thing) lives (found_stands test p.regions r found).there, decommit_less r.thing range))
-      (omega arith)
-
-  by_release : (w : WorldOf B) (pid : ℕ) (p : ProcessOf B) (r : Found (RegionOf B)) (ends : StackOf → Bool) (a : Answer) (test : RegionOf B → Bool) → process_of w pid ≡ Some p → first_where test p.regions ≡ Some r → Holds (NoRise w) (done a (end_stacks (set_regions w pid p (remove p.regions r.place)) ends))
-  by_release w pid p r ends a test lives found =
-      no_rise w _ a (omega (arith, charge-remove_region w pid p r.place r.thing lives (found_stands test p.regions r found).there)) (omega arith)
-
-  -- the flags of a watched region are charged nothing
-  pub by_flags : (w : WorldOf B) (pid : ℕ) (p : ProcessOf B) (r : Found (RegionOf B)) (flags : List Bool → List Bool) (a : Answer) (test : RegionOf B → Bool) → process_of w pid ≡ Some p → first_where test p.regions ≡ Some r → Holds (NoRise w) (done a (set_region w pid p r.place (change_flags flags r.thing)))
-  by_flags w pid p r flags a test lives found =
-      no_rise w _ a (omega (arith, charge-set_region w pid p r.place r.thing (change_flags flags r.thing) lives (found_stands test p.regions r found).there)) (omega arith)
-
-  ruleset rising = (tables, by_refusal, by_same)
-
-  pub in_free : (w : WorldOf B) (pid addr size type : ℕ) → Holds (NoRise w) (free w pid addr size type)
-  in_free w pid addr size type = search (rising, by_decommit, by_release) depth 14
-
-  pub in_watch : (w : WorldOf B) (pid : ℕ) (unwrites : Bool) (addr size count : ℕ) → Holds (NoRise w) (watch w pid unwrites addr size count)
-  in_watch w pid unwrites addr size count = search (rising, by_flags) depth 12
-
-  pub in_reset_watch : (w : WorldOf B) (pid addr size : ℕ) → Holds (NoRise w) (reset_watch w pid addr size)
-  in_reset_watch w pid addr size = search (rising, by_flags) depth 12
-
-  pub in_query : (w : WorldOf B) (pid addr : ℕ) → Holds (NoRise w) (query w pid addr)
-  in_query w pid addr = search rising depth 12
-
-  by_handle : (w : WorldOf B) (pid : ℕ) (p : ProcessOf B) (number : ℕ) (a : Answer) → process_of w pid ≡ Some p → Holds (NoRise w) (done a (with_handle w pid p number))
-  by_handle w pid p number a lives = no_rise w _ a (omega (arith, charge-same_regions w pid p (p.handles ++ Some number ∷ []) lives)) (omega arith)
-
-  pub by_section : (w : WorldOf B) (pid : ℕ) (p : ProcessOf B) (s : SectionOf) → process_of w pid ≡ Some p → Holds (NoRise w) (new_section w pid p s)
-  by_section w pid p s lives = no_rise w _ _ (omega (arith, charge-same_regions w pid p (p.handles ++ Some (length w.sections) ∷ []) lives)) (omega arith)
-
-  in_handle_or : (w : WorldOf B) (pid : ℕ) (p : ProcessOf B) (found : Option ℕ) (made : OutcomeOf B) → process_of w pid ≡ Some p → Holds (NoRise w) made → Holds (NoRise w) (handle_or w pid p found made)
-  in_handle_or w pid p None made lives h = h
-  in_handle_or w pid p (Some number) made lives h = by_handle w pid p number _ lives
-
-  pub in_create_file : (w : WorldOf B) (pid : ℕ) (file : Text) (flags : ℕ) (name : Option Text) → Holds (NoRise w) (create_file w pid file flags name)
-  in_create_file w pid file flags name = search (rising, in_handle_or, by_section) depth 14
-
-  pub in_open : (w : WorldOf B) (pid : ℕ) (name : Text) → Holds (NoRise w) (open_section w pid name)
-  in_open w pid name = search (rising, by_handle) depth 12
-
-  by_close : (w : WorldOf B) (pid : ℕ) (p : ProcessOf B) (handles : Numbered ℕ) (a : Answer) → process_of w pid ≡ Some p → Holds (NoRise w) (done a (settle (set_process w pid (Some (record p { handles = handles })))))
-  by_close w pid p handles a lives =
-      no_rise w _ a (omega (arith, charge-settle (set_process w pid (Some (record p { handles = handles }))), charge-same_regions w pid p handles lives)) (omega arith)
-
-  pub in_close : (w : WorldOf B) (pid handle : ℕ) → Holds (NoRise w) (close w pid handle)
-  in_close w pid handle = search (rising, by_close) depth 12
-
-  by_unmap : (w : WorldOf B) (pid : ℕ) (p : ProcessOf B) (r : Found (RegionOf B)) (a : Answer) (test : RegionOf B → Bool) → process_of w pid ≡ Some p → first_where test p.regions ≡ Some r → Holds (NoRise w) (done a (settle (set_regions w pid p (remove p.regions r.place))))
-  by_unmap w pid p r a test lives found =
-      no_rise w _ a
-      (omega (arith, charge-settle (set_regions w pid p (remove p.regions r.place)), charge-remove_region w pid p r.place r.thing lives (found_stands test p.regions r found).there))
-      (omega arith)
-
-  pub in_unmap : (w : WorldOf B) (pid addr : ℕ) → Holds (NoRise w) (unmap w pid addr)
-  in_unmap w pid addr = search (rising, by_unmap) depth 12
-
-  pub in_flush : (w : WorldOf B) (pid addr size : ℕ) → Holds (NoRise w) (flush w pid addr size)
-  in_flush w pid addr size = search rising depth 12
-
-  by_exit : (w v : WorldOf B) (pid : ℕ) (p : ProcessOf B) (a : Answer) → process_of v pid ≡ Some p → charge v ≡ charge w → limit v ≡ limit w → Holds (NoRise w) (done a (settle (set_process v pid None)))
-  by_exit w v pid p a lives same_charge same_limit =
-      no_rise w _ a (omega (arith, charge-settle (set_process v pid None), charge-set_process v pid p None lives, same_charge)) (omega (arith, same_limit))
-
-  pub in_exit : (w : WorldOf B) (pid : ℕ) → Holds (NoRise w) (exit w pid)
-  in_exit w pid = search (rising, by_exit) depth 12
-
-  pub in_new_process : (w : WorldOf B) → Holds (NoRise w) (new_process w)
-  in_new_process w = search (rising, by_new) depth 12
+  pub not_charged : (a : AreaOf B) (block : ℕ) → a.file_block ≡ Some block → area_charge a ≡ 0
+  not_charged a block is_file =
+      count_by-never (λ page. is_some page && is_none a.file_block) a.pages (λ page. and_false (is_some page) (is_none a.file_block) (ap is_none is_file))
     where
-      by_new : (a : Answer) → Holds (NoRise w) (done a (record w { processes = w.processes ++ Some no_regions ∷ [] }))
-      by_new a = no_rise w _ a (omega (arith, sum_by_push process_charge w.processes (Some no_regions))) (omega arith)
+      and_false : (b c : Bool) → c ≡ false → (b && c) ≡ false
+      and_false true c e = e
+      and_false false c e = refl
 
-  pub in_take_fail : (w : WorldOf B) → Holds (NoRise w) (take_fail w)
-  in_take_fail w = search (rising, by_count) depth 12
+  set_area_charge : (areas : List (AreaOf B)) (at : ℕ) (a : AreaOf B) (c : Moves) → Charged c (area_charge (unwrap_or (slice_get areas at) no_area)) (area_charge a) → Charged c (sum_by area_charge areas) (sum_by area_charge (set areas at a))
+  set_area_charge areas at a c h = by_place (slice_get areas at) refl h
     where
-      by_count : (a : Answer) (n : ℕ) → Holds (NoRise w) (done a (record w { fails_taken = n }))
-      by_count a n = no_rise w _ a (omega arith) (omega arith)
+      beyond : (areas : List (AreaOf B)) (at : ℕ) → slice_get areas at ≡ None → set areas at a ≡ areas
+      beyond [] at e = refl
+      beyond (b ∷ areas) zero e = cc
+      beyond (b ∷ areas) (suc at) e = ap (λ (as' : List (AreaOf B)). b ∷ as') (beyond areas at e)
 
-  pub in_grow : (w : WorldOf B) (n : ℕ) → Holds (NoRise w) (grow w n)
-  in_grow w n = search (rising, by_slots) depth 12
-    where
-      by_slots : (a : Answer) → Holds (NoRise w) (done a (record w { machine = with_slots w.machine n }))
-      by_slots a = no_rise w _ a (omega arith) (omega arith)
-
-  pub in_new_file : (fill : ℕ → B) (w : WorldOf B) (name : Text) (pages byte : ℕ) → Holds (NoRise w) (new_file fill w name pages byte)
-  in_new_file fill w name pages byte = search (rising, by_file) depth 12
-    where
-      not_charged : (a : AreaOf B) (block : ℕ) → a.file_block ≡ Some block → area_charge a ≡ 0
-      not_charged a block is_file =
-          count_by-never (λ page. is_some page && is_none a.file_block) a.pages (λ page. and_false (is_some page) (is_none a.file_block) (ap is_none is_file))
-        where
-          and_false : (b c : Bool) → c ≡ false → (b && c) ≡ false
-          and_false true c e = e
-          and_false false c e = refl
-
-      by_file : (a : Answer) (files : List FileOf) (pages : List (Option B)) (block used : ℕ) → Holds (NoRise w) (done a (record w { files = files; areas = w.areas ++ record { file_block = Some block; pages = pages } ∷ []; blocks_used = used }))
-      by_file a files pages block used =
-          let area : AreaOf B = record { file_block = Some block; pages = pages } in
-          no_rise w _ a (omega (arith, sum_by_push area_charge w.areas area, not_charged area block refl)) (omega arith)
-
-  pub in_store_line : (w : WorldOf B) (pid : ℕ) → Holds (NoRise w) (with_process w pid (λ p. done answer.Ok w))
-  in_store_line w pid = search rising depth 12
+      by_place : (o : Option (AreaOf B)) → slice_get areas at ≡ o → Charged c (area_charge (unwrap_or o no_area)) (area_charge a) → Charged c (sum_by area_charge areas) (sum_by area_charge (set areas at a))
+      by_place None e h = stays_charged c (sum_by area_charge areas) (sum_by area_charge (set areas at a)) (ap (sum_by area_charge) (beyond areas at e))
+      by_place (Some b) e h = moved c (area_charge b) (area_charge a) (sum_by area_charge areas) (sum_by area_charge (set areas at a)) (sum_by-put area_charge areas at b a e) h
 
   -- ---- a charge within the limit stays so
-
-  pub from_no_rise : (w : WorldOf B) (o : OutcomeOf B) → Holds (NoRise w) o → Holds (KeepsLimit w) o
-  from_no_rise w o h = record { it = record { kept = λ within. omega (arith, h.it.less, h.it.more) } }
 
   pub kept_refusal : (w : WorldOf B) (why : Code) → Holds (KeepsLimit w) (refused w why)
   kept_refusal w why = record { it = record { kept = λ within. within } }
@@ -285,7 +200,68 @@ module _ {B : Type 0} where
 
   keeps_handle_or : (w : WorldOf B) (pid : ℕ) (p : ProcessOf B) (found : Option ℕ) (made : OutcomeOf B) → process_of w pid ≡ Some p → Holds (KeepsLimit w) made → Holds (KeepsLimit w) (handle_or w pid p found made)
   keeps_handle_or w pid p None made lives h = h
-  keeps_handle_or w pid p (Some number) made lives h = from_no_rise w _ (by_handle w pid p number _ lives)
+  keeps_handle_or w pid p (Some number) made lives h = record { it = record { kept = λ within. omega (arith, within, charge-same_regions w pid p (p.handles ++ Some number ∷ []) lives) } }
 
   pub keeps_create : (fill : ℕ → B) (w : WorldOf B) (pid size flags : ℕ) (name : Option Text) → Holds (KeepsLimit w) (create fill w pid size flags name)
   keeps_create fill w pid size flags name = search (keeping, keeps_handle_or) depth 12
+
+-- ---- each edit
+
+module _ {B : Type 0} (t : Terms) where
+  abbrev Goes : WorldOf B → WorldOf B → Type 0
+  Goes w v = Charged t.charge (charge w) (charge v)
+
+  after_region : (w : WorldOf B) (pid : ℕ) (p : ProcessOf B) (rs : List (RegionOf B)) → process_of w pid ≡ Some p → RegionEdit t w pid p.regions rs → Goes w (set_regions w pid p rs)
+  after_region w pid p _ lives (RegionComes new h) =
+      let rs = add_region new p.regions in
+      moved t.charge 0 (region_charge new) (charge w) (charge (set_regions w pid p rs)) (omega (arith, charge-set_regions w pid p rs lives, charge-add_region new p.regions)) h.charged
+  after_region w pid p _ lives (RegionGoes i r there ends charged) =
+      moved t.charge (region_charge r) 0 (charge w) (charge (set_regions w pid p (remove p.regions i))) (omega (arith, charge-remove_region w pid p i r lives there)) charged
+  after_region w pid p _ lives (RegionChanges i r new there like) =
+      moved t.charge (region_charge r) (region_charge new) (charge w) (charge (set_region w pid p i new)) (charge-set_region w pid p i r new lives there) like.charged
+
+  each : (w v : WorldOf B) → Edit t w v → Goes w v
+  each w _ (Rest v b) =
+      stays_charged t.charge (charge w) (charge v) (omega (arith, ap (λ (ps : Numbered (ProcessOf B)). sum_by process_charge ps) b.processes, ap (λ (as' : List (AreaOf B)). sum_by area_charge as') b.areas))
+  each w _ (Regions pid p rs lives e) = after_region w pid p rs lives e
+  each w _ (HandleComes pid p number lives there) = stays_charged t.charge (charge w) (charge (with_handle w pid p number)) (charge-same_regions w pid p _ lives)
+  each w _ (HandleGoes pid p i lives) =
+      stays_charged t.charge (charge w) (charge (set_process w pid (Some (record p { handles = set p.handles i None })))) (charge-same_regions w pid p _ lives)
+  each w _ (ProcessComes room) =
+      stays_charged t.charge (charge w) (charge (record w { processes = w.processes ++ Some no_regions ∷ [] })) (omega (arith, sum_by_push process_charge w.processes (Some no_regions)))
+  each w _ (ProcessGoes pid p lives ends charged) =
+      moved t.charge (process_charge (Some p)) 0 (charge w) (charge (set_process w pid None)) (charge-set_process w pid p None lives) charged
+  each w _ (SectionComes s inside) = stays_charged t.charge (charge w) (charge w) refl
+  each w _ (AreaComes a charged) =
+      moved t.charge 0 (area_charge a) (charge w) (charge (record w { areas = w.areas ++ a ∷ [] })) (omega (arith, sum_by_push area_charge w.areas a)) charged
+  each w _ (AreaChanges at a same charged) =
+      moved t.charge (sum_by area_charge w.areas) (sum_by area_charge (set w.areas at a)) (charge w) (charge (set_area w at a)) (omega arith) (set_area_charge w.areas at a t.charge charged)
+  each w _ (FileComes f inside) = stays_charged t.charge (charge w) (charge w) refl
+  each w _ (Settles falls) = falls (charge w) (charge (settle w)) (charge-settle w)
+
+  each_limit : (w v : WorldOf B) → Edit t w v → limit w ≤ limit v
+  each_limit w _ (Rest v b) = b.limit
+  each_limit w _ (Regions pid p rs lives e) = omega arith
+  each_limit w _ (HandleComes pid p number lives there) = omega arith
+  each_limit w _ (HandleGoes pid p i lives) = omega arith
+  each_limit w _ (ProcessComes room) = omega arith
+  each_limit w _ (ProcessGoes pid p lives ends charged) = omega arith
+  each_limit w _ (SectionComes s inside) = omega arith
+  each_limit w _ (AreaComes a charged) = omega arith
+  each_limit w _ (AreaChanges at a same charged) = omega arith
+  each_limit w _ (FileComes f inside) = omega arith
+  each_limit w _ (Settles falls) = omega arith
+
+  pub charge_goes : (w v : WorldOf B) → Edits t w v → Charged t.charge (charge w) (charge v)
+  charge_goes w _ Nothing = stays_charged t.charge (charge w) (charge w) refl
+  charge_goes w _ (Then u v es e) = then_charged t.charge (charge w) (charge u) (charge v) (charge_goes w u es) (each u v e)
+
+  limit_stays : (w v : WorldOf B) → Edits t w v → limit w ≤ limit v
+  limit_stays w _ Nothing = omega arith
+  limit_stays w _ (Then u v es e) = omega (arith, limit_stays w u es, each_limit u v e)
+
+-- edits that add no charge keep it within the limit
+pub by_edits : {B : Type 0} (t : Answer → Terms) (w : WorldOf B) (o : OutcomeOf B) → (t o.answer).charge ≡ Falls → Edits (t o.answer) w o.world → Holds (KeepsLimit w) o
+by_edits t w o falls es =
+    let less : charge o.world ≤ charge w = subst (λ (c : Moves). Charged c (charge w) (charge o.world)) falls (charge_goes (t o.answer) w o.world es) in
+    record { it = record { kept = λ within. omega (arith, within, less, limit_stays (t o.answer) w o.world es) } }

@@ -40,6 +40,9 @@ module _ {A : Type 0} (change : A → A) where
 
 -- ---- pages that are unwritten one by one
 
+pub equal : (a b : ℕ) → a ≡ b → (a == b) ≡ true
+equal a b same = (unsigned_Decides a b).1 same
+
 pub same_page : (q page : ℕ) → (q == page) ≡ true → q ≡ page
 same_page q page e = (unsigned_Decides q page).0 e
 

@@ -23,10 +23,10 @@ use Rattle.mm_world.specs.Flags.{flag_in, flag_at, flag_of, FlagTold, Begun, Tol
 use Rattle.mm_world.proofs.Tables.{Holds, tables, at_find, at_need, at_if}
 use Rattle.mm_world.proofs.Finding.{numbered_inside}
 use Rattle.mm_world.proofs.LaidOut.{or-false, placed_is}
-use Rattle.mm_world.proofs.FlagRanges.{same_page, page_of-address_of}
+use Rattle.mm_world.proofs.FlagRanges.{same_page, page_of-address_of, equal}
 use Rattle.mm_world.proofs.FlagsKept as calls
+use Rattle.mm_world.proofs.CallEdits as edits
 use Rattle.mm_world.proofs.FlagsKept.{flags_here, flags_later}
-use Rattle.mm_world.proofs.FlagsWritten.{equal}
 use Rattle.mm_world.proofs.FlagsWatched.{TellsFlags, tells_kept, held_in}
 
 -- ---- a region is added
@@ -193,6 +193,6 @@ in_alloc w pid addr size type prot = by_type (is_watched_type type) refl
     by_type true watched = (in_watched w pid addr size type prot watched).it
     by_type false plain =
         let o = alloc filled w pid.0 addr size type prot in
-        tells_kept w _ o (calls.in_alloc filled w pid.0 addr size type prot plain)
+        tells_kept w _ o (calls.by_edits calls.plain_terms w o refl (edits.in_alloc calls.plain_terms filled w pid.0 addr size type prot (λ a e. plain) (λ a n m. tt)).it.edits)
         (λ j q. not_begun j q pid addr size type prot o.answer plain)
         (λ j q keeps was. ap (λ (t : Bool). cond t false was) (not_begun j q pid addr size type prot o.answer plain))

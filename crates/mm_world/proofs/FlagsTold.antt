@@ -12,9 +12,9 @@ use Rattle.mm_types.specs.declared.events.Event.TheVariants as line
 use Rattle.mm_types.specs.declared.numbers.Pid.{Pid}
 use Rattle.mm_types.specs.declared.numbers.Tid.{Tid}
 use Rattle.mm_types.specs.Address.{page_of}
-use Rattle.mm_world.specs.World.{World, KeptOf, filled}
+use Rattle.mm_world.specs.World.{World, KeptOf}
 use Rattle.mm_world.specs.Outcome.{done}
-use Rattle.mm_world.specs.Access.{Attempt, ReadOf, WriteOf, Execute, access, address_in, attempt_in}
+use Rattle.mm_world.specs.Access.{WriteOf, access, address_in, attempt_in}
 use Rattle.mm_world.specs.Report.{Report}
 use Rattle.mm_world.specs.Failure.{Need, access_fails, wait_failed, pending}
 use Rattle.mm_world.specs.Step.{unpaged, told, step, stepped, world_told, begin, begin_told, resume, resume_told, failing, waiting, when, need_at, kept_by, keep, is_ok}
@@ -24,7 +24,9 @@ use Rattle.mm_world.specs.WellFormed.{Spaces}
 use Rattle.mm_world.proofs.Tables.{Holds, tables}
 use Rattle.mm_world.proofs.FlagsKept as calls
 use Rattle.mm_world.proofs.FlagsKept.{KeepsFlags}
-use Rattle.mm_world.proofs.FlagsWritten.{WritesFlags, is_write, in_access, unwritten_keeps}
+use Rattle.mm_world.proofs.FlagsWritten.{WritesFlags, in_access}
+use Rattle.mm_world.proofs.LineEdits as edits
+use Rattle.mm_world.proofs.LineEdits.{is_write}
 use Rattle.mm_world.proofs.FlagsWritten as writes
 use Rattle.mm_world.proofs.FlagsWatched.{TellsFlags, tells_kept, in_watch, in_reset_watch}
 use Rattle.mm_world.proofs.FlagsBegun.{in_alloc}
@@ -47,9 +49,6 @@ in_write w pid addr bytes = record {
       Told h.was h.before refl
       (h.now ∙ ap (λ (t : Bool). cond t true h.was) (wrote_write j q (λ tid. kept_writes j q (kept_by w tid)) pid addr bytes o.answer));
 }
-
-in_reading : (w : World) (pid addr : ℕ) (what : Attempt) → is_write what ≡ false → Holds (KeepsFlags w) (access w pid addr what)
-in_reading w pid addr what none = unwritten_keeps w pid (page_of addr) what (access w pid addr what) none (in_access w pid addr what)
 
 begins_access : (w : World) (tid pid : ℕ) (what : AccessSpec) → Holds (WritesFlags w pid (page_of (address_in what)) (attempt_in what)) (begin w tid pid what)
 begins_access w tid pid what = search (tables, busy, writes.by_refusal, in_access) depth 12
@@ -91,41 +90,6 @@ in_resume w tid (Some k) is = record {
 
 kept_answered : (w : World) (e : Event) (a : Answer) → ((pid page : ℕ) → line_begins pid page e a ≡ false) → ((pid page : ℕ) (keeps : ℕ → Bool) (was : Bool) → written_after pid page keeps was e a ≡ was) → TellsFlags w e (done a w)
 kept_answered w e a none quiet = tells_kept w e (done a w) (calls.by_same w a) none quiet
-
-in_unpaged : (w : World) (e : Event) → TellsFlags w e (unpaged w e)
-in_unpaged w (line.Machine m) = kept_answered w _ _ (λ j q. refl) (λ j q keeps was. refl)
-in_unpaged w (line.Process min max) = tells_kept w _ _ (calls.in_new_process w) (λ j q. refl) (λ j q keeps was. refl)
-in_unpaged w (line.Exit pid) = tells_kept w _ _ (calls.in_exit w pid.0) (λ j q. refl) (λ j q keeps was. refl)
-in_unpaged w (line.File name pages byte) = tells_kept w _ _ (calls.in_new_file filled w name pages byte) (λ j q. refl) (λ j q keeps was. refl)
-in_unpaged w (line.Alloc pid addr size type prot) = in_alloc w pid addr size type prot
-in_unpaged w (line.Free pid addr size type) = tells_kept w _ _ (calls.in_free w pid.0 addr size type) (λ j q. refl) (λ j q keeps was. refl)
-in_unpaged w (line.Protect pid addr size prot) = tells_kept w _ _ (calls.in_protect w pid.0 addr size prot) (λ j q. refl) (λ j q keeps was. refl)
-in_unpaged w (line.Query pid addr) = tells_kept w _ _ (calls.in_query w pid.0 addr) (λ j q. refl) (λ j q keeps was. refl)
-in_unpaged w (line.Create pid size flags name) = tells_kept w _ _ (calls.in_create filled w pid.0 size flags name) (λ j q. refl) (λ j q keeps was. refl)
-in_unpaged w (line.CreateFile pid file flags name) = tells_kept w _ _ (calls.in_create_file w pid.0 file flags name) (λ j q. refl) (λ j q keeps was. refl)
-in_unpaged w (line.Open pid name) = tells_kept w _ _ (calls.in_open w pid.0 name) (λ j q. refl) (λ j q keeps was. refl)
-in_unpaged w (line.Close pid handle) = tells_kept w _ _ (calls.in_close w pid.0 handle) (λ j q. refl) (λ j q keeps was. refl)
-in_unpaged w (line.Map pid handle access offset len addr) = tells_kept w _ _ (calls.in_map w pid.0 handle access offset len addr) (λ j q. refl) (λ j q keeps was. refl)
-in_unpaged w (line.Unmap pid addr) = tells_kept w _ _ (calls.in_unmap w pid.0 addr) (λ j q. refl) (λ j q keeps was. refl)
-in_unpaged w (line.Flush pid addr size) = tells_kept w _ _ (calls.in_flush w pid.0 addr size) (λ j q. refl) (λ j q keeps was. refl)
-in_unpaged w (line.Read pid addr len) = tells_kept w _ _ (in_reading w pid.0 addr (ReadOf len) refl) (λ j q. refl) (λ j q keeps was. refl)
-in_unpaged w (line.Write pid addr bytes) = in_write w pid addr bytes
-in_unpaged w (line.Exec pid addr) = tells_kept w _ _ (in_reading w pid.0 addr Execute refl) (λ j q. refl) (λ j q keeps was. refl)
-in_unpaged w (line.Begin tid pid what) = in_begin w tid pid what
-in_unpaged w (line.Resume tid) = in_resume w tid (kept_by w tid.0) refl
-in_unpaged w (line.Io i) = kept_answered w _ _ (λ j q. refl) (λ j q keeps was. refl)
-in_unpaged w (line.Trim pid n) = tells_kept w _ _ (calls.in_store_line w pid.0) (λ j q. refl) (λ j q keeps was. refl)
-in_unpaged w (line.Age pid) = tells_kept w _ _ (calls.in_store_line w pid.0) (λ j q. refl) (λ j q keeps was. refl)
-in_unpaged w (line.Writer n) = kept_answered w _ _ (λ j q. refl) (λ j q keeps was. refl)
-in_unpaged w (line.Zeroer n) = kept_answered w _ _ (λ j q. refl) (λ j q keeps was. refl)
-in_unpaged w (line.Fail device direction k n) = tells_kept w _ _ (calls.in_take_fail w) (λ j q. refl) (λ j q keeps was. refl)
-in_unpaged w line.Charge = kept_answered w _ _ (λ j q. refl) (λ j q keeps was. refl)
-in_unpaged w line.Counts = kept_answered w _ _ (λ j q. refl) (λ j q keeps was. refl)
-in_unpaged w (line.Grow n) = tells_kept w _ _ (calls.in_grow w n) (λ j q. refl) (λ j q keeps was. refl)
-in_unpaged w (line.Watch pid unwrites addr size count) = (in_watch w pid unwrites addr size count).it
-in_unpaged w (line.ResetWatch pid addr size) = (in_reset_watch w pid addr size).it
-in_unpaged w (line.Stack tid pid reserve commit) = tells_kept w _ _ (calls.in_stack filled w tid.0 pid.0 reserve commit) (λ j q. refl) (λ j q keeps was. refl)
-in_unpaged w (line.Probe tid addr) = tells_kept w _ _ (calls.in_probe filled w tid.0 addr) (λ j q. refl) (λ j q keeps was. refl)
 
 -- ---- what the store tells in place of that is no `ok`
 
@@ -182,23 +146,23 @@ told_begin w tid pid what before after a e = by_kept (is_some (kept_by w tid.0))
     by_kept true e = cc
     by_kept false e = by_need (need_at w pid.0 (address_in what) (attempt_in what)) e
 
-in_told : (w : World) (e : Event) (before after : Report) (a : Answer) → told w e before after ≡ Some a → TellsFlags w e (done a (world_told w e a))
-in_told w (line.File name pages byte) before after a is = kept_answered w _ a (λ j q. refl) (λ j q keeps was. refl)
-in_told w (line.Flush pid addr size) before after a is = kept_answered w _ a (λ j q. refl) (λ j q keeps was. refl)
-in_told w (line.Read pid addr len) before after a is = kept_answered w _ a (λ j q. refl) (λ j q keeps was. refl)
-in_told w (line.Write pid addr bytes) before after a is = told_failing w pid addr bytes (need_at w pid.0 addr (WriteOf bytes)) after a is
-in_told w (line.Exec pid addr) before after a is = kept_answered w _ a (λ j q. refl) (λ j q keeps was. refl)
-in_told w (line.Begin tid pid what) before after a is = told_begin w tid pid what before after a is
-in_told w (line.Resume tid) before after a is = told_resume w tid (kept_by w tid.0) before after a is
-in_told w (line.Io i) before after a is = kept_answered w _ a (λ j q. refl) (λ j q keeps was. refl)
-in_told w line.Counts before after a is = kept_answered w _ a (λ j q. refl) (λ j q keeps was. refl)
-in_told w (line.Grow n) before after a is = kept_answered w _ a (λ j q. refl) (λ j q keeps was. refl)
-in_told w e before after a is = cc
+-- what the store tells, or what unpaged address spaces do
+either : (w : World) (e : Event) (before after : Report) → TellsFlags w e (unpaged w e) → ((a : Answer) → told w e before after ≡ Some a → TellsFlags w e (done a (world_told w e a))) → TellsFlags w e (step w e before after)
+either w e before after now later = by_told (told w e before after) refl
+  where
+    by_told : (t : Option Answer) → told w e before after ≡ t → TellsFlags w e (stepped w e t)
+    by_told None is = now
+    by_told (Some a) is = later a is
 
-in_stepped : (w : World) (e : Event) (before after : Report) (t : Option Answer) → told w e before after ≡ t → TellsFlags w e (stepped w e t)
-in_stepped w e before after None is = in_unpaged w e
-in_stepped w e before after (Some a) is = in_told w e before after a is
+in_step : (w : World) (e : Event) (before after : Report) → TellsFlags w e (step w e before after)
+in_step w (line.Alloc pid addr size type prot) before after = in_alloc w pid addr size type prot
+in_step w (line.Write pid addr bytes) before after = either w _ before after (in_write w pid addr bytes) (told_failing w pid addr bytes (need_at w pid.0 addr (WriteOf bytes)) after)
+in_step w (line.Begin tid pid what) before after = either w _ before after (in_begin w tid pid what) (told_begin w tid pid what before after)
+in_step w (line.Resume tid) before after = either w _ before after (in_resume w tid (kept_by w tid.0) refl) (told_resume w tid (kept_by w tid.0) before after)
+in_step w (line.Watch pid unwrites addr size count) before after = (in_watch w pid unwrites addr size count).it
+in_step w (line.ResetWatch pid addr size) before after = (in_reset_watch w pid addr size).it
+in_step w e before after = tells_kept w e (step w e before after) (calls.by_edits (edits.line_terms e) w (step w e before after) refl (edits.in_step w e before after).edits) (λ j q. refl) (λ j q keeps was. refl)
 
 -- after each line a page is written as the line and its answer tell
 pub flags_told : (w : World) (e : Event) (before after : Report) (pid page : ℕ) (b : Bool) → Spaces w → flag_of (step w e before after).world pid page ≡ Some b → FlagTold w e (step w e before after).answer pid page b
-flags_told w e before after pid page b spaces at = (in_stepped w e before after (told w e before after) refl).told spaces pid page b at
+flags_told w e before after pid page b spaces at = (in_step w e before after).told spaces pid page b at

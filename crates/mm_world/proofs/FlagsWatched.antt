@@ -25,11 +25,11 @@ use Rattle.mm_world.specs.WellFormed.{Each, Spaces}
 use Rattle.mm_world.proofs.Tables.{Holds, tables}
 use Rattle.mm_world.proofs.Finding.{found_stands}
 use Rattle.mm_world.proofs.LaidOut.{less, not_less}
-use Rattle.mm_world.proofs.FlagRanges.{got_before, got_within, got_behind, got_unwritten, same_page, any_address, cleared, not_cleared}
+use Rattle.mm_world.proofs.FlagRanges.{got_before, got_within, got_behind, got_unwritten, same_page, any_address, cleared, not_cleared, equal}
 use Rattle.mm_world.proofs.FlagsKept as calls
 use Rattle.mm_world.proofs.FlagsKept.{KeepsFlags}
 use Rattle.mm_world.proofs.FlagsChanged.{FlagChanged, InRegion, Elsewhere, flag_changed}
-use Rattle.mm_world.proofs.FlagsWritten.{equal, from_base}
+use Rattle.mm_world.proofs.FlagsWritten.{from_base}
 
 -- each page that has a flag after the line has it as the line and its answer tell
 pub record TellsFlags (w : World) (e : Event) (o : OutcomeOf Page) : Type 0 where

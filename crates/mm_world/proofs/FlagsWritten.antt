@@ -1,7 +1,6 @@
 -- What accesses do to the flags of watched regions: a write that is answered `ok` makes its page written.
 use Rattle.std.proofs.Common.{◌≡◌, ◌≢◌, ℕ, ◌-◌, ◌≤◌, Bool, true, false, Option, Some, None, List, refl, sym, ◌∙◌, ap, subst, cond, arith, length, slice_get, option_map, ◌&&◌}
 use Rattle.std.specs.Prelude.{◌==◌, nat_le, nat_lt, option_and_then}
-use Rattle.std.specs.Cmp.{unsigned_Decides}
 use Rattle.std.specs.Option.{IfSome}
 use Rattle.std.proofs.lemmas.Bool.{leb-true}
 use Rattle.std.proofs.lemmas.List.{length-set}
@@ -13,26 +12,23 @@ use Rattle.mm_types.specs.declared.views.View.{View}
 use Rattle.mm_types.specs.Address.{page_of, holds_page, first_user_page, end_of}
 use Rattle.mm_types.proofs.Booleans.{parts}
 use Rattle.mm_world.specs.World.{World, ProcessOf, RegionOf, RowOf, Page, pages_of}
-use Rattle.mm_world.specs.Find.{change_range, process_of, set_region, is_private}
-use Rattle.mm_world.specs.Keys.{InSection, Committed, committed_at, with_row, set_row, set_shared, guard_off}
+use Rattle.mm_world.specs.Find.{shared_page, change_range, process_of, set_region, is_private}
+use Rattle.mm_world.specs.Keys.{InSection, Committed, committed_at, with_row, guard_off}
 use Rattle.mm_world.specs.Outcome.{OutcomeOf, done, refused}
 use Rattle.mm_world.specs.Rows.{one_page, mark_written}
-use Rattle.mm_world.specs.Access.{Attempt, ReadOf, WriteOf, Execute, access, access_at, perform, write_to, written, bytes_of}
+use Rattle.mm_world.specs.Access.{Attempt, ReadOf, WriteOf, Execute, access, access_at, perform, write_to, written}
 use Rattle.mm_world.specs.Step.{is_ok}
 use Rattle.mm_world.specs.Flags.{flag_in, flag_at, flag_of}
 use Rattle.mm_world.specs.WellFormed.{FlagsFit, Spaces}
 use Rattle.mm_world.proofs.Tables.{Holds, tables}
 use Rattle.mm_world.proofs.Finding.{Stands, found_stands, IsCommitted, committed_is, HomeCases, IsOwn, IsShared, home_cases}
 use Rattle.mm_world.proofs.LaidOut.{laid_at, less, not_less}
-use Rattle.mm_world.proofs.FlagRanges.{got_before, got_within, got_behind, same_page}
+use Rattle.mm_world.proofs.FlagRanges.{got_before, got_within, got_behind, same_page, equal}
 use Rattle.mm_world.proofs.FlagsKept as calls
-use Rattle.mm_world.proofs.FlagsKept.{KeepsFlags}
+use Rattle.mm_world.proofs.FlagsKept.{KeepsFlags, plain_terms, by_edits}
+use Rattle.mm_world.proofs.LineEdits as edits
+use Rattle.mm_world.proofs.LineEdits.{is_write}
 use Rattle.mm_world.proofs.FlagsChanged.{FlagChanged, InRegion, Elsewhere, flag_changed}
-
-abbrev pub is_write : Attempt → Bool
-is_write (ReadOf len) = false
-is_write (WriteOf bytes) = true
-is_write Execute = false
 
 -- the flag of a page, where one page was written if this holds
 pub record AsWritten (w : World) (pid page : ℕ) (wrote : Bool) (j q : ℕ) (b : Bool) : Type 0 where
@@ -62,10 +58,7 @@ module _ (w : World) (pid page : ℕ) (what : Attempt) where
   by_refusal why = by_same (answer.Error why) refl
 
   by_guard : (p : ProcessOf Page) (c : Committed Page) (a : Answer) → (is_ok a && is_write what) ≡ false → process_of w pid ≡ Some p → committed_at w p.regions page ≡ Some c → Holds (WritesFlags w pid page what) (done a (guard_off w pid p c page))
-  by_guard p c a none lives committed = unwritten_by (guard_off w pid p c page) a none (calls.by_guard w pid p c page a lives committed)
-
-pub equal : (a b : ℕ) → a ≡ b → (a == b) ≡ true
-equal a b same = (unsigned_Decides a b).1 same
+  by_guard p c a none lives committed = unwritten_by (guard_off w pid p c page) a none (by_edits plain_terms w (done a (guard_off w pid p c page)) refl (edits.guard_edits (plain_terms a) w pid p c page lives committed))
 
 -- a page outside of the region that was written
 outside : (pid page j q : ℕ) (r : RegionOf Page) (b : Bool) → holds_page (pages_of r) page ≡ true → (j ≡ pid → holds_page (pages_of r) q ≡ false) → b ≡ cond ((pid == j) && (page == q)) true b
@@ -186,18 +179,9 @@ by_view w v pid p c page of bytes lives h is keeps = record {
 
 -- ---- accesses
 
-in_section : (w : World) (pid : ℕ) (p : ProcessOf Page) (c : Committed Page) (page offset : ℕ) (bytes : List ℕ) (v : View) (area i : ℕ) → process_of w pid ≡ Some p → committed_at w p.regions page ≡ Some c → c.region.thing.kind ≡ kind.View v → Holds (WritesFlags w pid page (WriteOf bytes)) (done answer.Ok (write_to w pid p c page offset bytes (InSection area i)))
-in_section w pid p c page offset bytes v area i lives committed is = copied c.row.marked
-  where
-    new : Page
-    new = written (bytes_of w (InSection area i)) offset bytes
-
-    h : IsCommitted w p.regions page c
-    h = committed_is w p.regions page c committed
-
-    copied : (b : Bool) → Holds (WritesFlags w pid page (WriteOf bytes)) (done answer.Ok (cond b (set_row w pid p c.region page (record c.row { own = Some new; prot = 0x04 })) (set_shared w area i new)))
-    copied true = by_view w _ pid p c page v bytes lives h is (calls.by_row w pid p c page (record c.row { own = Some new; prot = 0x04 }) answer.Ok lives committed)
-    copied false = by_view w _ pid p c page v bytes lives h is (calls.by_rest w (set_shared w area i new) answer.Ok refl)
+in_section : (w : World) (pid : ℕ) (p : ProcessOf Page) (c : Committed Page) (page offset : ℕ) (bytes : List ℕ) (v : View) (area i : ℕ) (old : Page) → process_of w pid ≡ Some p → committed_at w p.regions page ≡ Some c → c.region.thing.kind ≡ kind.View v → shared_page w area i ≡ Some old → Holds (WritesFlags w pid page (WriteOf bytes)) (done answer.Ok (write_to w pid p c page offset bytes (InSection area i)))
+in_section w pid p c page offset bytes v area i old lives committed is there =
+    by_view w _ pid p c page v bytes lives (committed_is w p.regions page c committed) is (by_edits plain_terms w _ refl (edits.in_section (plain_terms answer.Ok) w pid p c page offset bytes v area i old lives committed is there))
 
 in_home : (w : World) (pid : ℕ) (p : ProcessOf Page) (c : Committed Page) (page offset : ℕ) (bytes : List ℕ) (i : ℕ) → process_of w pid ≡ Some p → committed_at w p.regions page ≡ Some c → HomeCases w i c.region.thing.kind c.row.own c.home → Holds (WritesFlags w pid page (WriteOf bytes)) (done answer.Ok (write_to w pid p c page offset bytes c.home))
 in_home w pid p c page offset bytes i lives committed (IsOwn old own at_home) =
@@ -205,7 +189,7 @@ in_home w pid p c page offset bytes i lives committed (IsOwn old own at_home) =
     (by_mark w pid p c page (record c.row { own = Some (written old offset bytes) }) bytes lives (committed_is w p.regions page c committed))
 in_home w pid p c page offset bytes i lives committed (IsShared v old is none there at_home) =
     subst (λ home. Holds (WritesFlags w pid page (WriteOf bytes)) (done answer.Ok (write_to w pid p c page offset bytes home))) (sym at_home)
-    (in_section w pid p c page offset bytes v _ _ lives committed is)
+    (in_section w pid p c page offset bytes v _ _ old lives committed is there)
 
 in_perform : (w : World) (pid : ℕ) (p : ProcessOf Page) (c : Committed Page) (page offset : ℕ) (what : Attempt) → process_of w pid ≡ Some p → committed_at w p.regions page ≡ Some c → Holds (WritesFlags w pid page what) (perform w pid p c page offset what)
 in_perform w pid p c page offset (ReadOf len) lives committed = by_same w pid page (ReadOf len) _ refl
@@ -220,18 +204,3 @@ in_access_at w pid p page offset what (Some c) lives committed = search (tables,
 
 pub in_access : (w : World) (pid addr : ℕ) (what : Attempt) → Holds (WritesFlags w pid (page_of addr) what) (access w pid addr what)
 in_access w pid addr what = search (tables, by_refusal, in_access_at) depth 12
-
--- what is not written leaves each flag as it was
-pub unwritten_keeps : (w : World) (pid page : ℕ) (what : Attempt) (o : OutcomeOf Page) → is_write what ≡ false → Holds (WritesFlags w pid page what) o → Holds (KeepsFlags w) o
-unwritten_keeps w pid page what o none h = record {
-  it = record {
-    kept = λ spaces j q b e.
-        let at = h.it.told spaces j q b e in
-        at.before ∙ ap (λ (x : Bool). Some x) (sym (at.now ∙ never (is_ok o.answer) (is_write what) ((pid == j) && (page == q)) at.was none));
-  };
-}
-  where
-    never : (t u s was : Bool) → u ≡ false → cond ((t && u) && s) true was ≡ was
-    never true true s was e = cc
-    never true false s was e = refl
-    never false u s was e = refl

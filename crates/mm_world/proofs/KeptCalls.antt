@@ -35,7 +35,7 @@ use Rattle.mm_world.proofs.Finding.{found_stands}
 use Rattle.mm_world.proofs.LaidOut.{placed_is, IsPlaced}
 use Rattle.mm_world.proofs.RowsFit.{length-change_range}
 use Rattle.mm_world.proofs.Spaces.{wanted_granule}
-use Rattle.mm_world.proofs.WellFormed.{stack_length}
+use Rattle.mm_world.proofs.LineEdits.{stack_length}
 use Rattle.mm_world.proofs.KeptPages.{own_in, Kept, PagesKept, kept_same, own_put, own_pushed, own_of, own_removed, own_added, own_free, own_set, rows_kept, RowKept, commit_kept, cleared_kept, protected_kept, shared_settled, shared_pushed, shared_put, committed_page, all_fresh}
 
 replicated : {A : Type 0} (n k : ℕ) (x y : A) → slice_get (replicate n x) k ≡ Some y → y ≡ x

@@ -129,9 +129,6 @@ module _ {B : Type 0} where
   pub kept_same : (fresh : B) (o : Option B) → Kept fresh o o
   kept_same fresh o = record { kept = λ x e. sym (ap (λ (o : Option B). unwrap_or o fresh) e) }
 
-  pub kept_none : (fresh : B) (o : Option B) → Kept fresh o None
-  kept_none fresh o = record { kept = λ x e. cc }
-
   -- each row of the new region keeps what the old one had
   pub own_set : (fresh : B) (page i : ℕ) (rs : List (RegionOf B)) (r new : RegionOf B) → slice_get rs i ≡ Some r → new.base ≡ r.base → length new.rows ≡ length r.rows → Kept fresh (own_in r page) (own_in new page) → Kept fresh (own_page rs page) (own_page (set rs i new) page)
   own_set fresh page i [] r new there base rows k = cc

@@ -22,6 +22,8 @@ use Rattle.mm_world.proofs.KeptPages.{Kept, kept_same, own_in, own_of, own_page-
 use Rattle.mm_world.proofs.KeptCalls as kept
 use Rattle.mm_world.proofs.KeptCalls.{KeepsPages, by_same}
 use Rattle.mm_world.proofs.WellFormed as lines
+use Rattle.mm_world.proofs.Edits.{any_terms}
+use Rattle.mm_world.proofs.LineEdits as edits
 use Rattle.mm_world.proofs.Reconstruct.{tables_back}
 use Rattle.mm_world.proofs.Across.{across_by}
 
@@ -111,4 +113,4 @@ pub probe_across : (t : Tables) (c : Key → Page) → Spaces t → (tid addr : 
 probe_across t c fits tid addr =
     across_by t c (probe blank t tid addr) (probe filled (world_with t c) tid addr) fits
     (ap (λ t. probe blank t tid addr) (sym (tables_back c t)) ∙ (sections.in_probe no_bytes filled (world_with t c) tid addr).same)
-    (in_probe_of (world_with t c) tid (page_of addr) (stack_by (world_with t c) tid)) (lines.in_probe (world_with t c) tid addr)
+    (in_probe_of (world_with t c) tid (page_of addr) (stack_by (world_with t c) tid)) (edits.in_probe filled any_terms (λ a. refl) (λ a n m. tt) (world_with t c) tid addr)

@@ -1,6 +1,6 @@
 -- What threads keep changes by `begin`, `resume` and `exit` alone, as their answers tell; so do their stacks by `free` and `exit`, but for lines
 -- of stacks.
-use Rattle.std.proofs.Common.{◌≡◌, ℕ, ◌-◌, zero, suc, Bool, true, false, Option, Some, None, List, [], ◌∷◌, refl, sym, ◌∙◌, ap, subst, cond, map, set, ◌&&◌, option_map}
+use Rattle.std.proofs.Common.{◌≡◌, ℕ, zero, suc, Bool, true, false, Option, Some, None, List, [], ◌∷◌, refl, sym, ◌∙◌, ap, subst, cond, map, set, ◌&&◌, option_map}
 use Rattle.std.specs.Prelude.{◌==◌, if◌then◌else◌, slice_set, is_some}
 use Rattle.mm_types.specs.declared.answers.Answer.{Answer}
 use Rattle.mm_types.specs.declared.answers.Answer.TheVariants as answer
@@ -14,137 +14,57 @@ use Rattle.mm_types.specs.declared.answers.Why.{Why}
 use Rattle.mm_types.specs.declared.numbers.Pid.{Pid}
 use Rattle.mm_types.specs.declared.numbers.Tid.{Tid}
 use Rattle.mm_types.specs.declared.numbers.Place.{Place}
-use Rattle.mm_types.specs.declared.views.Kind.{Kind}
-use Rattle.mm_types.specs.declared.views.Kind.TheVariants as kind
-use Rattle.mm_types.specs.Address.{Range, address_of, page_of}
-use Rattle.mm_types.specs.Allocation.{commit_type, release_type}
-use Rattle.mm_types.specs.Spelling.{Text}
-use Rattle.mm_world.specs.World.{World, ProcessOf, RegionOf, KeptOf, StackOf, Page, Numbered, filled}
-use Rattle.mm_world.specs.Find.{Found, process_of, stack_by, unless}
+use Rattle.mm_types.specs.Allocation.{release_type}
+use Rattle.mm_world.specs.World.{WorldOf, World, ProcessOf, KeptOf, StackOf, Page, Numbered}
+use Rattle.mm_world.specs.Find.{unless}
 use Rattle.mm_world.specs.Outcome.{OutcomeOf, done, refused}
-use Rattle.mm_world.specs.Keys.{Home, Own, InSection, Committed, committed_at, guard_off}
-use Rattle.mm_world.specs.Alloc.{alloc, commit_in}
+use Rattle.mm_world.specs.Keys.{Committed}
 use Rattle.mm_world.specs.Free.{free, is_stack_at}
-use Rattle.mm_world.specs.Stack.{stack, made, probe_of, probe_in, probe_at, grown}
-use Rattle.mm_world.specs.Protect.{protect}
-use Rattle.mm_world.specs.Query.{query}
-use Rattle.mm_world.specs.Sections.{create, create_file, open_section, close, handle_or}
-use Rattle.mm_world.specs.Views.{map_view, unmap, flush}
-use Rattle.mm_world.specs.Processes.{new_process, exit, new_file, take_fail, grow, kept_of_others}
-use Rattle.mm_world.specs.Access.{Attempt, ReadOf, WriteOf, Execute, access, access_at, perform, write_to, written, bytes_of, address_in, attempt_in}
-use Rattle.mm_world.specs.Keys.{set_row, set_shared}
+use Rattle.mm_world.specs.Processes.{exit, kept_of_others}
+use Rattle.mm_world.specs.Access.{Attempt, ReadOf, WriteOf, Execute, access, access_at, perform, address_in, attempt_in}
 use Rattle.mm_world.specs.Report.{Report}
 use Rattle.mm_world.specs.Failure.{Need, wait_failed, pending}
-use Rattle.mm_world.specs.Step.{unpaged, told, step, stepped, world_told, begin, resume, resume_told, waiting, need_at, store_line, kept_by}
+use Rattle.mm_world.specs.Step.{unpaged, told, step, stepped, world_told, begin, resume, resume_told, waiting, need_at, kept_by}
 use Rattle.mm_world.proofs.Tables.{Holds, tables}
-use Rattle.mm_world.specs.Watch.{watch, reset_watch}
+use Rattle.mm_world.proofs.Edits.{Rises, Terms, Edit, Rest, Regions, HandleComes, HandleGoes, SectionComes, AreaComes, AreaChanges, FileComes, Settles, ProcessComes, ProcessGoes, Edits, fold}
+use Rattle.mm_world.proofs.LineEdits as edits
+use Rattle.mm_world.proofs.LineEdits.{keeps_accesses, keeps_stacks}
 use Rattle.mm_world.specs.Writes.{page_written, write_of, writes_of, unless_in, ends_none, writes_after}
 
--- ---- calls keep what threads keep
+-- ---- what edits leave of threads
 
-pub record SameKept (w : World) (o : OutcomeOf Page) : Type 0 where
-  pub same : o.world.kept ≡ w.kept
+-- edits that leave threads what they keep, and their stacks
+abbrev pub same_threads : Answer → Terms
+same_threads a = record { ends = λ x. true; plain = false; kept = true; stacks = true; charge = Rises }
 
-by_kept : (w v : World) (a : Answer) → v.kept ≡ w.kept → Holds (SameKept w) (done a v)
-by_kept w v a same = record { it = record { same = same } }
+module _ {B : Type 0} (t : Terms) where
+  -- what both worlds have
+  record Threads (w v : WorldOf B) : Type 0 where
+    pub kept : t.kept ≡ true → v.kept ≡ w.kept
+    pub stacks : t.stacks ≡ true → v.stacks ≡ w.stacks
 
-kept_refusal : (w : World) (why : Code) → Holds (SameKept w) (refused w why)
-kept_refusal w why = by_kept w w _ refl
+  each : (o w v : WorldOf B) → Edit t w v → Threads o w → Threads o v
+  each o w _ (Rest v b) h = record { kept = λ e. b.kept e ∙ h.kept e; stacks = λ e. b.stacks e ∙ h.stacks e }
+  each o w _ (Regions pid p rs lives e) h = record { kept = h.kept; stacks = h.stacks }
+  each o w _ (HandleComes pid p number lives there) h = record { kept = h.kept; stacks = h.stacks }
+  each o w _ (HandleGoes pid p i lives) h = record { kept = h.kept; stacks = h.stacks }
+  each o w _ (ProcessComes room) h = record { kept = h.kept; stacks = h.stacks }
+  each o w _ (ProcessGoes pid p lives ends charged) h = record { kept = h.kept; stacks = h.stacks }
+  each o w _ (SectionComes s inside) h = record { kept = h.kept; stacks = h.stacks }
+  each o w _ (AreaComes a charged) h = record { kept = h.kept; stacks = h.stacks }
+  each o w _ (AreaChanges at a same charged) h = record { kept = h.kept; stacks = h.stacks }
+  each o w _ (FileComes f inside) h = record { kept = h.kept; stacks = h.stacks }
+  each o w _ (Settles falls) h = record { kept = h.kept; stacks = h.stacks }
 
--- and most of them the stacks too
-pub record SameThreads (w : World) (o : OutcomeOf Page) : Type 0 where
-  pub kept : o.world.kept ≡ w.kept
-  pub stacks : o.world.stacks ≡ w.stacks
+  threads : (w v : WorldOf B) → Edits t w v → Threads w v
+  threads w v es = fold t (Threads w) (each w) w v es (record { kept = λ e. refl; stacks = λ e. refl })
 
-pub by_threads : (w v : World) (a : Answer) → v.kept ≡ w.kept → v.stacks ≡ w.stacks → Holds (SameThreads w) (done a v)
-by_threads w v a kept stacks = record { it = record { kept = kept; stacks = stacks } }
+module _ {B : Type 0} (t : Answer → Terms) (w : WorldOf B) (o : OutcomeOf B) where
+  pub same_kept : (t o.answer).kept ≡ true → Edits (t o.answer) w o.world → o.world.kept ≡ w.kept
+  same_kept e h = (threads (t o.answer) w o.world h).kept e
 
-pub by_refusal : (w : World) (why : Code) → Holds (SameThreads w) (refused w why)
-by_refusal w why = by_threads w w _ refl refl
-
-ruleset keeping = (tables, by_refusal, by_threads)
-
-in_commit : (w : World) (pid : ℕ) (p : ProcessOf Page) (r : Found (RegionOf Page)) (k : Kind) (range : Range) (prot : ℕ) → Holds (SameThreads w) (commit_in filled w pid p r k range prot)
-in_commit w pid p r kind.Private range prot = search keeping depth 12
-in_commit w pid p r (kind.View v) range prot = search keeping depth 12
-
-pub in_alloc : (w : World) (pid addr size type prot : ℕ) → Holds (SameThreads w) (alloc filled w pid addr size type prot)
-in_alloc w pid addr size type prot = search (keeping, in_commit) depth 12
-
-in_protect : (w : World) (pid addr size prot : ℕ) → Holds (SameThreads w) (protect w pid addr size prot)
-in_protect w pid addr size prot = search keeping depth 14
-
-in_query : (w : World) (pid addr : ℕ) → Holds (SameThreads w) (query w pid addr)
-in_query w pid addr = search keeping depth 12
-
-in_handle_or : (w : World) (pid : ℕ) (p : ProcessOf Page) (found : Option ℕ) (made : OutcomeOf Page) → Holds (SameThreads w) made → Holds (SameThreads w) (handle_or w pid p found made)
-in_handle_or w pid p None made h = h
-in_handle_or w pid p (Some number) made h = by_threads w _ _ refl refl
-
-in_create : (w : World) (pid size flags : ℕ) (name : Option Text) → Holds (SameThreads w) (create filled w pid size flags name)
-in_create w pid size flags name = search (keeping, in_handle_or) depth 12
-
-in_create_file : (w : World) (pid : ℕ) (file : Text) (flags : ℕ) (name : Option Text) → Holds (SameThreads w) (create_file w pid file flags name)
-in_create_file w pid file flags name = search (keeping, in_handle_or) depth 12
-
-in_open : (w : World) (pid : ℕ) (name : Text) → Holds (SameThreads w) (open_section w pid name)
-in_open w pid name = search keeping depth 12
-
-in_close : (w : World) (pid handle : ℕ) → Holds (SameThreads w) (close w pid handle)
-in_close w pid handle = search keeping depth 12
-
-in_map : (w : World) (pid handle access offset len addr : ℕ) → Holds (SameThreads w) (map_view w pid handle access offset len addr)
-in_map w pid handle access offset len addr = search keeping depth 18
-
-in_unmap : (w : World) (pid addr : ℕ) → Holds (SameThreads w) (unmap w pid addr)
-in_unmap w pid addr = search keeping depth 12
-
-in_flush : (w : World) (pid addr size : ℕ) → Holds (SameThreads w) (flush w pid addr size)
-in_flush w pid addr size = search keeping depth 12
-
-in_new_process : (w : World) → Holds (SameThreads w) (new_process w)
-in_new_process w = search keeping depth 12
-
-in_new_file : (w : World) (name : Text) (pages byte : ℕ) → Holds (SameThreads w) (new_file filled w name pages byte)
-in_new_file w name pages byte = search keeping depth 12
-
-in_take_fail : (w : World) → Holds (SameThreads w) (take_fail w)
-in_take_fail w = search keeping depth 12
-
-in_grow : (w : World) (n : ℕ) → Holds (SameThreads w) (grow w n)
-in_grow w n = search keeping depth 12
-
-in_watch : (w : World) (pid : ℕ) (unwrites : Bool) (addr size count : ℕ) → Holds (SameThreads w) (watch w pid unwrites addr size count)
-in_watch w pid unwrites addr size count = search keeping depth 12
-
-in_reset_watch : (w : World) (pid addr size : ℕ) → Holds (SameThreads w) (reset_watch w pid addr size)
-in_reset_watch w pid addr size = search keeping depth 12
-
-in_store_line : (w : World) (pid : ℕ) → Holds (SameThreads w) (store_line w pid)
-in_store_line w pid = search keeping depth 12
-
-in_written : (w : World) (pid : ℕ) (p : ProcessOf Page) (c : Committed Page) (page offset : ℕ) (bytes : List ℕ) (home : Home Page) (a : Answer) → Holds (SameThreads w) (done a (write_to w pid p c page offset bytes home))
-in_written w pid p c page offset bytes (Own old) a = by_threads w _ a refl refl
-in_written w pid p c page offset bytes (InSection area i) a = copied c.row.marked
-  where
-    new : Page
-    new = written (bytes_of w (InSection area i)) offset bytes
-
-    copied : (b : Bool) → Holds (SameThreads w) (done a (cond b (set_row w pid p c.region page (record c.row { own = Some new; prot = 0x04 })) (set_shared w area i new)))
-    copied true = by_threads w _ a refl refl
-    copied false = by_threads w _ a refl refl
-
-in_perform : (w : World) (pid : ℕ) (p : ProcessOf Page) (c : Committed Page) (page offset : ℕ) (what : Attempt) → Holds (SameThreads w) (perform w pid p c page offset what)
-in_perform w pid p c page offset (ReadOf len) = by_threads w w _ refl refl
-in_perform w pid p c page offset (WriteOf bytes) = in_written w pid p c page offset bytes c.home answer.Ok
-in_perform w pid p c page offset Execute = by_threads w w _ refl refl
-
-in_access_at : (w : World) (pid : ℕ) (p : ProcessOf Page) (page offset : ℕ) (what : Attempt) (c : Option (Committed Page)) → Holds (SameThreads w) (access_at w pid p page offset what c)
-in_access_at w pid p page offset what None = by_threads w w _ refl refl
-in_access_at w pid p page offset what (Some c) = search (keeping, in_perform) depth 12
-
-in_access : (w : World) (pid addr : ℕ) (what : Attempt) → Holds (SameThreads w) (access w pid addr what)
-in_access w pid addr what = search (keeping, in_access_at) depth 12
+  pub same_stacks : (t o.answer).stacks ≡ true → Edits (t o.answer) w o.world → o.world.stacks ≡ w.stacks
+  same_stacks e h = (threads (t o.answer) w o.world h).stacks e
 
 -- ---- lists of what is kept
 
@@ -189,11 +109,13 @@ pub record TellsThreads (w : World) (e : Event) (o : OutcomeOf Page) : Type 0 wh
   pub tells : writes_of o.world ≡ writes_after (writes_of w) e o.answer
   pub stacks : is_stack_line e ≡ false → o.world.stacks ≡ left_by e o.answer w.stacks
 
-tells_same : (w : World) (e : Event) (o : OutcomeOf Page) → Holds (SameThreads w) o → ((a : Answer) → writes_after (writes_of w) e a ≡ writes_of w) → ((a : Answer) → left_by e a w.stacks ≡ w.stacks) → TellsThreads w e o
-tells_same w e o h none left = record { tells = ap (map write_of) h.it.kept ∙ sym (none o.answer); stacks = λ other. h.it.stacks ∙ sym (left o.answer) }
+tells_same : (w : World) (e : Event) (o : OutcomeOf Page) → o.world.kept ≡ w.kept → (is_stack_line e ≡ false → o.world.stacks ≡ w.stacks) → ((a : Answer) → writes_after (writes_of w) e a ≡ writes_of w) → ((a : Answer) → left_by e a w.stacks ≡ w.stacks) → TellsThreads w e o
+tells_same w e o kept stacks none left = record { tells = ap (map write_of) kept ∙ sym (none o.answer); stacks = λ other. stacks other ∙ sym (left o.answer) }
 
-tells_kept : (w : World) (e : Event) (o : OutcomeOf Page) → is_stack_line e ≡ true → Holds (SameKept w) o → ((a : Answer) → writes_after (writes_of w) e a ≡ writes_of w) → TellsThreads w e o
-tells_kept w e o here h none = record { tells = ap (map write_of) h.it.same ∙ sym (none o.answer); stacks = λ other. let bad : true ≡ false = sym here ∙ other in cc }
+tells_kept : (w : World) (e : Event) (before after : Report) → keeps_accesses e ≡ true → (is_stack_line e ≡ false → keeps_stacks e ≡ true) → ((a : Answer) → writes_after (writes_of w) e a ≡ writes_of w) → ((a : Answer) → left_by e a w.stacks ≡ w.stacks) → TellsThreads w e (step w e before after)
+tells_kept w e before after kept stacks none left =
+    let h = (edits.in_step w e before after).edits in
+    tells_same w e (step w e before after) (same_kept (edits.line_terms e) w (step w e before after) kept h) (λ other. same_stacks (edits.line_terms e) w (step w e before after) (stacks other) h) none left
 
 in_exit : (w : World) (pid : Pid) → Holds (TellsThreads w (line.Exit pid)) (exit w pid.0)
 in_exit w pid = search (tables, exit_refused, exit_done) depth 12
@@ -226,29 +148,6 @@ in_free w pid addr size type = search (tables, free_refused, free_released, free
       };
     }
 
--- ---- stacks
-
-kept_made : (w : World) (tid pid : ℕ) (p : ProcessOf Page) (r c : ℕ) → Holds (SameKept w) (made filled w tid pid p r c)
-kept_made w tid pid p r c = search (tables, kept_refusal, by_kept) depth 14
-
-kept_stack : (w : World) (tid pid reserve commit : ℕ) → Holds (SameKept w) (stack filled w tid pid reserve commit)
-kept_stack w tid pid reserve commit = search (tables, kept_refusal, by_kept, kept_made) depth 14
-
-kept_grown : (w : World) (tid : ℕ) (s : StackOf) (p : ProcessOf Page) (c : Committed Page) (page : ℕ) → Holds (SameKept w) (grown filled (guard_off w s.pid p c page) tid s)
-kept_grown w tid s p c page = record { it = record { same = (in_alloc (guard_off w s.pid p c page) s.pid (address_of (s.guard_page - 1)) 1 commit_type 0x104).it.kept } }
-
-kept_probe_at : (w : World) (tid : ℕ) (p : ProcessOf Page) (s : StackOf) (page : ℕ) (c : Option (Committed Page)) → Holds (SameKept w) (probe_at filled w tid p s page c)
-kept_probe_at w tid p s page None = by_kept w w _ refl
-kept_probe_at w tid p s page (Some c) = search (tables, by_kept, kept_grown) depth 14
-
-kept_probe_in : (w : World) (tid : ℕ) (s : StackOf) (page : ℕ) (p : Option (ProcessOf Page)) → Holds (SameKept w) (probe_in filled w tid s page p)
-kept_probe_in w tid s page None = by_kept w w _ refl
-kept_probe_in w tid s page (Some p) = kept_probe_at w tid p s page (committed_at w p.regions page)
-
-kept_probe : (w : World) (tid page : ℕ) (s : Option StackOf) → Holds (SameKept w) (probe_of filled w tid page s)
-kept_probe w tid page None = by_kept w w _ refl
-kept_probe w tid page (Some s) = kept_probe_in w tid s page (process_of w s.pid)
-
 -- ---- accesses of threads
 
 -- an access is answered so that its thread goes on
@@ -276,9 +175,6 @@ going_access w pid addr what = search (tables, going_refusal, going_at) depth 12
 going_begin : (w : World) (tid pid : ℕ) (what : AccessSpec) → Holds GoesOn (begin w tid pid what)
 going_begin w tid pid what = search (tables, going_refusal, goes_on, going_access) depth 12
 
-keeping_begin : (w : World) (tid pid : ℕ) (what : AccessSpec) → Holds (SameThreads w) (begin w tid pid what)
-keeping_begin w tid pid what = search (keeping, in_access) depth 12
-
 after_begin : (writes : List (Option Place)) (tid : Tid) (pid : Pid) (what : AccessSpec) (a : Answer) → ends_none a ≡ false → writes_after writes (line.Begin tid pid what) a ≡ writes
 after_begin writes tid pid what (answer.Pending why) e = cc
 after_begin writes tid pid what _ e = refl
@@ -286,9 +182,10 @@ after_begin writes tid pid what _ e = refl
 in_begin : (w : World) (tid : Tid) (pid : Pid) (what : AccessSpec) → TellsThreads w (line.Begin tid pid what) (begin w tid.0 pid.0 what)
 in_begin w tid pid what =
     let o = begin w tid.0 pid.0 what in
+    let h = (edits.in_begin same_threads w tid.0 pid.0 what refl).it.edits in
     record {
-      tells = ap (map write_of) (keeping_begin w tid.0 pid.0 what).it.kept ∙ sym (after_begin (writes_of w) tid pid what o.answer (going_begin w tid.0 pid.0 what).it.goes);
-      stacks = λ other. (keeping_begin w tid.0 pid.0 what).it.stacks;
+      tells = ap (map write_of) (same_kept same_threads w o refl h) ∙ sym (after_begin (writes_of w) tid pid what o.answer (going_begin w tid.0 pid.0 what).it.goes);
+      stacks = λ other. same_stacks same_threads w o refl h;
     }
 
 after_resume : (writes : List (Option Place)) (tid : Tid) (a : Answer) → ends_none a ≡ false → writes_after writes (line.Resume tid) a ≡ slice_set writes tid.0 None
@@ -298,48 +195,14 @@ in_resume : (w : World) (tid : Tid) (kept : Option KeptOf) → TellsThreads w (l
 in_resume w tid None = record { tells = refl; stacks = λ other. refl }
 in_resume w tid (Some k) =
     let o = access w k.pid (address_in k.access) (attempt_in k.access) in
+    let h = (edits.in_access same_threads w k.pid (address_in k.access) (attempt_in k.access) (λ e. refl)).it.edits in
     record {
       tells =
           map_set o.world.kept tid.0 None
-          ∙ ap (λ (ks : Numbered KeptOf). set (map write_of ks) tid.0 None) (in_access w k.pid (address_in k.access) (attempt_in k.access)).it.kept
+          ∙ ap (λ (ks : Numbered KeptOf). set (map write_of ks) tid.0 None) (same_kept same_threads w o refl h)
           ∙ sym (after_resume (writes_of w) tid o.answer (going_access w k.pid (address_in k.access) (attempt_in k.access)).it.goes);
-      stacks = λ other. (in_access w k.pid (address_in k.access) (attempt_in k.access)).it.stacks;
+      stacks = λ other. same_stacks same_threads w o refl h;
     }
-
-in_unpaged : (w : World) (e : Event) → TellsThreads w e (unpaged w e)
-in_unpaged w (line.Machine m) = record { tells = refl; stacks = λ other. refl }
-in_unpaged w (line.Process min max) = tells_same w _ _ (in_new_process w) (λ a. refl) (λ a. refl)
-in_unpaged w (line.Exit pid) = (in_exit w pid).it
-in_unpaged w (line.File name pages byte) = tells_same w _ _ (in_new_file w name pages byte) (λ a. refl) (λ a. refl)
-in_unpaged w (line.Alloc pid addr size type prot) = tells_same w _ _ (in_alloc w pid.0 addr size type prot) (λ a. refl) (λ a. refl)
-in_unpaged w (line.Free pid addr size type) = (in_free w pid addr size type).it
-in_unpaged w (line.Protect pid addr size prot) = tells_same w _ _ (in_protect w pid.0 addr size prot) (λ a. refl) (λ a. refl)
-in_unpaged w (line.Query pid addr) = tells_same w _ _ (in_query w pid.0 addr) (λ a. refl) (λ a. refl)
-in_unpaged w (line.Create pid size flags name) = tells_same w _ _ (in_create w pid.0 size flags name) (λ a. refl) (λ a. refl)
-in_unpaged w (line.CreateFile pid file flags name) = tells_same w _ _ (in_create_file w pid.0 file flags name) (λ a. refl) (λ a. refl)
-in_unpaged w (line.Open pid name) = tells_same w _ _ (in_open w pid.0 name) (λ a. refl) (λ a. refl)
-in_unpaged w (line.Close pid handle) = tells_same w _ _ (in_close w pid.0 handle) (λ a. refl) (λ a. refl)
-in_unpaged w (line.Map pid handle access offset len addr) = tells_same w _ _ (in_map w pid.0 handle access offset len addr) (λ a. refl) (λ a. refl)
-in_unpaged w (line.Unmap pid addr) = tells_same w _ _ (in_unmap w pid.0 addr) (λ a. refl) (λ a. refl)
-in_unpaged w (line.Flush pid addr size) = tells_same w _ _ (in_flush w pid.0 addr size) (λ a. refl) (λ a. refl)
-in_unpaged w (line.Read pid addr len) = tells_same w _ _ (in_access w pid.0 addr (ReadOf len)) (λ a. refl) (λ a. refl)
-in_unpaged w (line.Write pid addr bytes) = tells_same w _ _ (in_access w pid.0 addr (WriteOf bytes)) (λ a. refl) (λ a. refl)
-in_unpaged w (line.Exec pid addr) = tells_same w _ _ (in_access w pid.0 addr Execute) (λ a. refl) (λ a. refl)
-in_unpaged w (line.Begin tid pid what) = in_begin w tid pid what
-in_unpaged w (line.Resume tid) = in_resume w tid (kept_by w tid.0)
-in_unpaged w (line.Io i) = record { tells = refl; stacks = λ other. refl }
-in_unpaged w (line.Trim pid n) = tells_same w _ _ (in_store_line w pid.0) (λ a. refl) (λ a. refl)
-in_unpaged w (line.Age pid) = tells_same w _ _ (in_store_line w pid.0) (λ a. refl) (λ a. refl)
-in_unpaged w (line.Writer n) = record { tells = refl; stacks = λ other. refl }
-in_unpaged w (line.Zeroer n) = record { tells = refl; stacks = λ other. refl }
-in_unpaged w (line.Fail device direction k n) = tells_same w _ _ (in_take_fail w) (λ a. refl) (λ a. refl)
-in_unpaged w line.Charge = record { tells = refl; stacks = λ other. refl }
-in_unpaged w line.Counts = record { tells = refl; stacks = λ other. refl }
-in_unpaged w (line.Grow n) = tells_same w _ _ (in_grow w n) (λ a. refl) (λ a. refl)
-in_unpaged w (line.Watch pid unwrites addr size count) = tells_same w _ _ (in_watch w pid.0 unwrites addr size count) (λ a. refl) (λ a. refl)
-in_unpaged w (line.ResetWatch pid addr size) = tells_same w _ _ (in_reset_watch w pid.0 addr size) (λ a. refl) (λ a. refl)
-in_unpaged w (line.Stack tid pid reserve commit) = tells_kept w _ _ refl (kept_stack w tid.0 pid.0 reserve commit) (λ a. refl)
-in_unpaged w (line.Probe tid addr) = tells_kept w _ _ refl (kept_probe w tid.0 (page_of addr) (stack_by w tid.0)) (λ a. refl)
 
 -- what the store tells of a `resume` is that its access failed, or waits
 told_waiting : (w : World) (tid : Tid) (n : Option Need) (before after : Report) (a : Answer) → waiting w n before after ≡ Some a → TellsThreads w (line.Resume tid) (done a (world_told w (line.Resume tid) a))
@@ -360,19 +223,26 @@ told_resume w tid (Some k) before after a e =
     by_failure true n e = subst (λ (a : Answer). TellsThreads w (line.Resume tid) (done a (world_told w (line.Resume tid) a))) (let same : answer.Raised raise.InPageError ≡ a = cc in same) (record { tells = map_set w.kept tid.0 None; stacks = λ other. refl })
     by_failure false n e = told_waiting w tid n before after a e
 
-in_told : (w : World) (e : Event) (before after : Report) (a : Answer) → told w e before after ≡ Some a → TellsThreads w e (done a (world_told w e a))
-in_told w (line.Begin tid pid what) before after (answer.Pending why) is = record { tells = map_set w.kept tid.0 (Some (record { pid = pid.0; access = what })); stacks = λ other. refl }
-in_told w (line.Resume tid) before after a is = told_resume w tid (kept_by w tid.0) before after a is
-in_told w (line.Exit pid) before after a is = cc
-in_told w (line.Free pid addr size type) before after a is = cc
-in_told w e before after a is = record { tells = refl; stacks = λ other. refl }
+told_begin : (w : World) (tid : Tid) (pid : Pid) (what : AccessSpec) (a : Answer) → TellsThreads w (line.Begin tid pid what) (done a (world_told w (line.Begin tid pid what) a))
+told_begin w tid pid what (answer.Pending why) = record { tells = map_set w.kept tid.0 (Some (record { pid = pid.0; access = what })); stacks = λ other. refl }
+told_begin w tid pid what a = record { tells = refl; stacks = λ other. refl }
 
-in_stepped : (w : World) (e : Event) (before after : Report) (t : Option Answer) → told w e before after ≡ t → TellsThreads w e (stepped w e t)
-in_stepped w e before after None is = in_unpaged w e
-in_stepped w e before after (Some a) is = in_told w e before after a is
+-- what the store tells, or what unpaged address spaces do
+either : (w : World) (e : Event) (before after : Report) → TellsThreads w e (unpaged w e) → ((a : Answer) → told w e before after ≡ Some a → TellsThreads w e (done a (world_told w e a))) → TellsThreads w e (step w e before after)
+either w e before after now later = by_told (told w e before after) refl
+  where
+    by_told : (t : Option Answer) → told w e before after ≡ t → TellsThreads w e (stepped w e t)
+    by_told None is = now
+    by_told (Some a) is = later a is
 
 pub in_step : (w : World) (e : Event) (before after : Report) → TellsThreads w e (step w e before after)
-in_step w e before after = in_stepped w e before after (told w e before after) refl
+in_step w (line.Exit pid) before after = (in_exit w pid).it
+in_step w (line.Free pid addr size type) before after = (in_free w pid addr size type).it
+in_step w (line.Begin tid pid what) before after = either w _ before after (in_begin w tid pid what) (λ a is. told_begin w tid pid what a)
+in_step w (line.Resume tid) before after = either w _ before after (in_resume w tid (kept_by w tid.0)) (told_resume w tid (kept_by w tid.0) before after)
+in_step w (line.Stack tid pid reserve commit) before after = tells_kept w _ before after refl (λ other. cc) (λ a. refl) (λ a. refl)
+in_step w (line.Probe tid addr) before after = tells_kept w _ before after refl (λ other. cc) (λ a. refl) (λ a. refl)
+in_step w e before after = tells_kept w e before after refl (λ other. refl) (λ a. refl) (λ a. refl)
 
 -- the writes that threads keep change as lines and their answers tell
 pub kept_writes_follow : (w : World) (e : Event) (before after : Report) → writes_of (step w e before after).world ≡ writes_after (writes_of w) e (step w e before after).answer

@@ -1,6 +1,5 @@
 pub mod Tables
 pub mod Determined
-pub mod Leaving
 pub mod LineLeaves
 pub mod Finding
 pub mod Charges
@@ -9,6 +8,9 @@ pub mod LimitKept
 pub mod AtLimit
 pub mod NeverLimit
 pub mod Each
+pub mod Edits
+pub mod CallEdits
+pub mod LineEdits
 pub mod LaidOut
 pub mod RowsFit
 pub mod Spaces
@@ -39,6 +41,4 @@ pub mod WatchGives
 pub mod KeptWrites
 pub mod PrivateLists
 pub mod PrivateCalls
-pub mod PrivateStacks
-pub mod PrivateLines
 pub mod StacksStay

@@ -9,33 +9,39 @@ use Rattle.mm_types.specs.declared.answers.Answer.TheVariants as answer
 use Rattle.mm_types.specs.declared.codes.Code.{Code}
 use Rattle.mm_types.specs.declared.events.Event.{Event}
 use Rattle.mm_types.specs.declared.events.Event.TheVariants as line
-use Rattle.mm_types.specs.Address.{Range, holds_page, address_of, page_of}
+use Rattle.mm_types.specs.Address.{Range, holds_page, address_of, page_of, lowest_gap}
 use Rattle.mm_types.specs.Allocation.{commit_type, release_type}
 use Rattle.mm_types.specs.Machine.{MachineOf}
 use Rattle.mm_types.proofs.Booleans.{both, parts, or_left, or_right}
 use Rattle.mm_world.specs.World.{Page, World, WorldOf, ProcessOf, RegionOf, StackOf, Numbered, numbered, pages_of, filled}
-use Rattle.mm_world.specs.Find.{process_of, set_regions, add_region, is_private, stack_by, set_stack, unless}
+use Rattle.mm_world.specs.Find.{process_of, set_regions, add_region, ranges_of, is_private, stack_by, set_stack, unless}
 use Rattle.mm_world.specs.Free.{is_stack_at}
 use Rattle.mm_world.specs.Keys.{Committed, committed_at, guard_off}
 use Rattle.mm_world.specs.Outcome.{OutcomeOf, done, refused}
 use Rattle.mm_world.specs.Report.{Report}
+use Rattle.mm_world.specs.Alloc.{alloc}
+use Rattle.mm_world.specs.Laws.{is_success}
 use Rattle.mm_world.specs.Stack.{stack, made, stack_region, probe, probe_at, probe_in, probe_of, grown, is_overflow}
 use Rattle.mm_world.specs.Step.{step, first_world, threads}
 use Rattle.mm_world.specs.PrivateRegions.{PagesOf}
 use Rattle.mm_world.proofs.Tables.{Holds, tables}
 use Rattle.mm_world.proofs.Finding.{numbered_inside}
-use Rattle.mm_world.proofs.WellFormed.{stack_length}
+use Rattle.mm_world.proofs.LineEdits.{stack_length}
 use Rattle.mm_world.specs.PrivateRegions.{line_ends}
-use Rattle.mm_world.proofs.FlagRanges.{same_page as equals}
-use Rattle.mm_world.proofs.FlagsWritten.{equal}
+use Rattle.mm_world.proofs.FlagRanges.{same_page as equals, equal}
 use Rattle.mm_world.specs.PrivateRegions.{is_private_region, is_same_range, holds_asked, is_region_of}
 use Rattle.mm_world.specs.Stacked.{is_stack_region, holds_stack, is_stacked, is_place, are_stacked}
 use Rattle.mm_world.proofs.PrivateLists.{any_inserted}
-use Rattle.mm_world.proofs.PrivateCalls.{by_guard, by_stack}
-use Rattle.mm_world.proofs.PrivateLines as lines
+use Rattle.mm_world.proofs.PrivateCalls.{region_stays}
+use Rattle.mm_world.proofs.Edits.{Rises, Terms, Edits}
+use Rattle.mm_world.proofs.CallEdits as calls
+use Rattle.mm_world.proofs.LineEdits as lines
 use Rattle.mm_world.proofs.KeptWrites as kept
 use Rattle.mm_world.proofs.KeptWrites.{is_stack_line, left_by}
-use Rattle.mm_world.proofs.PrivateStacks.{grown_keeps}
+
+-- no region of a stack goes
+abbrev none_goes : Answer → Terms
+none_goes a = record { ends = λ x. false; plain = false; kept = false; stacks = false; charge = Rises }
 
 -- ---- a stack's region, by its pages
 
@@ -124,6 +130,10 @@ module _ {B : Type 0} where
         let halves = parts (nat_lt s.base s.guard_page) (holds_stack s (process_of w s.pid)) e in
         both (nat_lt s.base s.guard_page) (holds_stack s (process_of v s.pid)) halves.0 (held_still (process_of w s.pid) refl halves.1)
 
+  -- the regions of stacks stay where none goes
+  stays_by : (w : WorldOf B) (o : OutcomeOf B) → Edits (none_goes o.answer) w o.world → (s : StackOf) → is_stacked w s ≡ true → is_stacked o.world s ≡ true
+  stays_by w o es s = stays w o.world s (λ n. region_stays (none_goes o.answer) (pages_from s n) refl w o.world es)
+
   -- ---- a guard page that moves down, but not to the base page
 
   region_lower : (s : StackOf) (guard : ℕ) (r : RegionOf B) → s.base ≤ guard → guard ≤ s.guard_page → is_stack_region s r ≡ true → is_stack_region (lowered s guard) r ≡ true
@@ -201,14 +211,10 @@ module _ {B : Type 0} where
   stacks_guard : (w : WorldOf B) (pid : ℕ) (p : ProcessOf B) (page : ℕ) (c : Committed B) (a : Answer) → process_of w pid ≡ Some p → committed_at w p.regions page ≡ Some c → Holds (KeepsStacked w) (done a (guard_off w pid p c page))
   stacks_guard w pid p page c a lives committed =
       let v = guard_off w pid p c page in
-      record {
-        it = record {
-          stacked = λ e. all_kept w v (λ s. stays w v s (λ n h. (by_guard (λ a x. false) w pid p page c a lives committed).it.kept (pages_from s n) refl h)) w.stacks e;
-        };
-      }
+      record { it = record { stacked = λ e. all_kept w v (stays_by w (done a v) (lines.guard_edits (none_goes a) w pid p c page lives committed)) w.stacks e } }
 
   module _ (fill : ℕ → B) where
-    module _ (w : WorldOf B) (tid pid : ℕ) (p : ProcessOf B) (r c base : ℕ) (lives : process_of w pid ≡ Some p) (fits : nat_le (c + 2) r ≡ true) where
+    module _ (w : WorldOf B) (tid pid : ℕ) (p : ProcessOf B) (r c base : ℕ) (lives : process_of w pid ≡ Some p) (fits : nat_le (c + 2) r ≡ true) (found : lowest_gap (ranges_of p.regions) r ≡ Some base) where
       abbrev guard : ℕ
       guard = base + r - (c + 1)
 
@@ -232,12 +238,12 @@ module _ {B : Type 0} where
           (ap (λ (o : Option (ProcessOf B)). holds_stack new o) (get_or-set_same w.processes pid (Some (record p { regions = add_region (stack_region fill base r c) p.regions })) None (numbered_inside w.processes pid p lives))
           ∙ any_inserted (is_stack_region new) p.regions _ (stack_region fill base r c) new_region)
 
-      stacks_new : (a : Answer) → Holds (KeepsStacked w) (done a v)
-      stacks_new a = record {
+      stacks_new : (a : Answer) → is_success a ≡ true → Holds (KeepsStacked w) (done a v)
+      stacks_new a ok = record {
         it = record {
           stacked = λ e.
               one_set v w.stacks tid new new_stacked
-              (all_kept w v (λ s. stays w v s (λ n h. (by_stack (λ a x. false) w pid p (stack_region fill base r c) tid new a lives).it.kept (pages_from s n) refl h)) w.stacks e);
+              (all_kept w v (stays_by w (done a v) (lines.by_stack fill none_goes (λ b. refl) (λ b n m. tt) w tid pid p new r c base a ok lives fits found).it.edits) w.stacks e);
         };
       }
 
@@ -272,13 +278,13 @@ module _ (w : World) (tid : ℕ) (s : StackOf) (has : stack_by w tid ≡ Some s)
       let next = s.guard_page - 1 in
       let m = guard_off w s.pid p c page in
       let v = (grown filled m tid s).world in
-      let keeps : (x : StackOf) → is_stacked w x ≡ true → is_stacked v x ≡ true = λ x. stays w v x (λ n h. grown_keeps filled (λ a x. false) w tid s p c page lives committed (pages_from x n) h) in
+      let keeps : (x : StackOf) → is_stacked w x ≡ true → is_stacked v x ≡ true = stays_by w (grown filled m tid s) (lines.in_grown filled none_goes (λ a. refl) (λ a n m. tt) w tid s p c page lives committed).it.edits in
       record {
         it = record {
           stacked = λ e.
               let mine = one_of w w.stacks tid s e has in
               let low = below_guard next mine (not_low c.row.guard (next == s.base) _ on fine) refl in
-              ap (λ (stacks : Numbered StackOf). are_placed v (set stacks tid (Some (lowered s next)))) (kept.in_alloc m s.pid (address_of next) 1 commit_type 0x104).it.stacks
+              ap (λ (stacks : Numbered StackOf). are_placed v (set stacks tid (Some (lowered s next)))) (kept.same_stacks kept.same_threads m (alloc filled m s.pid (address_of next) 1 commit_type 0x104) refl (calls.in_alloc kept.same_threads filled m s.pid (address_of next) 1 commit_type 0x104 (λ a e. cc) (λ a n m. tt)).it.edits)
               ∙ one_set v w.stacks tid (lowered s next) (lower_stacked v s next low.0 low.1 (keeps s mine)) (all_kept w v keeps w.stacks e);
         };
       }
@@ -326,7 +332,7 @@ module _ (w : World) (e : Event) (before after : Report) where
   o = step w e before after
 
   stack_kept : (s : StackOf) → ends_stack e o.answer s ≡ false → is_stacked w s ≡ true → is_stacked o.world s ≡ true
-  stack_kept s lasts = stays w o.world s (λ n h. (lines.in_step w e before after).it.kept (pages_from s n) (same_end e o.answer s n ∙ lasts) h)
+  stack_kept s lasts = stays w o.world s (λ n. region_stays (lines.line_terms e o.answer) (pages_from s n) (same_end e o.answer s n ∙ lasts) w o.world (lines.in_step w e before after).edits)
 
   other_line : is_stack_line e ≡ false → are_stacked w ≡ true → are_stacked o.world ≡ true
   other_line other h =

@@ -24,13 +24,20 @@ module _ {B : Type 0} where
   abbrev pub is_flagged : WorldOf B → ℕ → ℕ → Bool
   is_flagged w pid page = unwrap_or (flag_of w pid page) false
 
--- of a page that has this flag after the line: the line made its region, or it had a flag before, and has the one that the
--- line and its answer tell
+-- of a page that has this flag after the line: the line made its region, or it had a flag before,
+-- and has the one that the line and its answer tell
 pub data FlagTold (w : World) (e : Event) (a : Answer) (pid page : ℕ) (flag : Bool) : Type 0 where
   Begun : line_begins pid page e a ≡ true → flag ≡ false → FlagTold w e a pid page flag
-  Told : (was : Bool) → flag_of w pid page ≡ Some was → line_begins pid page e a ≡ false → flag ≡ written_after pid page (λ tid. kept_writes pid page (kept_by w tid)) was e a → FlagTold w e a pid page flag
+  Told : (was : Bool) → flag_of w pid page ≡ Some was → line_begins pid page e a ≡ false →
+      flag ≡ written_after pid page (λ tid. kept_writes pid page (kept_by w tid)) was e a →
+      FlagTold w e a pid page flag
 
--- each page of the range has a flag, and these are the addresses of the lowest that are written, at most `count`
-pub record GivesFlagged {B : Type 0} (w : WorldOf B) (pid : ℕ) (range : Range) (count : ℕ) (addresses : List ℕ) : Type 0 where
-  pub flagged : (page : ℕ) → range.first ≤ page → page < range.first + range.count → is_some (flag_of w pid page) ≡ true
-  pub given : addresses ≡ map address_of (take count (filter (is_flagged w pid) (range_with_len range.first range.count)))
+-- each page of the range has a flag, and these are the addresses of the lowest that are written, at
+-- most `count`
+pub record GivesFlagged {B : Type 0} (w : WorldOf B) (pid : ℕ) (range : Range) (count : ℕ)
+    (addresses : List ℕ) : Type 0 where
+  pub flagged : (page : ℕ) → range.first ≤ page → page < range.first + range.count →
+      is_some (flag_of w pid page) ≡ true
+  pub given : addresses ≡
+      map address_of
+      (take count (filter (is_flagged w pid) (range_with_len range.first range.count)))

@@ -1,4 +1,5 @@
--- In the order of reading. The definitions are the lines up to Step; below it stand words of laws and worked rows.
+-- In the order of reading. The definitions are the lines up to Step; below it stand words of laws
+-- and worked rows.
 
 -- private memory
 pub mod World

@@ -42,6 +42,7 @@ is_released_by pid addr x = (x.pid == pid) && (address_of x.range.first == addr)
 
 -- the line released the region, or ended its process
 abbrev pub line_ends : Event → Answer → PagesOf → Bool
-line_ends (line.Free pid addr size type) answer.Ok x = (type == release_type) && is_released_by pid.0 addr x
+line_ends (line.Free pid addr size type) answer.Ok x = (type == release_type) &&
+    is_released_by pid.0 addr x
 line_ends (line.Exit pid) answer.Ok x = x.pid == pid.0
 line_ends _ _ x = false

@@ -9,7 +9,8 @@ use Rattle.mm_world.specs.Find.{process_of, is_private}
 module _ {B : Type 0} where
   -- a private region with the base of the stack, which holds its guard page
   abbrev pub is_stack_region : StackOf → RegionOf B → Bool
-  is_stack_region s r = is_private r.kind && ((r.base == s.base) && holds_page (pages_of r) s.guard_page)
+  is_stack_region s r = is_private r.kind &&
+      ((r.base == s.base) && holds_page (pages_of r) s.guard_page)
 
   abbrev pub holds_stack : StackOf → Option (ProcessOf B) → Bool
   holds_stack s None = false

@@ -39,7 +39,9 @@ ends_none _ = false
 
 -- the same after a line, from its answer
 abbrev pub writes_after : List (Option Place) → Event → Answer → List (Option Place)
-writes_after writes (line.Begin tid pid what) (answer.Pending why) = slice_set writes tid.0 (page_written pid.0 what)
-writes_after writes (line.Resume tid) a = if ends_none a then writes else slice_set writes tid.0 None
+writes_after writes (line.Begin tid pid what) (answer.Pending why) =
+    slice_set writes tid.0 (page_written pid.0 what)
+writes_after writes (line.Resume tid) a = if ends_none a then writes else
+    slice_set writes tid.0 None
 writes_after writes (line.Exit pid) answer.Ok = map (unless_in pid.0) writes
 writes_after writes _ _ = writes

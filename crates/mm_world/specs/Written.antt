@@ -1,5 +1,5 @@
--- Whether a page of a watched region is written, told by lines and their answers alone (GetWriteWatch).
--- Profile, "Watched regions and stacks".
+-- Whether a page of a watched region is written, told by lines and their answers alone
+-- (GetWriteWatch). Profile, "Watched regions and stacks".
 use Rattle.std.specs.Prelude.{ℕ, Bool, true, false, ◌&&◌, ◌==◌, if◌then◌else◌, Option, Some, None}
 use Rattle.std.specs.List.{list_any}
 use Rattle.mm_types.specs.declared.answers.Answer.{Answer}
@@ -15,7 +15,10 @@ use Rattle.mm_world.specs.Alloc.{is_watched_type}
 -- the pages of the region that an `alloc` made at this base
 abbrev pub reserved_range : ℕ → ℕ → ℕ → Range
 reserved_range addr size base =
-    if addr == 0 then record { first = page_of base; count = pages_for size } else granule_range_of addr size
+    if addr == 0 then record {
+      first = page_of base;
+      count = pages_for size;
+    } else granule_range_of addr size
 
 module _ (pid page : ℕ) where
   -- ---- accesses
@@ -39,9 +42,11 @@ module _ (pid page : ℕ) where
       (by.0 == pid) && (is_watched_type type && holds_page (reserved_range addr size base) page)
   line_begins _ _ = false
 
-  -- the line made the page unwritten: a `resetwatch` of a range with the page, or a `watch` that unwrites and gave it
+  -- the line made the page unwritten: a `resetwatch` of a range with the page, or a `watch` that
+  -- unwrites and gave it
   abbrev pub line_clears : Event → Answer → Bool
-  line_clears (line.ResetWatch by addr size) answer.Ok = (by.0 == pid) && holds_page (range_of addr size) page
+  line_clears (line.ResetWatch by addr size) answer.Ok = (by.0 == pid) &&
+      holds_page (range_of addr size) page
   line_clears (line.Watch by true addr size count) (answer.Watched addresses) =
       (by.0 == pid) && list_any (λ q. page_of q == page) addresses
   line_clears _ _ = false
@@ -53,8 +58,8 @@ module _ (pid page : ℕ) where
   line_wrote keeps (line.Resume tid) answer.Ok = keeps tid.0
   line_wrote keeps _ _ = false
 
-  -- the page is not written where the line made its region or made it unwritten, and is where the line wrote to it;
-  -- trims, write-outs, reads and decommits do not matter
+  -- the page is not written where the line made its region or made it unwritten, and is where the
+  -- line wrote to it; trims, write-outs, reads and decommits do not matter
   abbrev pub written_after : (ℕ → Bool) → Bool → Event → Answer → Bool
   written_after keeps was e a =
       if line_begins e a then false

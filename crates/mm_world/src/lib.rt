@@ -1,7 +1,7 @@
 //! The definitions of unpaged worlds, checked against worked rows, and laws over them.
 //!
-//! The definitions stand in `specs/`. Each function here has no body: its clause is a worked row that the definitions
-//! give by computing alone, or a law that is proved over them.
+//! The definitions stand in `specs/`. Each function here has no body: its clause is a worked row
+//! that the definitions give by computing alone, or a law that is proved over them.
 #![tactic(auto)]
 
 pub mod beside_rows;

@@ -39,7 +39,8 @@ pub fn reads_that_fail()
     ensures { Gives (machine 8 8 1 1) (codes "ok 12") reads_that_fail_row }
 {}
 
-/// A thread waits for a frame only where its access needs one: a copy does, beside the page that it copies.
+/// A thread waits for a frame only where its access needs one: a copy does, beside the page that it
+/// copies.
 pub fn short_of_frames()
     ensures { Gives (machine 8 8 1 1) (codes "ok 12") short_of_frames_row }
 {}

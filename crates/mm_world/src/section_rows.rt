@@ -44,7 +44,8 @@ pub fn files_and_flushing()
     ensures { Gives (machine 8 8 1 2) (codes "ok 12") files_and_flushing_row }
 {}
 
-/// Views of a part of a file, by sections that share its pages, and names that last as long as handles.
+/// Views of a part of a file, by sections that share its pages, and names that last as long as
+/// handles.
 pub fn views_at_an_offset()
     ensures { Gives (machine 8 24 1 20) (codes "ok 28") views_at_an_offset_row }
 {}

@@ -1,11 +1,12 @@
-//! Tests of worlds over the store that does not page, in a crate of their own, so that `mm_core` is proved once.
+//! Rows over worlds whose pages stay in memory, in a crate of their own, so that `mm_core` is
+//! proved once.
 #![tactic(auto)]
 
 #[cfg(test)]
-mod bytes;
+mod bits;
 #[cfg(test)]
-mod machines;
+mod gaps;
 #[cfg(test)]
-mod watches_and_stacks;
+mod rows;
 #[cfg(test)]
-mod worlds;
+mod script;

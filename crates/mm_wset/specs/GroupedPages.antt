@@ -23,7 +23,8 @@ age_in newest xs v = option_map (turned newest) (group_in xs v)
 -- the pages with one more, in order
 abbrev pub add_page : Grouped → List Grouped → List Grouped
 add_page x [] = x ∷ []
-add_page x (y ∷ ys) = let later = add_page x ys in if nat_lt x.page y.page then x ∷ y ∷ ys else y ∷ later
+add_page x (y ∷ ys) = let later = add_page x ys in if nat_lt x.page y.page then x ∷ y ∷ ys else y ∷
+    later
 
 -- the pages without one
 abbrev pub remove_page : ℕ → List Grouped → List Grouped

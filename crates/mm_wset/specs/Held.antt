@@ -37,10 +37,12 @@ last_round = 2 ^ 64 - 1
 pub record KnowsUses (ages places : FinMap nat_cmp ℕ) (rounds : ℕ) (used_in : List ℕ) : Type 0 where
   pub early : (p : ℕ) → slice_index used_in p ≤ rounds
   pub never_last : (p : ℕ) → slice_index used_in p < last_round
-  pub fresh : (p v : ℕ) → finite.get places p ≡ Some v → slice_index used_in p ≡ rounds → finite.get ages v ≡ Some 0
+  pub fresh : (p v : ℕ) → finite.get places p ≡ Some v → slice_index used_in p ≡ rounds →
+      finite.get ages v ≡ Some 0
 
 -- there are as many places in use as pages, and a spare node for each page that may yet come
-pub record IsWorkingSet (most : ℕ) (places : Slab ℕ) (newest : ℕ) (pages : List Grouped) (spare spare_room rounds : ℕ) (used_in : List ℕ) : Type 0 where
+pub record IsWorkingSet (most : ℕ) (places : Slab ℕ) (newest : ℕ) (pages : List Grouped)
+    (spare spare_room rounds : ℕ) (used_in : List ℕ) : Type 0 where
   pub counted : finite.len (places_of places) ≡ slab_len places
   pub as_many : length pages ≡ slab_len places
   pub stocked : slab_len places + spare ≡ most

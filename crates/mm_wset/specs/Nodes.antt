@@ -10,7 +10,10 @@ use Rattle.mm_wset.specs.declared.trees.Span.{Span}
 
 abbrev pub tree_of : Option (Box Node Global) → TreeOf
 tree_of None = record { pages = []; height = 0 }
-tree_of (Some b) = record { pages = b.value.left.pages ++ b.value.member ∷ b.value.right.pages; height = b.value.span.height }
+tree_of (Some b) = record {
+  pages = b.value.left.pages ++ b.value.member ∷ b.value.right.pages;
+  height = b.value.span.height;
+}
 
 abbrev pub number : Bool → ℕ
 number b = if b then 1 else 0
@@ -55,7 +58,8 @@ pub record Alike (t u : TreeOf) : Type 0 where
 
 -- what a tree became: it has these pages and a height within these bounds, and where it is not
 -- called changed, what is kept of it is the same
-pub record Became (t u : TreeOf) (pages : List Grouped) (least most : ℕ) (changed : Bool) : Type 0 where
+pub record Became (t u : TreeOf) (pages : List Grouped) (least most : ℕ) (changed : Bool) :
+    Type 0 where
   pub is : u.pages ≡ pages
   pub not_lower : least ≤ u.height
   pub not_higher : u.height ≤ most

@@ -22,7 +22,8 @@ pub record IsFork (t l : TreeOf) (x : Grouped) (u : TreeOf) : Type 0 where
   pub height : t.height ≡ max l.height u.height + 1
   pub near : DifferByAtMost 1 l.height u.height
 
--- a tree of these pages, as high as the higher of two sides or one higher, and just so where they were near
+-- a tree of these pages, as high as the higher of two sides or one higher, and just so where they
+-- were near
 pub record IsBalanced (t : TreeOf) (pages : List Grouped) (l u : ℕ) : Type 0 where
   pub is : t.pages ≡ pages
   pub least : max l u ≤ t.height
@@ -30,7 +31,8 @@ pub record IsBalanced (t : TreeOf) (pages : List Grouped) (l u : ℕ) : Type 0 w
   pub near : DifferByAtMost 1 l u → t.height ≡ max l u + 1
 
 -- two trees and a page between them became two that are about as high, with the same pages
-pub record IsTurned (l : TreeOf) (x : Grouped) (u l' : TreeOf) (x' : Grouped) (u' : TreeOf) : Type 0 where
+pub record IsTurned (l : TreeOf) (x : Grouped) (u l' : TreeOf) (x' : Grouped) (u' : TreeOf) :
+    Type 0 where
   pub pages : l'.pages ++ x' ∷ u'.pages ≡ l.pages ++ x ∷ u.pages
   pub known : x'.group ≤ 7
   pub about : DifferByAtMost 1 l'.height u'.height

@@ -1,4 +1,5 @@
-//! Working sets: which pages of a process are valid, at which place, and how long ago each was used.
+//! Working sets: which pages of a process are valid, at which place, and how long ago each was
+//! used.
 #![tactic(auto)]
 
 mod sets;

@@ -15,8 +15,9 @@ use std::marker::Model;
 
 /// A process's working set: its valid pages, each at a place of its own and with an age.
 ///
-/// A page's age is 0 when it becomes valid and at each use, and one more at each `age_all`, up to 7. The room
-/// for all pages is taken at once, by `reserve` or when the set is made: no other call takes memory.
+/// A page's age is 0 when it becomes valid and at each use, and one more at each `age_all`, up to
+/// 7. The room for all pages is taken at once, by `reserve` or when the set is made: no other call
+/// takes memory.
 #[derive(Drop)]
 pub struct WorkingSet {
     alloc: Global,
@@ -69,7 +70,10 @@ fn put_in(pages: &mut Tree, stock: &mut Vec<Box<Node>>, page: u32, group: u8)
     requires stocked { 0 < vec_len stock.old }
     requires sorted { IsSorted 0 pages.old.pages }
     requires few { length pages.old.pages + 1 < 2 ^ 32 }
-    ensures pages { pages.new.pages ≡ add_page (record { page = page; group = group }) pages.old.pages }
+    ensures pages { pages.new.pages ≡ add_page (record {
+      page = page;
+      group = group;
+    }) pages.old.pages }
     ensures spare { vec_len stock.new + 1 ≡ vec_len stock.old }
     ensures room { vec_capacity stock.new ≡ vec_capacity stock.old }
 {
@@ -111,7 +115,13 @@ fn next_newest(newest: u8) -> u8
 impl WorkingSet {
     /// An empty set without room: it takes no memory, and no page until `reserve`.
     pub fn unreserved(alloc: Global, min: u32, max: u32) -> WorkingSet
-        ensures { result ≡ record { min = min; max = max; reserved = false; ages = finite.empty; places = finite.empty } }
+        ensures { result ≡ record {
+          min = min;
+          max = max;
+          reserved = false;
+          ages = finite.empty;
+          places = finite.empty;
+        } }
     {
         WorkingSet {
             alloc,
@@ -127,17 +137,24 @@ impl WorkingSet {
         }
     }
 
-    /// An empty set, with room for `max` pages. `NoMemory` also comes where places could not be numbered by a `u32`.
+    /// An empty set, with room for `max` pages. `NoMemory` also comes where places could not be
+    /// numbered by a `u32`.
     pub fn new(alloc: Global, min: u32, max: u32) -> Result<WorkingSet, NoMemory>
-        ensures { IfOk result (λ s. s ≡ record { min = min; max = max; reserved = true; ages = finite.empty; places = finite.empty }) }
+        ensures { IfOk result (λ s. s ≡ record {
+          min = min;
+          max = max;
+          reserved = true;
+          ages = finite.empty;
+          places = finite.empty;
+        }) }
     {
         let mut set = WorkingSet::unreserved(alloc, min, max);
         set.reserve()?;
         Ok(set)
     }
 
-    /// Takes the room for `max` pages, where the set has none yet. After `NoMemory`, which also comes where
-    /// places could not be numbered by a `u32`, nothing has changed.
+    /// Takes the room for `max` pages, where the set has none yet. After `NoMemory`, which also
+    /// comes where places could not be numbered by a `u32`, nothing has changed.
     pub fn reserve(&mut self) -> Result<(), NoMemory>
         ensures ok { OnOk result (self.new ≡ record self.old { reserved = true }) }
         ensures err { OnErr result (self.new ≡ self.old) }
@@ -170,13 +187,17 @@ impl WorkingSet {
         self.is_reserved = false;
     }
 
-    /// Takes a page in that is not in the set, which has room and fewer than `max` pages, and answers its place.
+    /// Takes a page in that is not in the set, which has room and fewer than `max` pages, and
+    /// answers its place.
     pub fn insert(&mut self, v: Vpn) -> u32
         requires reserved { self.old.reserved ≡ true }
         requires room { finite.len self.old.places < self.old.max }
         requires absent { finite.get self.old.ages v.0 ≡ None }
         ensures vacant { finite.get self.old.places result ≡ None }
-        ensures set { self.new ≡ record self.old { ages = finite.insert self.old.ages v.0 0; places = finite.insert self.old.places result v.0 } }
+        ensures set { self.new ≡ record self.old {
+          ages = finite.insert self.old.ages v.0 0;
+          places = finite.insert self.old.places result v.0;
+        } }
     {
         let place = self.places.insert_reserved(v.0);
         put_in(&mut self.pages, &mut self.stock, v.0, self.newest);
@@ -188,7 +209,10 @@ impl WorkingSet {
     pub fn remove(&mut self, place: u32) -> Vpn
         requires { IsSome (finite.get self.old.places place) }
         ensures page { finite.get self.old.places place ≡ Some result.0 }
-        ensures set { self.new ≡ record self.old { ages = finite.remove self.old.ages result.0; places = finite.remove self.old.places place } }
+        ensures set { self.new ≡ record self.old {
+          ages = finite.remove self.old.ages result.0;
+          places = finite.remove self.old.places place;
+        } }
     {
         let page = self.places.remove(place as usize);
         take_out(&mut self.pages, &mut self.stock, page);
@@ -198,7 +222,9 @@ impl WorkingSet {
     /// The page at a place in use was used: its age is 0.
     pub fn touch(&mut self, place: u32)
         requires { IsSome (finite.get self.old.places place) }
-        ensures { (v : ℕ) → finite.get self.old.places place ≡ Some v → self.new ≡ record self.old { ages = finite.insert self.old.ages v 0 } }
+        ensures { (v : ℕ) → finite.get self.old.places place ≡ Some v → self.new ≡ record self.old {
+          ages = finite.insert self.old.ages v 0;
+        } }
     {
         let place = place as usize;
         if self.used_in[place] == self.rounds {
@@ -223,11 +249,12 @@ impl WorkingSet {
         self.rounds = self.rounds.saturating_add(1);
     }
 
-    /// The page that goes first: the greatest age, and among equal ages the lowest page. With a page of the
-    /// set, the one that goes next after it. `None` comes exactly where there is none.
+    /// The page that goes first: the greatest age, and among equal ages the lowest page. With a
+    /// page of the set, the one that goes next after it. `None` comes exactly where there is none.
     pub fn oldest(&self, after: Option<Vpn>) -> Option<Vpn>
         requires { ForSome after (λ v. IsSome (finite.get self.now.ages v.0)) }
-        ensures { MatchOption result (NoneFollows self.now.ages (option_map (λ w. w.0) after)) (λ v. IsOldest self.now.ages (option_map (λ w. w.0) after) v.0) }
+        ensures { MatchOption result (NoneFollows self.now.ages (option_map (λ w. w.0) after))
+            (λ v. IsOldest self.now.ages (option_map (λ w. w.0) after) v.0) }
     {
         let found = match after {
             None => self.pages.oldest_below(self.newest, AGES),

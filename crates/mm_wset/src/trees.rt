@@ -107,7 +107,10 @@ impl Tree {
 
     /// The node at the root.
     fn top(&self) -> Option<&Node>
-        ensures node { MatchOption result (self.now ≡ record { pages = []; height = 0 }) (λ n. IsNode n.now self.now) }
+        ensures node { MatchOption result (self.now ≡ record {
+          pages = [];
+          height = 0;
+        }) (λ n. IsNode n.now self.now) }
         ensures shaped { IsShaped self.now }
     {
         match &self.root {
@@ -129,7 +132,10 @@ impl Tree {
 
     /// The node at the root, and the trees below it and above it.
     fn apart(self) -> Option<(Tree, Box<Node>, Tree)>
-        ensures fork { MatchOption result (self ≡ record { pages = []; height = 0 }) (λ t. IsFork self t.0 t.1.value.member t.2) }
+        ensures fork { MatchOption result (self ≡ record {
+          pages = [];
+          height = 0;
+        }) (λ t. IsFork self t.0 t.1.value.member t.2) }
         ensures known { IfSome result (λ t. t.1.value.member.group ≤ 7) }
     {
         match self.root {
@@ -144,7 +150,10 @@ impl Tree {
 
     /// The node at the root, with both of its sides.
     fn opened(self) -> Option<Box<Node>>
-        ensures { MatchOption result (self ≡ record { pages = []; height = 0 }) (λ n. IsNode n.value self) }
+        ensures { MatchOption result (self ≡ record {
+          pages = [];
+          height = 0;
+        }) (λ n. IsNode n.value self) }
     {
         self.root
     }
@@ -155,7 +164,8 @@ impl Tree {
         requires sorted { IsSorted 0 self.old.pages }
         requires known { node.value.member.group ≤ 7 }
         requires few { length self.old.pages + 1 < 2 ^ 32 }
-        ensures { Became self.old self.new (add_page node.value.member self.old.pages) self.old.height (self.old.height + 1) result }
+        ensures { Became self.old self.new (add_page node.value.member self.old.pages)
+            self.old.height (self.old.height + 1) result }
     {
         let Some(top) = &mut self.root else {
             self.root = fork(Tree::new(), node, Tree::new()).opened();
@@ -180,7 +190,8 @@ impl Tree {
         requires sorted { IsSorted 0 self.old.pages }
         requires held { IsSome (group_in self.old.pages page) }
         requires few { length self.old.pages < 2 ^ 32 }
-        ensures { Became self.old self.new (remove_page page self.old.pages) (self.old.height - 1) self.old.height result.1 }
+        ensures { Became self.old self.new (remove_page page self.old.pages) (self.old.height - 1)
+            self.old.height result.1 }
     {
         if stands_at(&self.root, page) {
             return (take_top(&mut self.root), true);
@@ -306,12 +317,14 @@ impl Tree {
         node.right.lowest_of(group)
     }
 
-    /// The page that goes first of those whose age is below `limit`: the oldest, and of these the lowest.
+    /// The page that goes first of those whose age is below `limit`: the oldest, and of these the
+    /// lowest.
     pub fn oldest_below(&self, newest: u8, limit: u8) -> Option<Grouped>
         requires sorted { IsSorted 0 self.now.pages }
         requires turning { newest < 7 }
         requires young { limit ≤ 8 }
-        ensures { MatchOption result (NoneOf (age_in newest self.now.pages) (IsBelow limit)) (λ x. IsFirstOf (age_in newest self.now.pages) (IsBelow limit) x.page) }
+        ensures { MatchOption result (NoneOf (age_in newest self.now.pages) (IsBelow limit))
+            (λ x. IsFirstOf (age_in newest self.now.pages) (IsBelow limit) x.page) }
     {
         let span = self.span();
         let mut age = limit;
@@ -331,7 +344,9 @@ impl Tree {
         requires turning { newest < 7 }
         requires held { IsSome (group_in self.now.pages page) }
         requires known { (g : ℕ) → group_in self.now.pages page ≡ Some g → g ≤ 7 }
-        ensures { (a : ℕ) → age_in newest self.now.pages page ≡ Some a → MatchOption result (NoneOf (age_in newest self.now.pages) (GoesBefore page a)) (λ x. IsFirstOf (age_in newest self.now.pages) (GoesBefore page a) x.page) }
+        ensures { (a : ℕ) → age_in newest self.now.pages page ≡ Some a →
+            MatchOption result (NoneOf (age_in newest self.now.pages) (GoesBefore page a))
+            (λ x. IsFirstOf (age_in newest self.now.pages) (GoesBefore page a) x.page) }
     {
         let Some(group) = self.group_of(page) else {
             unreachable!()
@@ -350,7 +365,8 @@ fn renew(node: &mut Node)
     requires known { node.old.member.group ≤ 7 }
     ensures same { node.new ≡ record node.old { span = node.new.span } }
     ensures height { node.new.span.height ≡ node.old.span.height }
-    ensures groups { (g : ℕ) → bit_at node.new.span.groups g ≡ number (has_group g (pages_of node.old)) }
+    ensures groups { (g : ℕ) → bit_at node.new.span.groups g ≡
+        number (has_group g (pages_of node.old)) }
 {
     let (below, above) = (node.left.span(), node.right.span());
     node.span.groups = groups_over(below.groups, node.member.group, above.groups);
@@ -406,7 +422,8 @@ fn fork(left: Tree, mut node: Box<Node>, right: Tree) -> Tree
 fn settle(node: &mut Node) -> bool
     requires { MayLean node.old }
     ensures is { IsNode node.new (tree_at node.new) }
-    ensures balanced { IsBalanced (tree_at node.new) (pages_of node.old) node.old.left.height node.old.right.height }
+    ensures balanced { IsBalanced (tree_at node.new) (pages_of node.old) node.old.left.height
+        node.old.right.height }
     ensures same { result ≡ false → IsSpan node.old.span (tree_at node.new) }
 {
     let (below, above) = (node.left.span(), node.right.span());
@@ -426,7 +443,8 @@ fn settle(node: &mut Node) -> bool
 fn level(node: &mut Node)
     requires { MayLean node.old }
     ensures is { IsNode node.new (tree_at node.new) }
-    ensures balanced { IsBalanced (tree_at node.new) (pages_of node.old) node.old.left.height node.old.right.height }
+    ensures balanced { IsBalanced (tree_at node.new) (pages_of node.old) node.old.left.height
+        node.old.right.height }
 {
     let left = mem::replace(&mut node.left, Tree::new());
     let right = mem::replace(&mut node.right, Tree::new());
@@ -470,12 +488,17 @@ fn stands_at(root: &Option<Box<Node>>, page: u32) -> bool
 /// The node at the root, in whose place the pages of its sides stay.
 fn take_top(root: &mut Option<Box<Node>>) -> Box<Node>
     requires some { IsSome root.old }
-    requires near { ForSome root.old (λ n. DifferByAtMost 1 n.value.left.height n.value.right.height) }
-    requires few { ForSome root.old (λ n. length n.value.left.pages + length n.value.right.pages < 2 ^ 32) }
+    requires near { ForSome root.old
+        (λ n. DifferByAtMost 1 n.value.left.height n.value.right.height) }
+    requires few { ForSome root.old
+        (λ n. length n.value.left.pages + length n.value.right.pages < 2 ^ 32) }
     ensures tree { IsTree root.new }
-    ensures pages { ForSome root.old (λ n. (tree_of root.new).pages ≡ n.value.left.pages ++ n.value.right.pages) }
-    ensures least { ForSome root.old (λ n. max n.value.left.height n.value.right.height ≤ (tree_of root.new).height) }
-    ensures most { ForSome root.old (λ n. (tree_of root.new).height ≤ max n.value.left.height n.value.right.height + 1) }
+    ensures pages { ForSome root.old
+        (λ n. (tree_of root.new).pages ≡ n.value.left.pages ++ n.value.right.pages) }
+    ensures least { ForSome root.old
+        (λ n. max n.value.left.height n.value.right.height ≤ (tree_of root.new).height) }
+    ensures most { ForSome root.old
+        (λ n. (tree_of root.new).height ≤ max n.value.left.height n.value.right.height + 1) }
 {
     let Some(mut top) = mem::replace(root, None) else {
         unreachable!()
@@ -511,7 +534,8 @@ fn balance(left: Tree, mut node: Box<Node>, right: Tree) -> Tree
     requires near { DifferByAtMost 2 left.height right.height }
     requires known { node.value.member.group ≤ 7 }
     requires few { length left.pages + length right.pages + 1 < 2 ^ 32 }
-    ensures { IsBalanced result (left.pages ++ node.value.member ∷ right.pages) left.height right.height }
+    ensures { IsBalanced result (left.pages ++ node.value.member ∷ right.pages) left.height
+        right.height }
 {
     let (left, member, right) = turn(left, node.member, right);
     node.member = member;
@@ -604,7 +628,8 @@ fn take_lowest(left: Tree, top: Box<Node>, right: Tree) -> (Box<Node>, Tree)
     requires near { DifferByAtMost 1 left.height right.height }
     requires known { top.value.member.group ≤ 7 }
     requires few { length left.pages + length right.pages + 1 < 2 ^ 32 }
-    ensures pages { result.0.value.member ∷ result.1.pages ≡ left.pages ++ top.value.member ∷ right.pages }
+    ensures pages { result.0.value.member ∷ result.1.pages ≡ left.pages ++ top.value.member ∷
+        right.pages }
     ensures known { result.0.value.member.group ≤ 7 }
     ensures not_higher { result.1.height ≤ max left.height right.height + 1 }
     ensures at_most_one_lower { max left.height right.height ≤ result.1.height }

@@ -1,4 +1,5 @@
-//! Checks a log of moves on standard input: whether it replays, and its counts, or where a page stands at its end.
+//! Checks a log of moves on standard input: whether it replays, and its counts, or where a page
+//! stands at its end.
 #![tactic(auto)]
 
 use mm_io::{StdSink, StdSource};

@@ -1,5 +1,5 @@
-//! Simulates the memory manager of 32-bit Windows: a script on standard input, its answers on standard output, the moves of its page
-//! frames on standard error.
+//! Simulates the memory manager of 32-bit Windows: a script on standard input, its answers on
+//! standard output, the moves of its page frames on standard error.
 #![tactic(auto)]
 
 use mm_blocks::MemBlocks;

@@ -2,7 +2,8 @@ use crate::Frames;
 use mm_types::{Key, Pid, Vpn};
 use std::test::Fail;
 
-/// The bytes stand in the frames alone: a byte changed behind the frame database is what `read` answers.
+/// The bytes stand in the frames alone: a byte changed behind the frame database is what `read`
+/// answers.
 #[test]
 fn byte_changed_behind_is_read(rt: HostRuntime) -> Result<(), Fail> {
     let mut frames = Frames::new(rt.alloc(), 1)?;

@@ -92,7 +92,8 @@ pub fn begin(fields: &mut Fields) -> Result<Event, LineFault>
 /// The words of a read that is begun, after `read`.
 fn begin_read(fields: &mut Fields, tid: Tid, pid: Pid) -> Result<Event, LineFault>
     requires { fields.old.number ≡ 5 }
-    ensures { result ≡ event_in keyword.Begin (Then AnyNumber (Then (Number 1 64) End)) (λ addr len. line.Begin tid pid (spec.Read addr len)) fields.old }
+    ensures { result ≡ event_in keyword.Begin (Then AnyNumber (Then (Number 1 64) End))
+        (λ addr len. line.Begin tid pid (spec.Read addr len)) fields.old }
 {
     let addr = fields.number()?;
     let len = fields.number_in(1, 64)?;
@@ -110,7 +111,8 @@ fn begin_read(fields: &mut Fields, tid: Tid, pid: Pid) -> Result<Event, LineFaul
 /// The words of a write that is begun, after `write`.
 fn begin_write(fields: &mut Fields, tid: Tid, pid: Pid) -> Result<Event, LineFault>
     requires { fields.old.number ≡ 5 }
-    ensures { result ≡ event_in keyword.Begin (Then AnyNumber (Then ByteWord End)) (λ addr bytes. line.Begin tid pid (spec.Write addr bytes)) fields.old }
+    ensures { result ≡ event_in keyword.Begin (Then AnyNumber (Then ByteWord End))
+        (λ addr bytes. line.Begin tid pid (spec.Write addr bytes)) fields.old }
 {
     let addr = fields.number()?;
     let bytes = fields.bytes()?;

@@ -3,16 +3,18 @@ use Rattle.std.proofs.lemmas.Bool.{leb-true, leb-false}
 use Rattle.mm_types.specs.declared.answers.Answer.TheVariants as answer
 use Rattle.mm_types.specs.Address.{Range}
 use Rattle.mm_world.specs.World.{AreaOf}
+use Rattle.mm_world.specs.Alloc.{commit_pages}
 use Rattle.mm_world.specs.Find.{process_of, region_around, area_at}
 use Rattle.mm_world.specs.Charge.{charge, limit}
+use Rattle.mm_world.specs.Contents.{blank}
 use Rattle.mm_world.specs.Outcome.{done}
 use Rattle.mm_world.specs.Rows.{accepts, every_page}
 use Rattle.mm_sections.specs.Pages.{uncommitted_in}
 use Rattle.mm_calls.proofs.Areas.{tells_view, no_block}
 use Rattle.mm_calls.proofs.Around.{user_range}
-use Rattle.mm_calls.proofs.Decided.{view_refused, view_made}
+use Rattle.mm_calls.proofs.Decided.{view_refused, view_made, view_charges, some_marks}
 use Rattle.mm_calls.proofs.allocations.commit_view.Goals as goal
-use Rattle.mm_types.proofs.Options.{some_found}
+use Rattle.mm_types.proofs.Options.{some_found, on_err}
 
 pub area-area-requires : goal.area-area-requires
 area-area-requires g c =
@@ -98,3 +100,22 @@ returns-clause-ok g c p lives =
     let now = sym (c.in_ok-commit_view.ensures.ok p v.region c.args.view lives v.found v.kind) in
     view_made t c.args.pid.0 p range c.args.prot n lives v.region v.found c.args.view v.kind none c.sound.ensures.sound c.requires.prot takes counted room
     ∙ (λ i. done (answer.At (at i * 4096)) (now i))
+
+pub returns-in_err-commit_view-clause-charges : goal.returns-in_err-commit_view-clause-charges
+returns-in_err-commit_view-clause-charges g c = on_err c.from_residual.result (λ p lives.
+    let t = c.args.t.now in
+    let range : Range = c.args.range in
+    let v = tells_view t c.args.pid.0 p range c.args.pages c.args.view lives c.sound.ensures.sound (c.requires.around p lives) in
+    let first : c.args.view.first + (c.range.inside.first - c.pages.inside.first) ≡ c.args.view.first + (range.first - v.region.thing.base) =
+    omega (arith, v.index, ap (λ (r : Range). r.first) c.range.view_is, ap (λ (r : Range). r.first) c.pages.view_is) in
+    let count : c.range.inside.count ≡ range.count = ap (λ (r : Range). r.count) c.range.view_is in
+    let n : ℕ = c.uncommitted-n.result in
+    let counted : n ≡ uncommitted_in (area_at t c.args.view.area.0) (c.args.view.first + (range.first - v.region.thing.base)) range.count =
+    c.uncommitted-n.ensures ∙ (λ i. uncommitted_in (c.area-area.ensures i) (first i) (count i)) in
+    let none : (area_at t c.args.view.area.0).file_block ≡ None =
+    ap (λ (a : AreaOf (Unit {0})). a.file_block) (sym c.area-area.ensures) ∙ no_block c.area-area.result.now.file_block (ap (λ o. is_some o) (sym c.first_block.ensures) ∙ sym c.is_some.ensures ∙ c.if-is_some.false) in
+    let takes : every_page (accepts v.region.thing c.args.prot) range ≡ true = sym (c.accepts.ensures v.region (ap (λ rs. region_around rs range) (c.space.ensures p lives) ∙ v.found)) ∙ c.if-not-accepts.false in
+    let room : charge t + n ≤ limit t = leb-true _ _ (sym c.can_charge.ensures ∙ c.if-not-can_charge.false) in
+    let charged : charge (commit_pages blank t c.args.pid.0 p range c.args.prot).world ≡ charge t + n =
+    view_charges t c.args.pid.0 p range c.args.prot n lives v.region v.found c.args.view v.kind none c.sound.ensures.sound c.requires.prot takes counted room in
+    omega (arith, charged, some_marks n (λ zero. let bad = c.in_err-commit_view.ensures.enough (omega (arith, zero, c.requires.fits.room)) in cc)))

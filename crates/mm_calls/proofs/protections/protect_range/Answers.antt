@@ -1,4 +1,4 @@
-use Rattle.std.proofs.Common.{◌≡◌, ◌≤◌, ◌<◌, ◌+◌, ◌∙◌, ℕ, sym, ap, arith, true, Some}
+use Rattle.std.proofs.Common.{◌≡◌, ◌≤◌, ◌<◌, ◌+◌, ◌∙◌, ℕ, Bool, not, refl, sym, ap, arith, true, false, Some}
 use Rattle.std.proofs.lemmas.Bool.{leb-true, leb-false}
 use Rattle.mm_types.proofs.Options.{on_err}
 use Rattle.mm_types.specs.declared.answers.Answer.TheVariants as answer
@@ -9,10 +9,13 @@ use Rattle.mm_world.specs.Outcome.{done}
 use Rattle.mm_world.specs.Protect.{protection_at}
 use Rattle.mm_world.specs.Rows.{is_committed_at, accepts, every_page}
 use Rattle.mm_tables.specs.Fits.{new_marks}
-use Rattle.mm_calls.proofs.Around.{told_is}
 use Rattle.mm_calls.specs.Marking.{protect_pages}
 use Rattle.mm_calls.proofs.Decided.{protect_refused, protect_made, protect_charges, some_marks}
 use Rattle.mm_calls.proofs.protections.protect_range.Goals as goal
+
+unless_not : (b : Bool) → not b ≡ false → b ≡ true
+unless_not true e = refl
+unless_not false e = cc
 
 pub returns-then-not-can_charge-clause-ok : goal.returns-then-not-can_charge-clause-ok
 returns-then-not-can_charge-clause-ok g c p lives =
@@ -21,11 +24,11 @@ returns-then-not-can_charge-clause-ok g c p lives =
     let range : Range = c.args.range in
     let prot = c.args.prot in
     let same = c.space-space.ensures p lives in
-    let told = told_is (region_around rs range) c.in-Some.region (sym c.region_around.ensures.found ∙ c.in-Some.is) in
+    let told = c.in-Some.ensures.some in
     let r = told.region in
-    let found : region_around p.regions range ≡ Some r = ap (λ rs. region_around rs range) (sym same) ∙ told.found in
+    let found : region_around p.regions range ≡ Some r = ap (λ rs. region_around rs range) (sym same) ∙ told.around in
     let there : every_page (is_committed_at t r.thing) range ≡ true = sym (c.are_committed.ensures p r lives found) ∙ c.if-not-are_committed.false in
-    let takes : every_page (accepts r.thing prot) range ≡ true = sym (c.accepts.ensures r told.found) ∙ c.if-not-accepts.false in
+    let takes : every_page (accepts r.thing prot) range ≡ true = sym (c.in-Some.ensures.accepted r told.around) ∙ unless_not c.in-Some.asked.accepted c.if-not-asked.false in
     let n : ℕ = c.marks-n.result in
     let counted : n ≡ new_marks p.regions range prot = c.marks-n.ensures ∙ ap (λ rs. new_marks rs range prot) same in
     let past : limit t < charge t + n = (let h = leb-false _ _ (sym c.can_charge.ensures ∙ c.if-not-can_charge.true) in omega (arith, h)) in
@@ -38,15 +41,15 @@ returns-clause-ok g c p lives =
     let range : Range = c.args.range in
     let prot = c.args.prot in
     let same = c.space-space.ensures p lives in
-    let told = told_is (region_around rs range) c.in-Some.region (sym c.region_around.ensures.found ∙ c.in-Some.is) in
+    let told = c.in-Some.ensures.some in
     let r = told.region in
-    let found : region_around p.regions range ≡ Some r = ap (λ rs. region_around rs range) (sym same) ∙ told.found in
+    let found : region_around p.regions range ≡ Some r = ap (λ rs. region_around rs range) (sym same) ∙ told.around in
     let there : every_page (is_committed_at t r.thing) range ≡ true = sym (c.are_committed.ensures p r lives found) ∙ c.if-not-are_committed.false in
-    let takes : every_page (accepts r.thing prot) range ≡ true = sym (c.accepts.ensures r told.found) ∙ c.if-not-accepts.false in
+    let takes : every_page (accepts r.thing prot) range ≡ true = sym (c.in-Some.ensures.accepted r told.around) ∙ unless_not c.in-Some.asked.accepted c.if-not-asked.false in
     let n : ℕ = c.marks-n.result in
     let counted : n ≡ new_marks p.regions range prot = c.marks-n.ensures ∙ ap (λ rs. new_marks rs range prot) same in
     let room : charge t + n ≤ limit t = leb-true _ _ (sym c.can_charge.ensures ∙ c.if-not-can_charge.false) in
-    let before : protection_at r.thing range.first ≡ c.protection_at-before.result = sym (c.protection_at-before.ensures r told.found) in
+    let before : protection_at r.thing range.first ≡ c.in-Some.asked.before = sym told.before in
     let now = sym (c.in_ok-protect.ensures.ok p r lives found) in
     protect_made t c.args.pid.0 p range prot n lives r found there takes counted room ∙ (λ i. done (answer.OldProt (before i)) (now i))
 
@@ -57,11 +60,11 @@ returns-in_err-protect-clause-marks g c = on_err c.from_residual.result (λ p li
     let range : Range = c.args.range in
     let prot = c.args.prot in
     let same = c.space-space.ensures p lives in
-    let told = told_is (region_around rs range) c.in-Some.region (sym c.region_around.ensures.found ∙ c.in-Some.is) in
+    let told = c.in-Some.ensures.some in
     let r = told.region in
-    let found : region_around p.regions range ≡ Some r = ap (λ rs. region_around rs range) (sym same) ∙ told.found in
+    let found : region_around p.regions range ≡ Some r = ap (λ rs. region_around rs range) (sym same) ∙ told.around in
     let there : every_page (is_committed_at t r.thing) range ≡ true = sym (c.are_committed.ensures p r lives found) ∙ c.if-not-are_committed.false in
-    let takes : every_page (accepts r.thing prot) range ≡ true = sym (c.accepts.ensures r told.found) ∙ c.if-not-accepts.false in
+    let takes : every_page (accepts r.thing prot) range ≡ true = sym (c.in-Some.ensures.accepted r told.around) ∙ unless_not c.in-Some.asked.accepted c.if-not-asked.false in
     let n : ℕ = c.marks-n.result in
     let counted : n ≡ new_marks p.regions range prot = c.marks-n.ensures ∙ ap (λ rs. new_marks rs range prot) same in
     let room : charge t + n ≤ limit t = leb-true _ _ (sym c.can_charge.ensures ∙ c.if-not-can_charge.false) in

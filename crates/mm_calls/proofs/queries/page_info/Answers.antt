@@ -1,22 +1,51 @@
-use Rattle.std.proofs.Common.{◌≡◌, ◌∙◌, sym, ap, Some}
-use Rattle.mm_world.specs.Find.{process_of, region_with}
+use Rattle.std.proofs.Common.{◌≡◌, ◌∙◌, Some, sym, ap, subst, is_some}
+use Rattle.mm_world.specs.Find.{Found, process_of, region_with, is_private}
+use Rattle.mm_world.specs.Query.{page_info}
 use Rattle.mm_world.specs.World.{RegionOf, pages_of}
 use Rattle.mm_types.specs.Address.{holds_page}
 use Rattle.mm_world.proofs.Finding.{found_stands}
+use Rattle.mm_spaces.specs.declared.queries.PageInfo.{PageInfo}
+use Rattle.mm_spaces.specs.PageInfos.{IfTold, IfInView, LiesInView}
 use Rattle.mm_calls.proofs.Areas.{in_section}
-use Rattle.mm_calls.proofs.Pages.{none_told, page_told}
 use Rattle.mm_calls.proofs.queries.page_info.Goals as goal
 use Rattle.mm_types.proofs.Options.{some_found}
-
-pub info-requires-clause-private : goal.info-requires-clause-private
-info-requires-clause-private c r found = absurd (none_told c.space-space.result.now.regions c.args.page r (sym c.row.ensures.row ∙ c.in-None.is) found)
 
 pub area-requires : goal.area-requires
 area-requires c =
     let t = c.args.t.now in
     let page = c.args.page in
+    let rs = c.space-space.result.now.regions in
     let p = some_found (process_of t c.args.pid.0) c.requires.lives in
-    let r = page_told c.space-space.result.now.regions page c.in-Some.row (sym c.row.ensures.row ∙ c.in-Some.is) in
-    let found : region_with p.0.regions page ≡ Some r.region = ap (λ rs. region_with rs page) (sym (c.space-space.ensures p.0 p.1)) ∙ r.found in
-    (in_section t c.args.pid.0 p.0 r.region.place r.region.thing c.in-View.view p.1 c.sound.ensures.sound
-    (found_stands (λ (r : RegionOf (Unit {0})). holds_page (pages_of r) page) p.0.regions r.region found).there (r.kind ∙ c.in-View.is)).made
+    let told = subst (λ (i : PageInfo). IfInView i (LiesInView rs page)) c.in-InView.is c.info.ensures.view in
+    let found : region_with p.0.regions page ≡ Some told.region = ap (λ rs. region_with rs page) (sym (c.space-space.ensures p.0 p.1)) ∙ told.there in
+    (in_section t c.args.pid.0 p.0 told.region.place told.region.thing c.in-InView.view p.1 c.sound.ensures.sound
+    (found_stands (λ (r : RegionOf (Unit {0})). holds_page (pages_of r) page) p.0.regions told.region found).there told.kind_is).made
+
+pub view_info-requires-clause-inside : goal.view_info-requires-clause-inside
+view_info-requires-clause-inside c =
+    let told = subst (λ (i : PageInfo). IfInView i (LiesInView c.space-space.result.now.regions c.args.page)) c.in-InView.is c.info.ensures.view in
+    ap is_some told.there
+
+pub view_info-requires-clause-view : goal.view_info-requires-clause-view
+view_info-requires-clause-view c r e =
+    let told = subst (λ (i : PageInfo). IfInView i (LiesInView c.space-space.result.now.regions c.args.page)) c.in-InView.is c.info.ensures.view in
+    let both : Some told.region ≡ Some r = sym told.there ∙ e in
+    let same : told.region ≡ r = cc in
+    ap (λ (f : Found (RegionOf (Unit {0}))). is_private f.thing.kind) (sym same) ∙ ap is_private told.kind_is
+
+pub returns-in-Told : goal.returns-in-Told
+returns-in-Told c p lives =
+    let t = c.args.t.now in
+    let rs = c.space-space.result.now.regions in
+    let page = c.args.page in
+    subst (λ (i : PageInfo). IfTold i (λ info. info ≡ page_info t rs page (region_with rs page))) c.in-Told.is (c.info.ensures.told t)
+    ∙ ap (λ rs. page_info t rs page (region_with rs page)) (c.space-space.ensures p lives)
+
+pub returns-in-InView : goal.returns-in-InView
+returns-in-InView c p lives =
+    let t = c.args.t.now in
+    let rs = c.space-space.result.now.regions in
+    let page = c.args.page in
+    let told = subst (λ (i : PageInfo). IfInView i (LiesInView rs page)) c.in-InView.is c.info.ensures.view in
+    c.view_info.ensures t told.region c.in-InView.view told.there told.kind_is (sym c.area.ensures)
+    ∙ ap (λ rs. page_info t rs page (region_with rs page)) (c.space-space.ensures p lives)

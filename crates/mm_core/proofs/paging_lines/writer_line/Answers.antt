@@ -6,7 +6,7 @@ use Rattle.mm_tables.specs.Fits.{bytes_of}
 use Rattle.mm_core.proofs.Marking.{marked_exactly, written_keep}
 use Rattle.mm_types.specs.declared.answers.Answer.TheVariants as answer
 use Rattle.mm_pages.specs.Behind.{Behind}
-use Rattle.mm_walks.specs.Chores.{writes_begun}
+use Rattle.mm_life.specs.Chores.{writes_begun}
 use Rattle.mm_paging.specs.Lines.{with_line}
 use Rattle.mm_types.specs.declared.moves.Move.TheVariants as move
 use Rattle.mm_core.proofs.paging_lines.writer_line.Goals as goal

@@ -1,4 +1,4 @@
-use Rattle.std.proofs.Common.{refl, subst, Option, false}
+use Rattle.std.proofs.Common.{refl, subst, Option}
 use Rattle.mm_types.specs.declared.events.Event.TheVariants as event
 use Rattle.mm_types.specs.declared.numbers.Key.{Key}
 use Rattle.mm_world.specs.World.{Page}
@@ -8,10 +8,7 @@ use Rattle.mm_world.specs.Sections.{close}
 use Rattle.mm_world.proofs.Across.{close_across}
 use Rattle.mm_core.proofs.Making.{in_close}
 use Rattle.mm_core.proofs.Lines.{decided-call}
-use Rattle.mm_types.specs.declared.moves.LineKind.TheVariants as kind
-use Rattle.mm_world.specs.Contents.{world_with}
-use Rattle.mm_core.proofs.Marking.{marked_ends}
-use Rattle.mm_core.proofs.CallForms.{closed}
+use Rattle.mm_core.proofs.CallForms.{marked_close, none}
 use Rattle.mm_core.proofs.section_lines.close_line.Goals as goal
 
 pub returns-clause-decided : goal.returns-clause-decided
@@ -28,6 +25,6 @@ returns-clause-decided g c =
 pub returns-clause-marked : goal.returns-clause-marked
 returns-clause-marked g c =
     let call = c.close in
-    marked_ends c.args.line kind.Call (event.Close c.args.pid c.args.handle) (world_with c.args.t.now (bytes_of (g.G.Pages.contents c.args.g.now))) call.result (world_with call.new.t (bytes_of (g.G.Pages.contents call.new.g))) g.G.Pages.unpaged
+    marked_close c.args.t.now (g.G.Pages.contents c.args.g.now) call.new.t (g.G.Pages.contents call.new.g) c.args.line c.args.pid (event.Close c.args.pid c.args.handle) call.result g.G.Pages.unpaged
     (g.G.Pages.store c.args.g.now) (g.G.Pages.store c.begin.new.g) (g.G.Pages.store call.new.g) (g.G.Pages.behind c.args.g.now) (g.G.Pages.behind c.begin.new.g) (g.G.Pages.behind call.new.g)
-    (record { ages = λ ms. refl; waits = λ ws l. refl }) (λ _. false) 0 0 (λ ms log h. closed _ ms h.turned) c.begin.ensures.passes (call.ensures.passes (λ _. false) 0 0)
+    (record { ages = λ ms. refl; waits = λ ws l. refl }) (λ ms h. h) c.begin.ensures.passes (call.ensures.passes none)

@@ -6,8 +6,8 @@ use Rattle.mm_types.specs.declared.numbers.Key.{Key}
 use Rattle.mm_types.specs.declared.numbers.Key.TheVariants.{Private}
 use Rattle.mm_types.specs.declared.numbers.Place.{Place}
 use Rattle.mm_life.specs.Life.{changed}
-use Rattle.mm_entry.specs.declared.entries.Entry.TheVariants as entry
-use Rattle.mm_radix.specs.Pages.{pages}
+use Rattle.mm_words.specs.declared.layout.Entry.TheVariants as entry
+use Rattle.mm_words.specs.Pages.{pages}
 use Rattle.mm_words.specs.Words.{WordsOf, place_of, is_valid, changed_in, made_valid, made_invalid, with_word}
 use Rattle.mm_words.specs.Shown.{words, no_words}
 use Rattle.mm_frame_tests.proofs.words.a_page_comes_and_goes.Goals as goal

@@ -1,6 +1,7 @@
 use Rattle.std.proofs.Common.{ap, ◌∙◌, refl, arith, ◌<◌, ◌≤◌}
 use Rattle.mm_moving.specs.Shown.{StateOf}
 use Rattle.mm_pages.specs.Conditions.{place_at}
+use Rattle.mm_pages.specs.Leaving.{page_rank}
 use Rattle.mm_paged.proofs.LettingGo.{lets_none, lets_then, lets_wider, thins_none, thins_then, gone_more, may_still, in_pages}
 use Rattle.mm_paged.proofs.releasing.let_all_go.Goals as goal
 
@@ -8,7 +9,7 @@ pub loop-from-init : goal.loop-from-init
 loop-from-init g c = record {
   low = omega arith;
   within = omega arith;
-  went = λ held start to a. lets_none (g.T.Moving.shown c.args.state.now) held start c.args.first.0;
+  went = λ held start to a. lets_none (g.T.Moving.shown c.args.state.now) held start (page_rank c.args.first.0);
   thins = thins_none (g.T.Moving.shown c.args.state.now);
   gone = λ page l h. absurd (omega (arith, l, h));
   loans = refl;
@@ -34,9 +35,9 @@ loop-from-preserved g c =
       within = gone.within;
       went = λ held start to a.
           let first = a.first in
-          let below : start ≤ c.loop-from.from = omega (arith, first, before.low) in
-          let more : c.loop-from.from ≤ c.let_next_go-from.result = omega (arith, gone.more) in
-          lets_then s y z held start c.loop-from.from c.let_next_go-from.result below more (before.went held start to a)
+          let below : start ≤ page_rank c.loop-from.from = omega (arith, first, before.low) in
+          let more : page_rank c.loop-from.from ≤ page_rank c.let_next_go-from.result = omega (arith, gone.more) in
+          lets_then s y z held start (page_rank c.loop-from.from) (page_rank c.let_next_go-from.result) below more (before.went held start to a)
           (gone.went held (λ page l h. a.each page (in_pages c.args.first.0 c.args.n page (omega (arith, l, before.low)) h)));
       thins = thins_then s y z before.thins gone.thins;
       gone = gone_more c.args.pid c.args.first.0 c.loop-from.from c.let_next_go-from.result y z gone.thins before.gone gone.invalid;
@@ -46,8 +47,8 @@ loop-from-preserved g c =
 pub returns-clause-went : goal.returns-clause-went
 returns-clause-went g c held start to a =
     let last = a.last in
-    let below : c.loop-from.from ≤ to = omega (arith, last, c.loop-from.invariant.within) in
-    lets_wider (g.T.Moving.shown c.args.state.now) (g.T.Moving.shown c.loop-from.state) held start c.loop-from.from to below (c.loop-from.invariant.went held start to a)
+    let below : page_rank c.loop-from.from ≤ to = omega (arith, last, c.loop-from.invariant.within) in
+    lets_wider (g.T.Moving.shown c.args.state.now) (g.T.Moving.shown c.loop-from.state) held start (page_rank c.loop-from.from) to below (c.loop-from.invariant.went held start to a)
 
 pub returns-clause-thins : goal.returns-clause-thins
 returns-clause-thins g c = c.loop-from.invariant.thins

@@ -1,6 +1,6 @@
-use Rattle.std.proofs.Common.{◌≡◌, ◌+◌, ◌-◌, ◌≤◌, ℕ, Bool}
-use Rattle.mm_types.specs.declared.numbers.Place.{Place}
+use Rattle.std.proofs.Common.{◌≡◌, ◌+◌, ◌-◌, ◌≤◌, ℕ}
 use Rattle.mm_pages.specs.Conditions.{AreAmong}
+use Rattle.mm_pages.specs.Leaving.{Leaving, page_rank}
 use Rattle.mm_paged.specs.Pieces.{LetsGo, Thins}
 use Rattle.mm_paged.proofs.LettingGo.{GoneUpTo}
 use Rattle.mm_paged.proofs.releasing.let_all_go.Given as goal
@@ -9,7 +9,7 @@ abbrev pub invariant-loop-from : goal.invariant-loop-from
 invariant-loop-from g l = record {
   low : l.first.0 ≤ l.from;
   within : l.from ≤ l.first.0 + l.n;
-  went : (held : Place → Bool) (start to : ℕ) → AreAmong held start to l.pid (record { first = l.first.0; count = l.n }) → LetsGo held start l.from (g.T.Moving.shown l.fn.state) (g.T.Moving.shown l.state);
+  went : (held : Leaving) (start to : ℕ) → AreAmong held start to l.pid (record { first = l.first.0; count = l.n }) → LetsGo held start (page_rank l.from) (g.T.Moving.shown l.fn.state) (g.T.Moving.shown l.state);
   thins : Thins (g.T.Moving.shown l.fn.state) (g.T.Moving.shown l.state);
   gone : GoneUpTo l.pid l.first.0 l.from (g.T.Moving.shown l.state);
   loans : g.T.Moving.loans l.state ≡ g.T.Moving.loans l.fn.state;

@@ -1,5 +1,5 @@
 use Rattle.std.proofs.Common.{◌-◌}
-use Rattle.mm_room.specs.Order.{PassedTo}
+use Rattle.mm_frame_laws.specs.Order.{PassedTo}
 use Rattle.mm_parts.specs.Moves.{after_page}
 use Rattle.mm_reclaim.specs.Choosing.{IsHeld, IsLow, rank}
 use Rattle.mm_reclaim.proofs.choosing.oldest_to_go.Given as goal

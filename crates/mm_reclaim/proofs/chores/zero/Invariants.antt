@@ -1,5 +1,5 @@
 use Rattle.std.proofs.Common.{◌≡◌, ◌≤◌}
-use Rattle.mm_walks.specs.Chores.{clearings}
+use Rattle.mm_life.specs.Chores.{clearings}
 use Rattle.mm_reclaim.specs.Chores.{RoundsTo}
 use Rattle.mm_reclaim.proofs.chores.zero.Given as goal
 

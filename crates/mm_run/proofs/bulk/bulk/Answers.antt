@@ -12,11 +12,11 @@ pub returns-in-Err-clause-ran : goal.returns-in-Err-clause-ran
 returns-in-Err-clause-ran g c = λ left.
     let f = c.flush.ensures in
     ran_unflushed _ _ (script_of c.args.seed c.args.count) 6 _ (record { took_is = f.taken; grows = f.given.grows; later = f.cause.later; paging_is = refl; files_is = refl })
-    c.decide_script-decided.result c.decide_script-decided.ensures.came refl refl
+    c.decide_script-decided.result c.decide_script-decided.ensures.ends.came refl refl
 
 pub returns-in-Err-clause-faults : goal.returns-in-Err-clause-faults
 returns-in-Err-clause-faults g c = λ s.
-    accounted_unflushed c.decide_script-decided.result _ _ _ (c.decide_script-decided.ensures.faults s (g.O.Sink.faults c.args.out.now)) _ 6 refl c.in-Err.ensures.cause.failed
+    accounted_unflushed c.decide_script-decided.result _ _ _ (c.decide_script-decided.ensures.ends.faults s (g.O.Sink.faults c.args.out.now)) _ 6 refl c.in-Err.ensures.cause.failed
 
 -- all events were decided
 
@@ -25,19 +25,19 @@ returns-in-Ok-tell_tally-clause-ran g c = λ left.
     let f = c.flush.ensures in
     let told = c.in-Ok-tell_tally.ensures.told in
     all_told _ _ (script_of c.args.seed c.args.count) c.status.result _ (record { took_is = f.taken; grows = f.given.grows; later = f.cause.later; paging_is = refl; files_is = refl })
-    c.in-Ok-decided.tally c.in-Ok-decided.ensures.came c.in-Ok.ensures.all c.status.ensures told.0 told.1
+    c.in-Ok-decided.tally c.in-Ok-decided.ensures.ends.came c.in-Ok.ensures.all c.status.ensures told.0 told.1
 
 pub returns-in-Ok-tell_tally-clause-faults : goal.returns-in-Ok-tell_tally-clause-faults
 returns-in-Ok-tell_tally-clause-faults g c = λ s.
     let out = g.O.Sink.faults in
     accounted ending.Done _ _ _ c.status.result c.status.ensures
-    ((λ i. counts_with s (c.in-Ok-tell_tally.ensures.cause.same i) (c.in-Ok.ensures.cause.same i)) ∙ c.in-Ok-decided.ensures.faults s (out c.args.out.now))
+    ((λ i. counts_with s (c.in-Ok-tell_tally.ensures.cause.same i) (c.in-Ok.ensures.cause.same i)) ∙ c.in-Ok-decided.ensures.ends.faults s (out c.args.out.now))
 
 pub returns-in-Err-tell_tally-clause-ran : goal.returns-in-Err-tell_tally-clause-ran
 returns-in-Err-tell_tally-clause-ran g c = λ left.
     let f = c.flush.ensures in
     all_torn _ _ (script_of c.args.seed c.args.count) c.status-in-Err-tell_tally.result _ (record { took_is = f.taken; grows = f.given.grows; later = f.cause.later; paging_is = refl; files_is = refl })
-    c.in-Ok-decided.tally c.in-Ok-decided.ensures.came c.in-Ok.ensures.all c.status-in-Err-tell_tally.ensures c.in-Err-tell_tally.ensures.told
+    c.in-Ok-decided.tally c.in-Ok-decided.ensures.ends.came c.in-Ok.ensures.all c.status-in-Err-tell_tally.ensures c.in-Err-tell_tally.ensures.told
 
 -- some were not
 
@@ -45,9 +45,9 @@ pub returns-in-Err-decided-clause-ran : goal.returns-in-Err-decided-clause-ran
 returns-in-Err-decided-clause-ran g c = λ left.
     let f = c.flush.ensures in
     ran_failed _ _ (script_of c.args.seed c.args.count) c.status-in-Err-decided.result _ (record { took_is = f.taken; grows = f.given.grows; later = f.cause.later; paging_is = refl; files_is = refl })
-    c.in-Err-decided.ending c.in-Err-decided.ensures.came c.status-in-Err-decided.ensures refl
+    c.in-Err-decided.ending c.in-Err-decided.ensures.ends.came c.status-in-Err-decided.ensures refl
 
 pub returns-in-Err-decided-clause-faults : goal.returns-in-Err-decided-clause-faults
 returns-in-Err-decided-clause-faults g c = λ s.
     let out = g.O.Sink.faults c.args.out.now in
-    accounted_behind c.in-Err-decided.ending _ _ _ _ c.status-in-Err-decided.result (λ i. counts_with s out (c.in-Ok.ensures.cause.same i)) c.status-in-Err-decided.ensures (c.in-Err-decided.ensures.faults s out)
+    accounted_behind c.in-Err-decided.ending _ _ _ _ c.status-in-Err-decided.result (λ i. counts_with s out (c.in-Ok.ensures.cause.same i)) c.status-in-Err-decided.ensures (c.in-Err-decided.ensures.ends.faults s out)

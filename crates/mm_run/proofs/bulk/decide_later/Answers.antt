@@ -12,9 +12,7 @@ loop-event-init g c = record {
   next = refl;
   ok_few = omega arith;
   none_few = omega arith;
-  count = c.requires.count;
   ready = c.requires.ready;
-  noted = c.requires.noted;
   same = refl;
   faults = refl;
 }
@@ -27,14 +25,12 @@ loop-event-preserved g c =
     let ok_most = c.one_if-ok.ensures.most in
     let none_most = c.one_if-none.ensures.most in
     record {
-      handled = handled_on (Running (scene c.args.world.now)) (Running (scene l.world)) (Running (scene c.decide_event.new.world)) c.args.events.now l.event-index l.ok l.none c.one_if-ok.result c.one_if-none.result c.event-item.result c.in-Ok.answer (omega arith) c.event-item.is i.handled d.decided d.noted
+      handled = handled_on (Running (scene c.args.world.now)) (Running (scene l.world)) (Running (scene c.decide_event.new.world)) c.args.events.now l.event-index l.ok l.none c.one_if-ok.result c.one_if-none.result c.event-item.result c.in-Ok.answer (omega arith) c.event-item.is i.handled d.came d.ready.noted
           (c.one_if-ok.ensures.value ∙ ap (λ b. cond b 1 0) c.begins_ok.ensures) (c.one_if-none.ensures.value ∙ ap (λ b. cond b 1 0) c.is_none.ensures);
       next = omega (arith, i.next);
       ok_few = omega (arith, i.ok_few, ok_most);
       none_few = omega (arith, i.none_few, none_most);
-      count = d.line;
       ready = d.ready;
-      noted = d.noted;
       same = c.decide_event.ensures.loans ∙ i.same;
       faults = ap (λ (k : Counts). k.moves) (d.faults 0 0) ∙ i.faults;
     }
@@ -42,7 +38,7 @@ loop-event-preserved g c =
 pub returns-in-Err-clause-came : goal.returns-in-Err-clause-came
 returns-in-Err-clause-came g c =
     let l = c.loop-event in
-    stopped_on (Running (scene c.args.world.now)) (scene l.world) (scene c.decide_event.new.world) c.args.events.now l.event-index l.ok l.none c.event-item.result c.in-Err.ending (omega arith) l.invariant.handled c.in-Err.ensures.ends
+    stopped_on (Running (scene c.args.world.now)) (scene l.world) (scene c.decide_event.new.world) c.args.events.now l.event-index l.ok l.none c.event-item.result c.in-Err.ending (omega arith) l.invariant.handled c.in-Err.ensures.came
 
 pub returns-in-Err-clause-faults : goal.returns-in-Err-clause-faults
 returns-in-Err-clause-faults g c = λ s o. blamed_then c.in-Err.ending _ _ _ _ (ap (λ k. counts_with s o k) c.loop-event.invariant.faults) (c.in-Err.ensures.faults s o)

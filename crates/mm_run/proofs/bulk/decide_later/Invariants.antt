@@ -1,8 +1,10 @@
-use Rattle.std.proofs.Common.{◌≡◌, ◌≤◌, ◌+◌, false, take}
-use Rattle.mm_core.specs.Shown.{line_of, loans, behind}
+use Rattle.std.proofs.Common.{◌≡◌, ◌≤◌, ◌+◌, take}
+use Rattle.mm_core.specs.Shown.{loans, behind}
 use Rattle.mm_core.specs.Promise.{scene}
 use Rattle.mm_run.specs.Scenes.{Running}
 use Rattle.mm_run.specs.Batch.{Handled}
+use Rattle.mm_run.specs.Moments.{IsReady}
+use Rattle.mm_run.specs.Seen.{world_seen}
 use Rattle.mm_run.proofs.bulk.decide_later.Given as goal
 
 abbrev pub invariant-loop-event : goal.invariant-loop-event
@@ -11,9 +13,7 @@ invariant-loop-event g l = record {
   next : l.n ≡ l.event-index + 1;
   ok_few : l.ok ≤ l.event-index;
   none_few : l.none ≤ l.event-index;
-  count : line_of l.world ≡ l.n;
-  ready : l.world.spent ≡ false;
-  noted : (behind l.world).log.failed ≡ false;
+  ready : IsReady l.n (world_seen l.world);
   same : loans l.world ≡ loans l.fn.world;
   faults : (behind l.world).log.faults ≡ (behind l.fn.world).log.faults;
 }

@@ -7,13 +7,18 @@ use Rattle.mm_run.proofs.Batches.{stopped_here}
 use Rattle.mm_run.proofs.Drawn.{slice_later, slice_few}
 use Rattle.mm_run.proofs.bulk.decide_script.Goals as goal
 
-pub returns-in-Err-clause-came : goal.returns-in-Err-clause-came
-returns-in-Err-clause-came g c =
+pub returns-in-Err : goal.returns-in-Err
+returns-in-Err g c =
     let o = outset (g.P.Blocks.faults c.args.paging.now) (g.F.Blocks.faults c.args.files.now) (g.M.Sink.taken c.args.moves.now) (g.M.Sink.given c.args.moves.now) (g.M.Sink.faults c.args.moves.now) in
     record {
-      end = NotBegun o;
-      finished = stopped_here (NotBegun o) (script_of c.args.seed c.args.count) ending.NoMemory (inl refl) (omega arith);
-      leaves = log_left_at o.log _ refl refl refl;
+      ends = record {
+        came = record {
+          end = NotBegun o;
+          finished = stopped_here (NotBegun o) (script_of c.args.seed c.args.count) ending.NoMemory (inl refl) (omega arith);
+          leaves = log_left_at o.log _ refl refl refl;
+        };
+        faults = λ s k. (omega arith, refl);
+      };
     }
 
 pub start_events-requires-clause-later : goal.start_events-requires-clause-later

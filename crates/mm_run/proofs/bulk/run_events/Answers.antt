@@ -1,5 +1,4 @@
-use Rattle.std.specs.Prelude.{MatchResult}
-use Rattle.std.proofs.Common.{ℕ, ◌∷◌, ◌≡◌, ◌≤◌, refl, sym, ap, ◌∙◌, subst, inl, arith, rules}
+use Rattle.std.proofs.Common.{◌∷◌, ◌≡◌, ◌≤◌, refl, sym, ap, ◌∙◌, subst, inl, arith, rules}
 use Rattle.mm_types.specs.Machine.{IsMachine}
 use Rattle.mm_blocks.specs.Traffic.{NoneLogged}
 use Rattle.mm_core.specs.Shown.{world, behind}
@@ -9,7 +8,7 @@ use Rattle.mm_types.specs.declared.events.Event.TheVariants as line
 use Rattle.mm_run.specs.declared.endings.Ending.TheVariants as ending
 use Rattle.mm_core.specs.Promise.{scene}
 use Rattle.mm_run.specs.Scenes.{NotBegun, Running, outset}
-use Rattle.mm_run.specs.Story.{IsBlamed, counts_with}
+use Rattle.mm_run.specs.Batch.{AccountsMoves}
 use Rattle.mm_run.proofs.Starting.{opened_of, is_new, is_made, three_names}
 use Rattle.mm_parts.proofs.Starting.{first_legal}
 use Rattle.mm_run.proofs.Batches.{stopped_here}
@@ -46,8 +45,8 @@ new-world-requires g c =
     let fd = c.new-2.ensures.device in
     let o = outset (bp.faults c.new.result.device.now) (bf.faults c.new-2.result.device.now) (g.M.Sink.taken c.args.moves.now) (g.M.Sink.given c.args.moves.now) (g.M.Sink.faults c.args.moves.now) in
     let opened = opened_of c.args.machine o c.new.result.plan c.new-2.result.plan (bp.log c.new.result.device.now) (bf.log c.new-2.result.device.now) (bp.faults c.new.result.device.now) (bf.faults c.new-2.result.device.now) (bp.blocks c.new.result.device.now) (bf.blocks c.new-2.result.device.now)
-    (ap bp.blocks pd ∙ c.requires.slots) (ap bf.blocks fd ∙ c.requires.blocks)
-    (subst (λ d. NoneLogged (bp.log d)) (sym pd) c.requires.paging_logged) (subst (λ d. NoneLogged (bf.log d)) (sym fd) c.requires.files_logged)
+    (ap bp.blocks pd ∙ c.requires.opened.slots) (ap bf.blocks fd ∙ c.requires.opened.blocks)
+    (subst (λ d. NoneLogged (bp.log d)) (sym pd) c.requires.opened.paging_logged) (subst (λ d. NoneLogged (bf.log d)) (sym fd) c.requires.opened.files_logged)
     c.new.ensures.named c.new-2.ensures.named (omega arith) (omega arith) in
     record { new = is_new c.args.machine o _ _ _ _ opened _ _ c.in-Ok.ensures.starts _ _ c.over.ensures.contents c.over.ensures.store }
 
@@ -62,8 +61,8 @@ returns-clause-came g c = λ p f later later'.
     let fd = c.new-2.ensures.device in
     let o = outset p f (bm.taken c.args.moves.now) (bm.given c.args.moves.now) (bm.faults c.args.moves.now) in
     let opened = opened_of m o c.new.result.plan c.new-2.result.plan (bp.log c.new.result.device.now) (bf.log c.new-2.result.device.now) (bp.faults c.new.result.device.now) (bf.faults c.new-2.result.device.now) (bp.blocks c.new.result.device.now) (bf.blocks c.new-2.result.device.now)
-    (ap bp.blocks pd ∙ c.requires.slots) (ap bf.blocks fd ∙ c.requires.blocks)
-    (subst (λ d. NoneLogged (bp.log d)) (sym pd) c.requires.paging_logged) (subst (λ d. NoneLogged (bf.log d)) (sym fd) c.requires.files_logged)
+    (ap bp.blocks pd ∙ c.requires.opened.slots) (ap bf.blocks fd ∙ c.requires.opened.blocks)
+    (subst (λ d. NoneLogged (bp.log d)) (sym pd) c.requires.opened.paging_logged) (subst (λ d. NoneLogged (bf.log d)) (sym fd) c.requires.opened.files_logged)
     c.new.ensures.named c.new-2.ensures.named (subst (λ d. p ≤ bp.faults d) (sym pd) later) (subst (λ d. f ≤ bf.faults d) (sym fd) later') in
     let log : _ ≡ o.log = λ i. record { bytes = bm.taken (c.new-3.ensures.sink i); given = bm.given (c.new-3.ensures.sink i); failed = c.new-3.ensures.fresh i; faults = bm.faults (c.new-3.ensures.sink i) } in
     let first = c.new-world.result in
@@ -110,8 +109,8 @@ returns-clause-faults g c =
     let fd = c.new-2.ensures.device in
     let o = outset (bp.faults c.new.result.device.now) (bf.faults c.new-2.result.device.now) (bm.taken c.args.moves.now) (bm.given c.args.moves.now) (bm.faults c.args.moves.now) in
     let opened = opened_of m o c.new.result.plan c.new-2.result.plan (bp.log c.new.result.device.now) (bf.log c.new-2.result.device.now) (bp.faults c.new.result.device.now) (bf.faults c.new-2.result.device.now) (bp.blocks c.new.result.device.now) (bf.blocks c.new-2.result.device.now)
-    (ap bp.blocks pd ∙ c.requires.slots) (ap bf.blocks fd ∙ c.requires.blocks)
-    (subst (λ d. NoneLogged (bp.log d)) (sym pd) c.requires.paging_logged) (subst (λ d. NoneLogged (bf.log d)) (sym fd) c.requires.files_logged)
+    (ap bp.blocks pd ∙ c.requires.opened.slots) (ap bf.blocks fd ∙ c.requires.opened.blocks)
+    (subst (λ d. NoneLogged (bp.log d)) (sym pd) c.requires.opened.paging_logged) (subst (λ d. NoneLogged (bf.log d)) (sym fd) c.requires.opened.files_logged)
     c.new.ensures.named c.new-2.ensures.named (omega arith) (omega arith) in
     let log : _ ≡ o.log = λ i. record { bytes = bm.taken (c.new-3.ensures.sink i); given = bm.given (c.new-3.ensures.sink i); failed = c.new-3.ensures.fresh i; faults = bm.faults (c.new-3.ensures.sink i) } in
     let first = c.new-world.result in
@@ -123,5 +122,5 @@ returns-clause-faults g c =
     let moves : c.finish-paging.result.2 ≡ last.pages.state.moves = ap (λ x. x.2) c.finish-paging.ensures ∙ ap (λ x. x.moves) c.finish-3.ensures.state ∙ ap (λ x. x.state.moves) c.finish-2.ensures in
     let end_m = c.moves-2-1.given.1 (sym c.new-3.ensures.same_reference ∙ sym names.2 ∙ sym (ap (λ x. x.sink.ghost_name) moves) ∙ sym c.finish-6.ensures.same_reference) in
     let left_m = sym (end_m ∙ c.finish-6.ensures.sink ∙ ap (λ x. x.sink.now) moves) in
-    subst (λ d. (s k : ℕ) → MatchResult c.decide_events-decided.result (λ _. counts_with s k (bm.faults d) ≡ counts_with s k (bm.faults c.args.moves.now)) (λ e. IsBlamed e ⊥ (counts_with s k (bm.faults c.args.moves.now)) (counts_with s k (bm.faults d)))) left_m
+    subst (λ d. AccountsMoves c.decide_events-decided.result ⊥ (bm.faults c.args.moves.now) (bm.faults d)) left_m
     (c.decide_events-decided.ensures.faults o made refl)

@@ -1,16 +1,19 @@
 use Rattle.std.proofs.Common.{refl, arith}
-use Rattle.mm_lines.proofs.Fillings.{filled_none}
-use Rattle.mm_core.specs.Promise.{scene}
-use Rattle.mm_run.specs.Scenes.{Running}
-use Rattle.mm_run.proofs.Stories.{went_none}
+use Rattle.mm_io.proofs.Fillings.{filled_none}
+use Rattle.mm_run.proofs.Finding.{goes_here}
 use Rattle.mm_run.proofs.Stops.{came_long}
 use Rattle.mm_run.proofs.decisions.find_line.Goals as goal
 
-pub returns-in-Line-clause-went : goal.returns-in-Line-clause-went
-returns-in-Line-clause-went g c = went_none _ _ _ refl
+pub returns-in-Line-clause-finds : goal.returns-in-Line-clause-finds
+returns-in-Line-clause-finds g c = goes_here _ _ _
 
-pub returns-in-Long-clause-went : goal.returns-in-Long-clause-went
-returns-in-Long-clause-went g c =
+pub returns-in-Long-clause-finds : goal.returns-in-Long-clause-finds
+returns-in-Long-clause-finds g c =
     let left = g.S.Source.left c.args.source.now in
     let held = c.args.held.now in
-    came_long left left (g.O.Sink.taken c.args.out.now) c.args.kept.now held held c.args.n (Running (scene c.args.world.now)) (filled_none left held) c.requires.few c.in-Long.ensures (omega (arith, c.requires.held))
+    record {
+      came = came_long left left _ _ held held c.args.n _ (filled_none left held) c.requires.few c.in-Long.ensures (omega (arith, c.requires.held));
+      faults = refl;
+      idle = omega arith;
+      form = λ q. cc;
+    }

@@ -1,9 +1,8 @@
-use Rattle.std.proofs.Common.{refl}
-use Rattle.mm_run.proofs.Stories.{went_none}
+use Rattle.mm_run.proofs.Finding.{goes_here}
 use Rattle.mm_run.proofs.decisions.flush_before_read.Goals as goal
 
-pub returns-in-Line-clause-went : goal.returns-in-Line-clause-went
-returns-in-Line-clause-went g c = λ left held n few short. went_none _ _ _ refl
+pub returns-in-Line-clause-steps : goal.returns-in-Line-clause-steps
+returns-in-Line-clause-steps g c = λ input held n few short. goes_here _ _ _
 
-pub returns-in-Long-clause-went : goal.returns-in-Long-clause-went
-returns-in-Long-clause-went g c = λ left held n few short. went_none _ _ _ refl
+pub returns-in-Long-clause-steps : goal.returns-in-Long-clause-steps
+returns-in-Long-clause-steps g c = λ input held n few short. goes_here _ _ _

@@ -15,8 +15,8 @@ pub returns-then-moves_failed-clause-came : goal.returns-then-moves_failed-claus
 returns-then-moves_failed-clause-came g c = λ o made.
     let small : 0 < 1000000 = omega arith in
     let here = scene c.args.world.now in
-    told_muted c.args.held.now c.args.len 0 c.requires.line small c.requires.behind _ _ c.args.kept.now (NotBegun o) (Running here) (line.Machine c.args.machine) (answer.Limit (limit_of c.args.machine)) (first_move c.args.machine ∷ [])
-    c.requires.says c.requires.grammar (first_answered c.args.machine o here made (limit_of c.args.machine) refl) (sym c.if-moves_failed.ensures)
+    told_muted c.args.held.now c.args.len 0 c.requires.line.line small c.requires.line.behind _ _ c.args.kept.now (NotBegun o) (Running here) (line.Machine c.args.machine) (answer.Limit (limit_of c.args.machine)) (first_move c.args.machine ∷ [])
+    c.requires.line.says c.requires.line.grammar (first_answered c.args.machine o here made (limit_of c.args.machine) refl) (sym c.if-moves_failed.ensures)
 
 pub returns-then-moves_failed-clause-faults : goal.returns-then-moves_failed-clause-faults
 returns-then-moves_failed-clause-faults g c = λ o made fresh. (
@@ -32,10 +32,10 @@ returns-clause-came g c = λ o made.
     let small : 0 < 1000000 = omega arith in
     let here = scene c.args.world.now in
     went_came _ _ _ _ _ (Running (scene c.decide_rest.new.world)) c.decide_rest.result
-    (told_went c.args.held.now c.args.len 0 c.requires.line small c.requires.behind _ _ c.args.kept.now (NotBegun o) (Running here) (line.Machine c.args.machine) (answer.Limit c.limit.result) (first_move c.args.machine ∷ [])
-    c.requires.says c.requires.grammar (first_answered c.args.machine o here made c.limit.result c.limit.ensures) (sym c.if-moves_failed.ensures) c.tell.new.kept c.tell.new.held c.tell.ensures.held c.tell.ensures.kept)
-    c.decide_rest.ensures.came
+    (told_went c.args.held.now c.args.len 0 c.requires.line.line small c.requires.line.behind _ _ c.args.kept.now (NotBegun o) (Running here) (line.Machine c.args.machine) (answer.Limit c.limit.result) (first_move c.args.machine ∷ [])
+    c.requires.line.says c.requires.line.grammar (first_answered c.args.machine o here made c.limit.result c.limit.ensures) (sym c.if-moves_failed.ensures) c.tell.new.kept c.tell.new.held c.tell.ensures.held c.tell.ensures.kept)
+    c.decide_rest.ensures.ends.came
 
 pub returns-clause-faults : goal.returns-clause-faults
 returns-clause-faults g c = λ o made fresh.
-    blamed_then c.decide_rest.result _ _ _ _ (ap (λ k. counts_with (g.S.Source.faults c.args.source.now) (g.O.Sink.faults c.args.out.now) k) (made.notes.grew.same (sym c.if-moves_failed.ensures))) c.decide_rest.ensures.faults
+    blamed_then c.decide_rest.result _ _ _ _ (ap (λ k. counts_with (g.S.Source.faults c.args.source.now) (g.O.Sink.faults c.args.out.now) k) (made.notes.grew.same (sym c.if-moves_failed.ensures))) c.decide_rest.ensures.ends.faults

@@ -22,7 +22,7 @@ returns-in-Err-clause-came g c = λ p f later later'.
     let end = c.moves-1.given.1 (sym c.new-3.ensures.same_reference ∙ sym (ap (λ x. x.2.sink.ghost_name) err) ∙ sym c.finish-in-Err-2.ensures.same_reference) in
     let sink = end ∙ c.finish-in-Err-2.ensures.sink ∙ ap (λ x. x.2.sink.now) err ∙ c.new-3.ensures.sink in
     comes_here _ _ _ _ o _ (sym (ap g.M.Sink.taken sink)) (sym (ap g.M.Sink.given sink)) (sym (ap g.M.Sink.faults sink))
-    (came_memory c.args.held.now c.args.len 0 c.requires.line small c.requires.behind _ _ c.args.kept.now (NotBegun o) (NotBegun o) (line.Machine c.args.machine) c.requires.says c.requires.grammar (inl (refl, follows_here (NotBegun o))) (grows_here (NotBegun o)))
+    (came_memory c.args.held.now c.args.len 0 c.requires.line.line small c.requires.line.behind _ _ c.args.kept.now (NotBegun o) (NotBegun o) (line.Machine c.args.machine) c.requires.line.says c.requires.line.grammar (inl (refl, follows_here (NotBegun o))) (grows_here (NotBegun o)))
 
 pub returns-in-Err-clause-faults : goal.returns-in-Err-clause-faults
 returns-in-Err-clause-faults g c =
@@ -42,8 +42,8 @@ new-world-requires g c =
     let fd = c.new-2.ensures.device in
     let o = outset (bp.faults c.new.result.device.now) (bf.faults c.new-2.result.device.now) (g.M.Sink.taken c.args.moves.now) (g.M.Sink.given c.args.moves.now) (g.M.Sink.faults c.args.moves.now) in
     let opened = opened_of c.args.machine o c.new.result.plan c.new-2.result.plan (bp.log c.new.result.device.now) (bf.log c.new-2.result.device.now) (bp.faults c.new.result.device.now) (bf.faults c.new-2.result.device.now) (bp.blocks c.new.result.device.now) (bf.blocks c.new-2.result.device.now)
-    (ap bp.blocks pd ∙ c.requires.slots) (ap bf.blocks fd ∙ c.requires.blocks)
-    (subst (λ d. NoneLogged (bp.log d)) (sym pd) c.requires.paging_logged) (subst (λ d. NoneLogged (bf.log d)) (sym fd) c.requires.files_logged)
+    (ap bp.blocks pd ∙ c.requires.opened.slots) (ap bf.blocks fd ∙ c.requires.opened.blocks)
+    (subst (λ d. NoneLogged (bp.log d)) (sym pd) c.requires.opened.paging_logged) (subst (λ d. NoneLogged (bf.log d)) (sym fd) c.requires.opened.files_logged)
     c.new.ensures.named c.new-2.ensures.named (omega arith) (omega arith) in
     record { new = is_new c.args.machine o _ _ _ _ opened _ _ c.in-Ok.ensures.starts _ _ c.over.ensures.contents c.over.ensures.store }
 
@@ -58,8 +58,8 @@ returns-clause-came g c = λ p f later later'.
     let fd = c.new-2.ensures.device in
     let o = outset p f (bm.taken c.args.moves.now) (bm.given c.args.moves.now) (bm.faults c.args.moves.now) in
     let opened = opened_of m o c.new.result.plan c.new-2.result.plan (bp.log c.new.result.device.now) (bf.log c.new-2.result.device.now) (bp.faults c.new.result.device.now) (bf.faults c.new-2.result.device.now) (bp.blocks c.new.result.device.now) (bf.blocks c.new-2.result.device.now)
-    (ap bp.blocks pd ∙ c.requires.slots) (ap bf.blocks fd ∙ c.requires.blocks)
-    (subst (λ d. NoneLogged (bp.log d)) (sym pd) c.requires.paging_logged) (subst (λ d. NoneLogged (bf.log d)) (sym fd) c.requires.files_logged)
+    (ap bp.blocks pd ∙ c.requires.opened.slots) (ap bf.blocks fd ∙ c.requires.opened.blocks)
+    (subst (λ d. NoneLogged (bp.log d)) (sym pd) c.requires.opened.paging_logged) (subst (λ d. NoneLogged (bf.log d)) (sym fd) c.requires.opened.files_logged)
     c.new.ensures.named c.new-2.ensures.named (subst (λ d. p ≤ bp.faults d) (sym pd) later) (subst (λ d. f ≤ bf.faults d) (sym fd) later') in
     let log : _ ≡ o.log = λ i. record { bytes = bm.taken (c.new-3.ensures.sink i); given = bm.given (c.new-3.ensures.sink i); failed = c.new-3.ensures.fresh i; faults = bm.faults (c.new-3.ensures.sink i) } in
     let first = c.new-world.result in
@@ -106,8 +106,8 @@ returns-clause-faults g c =
     let fd = c.new-2.ensures.device in
     let o = outset (bp.faults c.new.result.device.now) (bf.faults c.new-2.result.device.now) (bm.taken c.args.moves.now) (bm.given c.args.moves.now) (bm.faults c.args.moves.now) in
     let opened = opened_of m o c.new.result.plan c.new-2.result.plan (bp.log c.new.result.device.now) (bf.log c.new-2.result.device.now) (bp.faults c.new.result.device.now) (bf.faults c.new-2.result.device.now) (bp.blocks c.new.result.device.now) (bf.blocks c.new-2.result.device.now)
-    (ap bp.blocks pd ∙ c.requires.slots) (ap bf.blocks fd ∙ c.requires.blocks)
-    (subst (λ d. NoneLogged (bp.log d)) (sym pd) c.requires.paging_logged) (subst (λ d. NoneLogged (bf.log d)) (sym fd) c.requires.files_logged)
+    (ap bp.blocks pd ∙ c.requires.opened.slots) (ap bf.blocks fd ∙ c.requires.opened.blocks)
+    (subst (λ d. NoneLogged (bp.log d)) (sym pd) c.requires.opened.paging_logged) (subst (λ d. NoneLogged (bf.log d)) (sym fd) c.requires.opened.files_logged)
     c.new.ensures.named c.new-2.ensures.named (omega arith) (omega arith) in
     let log : _ ≡ o.log = λ i. record { bytes = bm.taken (c.new-3.ensures.sink i); given = bm.given (c.new-3.ensures.sink i); failed = c.new-3.ensures.fresh i; faults = bm.faults (c.new-3.ensures.sink i) } in
     let first = c.new-world.result in

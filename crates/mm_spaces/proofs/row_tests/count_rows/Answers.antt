@@ -9,11 +9,11 @@ loop-done-preserved c =
     let rows = c.args.rows.now in
     let kind = c.args.region_kind in
     let p = passes c.args.test kind in
-    let found = c.equal_from-equal.result in
+    let found = c.equal_from-n.result in
     let done = c.loop-done.done in
-    let n = c.min-n.result in
-    let low : n ≤ found.1 = omega (arith, c.min-n.ensures) in
-    let e : AreEqual rows c.args.first done found.1 found.0 = record { inside = c.equal_from-equal.ensures.within; equal = c.equal_from-equal.ensures.equal } in
+    let n = c.equal_from-n.result.1 in
+    let low : n ≤ found.1 = omega arith in
+    let e : AreEqual rows c.args.first done found.1 found.0 = record { inside = omega (arith, c.requires.inside, c.equal_from-n.ensures.within); equal = c.equal_from-n.ensures.equal } in
     let bounded : c.if-holds.passing ≤ done + n = elim c.if-holds.branch [
       | then-holds w ↦ omega (arith, w.passing-is, c.loop-done.invariant.1)
       | else-holds w ↦ omega (arith, w.passing-is, c.loop-done.invariant.1)
@@ -22,4 +22,4 @@ loop-done-preserved c =
       | then-holds w ↦ omega (arith, w.passing-is, c.loop-done.invariant.2, counted_yes p kind rows c.args.first done found.1 found.0 e (sym c.holds.ensures ∙ w.if-holds.true) n low)
       | else-holds w ↦ omega (arith, w.passing-is, c.loop-done.invariant.2, counted_no p kind rows c.args.first done found.1 found.0 e (sym c.holds.ensures ∙ w.if-holds.false) n low)
     ] in
-    (omega (arith, c.min-n.ensures), bounded, counted)
+    (omega (arith, c.equal_from-n.ensures.within), bounded, counted)

@@ -1,10 +1,7 @@
-use Rattle.std.proofs.Common.{◌≡◌, ℕ, ◌+◌, ◌-◌, ◌<◌, ◌≤◌, arith, subst}
+use Rattle.std.proofs.Common.{◌+◌, ◌-◌, ◌<◌, arith}
 use Rattle.mm_types.specs.Address.{first_user_page, end_of_user_pages}
-use Rattle.mm_vad.specs.Regions.{SpaceOf}
-use Rattle.mm_spaces.specs.declared.rows.RowChange.{RowChange}
-use Rattle.mm_spaces.specs.RowChanges.{range_at, RowsChanged}
-use Rattle.mm_spaces.specs.Shown.{shown}
-use Rattle.mm_spaces.proofs.Ranged.{Changing, changing_none, changing_more, some_now, user_page}
+use Rattle.mm_spaces.specs.RowChanges.{range_at}
+use Rattle.mm_spaces.proofs.Ranged.{changing_none, changing_more, some_now, user_page}
 use Rattle.mm_spaces.proofs.rows.change_rows.Goals as goal
 
 pub loop-done-init : goal.loop-done-init

@@ -1,7 +1,7 @@
-use Rattle.std.proofs.Common.{◌≡◌, ◌+◌, ◌-◌, ◌≤◌, Some, None, sym, ap, ◌∙◌, subst, arith, length, take, drop, replicate}
+use Rattle.std.proofs.Common.{◌≡◌, ◌-◌, Some, None, sym, ap, ◌∙◌, subst, arith, length, take, drop, replicate}
 use Rattle.mm_vad.specs.declared.regions.Region.{Region}
 use Rattle.mm_vad.specs.Regions.{SpaceOf}
-use Rattle.mm_vad.proofs.Lookups.{row_there}
+use Rattle.mm_vad.proofs.Lookups.{row_there, rows_whole}
 use Rattle.mm_world.specs.Find.{region_with}
 use Rattle.mm_spaces.specs.Shown.{row_of, shown}
 use Rattle.mm_spaces.specs.RowChanges.{changed}
@@ -17,26 +17,48 @@ unreachable-requires c =
     let bad : None ≡ Some h.region = c.in_default.ensures.found ∙ h.found in
     cc
 
-pub overflow_sub-page : goal.overflow_sub-page
-overflow_sub-page c = (row_there c.args.space.now.regions c.args.page c.in-Some.region.now c.in-Some.ensures.sound.whole (sym c.in-Some.ensures.found)).0
+pub overflow_sub-index : goal.overflow_sub-index
+overflow_sub-index c = (row_there c.args.space.now.regions c.args.page c.in-Some.region.now c.in-Some.ensures.sound.whole (sym c.in-Some.ensures.found)).0
 
-pub equal_from-equal-requires : goal.equal_from-equal-requires
-equal_from-equal-requires c = (row_there c.args.space.now.regions c.args.page c.in-Some.region.now c.in-Some.ensures.sound.whole (sym c.in-Some.ensures.found)).1
+pub overflow_sub-region : goal.overflow_sub-region
+overflow_sub-region c =
+    let gs = c.args.space.now.regions in
+    let g = c.in-Some.region.now in
+    let whole : length g.rows ≡ g.pages = rows_whole gs c.args.page g c.in-Some.ensures.sound.whole (sym c.in-Some.ensures.found) in
+    omega (arith, whole, (row_there gs c.args.page g c.in-Some.ensures.sound.whole (sym c.in-Some.ensures.found)).1)
+
+pub equal_from-n-requires-clause-inside : goal.equal_from-n-requires-clause-inside
+equal_from-n-requires-clause-inside c =
+    let gs = c.args.space.now.regions in
+    let g = c.in-Some.region.now in
+    let whole : length g.rows ≡ g.pages = rows_whole gs c.args.page g c.in-Some.ensures.sound.whole (sym c.in-Some.ensures.found) in
+    omega (arith, whole, c.min-most.ensures, (row_there gs c.args.page g c.in-Some.ensures.sound.whole (sym c.in-Some.ensures.found)).1)
+
+pub equal_from-n-requires-clause-asked : goal.equal_from-n-requires-clause-asked
+equal_from-n-requires-clause-asked c =
+    let gs = c.args.space.now.regions in
+    let g = c.in-Some.region.now in
+    let whole : length g.rows ≡ g.pages = rows_whole gs c.args.page g c.in-Some.ensures.sound.whole (sym c.in-Some.ensures.found) in
+    omega (arith, whole, c.min-most.ensures, c.requires.some, (row_there gs c.args.page g c.in-Some.ensures.sound.whole (sym c.in-Some.ensures.found)).1)
 
 pub fill_rows-requires : goal.fill_rows-requires
 fill_rows-requires c =
-    in_region c.args.space.now.regions c.args.page c.min-n.result c.equal_from-equal.result.1 c.in-Some.region.now c.in-Some.ensures.sound (sym c.in-Some.ensures.found)
-    (omega (arith, c.min-n.ensures)) c.equal_from-equal.ensures.within
+    let gs = c.args.space.now.regions in
+    let g = c.in-Some.region.now in
+    let n = c.equal_from-n.result.1 in
+    let whole : length g.rows ≡ g.pages = rows_whole gs c.args.page g c.in-Some.ensures.sound.whole (sym c.in-Some.ensures.found) in
+    in_region gs c.args.page n n g c.in-Some.ensures.sound (sym c.in-Some.ensures.found) (omega arith)
+    (omega (arith, whole, c.min-most.ensures, c.equal_from-n.ensures.within, (row_there gs c.args.page g c.in-Some.ensures.sound.whole (sym c.in-Some.ensures.found)).1))
 
 pub returns-clause-after : goal.returns-clause-after
 returns-clause-after c = λ r e.
     let gs = c.args.space.now.regions in
-    let old = c.equal_from-equal.result.0 in
+    let old = c.equal_from-n.result.0 in
     let new = c.of-row.result in
     let h = here gs c.args.page r c.in-Some.ensures.sound.whole e in
     let both : Some h.region ≡ Some c.in-Some.region.now = sym h.found ∙ sym c.in-Some.ensures.found in
     let same : h.region ≡ c.in-Some.region.now = cc in
-    let equal = subst (λ (g : Region). take c.equal_from-equal.result.1 (drop (c.args.page - g.base.0) g.rows) ≡ replicate c.equal_from-equal.result.1 old) (sym same) c.equal_from-equal.ensures.equal in
+    let equal = subst (λ (g : Region). take c.equal_from-n.result.1 (drop (c.args.page - g.base.0) g.rows) ≡ replicate c.equal_from-n.result.1 old) (sym same) c.equal_from-n.ensures.equal in
     let made = subst (λ (g : Region). row_of g.kind new ≡ changed c.args.change g.kind (row_of g.kind old)) (sym same) c.of-row.ensures in
     ap (λ (s : SpaceOf). shown s.regions) c.fill_rows.ensures.after
-    ∙ run_changed gs c.args.page c.min-n.result c.equal_from-equal.result.1 r h c.args.change old new (omega (arith, c.min-n.ensures)) equal made
+    ∙ run_changed gs c.args.page c.equal_from-n.result.1 c.equal_from-n.result.1 r h c.args.change old new (omega arith) equal made

@@ -1,7 +1,7 @@
 use Rattle.mm_life.specs.Frames.{record_at}
 use Rattle.mm_ram.specs.Ram.{bytes_of, overwritten, with_page}
 use Rattle.mm_parts.specs.PartsShown as parts_of
-use Rattle.mm_located.proofs.Carrying.{carries_written}
+use Rattle.mm_frame_laws.proofs.Carrying.{carries_written}
 use Rattle.mm_state.proofs.Making.{carried}
 use Rattle.mm_state.proofs.PageBytes.{pick, soiled_calm}
 use Rattle.mm_state_tests.proofs.Changed.{rest_bytes, same_live}

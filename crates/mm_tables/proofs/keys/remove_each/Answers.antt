@@ -1,6 +1,7 @@
 use Rattle.std.proofs.Common.{◌≡◌, ℕ, ◌+◌, ◌<◌, ◌∙◌, sym, ap, subst, arith}
 use Rattle.mm_types.specs.Address.{Range}
 use Rattle.mm_pages.specs.Conditions.{place_at}
+use Rattle.mm_pages.specs.Leaving.{page_rank}
 use Rattle.mm_tables.specs.Ranges.{CanRemove, Removes, only}
 use Rattle.mm_tables.proofs.EndingExits.{page_then, range_passes}
 use Rattle.mm_tables.proofs.PageByPage.{can_remove_next, removes_then, next_held}
@@ -26,8 +27,8 @@ loop-i-preserved g c =
           (subst (λ (k : ℕ). Removes c.args.pid (only (k + c.loop-i.i)) (g.G.Pages.contents c.loop-i.g) (g.G.Pages.contents c.remove_page.new.g) (g.G.Pages.store c.loop-i.g) (g.G.Pages.store c.remove_page.new.g)) first c.remove_page.ensures.removes);
       passes = λ held each. page_then g.G.Pages.unpaged held c.args.range.first c.loop-i.i (g.G.Pages.store c.args.g.now) (g.G.Pages.store c.loop-i.g) (g.G.Pages.store c.remove_page.new.g)
           (g.G.Pages.behind c.args.g.now) (g.G.Pages.behind c.loop-i.g) (g.G.Pages.behind c.remove_page.new.g) (c.loop-i.invariant.passes held each)
-          (c.remove_page.ensures.passes held (c.args.range.first + c.loop-i.i) (c.args.range.first + (c.loop-i.i + 1))
-          (ap (λ (k : ℕ). held (place_at c.args.pid k)) at ∙ each (c.args.range.first + c.loop-i.i) (next_held c.args.range c.loop-i.i few))
+          (c.remove_page.ensures.passes held (page_rank (c.args.range.first + c.loop-i.i)) (page_rank (c.args.range.first + (c.loop-i.i + 1)))
+          (ap (λ (k : ℕ). held.places (place_at c.args.pid k)) at ∙ each (c.args.range.first + c.loop-i.i) (next_held c.args.range c.loop-i.i few))
           (omega (arith, at)) (omega (arith, at)));
       loans = c.remove_page.ensures.loans ∙ c.loop-i.invariant.loans;
     }

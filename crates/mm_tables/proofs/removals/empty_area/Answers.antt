@@ -1,6 +1,7 @@
 use Rattle.mm_tables.proofs.EndingPages.{shared_dead, emptied}
 use Rattle.mm_pages.specs.Housekeeping.{Ends}
-use Rattle.mm_tables.proofs.EndingExits.{sections_then}
+use Rattle.std.proofs.Common.{arith}
+use Rattle.mm_pages.proofs.Passed.{ends_then}
 use Rattle.mm_tables.proofs.removals.empty_area.Goals as goal
 
 pub close_area-requires-clause-dead : goal.close_area-requires-clause-dead
@@ -12,6 +13,6 @@ returns-clause-emptied g c =
     emptied c.args.area c.args.pages.now c.requires.can c.remove_shared.ensures.gone c.close_area.ensures.contents c.close_area.ensures.store
 
 pub returns-clause-passes : goal.returns-clause-passes
-returns-clause-passes g c =
-    sections_then g.G.Pages.unpaged (g.G.Pages.store c.args.g.now) (g.G.Pages.store c.remove_shared.new.g) (g.G.Pages.store c.close_area.new.self) (g.G.Pages.behind c.args.g.now) (g.G.Pages.behind c.remove_shared.new.g) (g.G.Pages.behind c.close_area.new.self)
-    c.remove_shared.ensures.passes (λ held from to. c.close_area.ensures.passes (Ends held from to))
+returns-clause-passes g c held from to low high =
+    ends_then g.G.Pages.unpaged held from to to (g.G.Pages.store c.args.g.now) (g.G.Pages.store c.remove_shared.new.g) (g.G.Pages.store c.close_area.new.self) (g.G.Pages.behind c.args.g.now) (g.G.Pages.behind c.remove_shared.new.g) (g.G.Pages.behind c.close_area.new.self)
+    (omega (arith, low, high)) (omega arith) (c.remove_shared.ensures.passes held from to low high) (c.close_area.ensures.passes (Ends held to to))

@@ -3,6 +3,7 @@ use Rattle.mm_types.specs.Address.{Range}
 use Rattle.mm_world.specs.Keys.{own_page}
 use Rattle.mm_pages.specs.Conditions.{place_at}
 use Rattle.mm_pages.specs.Housekeeping.{Ends}
+use Rattle.mm_pages.specs.Leaving.{page_rank}
 use Rattle.mm_pages.proofs.Passed.{turns_same}
 use Rattle.mm_tables.specs.Endings.{CanGiveUp, GivenUp, is_owned_at, owned_among}
 use Rattle.mm_tables.specs.Ranges.{only}
@@ -15,7 +16,7 @@ pub loop-i-init : goal.loop-i-init
 loop-i-init g c =
     record {
       given_up = given_none c.args.pid c.args.range (g.G.Pages.contents c.args.g.now) (g.G.Pages.store c.args.g.now);
-      passes = λ held each. turns_same g.G.Pages.unpaged (Ends held c.args.range.first (c.args.range.first + 0)) (g.G.Pages.store c.args.g.now) (g.G.Pages.behind c.args.g.now);
+      passes = λ held each. turns_same g.G.Pages.unpaged (Ends held (page_rank c.args.range.first) (page_rank (c.args.range.first + 0))) (g.G.Pages.store c.args.g.now) (g.G.Pages.behind c.args.g.now);
       loans = refl;
     }
 
@@ -40,8 +41,8 @@ loop-i-preserved g c =
           (subst (λ (k : ℕ). GivenUp c.args.pid (only (k + c.loop-i.i)) (cond (is_some (own_page rs (k + c.loop-i.i))) 1 0) (g.G.Pages.contents c.loop-i.g) (g.G.Pages.contents c.release_page.new.g) (g.G.Pages.store c.loop-i.g) (g.G.Pages.store c.release_page.new.g)) first c.release_page.ensures.given_up);
       passes = λ held each. page_then g.G.Pages.unpaged held c.args.range.first c.loop-i.i (g.G.Pages.store c.args.g.now) (g.G.Pages.store c.loop-i.g) (g.G.Pages.store c.release_page.new.g)
           (g.G.Pages.behind c.args.g.now) (g.G.Pages.behind c.loop-i.g) (g.G.Pages.behind c.release_page.new.g) (c.loop-i.invariant.passes held each)
-          (c.release_page.ensures.passes held (c.args.range.first + c.loop-i.i) (c.args.range.first + (c.loop-i.i + 1))
-          (ap (λ (k : ℕ). held (place_at c.args.pid k)) at ∙ each (c.args.range.first + c.loop-i.i) (next_held c.args.range c.loop-i.i few))
+          (c.release_page.ensures.passes held (page_rank (c.args.range.first + c.loop-i.i)) (page_rank (c.args.range.first + (c.loop-i.i + 1)))
+          (ap (λ (k : ℕ). held.places (place_at c.args.pid k)) at ∙ each (c.args.range.first + c.loop-i.i) (next_held c.args.range c.loop-i.i few))
           (omega (arith, at)) (omega (arith, at)));
       loans = c.release_page.ensures.loans ∙ c.loop-i.invariant.loans;
     }

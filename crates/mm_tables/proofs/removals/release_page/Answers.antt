@@ -3,7 +3,8 @@ use Rattle.mm_pages.specs.Conditions.{place_at}
 use Rattle.mm_tables.specs.Endings.{CanGiveUp, GivenUp}
 use Rattle.mm_tables.specs.Ranges.{only}
 use Rattle.mm_tables.proofs.EndingPages.{page_can_go, page_bound, page_dead, page_unbinding, given_up}
-use Rattle.mm_tables.proofs.EndingExits.{ends_meet}
+use Rattle.mm_pages.proofs.Passed.{ends_meet}
+use Rattle.mm_pages.specs.Leaving.{page_rank}
 use Rattle.mm_tables.proofs.PageByPage.{only_is}
 use Rattle.mm_tables.proofs.removals.release_page.Goals as goal
 
@@ -26,6 +27,6 @@ returns-clause-given_up g c =
 
 pub returns-clause-passes : goal.returns-clause-passes
 returns-clause-passes g c held from to is low high =
-    ends_meet g.G.Pages.unpaged held from c.args.page to (g.G.Pages.store c.args.g.now) (g.G.Pages.store c.remove_if.new.g) (g.G.Pages.store c.unbind.new.self) (g.G.Pages.behind c.args.g.now) (g.G.Pages.behind c.remove_if.new.g) (g.G.Pages.behind c.unbind.new.self) low high
-    (c.remove_if.ensures.passes held from (c.args.page + 1) (is, low, omega arith))
-    (c.unbind.ensures.passes held c.args.page to (record { each = λ v e. ap (λ (v : ℕ). held (place_at c.args.pid v)) (only_is c.args.page v e) ∙ is; first = omega arith; last = omega (arith, high) }))
+    ends_meet g.G.Pages.unpaged held from (page_rank c.args.page) to (g.G.Pages.store c.args.g.now) (g.G.Pages.store c.remove_if.new.g) (g.G.Pages.store c.unbind.new.self) (g.G.Pages.behind c.args.g.now) (g.G.Pages.behind c.remove_if.new.g) (g.G.Pages.behind c.unbind.new.self) low (omega (arith, high))
+    (c.remove_if.ensures.passes held from (page_rank c.args.page + 1) (is, low, omega arith))
+    (c.unbind.ensures.passes held (page_rank c.args.page) to (record { each = λ v e. ap (λ (v : ℕ). held.places (place_at c.args.pid v)) (only_is c.args.page v e) ∙ is; first = omega arith; last = omega (arith, high) }))

@@ -1,8 +1,8 @@
-use Rattle.std.proofs.Common.{◌<◌, Bool, ◌∙◌, sym, subst, arith, cond, length, ◌&&◌}
+use Rattle.std.proofs.Common.{◌<◌, ◌+◌, Bool, ◌∙◌, sym, subst, arith, cond, length, ◌&&◌}
 use Rattle.mm_world.specs.Failure.{same_key}
 use Rattle.mm_tables.specs.Endings.{CanGo, Gone, shared_at, is_committed_in}
 use Rattle.mm_tables.proofs.EndingPages.{can_go_next, gone_then, lower_gone}
-use Rattle.mm_tables.proofs.EndingExits.{sections_then}
+use Rattle.mm_pages.proofs.Passed.{ends_meet}
 use Rattle.mm_tables.proofs.removals.remove_shared.Goals as goal
 
 pub remove_if-requires : goal.remove_if-requires
@@ -20,8 +20,9 @@ loop-i-preserved g c =
     subst (λ (b : Bool). Gone (λ k. b && same_key k (shared_at c.args.area c.loop-i.i)) (cond b 1 0) (g.G.Pages.contents c.loop-i.g) (g.G.Pages.contents c.remove_if.new.g) (g.G.Pages.store c.loop-i.g) (g.G.Pages.store c.remove_if.new.g)) c.is_committed.ensures c.remove_if.ensures.gone in
     record {
       gone = gone_then (shared_at c.args.area) owned c.loop-i.i c.loop-i.invariant.gone step;
-      passes = sections_then g.G.Pages.unpaged (g.G.Pages.store c.args.g.now) (g.G.Pages.store c.loop-i.g) (g.G.Pages.store c.remove_if.new.g) (g.G.Pages.behind c.args.g.now) (g.G.Pages.behind c.loop-i.g) (g.G.Pages.behind c.remove_if.new.g)
-          c.loop-i.invariant.passes (λ held from to. c.remove_if.ensures.passes held from to
-          (λ i low. lower_gone c.args.area owned c.loop-i.i i c.requires.live c.loop-i.invariant.gone low));
+      passes = λ held from to low high. ends_meet g.G.Pages.unpaged held from (held.rank c.args.area.0) to (g.G.Pages.store c.args.g.now) (g.G.Pages.store c.loop-i.g) (g.G.Pages.store c.remove_if.new.g) (g.G.Pages.behind c.args.g.now) (g.G.Pages.behind c.loop-i.g) (g.G.Pages.behind c.remove_if.new.g)
+          low high (c.loop-i.invariant.passes held from (held.rank c.args.area.0 + 1) low (omega arith))
+          (c.remove_if.ensures.passes held (held.rank c.args.area.0) to
+          (omega arith, high, (λ i low. lower_gone c.args.area owned c.loop-i.i i c.requires.live c.loop-i.invariant.gone low)));
       loans = c.remove_if.ensures.loans ∙ c.loop-i.invariant.loans;
     }

@@ -1,5 +1,5 @@
-use Rattle.mm_world.proofs.AccessCharge.{in_access}
+use Rattle.mm_world.proofs.LimitKept.{access_charge}
 use Rattle.mm_world.proofs.laws.accesses_keep_the_charge.Goals as goal
 
 pub returns : goal.returns
-returns c = λ w pid addr what. (in_access w pid addr what).it.same
+returns c = access_charge

@@ -1,5 +1,8 @@
-use Rattle.mm_world.proofs.PrivateLines.{in_step}
+use Rattle.mm_world.specs.Step.{step}
+use Rattle.mm_world.proofs.PrivateCalls.{region_stays}
+use Rattle.mm_world.proofs.LineEdits.{line_terms, in_step}
 use Rattle.mm_world.proofs.laws.private_regions_stay.Goals as goal
 
 pub returns : goal.returns
-returns c = λ w e before after pages. (in_step w e before after).it.kept pages
+returns c = λ w e before after pages lasts.
+    region_stays (line_terms e (step w e before after).answer) pages lasts w (step w e before after).world (in_step w e before after).edits

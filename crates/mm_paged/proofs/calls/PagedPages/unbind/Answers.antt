@@ -1,9 +1,10 @@
 use Rattle.std.proofs.Common.{ap, ◌∙◌, true, false, ◌+◌}
 use Rattle.mm_moving.specs.Shown.{StateOf}
 use Rattle.mm_pages.specs.Housekeeping.{Ends}
+use Rattle.mm_pages.specs.Leaving.{page_rank}
 use Rattle.mm_pages.proofs.Passed.{turns_same}
 use Rattle.mm_paged.specs.Store.{store, behind, own_in, state_of}
-use Rattle.mm_paged.proofs.LettingGo.{pages_low, pages_open, may_let_pages, in_pages, unbound_store, unbound_passes, all_among}
+use Rattle.mm_paged.proofs.LettingGo.{pages_low, pages_open, may_let_pages, in_pages, unbound_store, unbound_passes, all_among, all_places}
 use Rattle.mm_paged.proofs.calls.PagedPages.unbind.Goals as goal
 
 pub returns-then-n-eq0-clause-passes : goal.returns-then-n-eq0-clause-passes
@@ -23,7 +24,7 @@ unbind-requires-clause-open g c = ap (λ (x : StateOf). x.is_open c.args.pid.0) 
 
 pub returns-clause-store : goal.returns-clause-store
 returns-clause-store g c = unbound_store (state_of c.args.self.now) (g.T.Moving.shown c.let_all_go.new.state) (g.T.Moving.shown c.unbind.new.self) (own_in c.args.self.now) c.args.pid (record { first = c.args.first.0; count = c.args.n }) c.sound.ensures.holds c.sound-2.ensures.holds c.let_all_go.ensures.thins
-    (c.let_all_go.ensures.went (λ q. true) 0 (c.args.first.0 + c.args.n) (all_among c.args.pid (record { first = c.args.first.0; count = c.args.n }))) c.unbind.ensures.rest
+    (c.let_all_go.ensures.went all_places 0 (page_rank (c.args.first.0 + c.args.n)) (all_among c.args.pid (record { first = c.args.first.0; count = c.args.n }))) c.unbind.ensures.rest
 
 pub returns-clause-passes : goal.returns-clause-passes
 returns-clause-passes g c held from to a = unbound_passes (state_of c.args.self.now) (g.T.Moving.shown c.let_all_go.new.state) (g.T.Moving.shown c.unbind.new.self) (own_in c.args.self.now) _ c.args.pid (record { first = c.args.first.0; count = c.args.n }) held from to (c.let_all_go.ensures.went held from to a) c.unbind.ensures.rest

@@ -1,4 +1,4 @@
-use Rattle.mm_radix.specs.Pages.{pages}
+use Rattle.mm_words.specs.Pages.{pages}
 use Rattle.mm_parts.specs.PartsShown.{joined}
 use Rattle.mm_parts.proofs.Outcomes.{on_ok, on_err, kept_by, ok_by, err_by}
 use Rattle.mm_parts.proofs.WordSteps.{bind_step, range_user}

@@ -1,6 +1,6 @@
 use Rattle.std.proofs.Common.{◌≡◌, ℕ, Some, refl, sym, ap, ◌∙◌, subst}
 use Rattle.mm_types.specs.declared.numbers.Frame.{Frame}
-use Rattle.mm_entry.specs.Words.{IsEntry}
+use Rattle.mm_words.specs.Layout.{IsEntry}
 use Rattle.mm_life.specs.Frames.{record_at, after_steal}
 use Rattle.mm_frames.specs.Base.{FramesOf, standby_taken, free_put}
 use Rattle.mm_words.specs.Words.{with_word, keeps_places}

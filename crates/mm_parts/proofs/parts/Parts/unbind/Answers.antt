@@ -1,5 +1,5 @@
 use Rattle.mm_words.specs.Words.{place_of}
-use Rattle.mm_radix.specs.Pages.{pages}
+use Rattle.mm_words.specs.Pages.{pages}
 use Rattle.mm_parts.specs.PartsShown.{joined}
 use Rattle.mm_parts.proofs.Keeping.{step_to}
 use Rattle.mm_parts.proofs.WordSteps.{unbind_step, givable, range_invalid}

@@ -1,13 +1,16 @@
-use Rattle.mm_script.specs.Shape.{read, AnyNumber}
-use Rattle.mm_script.proofs.Given.{given_value, given_fault}
+use Rattle.std.proofs.Common.{◌≡◌, ◌+◌, length, refl}
+use Rattle.mm_script.specs.Reading.{Rest}
+use Rattle.mm_script.specs.Cursor.{rest_of}
+use Rattle.mm_script.proofs.Narrowed.{number_taken}
 use Rattle.mm_script.proofs.fields.Fields.number.Goals as goal
 
 pub returns-in-Some-clause-value : goal.returns-in-Some-clause-value
-unfolding read
 returns-in-Some-clause-value c =
-    given_value (read AnyNumber) c.args.self.now c.next.new.self c.in_ok-word.word.now c.in-Some.value c.in_ok-word.ensures.word c.in-Some.ensures
-
-pub returns-in-None-clause-value : goal.returns-in-None-clause-value
-unfolding read
-returns-in-None-clause-value c =
-    given_fault (read AnyNumber) c.args.self.now c.next.new.self c.in_ok-word.word.now c.fault.result c.in_ok-word.ensures.word c.in-None.ensures c.fault.ensures
+    let t = c.in-Some.ensures.some in
+    let f = c.self.inside in
+    let found = c.in-Some.found in
+    let old : Rest = rest_of f.line.now f.words f.number f.last in
+    let new : Rest = rest_of f.line.now c.next_number.new.self (f.number + 1) found.from in
+    let v = c.self.view_is in
+    let h = number_taken old new t.text found.value t.left refl refl t.reads in
+    cc

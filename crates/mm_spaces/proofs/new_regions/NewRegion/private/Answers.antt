@@ -2,7 +2,7 @@ use Rattle.std.proofs.Common.{ap, ◌∙◌}
 use Rattle.mm_types.specs.Address.{Range}
 use Rattle.mm_world.specs.Contents.{blank}
 use Rattle.mm_world.specs.Alloc.{private_region}
-use Rattle.mm_gaps.specs.Ranges.{range_at}
+use Rattle.mm_vad.specs.Ranges.{range_at}
 use Rattle.mm_spaces.proofs.Made.{region_made, made_fits}
 use Rattle.mm_spaces.proofs.new_regions.NewRegion.private.Goals as goal
 

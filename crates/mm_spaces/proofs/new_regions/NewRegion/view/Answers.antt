@@ -1,6 +1,6 @@
 use Rattle.std.proofs.Common.{ap, ◌∙◌}
 use Rattle.mm_types.specs.Address.{Range}
-use Rattle.mm_gaps.specs.Ranges.{range_at}
+use Rattle.mm_vad.specs.Ranges.{range_at}
 use Rattle.mm_world.specs.Views.{view_region}
 use Rattle.mm_spaces.proofs.Made.{IsViewRow, view_made, view_fits}
 use Rattle.mm_spaces.proofs.new_regions.NewRegion.view.Goals as goal

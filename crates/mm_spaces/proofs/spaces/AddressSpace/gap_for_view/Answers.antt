@@ -1,6 +1,6 @@
 use Rattle.mm_types.specs.Address.{page_of}
 use Rattle.mm_world.specs.Find.{ranges_of}
-use Rattle.mm_gaps.specs.Ranges.{range_at}
+use Rattle.mm_vad.specs.Ranges.{range_at}
 use Rattle.mm_world.proofs.Spaces.{wanted_granule}
 use Rattle.mm_spaces.proofs.Gaps.{placed_gap}
 use Rattle.mm_spaces.proofs.spaces.AddressSpace.gap_for_view.Goals as goal

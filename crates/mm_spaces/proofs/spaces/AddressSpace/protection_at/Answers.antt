@@ -3,4 +3,4 @@ use Rattle.mm_spaces.proofs.spaces.AddressSpace.protection_at.Goals as goal
 
 pub protection_of_row-requires : goal.protection_of_row-requires
 protection_of_row-requires c =
-    row_low c.args.self.now.regions c.args.range.first _ c.in-Some.region.now c.get-row.result c.in-Some.ensures.some.at c.get-row.ensures
+    row_low c.args.self.now.regions c.args.range.first _ c.args.region.now c.get-row.result c.requires.around.at c.get-row.ensures

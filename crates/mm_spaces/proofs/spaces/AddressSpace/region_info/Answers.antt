@@ -3,8 +3,7 @@ use Rattle.mm_types.specs.Address.{address_of}
 use Rattle.mm_types.specs.declared.views.Kind.TheVariants as kind
 use Rattle.mm_world.specs.Query.{type_of}
 use Rattle.mm_spaces.proofs.Kept.{row_low}
-use Rattle.mm_spaces.proofs.Told.{info_by, region_told, private_state, thing_at, states}
-use Rattle.mm_world.specs.Query.{first_run}
+use Rattle.mm_spaces.proofs.Told.{info_by, region_told, private_state, private_run}
 use Rattle.mm_spaces.proofs.spaces.AddressSpace.region_info.Goals as goal
 
 pub told_of_row-told-requires : goal.told_of_row-told-requires
@@ -16,7 +15,7 @@ returns c = λ w r e.
     let page = c.args.page in
     let g = c.args.region.now in
     let at = c.requires.at in
-    let run = c.run_of_alike.ensures.run w r e ∙ ap (λ x. (first_run (states rs page g at w x)).1) (thing_at rs page g at r e) in
-    ap (λ s. info_by rs page g at (address_of c.run_of_alike.result) s 0x20000) (c.told_of_row-told.ensures kind.Private)
-    ∙ region_told rs page g at w r _ c.run_of_alike.result 0x20000 e (private_state rs page g at c.requires.private w c.get-row.result c.get-row.ensures) run
+    let run = c.run_from.ensures.run ∙ sym (private_run rs page g at c.requires.private w) in
+    ap (λ s. info_by rs page g at (address_of c.run_from.result) s 0x20000) (c.told_of_row-told.ensures kind.Private)
+    ∙ region_told rs page g at w r _ c.run_from.result 0x20000 e (private_state rs page g at c.requires.private w c.get-row.result c.get-row.ensures) run
     (sym (ap type_of c.requires.private))

@@ -4,7 +4,7 @@ use Rattle.mm_life.specs.Life.{changed, same_key}
 use Rattle.mm_life.specs.Located.{contents_of}
 use Rattle.mm_ram.specs.Ram.{bytes_of}
 use Rattle.mm_parts.specs.PartsShown as parts_of
-use Rattle.mm_located.proofs.Carrying.{carries_written}
+use Rattle.mm_frame_laws.proofs.Carrying.{carries_written}
 use Rattle.mm_state.proofs.Making.{rest_page, carried}
 use Rattle.mm_state.proofs.PageBytes.{pick, own_page, soiled_calm}
 use Rattle.mm_state.proofs.calls.StateMoving.copy.Goals as goal

@@ -4,7 +4,7 @@ use Rattle.mm_types.specs.declared.moves.Move.TheVariants as move
 use Rattle.mm_parts.specs.Shown.{PartsOf}
 use Rattle.mm_parts.specs.PartsShown as parts_of
 use Rattle.mm_parts.specs.Reading.{waits_of}
-use Rattle.mm_located.proofs.Carrying.{carries_drop}
+use Rattle.mm_frame_laws.proofs.Carrying.{carries_drop}
 use Rattle.mm_state.proofs.Making.{made_quiet, rest_of, carried}
 use Rattle.mm_state.proofs.calls.StateMoving.drop_key.Goals as goal
 

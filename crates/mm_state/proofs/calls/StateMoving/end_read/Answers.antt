@@ -15,7 +15,7 @@ use Rattle.mm_parts.specs.Shown.{PartsOf}
 use Rattle.mm_parts.specs.PartsShown as parts_of
 use Rattle.mm_parts.specs.Reading.{waits_of}
 use Rattle.mm_parts.specs.Moves.{read_end}
-use Rattle.mm_located.proofs.Carrying.{read_backed, slot_there, block_there}
+use Rattle.mm_frame_laws.proofs.Carrying.{read_backed, slot_there, block_there}
 use Rattle.mm_blocks.specs.Devices.{device_with}
 use Rattle.mm_state.specs.Tallied.{read_told, IsTallied}
 use Rattle.mm_state.proofs.Making.{made_quiet, rest_called, carried_on}

@@ -13,8 +13,8 @@ use Rattle.mm_parts.specs.Shown.{PartsOf}
 use Rattle.mm_parts.specs.PartsShown as parts_of
 use Rattle.mm_parts.specs.Reading.{waits_of}
 use Rattle.mm_parts.specs.Moves.{write_end}
-use Rattle.mm_located.specs.Carried.{slots_written, blocks_written}
-use Rattle.mm_located.proofs.Carrying.{write_backed, slot_there, block_there, page_of_key}
+use Rattle.mm_frame_laws.specs.Carried.{slots_written, blocks_written}
+use Rattle.mm_frame_laws.proofs.Carrying.{write_backed, slot_there, block_there, page_of_key}
 use Rattle.mm_blocks.specs.Devices.{device_with, KeepsOthers}
 use Rattle.mm_moving.specs.Shown.{written_if}
 use Rattle.mm_state.specs.Tallied.{IsTallied}

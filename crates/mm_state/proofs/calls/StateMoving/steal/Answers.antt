@@ -5,7 +5,7 @@ use Rattle.mm_parts.specs.Moves.{front}
 use Rattle.mm_parts.specs.Shown.{PartsOf}
 use Rattle.mm_parts.specs.PartsShown as parts_of
 use Rattle.mm_parts.specs.Reading.{waits_of}
-use Rattle.mm_located.proofs.Carrying.{carries_steal}
+use Rattle.mm_frame_laws.proofs.Carrying.{carries_steal}
 use Rattle.mm_state.proofs.Legals.{noted_at, ranged_at, some_standby}
 use Rattle.mm_state.proofs.Making.{made_quiet, rest_of, carried}
 use Rattle.mm_state.proofs.calls.StateMoving.steal.Goals as goal

@@ -1,5 +1,5 @@
 use Rattle.std.proofs.Common.{sym, subst}
-use Rattle.mm_located.proofs.Carrying.{carries_start}
+use Rattle.mm_frame_laws.proofs.Carrying.{carries_start}
 use Rattle.mm_parts.specs.Start.{first_move}
 use Rattle.mm_state.specs.Tallied.{IsTallied}
 use Rattle.mm_state.proofs.Legals.{noted_at, ranged_at}

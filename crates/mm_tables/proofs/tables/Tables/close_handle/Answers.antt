@@ -1,7 +1,7 @@
 use Rattle.std.proofs.Common.{refl, ◌∙◌, arith}
 use Rattle.mm_pages.specs.Housekeeping.{Ends}
 use Rattle.mm_pages.proofs.Passed.{turns_same}
-use Rattle.mm_tables.proofs.EndingSteps.{whole_inside, whole_can, whole_charged, whole_stays, whole_ends}
+use Rattle.mm_tables.proofs.EndingSteps.{whole_inside, whole_can, whole_charged, whole_stays, whole_ends, ends_at}
 use Rattle.mm_tables.proofs.EndingClose.{known, close_held, close_counted, close_step, close_named}
 use Rattle.mm_tables.proofs.tables.Tables.close_handle.Goals as goal
 
@@ -43,7 +43,15 @@ returns-in-Some g c =
     let k = known c.self.inside c.args.self.now c.self.view_is c.self.invariant c.args.pid.0 c.index_mut-process.result.now c.requires.lives c.index_mut-process.ensures.value in
     let w = close_step k c.args.handle c.requires.there c.close_in-ended.new.process c.close_in-ended.ensures.closed c.close_in-ended.ensures.dropped c.close_in-ended.ensures.ended c.requires.fits in
     let e = whole_ends w c.in-Some.is c.index_mut-pages.ensures.value c.end_area.ensures.ended c.end_area.ensures.refunded c.end_area.ensures.file c.end_area.ensures.emptied in
-    record { closed = λ p lives. e.is ∙ close_named k c.args.handle c.requires.there p lives; settled = e.settled; less = e.less_live; passes = c.end_area.ensures.passes; loans = c.end_area.ensures.loans }
+    record {
+      closed = λ p lives. e.is ∙ close_named k c.args.handle c.requires.there p lives;
+      settled = e.settled;
+      less = e.less_live;
+      passes = λ held from to for low high. c.end_area.ensures.passes held from to (λ paging.
+          let at = ends_at w c.in-Some.is c.index_mut-pages.ensures.value paging held.rank for in
+          (omega (arith, at, low), omega (arith, at, high)));
+      loans = c.end_area.ensures.loans;
+    }
 
 pub returns-in_default : goal.returns-in_default
 returns-in_default g c =
@@ -54,6 +62,6 @@ returns-in_default g c =
       closed = λ p lives. e.is ∙ close_named k c.args.handle c.requires.there p lives;
       settled = e.settled;
       less = e.less_live;
-      passes = λ held from to. turns_same g.G.Pages.unpaged (Ends held from to) (g.G.Pages.store c.args.g.now) (g.G.Pages.behind c.args.g.now);
+      passes = λ held from to for low high. turns_same g.G.Pages.unpaged (Ends held from to) (g.G.Pages.store c.args.g.now) (g.G.Pages.behind c.args.g.now);
       loans = refl;
     }

@@ -5,6 +5,7 @@ use Rattle.mm_types.specs.Address.{Range}
 use Rattle.mm_world.specs.Find.{process_of}
 use Rattle.mm_tables.proofs.EndingUnmap.{unmapped}
 use Rattle.mm_tables.proofs.EndingExits.{toward_settled, toward_set, after_settled, after_set, dropped, view_lowest, view_info, has_lowest}
+use Rattle.mm_tables.proofs.EndingRanks.{for_set, for_settled, ranked_removed}
 use Rattle.mm_tables.proofs.tables.Tables.drop_lowest.Goals as goal
 
 pub unmap_view-requires-clause-there : goal.unmap_view-requires-clause-there
@@ -20,8 +21,9 @@ returns-in-Private g c =
     let low = has_lowest p.0 c.args.info.pages c.args.info.kind (c.requires.there p.0 p.1) in
     let removed = c.release_lowest.ensures.removed p.0 p.1 in
     let d = dropped c.args.pid.0 t v p.0 low.region p.1 low.at (after_set t v c.args.pid.0 p.0 (unmapped p.0 0) p.1 removed)
-    (toward_set c.args.pid.0 t (Some (unmapped p.0 0)) removed c.release_lowest.ensures.settled c.release_lowest.ensures.less) in
-    record { toward = d.toward; lives = d.lives; fewer = d.fewer; passes = c.release_lowest.ensures.passes; loans = c.release_lowest.ensures.loans }
+    (toward_set c.args.pid.0 t (Some (unmapped p.0 0)) removed c.release_lowest.ensures.settled c.release_lowest.ensures.less
+    (λ rank. for_set rank c.args.pid.0 t v p.0 (unmapped p.0 0) p.1 removed (ranked_removed p.0 (c.requires.closed p.0 p.1)))) in
+    record { toward = d.toward; lives = d.lives; fewer = d.fewer; passes = λ held from to for among. c.release_lowest.ensures.passes held from to among; loans = c.release_lowest.ensures.loans }
 
 pub returns-in-View : goal.returns-in-View
 returns-in-View g c =
@@ -32,5 +34,6 @@ returns-in-View g c =
     let low = has_lowest p.0 c.args.info.pages (kind.View c.in-View.view) (c.requires.there p.0 p.1 ∙ (λ i. Some (record { pages = c.args.info.pages; kind = c.in-View.is i }))) in
     let removed = c.unmap_view.ensures.removed p.0 (record { place = 0; thing = low.region }) p.1 (view_lowest p.0 c.args.info.pages c.in-View.view c.range.inside.first low first) in
     let d = dropped c.args.pid.0 t v p.0 low.region p.1 low.at (after_settled t v c.args.pid.0 p.0 (unmapped p.0 0) p.1 removed)
-    (toward_settled c.args.pid.0 t (Some (unmapped p.0 0)) removed c.unmap_view.ensures.settled c.unmap_view.ensures.less) in
+    (toward_settled c.args.pid.0 t (Some (unmapped p.0 0)) removed c.unmap_view.ensures.settled c.unmap_view.ensures.less
+    (λ rank. for_settled rank c.args.pid.0 t v p.0 (unmapped p.0 0) p.1 removed (ranked_removed p.0 (c.requires.closed p.0 p.1)))) in
     record { toward = d.toward; lives = d.lives; fewer = d.fewer; passes = c.unmap_view.ensures.passes; loans = c.unmap_view.ensures.loans }

@@ -1,11 +1,11 @@
-use Rattle.std.proofs.Common.{◌≡◌, ℕ, Bool, true, is_some, Some, length}
-use Rattle.mm_types.specs.declared.numbers.Place.{Place}
+use Rattle.std.proofs.Common.{◌≡◌, ℕ, true, is_some, Some, length}
 use Rattle.mm_pages.specs.Conditions.{place_at}
 use Rattle.mm_pages.specs.Housekeeping.{Turns, Ends}
+use Rattle.mm_pages.specs.Leaving.{Leaving, page_rank}
 use Rattle.mm_pages.specs.Passing.{PassesIn}
 use Rattle.mm_world.specs.World.{ProcessOf}
 use Rattle.mm_world.specs.Find.{process_of}
-use Rattle.mm_tables.specs.Endings.{Toward, HasNoHandle}
+use Rattle.mm_tables.specs.Endings.{Toward, HasNoHandle, IsFor}
 use Rattle.mm_tables.proofs.EndingExits.{first_page}
 use Rattle.mm_tables.proofs.OneProcess.{regions_in}
 use Rattle.mm_tables.proofs.tables.Tables.drop_regions.Given as goal
@@ -15,8 +15,8 @@ invariant-loop-info g l = record {
   toward : Toward l.pid.0 l.fn.self l.self (g.G.Pages.contents l.fn.g) (g.G.Pages.contents l.g) (g.G.Pages.store l.fn.g) (g.G.Pages.store l.g);
   lives : is_some (process_of l.self l.pid.0) ≡ true;
   closed : (p : ProcessOf (Unit {0})) → process_of l.self l.pid.0 ≡ Some p → HasNoHandle p;
-  passes : (held : Place → Bool) → ((page : ℕ) → held (place_at l.pid page) ≡ true) →
-      PassesIn g.G.Pages.unpaged (Turns (Ends held 0 (first_page (regions_in l.self l.pid.0)))) (g.G.Pages.store l.fn.g) (g.G.Pages.store l.g) (g.G.Pages.behind l.fn.g) (g.G.Pages.behind l.g);
+  passes : (held : Leaving) → IsFor held.rank l.pid.0 l.fn.self → ((page : ℕ) → held.places (place_at l.pid page) ≡ true) →
+      PassesIn g.G.Pages.unpaged (Turns (Ends held (page_rank 0) (page_rank (first_page (regions_in l.self l.pid.0))))) (g.G.Pages.store l.fn.g) (g.G.Pages.store l.g) (g.G.Pages.behind l.fn.g) (g.G.Pages.behind l.g);
   loans : g.G.Pages.loans l.g ≡ g.G.Pages.loans l.fn.g;
 }
 

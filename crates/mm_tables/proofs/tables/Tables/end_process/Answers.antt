@@ -1,4 +1,4 @@
-use Rattle.std.proofs.Common.{None, ◌∙◌, ap}
+use Rattle.std.proofs.Common.{None, ◌∙◌, ap, sym, subst, arith}
 use Rattle.mm_world.specs.Contents.{Tables}
 use Rattle.std.specs.Prelude.{◌==◌}
 use Rattle.mm_world.specs.Find.{set_process, end_stacks}
@@ -7,6 +7,10 @@ use Rattle.mm_world.specs.Sections.{settle}
 use Rattle.mm_tables.proofs.EndingFits.{less_then, beside_then, carries_less}
 use Rattle.mm_tables.proofs.EndingExits.{toward_then, toward_nobody, exit_then}
 use Rattle.mm_types.specs.Address.{end_of_user_pages}
+use Rattle.mm_pages.specs.Leaving.{leaving, goes_with, page_rank}
+use Rattle.mm_tables.specs.Endings.{IsFor}
+use Rattle.mm_tables.proofs.EndingRanks.{for_own}
+use Rattle.mm_tables.proofs.Uncommitted.{its_own}
 use Rattle.mm_tables.proofs.tables.Tables.end_process.Goals as goal
 
 pub close_process-requires-clause-nobody : goal.close_process-requires-clause-nobody
@@ -27,7 +31,13 @@ returns-clause-settled g c =
     }
 
 pub returns-clause-passes : goal.returns-clause-passes
-returns-clause-passes g c held all =
-    exit_then g.G.Pages.unpaged held end_of_user_pages (g.G.Pages.store c.args.g.now) (g.G.Pages.store c.close_handles.new.g) (g.G.Pages.store c.drop_regions.new.g) (g.G.Pages.store c.close_process.new.g)
+returns-clause-passes g c places all =
+    let t = c.args.self.now in
+    let held = leaving t c.args.pid.0 places in
+    let ended = c.end_stacks_in.ensures.ended ∙ ap (λ (w : Tables). end_stacks w (λ s. s.pid == c.args.pid.0)) c.drop_kept.ensures.dropped in
+    let own = subst (λ (w : Tables). IsFor (goes_with t c.args.pid.0) c.args.pid.0 w) (sym ended) (for_own t c.args.pid.0 c.sound.ensures.tidy) in
+    exit_then g.G.Pages.unpaged held (page_rank end_of_user_pages) (g.G.Pages.store c.args.g.now) (g.G.Pages.store c.close_handles.new.g) (g.G.Pages.store c.drop_regions.new.g) (g.G.Pages.store c.close_process.new.g)
     (g.G.Pages.behind c.args.g.now) (g.G.Pages.behind c.close_handles.new.g) (g.G.Pages.behind c.drop_regions.new.g) (g.G.Pages.behind c.close_process.new.g)
-    c.close_handles.ensures.passes (c.drop_regions.ensures.passes held all) c.close_process.ensures.passes
+    (omega arith) (c.close_handles.ensures.passes held own)
+    (c.drop_regions.ensures.passes held (c.close_handles.ensures.toward.ranks (goes_with t c.args.pid.0) own) (λ page. its_own c.args.pid places page (all page)))
+    c.close_process.ensures.passes

@@ -1,6 +1,7 @@
 use Rattle.std.proofs.Common.{◌∙◌, ap, subst, sym}
 use Rattle.mm_types.specs.Address.{end_of_user_pages}
 use Rattle.mm_pages.specs.Conditions.{AreAmong}
+use Rattle.mm_pages.specs.Leaving.{leaving, page_rank}
 use Rattle.mm_tables.specs.Fits.{is_uncommitted}
 use Rattle.mm_world.specs.Contents.{Tables}
 use Rattle.mm_world.specs.Find.{end_stacks}
@@ -17,7 +18,7 @@ returns g c =
         carries = h.settled.carries;
         rest = h.settled.rest;
       };
-      among = subst (λ (t : Tables). AreAmong (is_uncommitted t) 0 end_of_user_pages c.args.pid c.args.range) (sym c.end_stack_at.ensures.ended) h.among;
+      among = subst (λ (t : Tables). AreAmong (leaving c.args.self.now c.args.pid.0 (is_uncommitted t)) 1 (page_rank end_of_user_pages) c.args.pid c.args.range) (sym c.end_stack_at.ensures.ended) h.among;
       passes = h.passes;
       loans = h.loans;
     }

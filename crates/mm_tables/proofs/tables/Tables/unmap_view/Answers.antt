@@ -1,9 +1,11 @@
-use Rattle.std.proofs.Common.{inr, ap, ◌∙◌, arith}
+use Rattle.std.proofs.Common.{inr, ap, ◌∙◌, arith, ◌-◌}
+use Rattle.mm_types.specs.Address.{end_of}
+use Rattle.mm_pages.specs.Leaving.{page_rank}
 use Rattle.mm_pages.specs.Conditions.{place_at}
 use Rattle.mm_pages.specs.Store.{StoreOf}
-use Rattle.mm_tables.proofs.EndingSteps.{whole_inside, whole_can, whole_charged, whole_stays, whole_ends}
+use Rattle.mm_tables.proofs.EndingSteps.{whole_inside, whole_can, whole_charged, whole_stays, whole_ends, ends_at}
 use Rattle.mm_tables.proofs.EndingClose.{known}
-use Rattle.mm_tables.proofs.EndingUnmap.{unmap_end, unmap_there, unmap_around, unmap_can, unmap_counted, unmap_charged, unmap_step, unmap_named}
+use Rattle.mm_tables.proofs.EndingUnmap.{unmap_end, unmap_there, unmap_around, unmap_can, unmap_counted, unmap_charged, unmap_step, unmap_named, unmap_some}
 use Rattle.mm_tables.proofs.EndingExits.{range_then}
 use Rattle.mm_tables.proofs.tables.Tables.unmap_view.Goals as goal
 
@@ -71,9 +73,13 @@ returns-in-Some g c =
       settled = e.settled;
       less = e.less_live;
       unbound = record { each = λ page held. c.end_area.ensures.bound (place_at c.args.pid page) ∙ c.unmap_in-marked.ensures.unbound.each page held; end = c.unmap_in-marked.ensures.unbound.end };
-      passes = λ held from to among.
+      passes = λ held from to for among.
+          let some = unmap_some c.args.pid k c.args.addr c.requires.there in
           range_then g.G.Pages.unpaged held from to c.args.pid c.args.range (g.G.Pages.store c.args.g.now) (g.G.Pages.store c.unmap_in-marked.new.g) (g.G.Pages.store c.end_area.new.g)
-          (g.G.Pages.behind c.args.g.now) (g.G.Pages.behind c.unmap_in-marked.new.g) (g.G.Pages.behind c.end_area.new.g) among (c.unmap_in-marked.ensures.passes held from to among) c.end_area.ensures.passes;
+          (g.G.Pages.behind c.args.g.now) (g.G.Pages.behind c.unmap_in-marked.new.g) (g.G.Pages.behind c.end_area.new.g) some among (c.unmap_in-marked.ensures.passes held)
+          (c.end_area.ensures.passes held (page_rank (end_of c.args.range) - 1) to (λ paging.
+          let at = ends_at w c.in-Some.is c.index_mut-pages.ensures.value paging held.rank for in
+          (omega (arith, at), omega (arith, at, among.last, some))));
       loans = c.end_area.ensures.loans ∙ c.unmap_in-marked.ensures.loans;
     }
 
@@ -88,6 +94,6 @@ returns-in_default g c =
       settled = e.settled;
       less = e.less_live;
       unbound = c.unmap_in-marked.ensures.unbound;
-      passes = c.unmap_in-marked.ensures.passes;
+      passes = λ held from to for among. c.unmap_in-marked.ensures.passes held from to among;
       loans = c.unmap_in-marked.ensures.loans;
     }

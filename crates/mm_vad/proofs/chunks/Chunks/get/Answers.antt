@@ -1,4 +1,4 @@
-use Rattle.std.proofs.Common.{arith, length, ap}
+use Rattle.std.proofs.Common.{arith}
 use Rattle.mm_vad.specs.declared.chunks.Chunk.TheVariants as chunk
 use Rattle.mm_vad.proofs.Chunked.{inside, rows_read, place_read, equal_read, each_read}
 use Rattle.mm_vad.proofs.chunks.Chunks.get.Goals as goal

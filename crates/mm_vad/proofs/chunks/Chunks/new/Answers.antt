@@ -1,4 +1,4 @@
-use Rattle.std.proofs.Common.{◌≡◌, ◌-◌, ◌++◌, [], None, replicate, take, refl, ap, ◌∙◌, arith, ℕ, List}
+use Rattle.std.proofs.Common.{◌≡◌, ◌-◌, ◌++◌, [], None, replicate, take, ap, ◌∙◌, arith, ℕ, List}
 use Rattle.std.proofs.lemmas.List.{take_all}
 use Rattle.mm_vad.specs.declared.chunks.Chunk.{Chunk}
 use Rattle.mm_vad.specs.declared.chunks.Chunk.TheVariants as chunk

@@ -1,18 +1,28 @@
-use Rattle.std.proofs.Common.{◌<◌, ◌/◌, length, ap, arith}
+use Rattle.std.proofs.Common.{◌<◌, ◌≤◌, ◌-◌, ◌*◌, ◌/◌, ℕ, List, length, sym, ap, ◌∙◌, arith, take, drop}
 use Rattle.std.proofs.lemmas.Nat.{div-add-mod', mod_below}
-use Rattle.mm_vad.proofs.Joined.{length-joined, equal_within, one_run}
+use Rattle.mm_vad.specs.declared.pages.Row.{Row}
+use Rattle.mm_vad.proofs.Joined.{length-joined, equal_within, equal_behind}
 use Rattle.mm_vad.proofs.pages.Rows.equal_from.Goals as goal
 
-pub returns-clause-within : goal.returns-clause-within
-returns-clause-within c =
+pub returns-then-index-whole-clause-equal : goal.returns-then-index-whole-clause-equal
+returns-then-index-whole-clause-equal c =
     let s = c.self.inside in
-    omega (arith, c.count.ensures, c.if-index-count.true, div-add-mod' c.args.i 512, mod_below c.args.i 512, length-joined s.chunks s.rest.items c.self.invariant.whole, ap length c.self.view_is)
+    let low : c.args.i / 512 < length s.chunks = omega (arith, c.count-whole.ensures, c.if-index-whole.true) in
+    equal_within s.chunks s.rest.items c.args.self.now c.args.i c.equal_from-n.result.1 c.equal_from-n.result.0 c.self.invariant.whole c.self.view_is low
+    (omega (arith, c.equal_from-n.ensures.within, c.min.ensures, mod_below c.args.i 512 (omega arith)))
+    c.equal_from-n.ensures.equal
+
+pub equal_in-n-requires-clause-inside : goal.equal_in-n-requires-clause-inside
+equal_in-n-requires-clause-inside c =
+    let s = c.self.inside in
+    omega (arith, c.requires.inside, c.count-whole.ensures, c.if-index-whole.false, c.deref.ensures.value, c.deref.ensures.len, s.rest.ok.0, div-add-mod' c.args.i 512, length-joined s.chunks s.rest.items c.self.invariant.whole, ap length c.self.view_is, ap length c.deref.ensures.value)
 
 pub returns-clause-equal : goal.returns-clause-equal
 returns-clause-equal c =
     let s = c.self.inside in
-    let low : c.args.i / 512 < length s.chunks = omega (arith, c.count.ensures, c.if-index-count.true) in
-    equal_within s.chunks s.rest.items c.args.self.now c.args.i c.in-Some.row c.self.invariant.whole c.self.view_is low c.in-Some.ensures
-
-pub returns-2-clause-equal : goal.returns-2-clause-equal
-returns-2-clause-equal c = one_run c.args.self.now c.args.i c.get.result c.requires c.get.ensures
+    let high : length s.chunks ≤ c.args.i / 512 = omega (arith, c.count-whole.ensures, c.if-index-whole.false) in
+    equal_behind s.chunks s.rest.items c.args.self.now c.args.i c.equal_in-n.result.1 c.equal_in-n.result.0 c.self.invariant.whole c.self.view_is high
+    (omega (arith, c.requires.inside, c.equal_in-n.ensures.within))
+    (ap (λ (n : ℕ). take c.equal_in-n.result.1 (drop (c.args.i - n * 512) s.rest.items)) (sym c.count-whole.ensures)
+    ∙ ap (λ (rs : List Row). take c.equal_in-n.result.1 (drop (c.args.i - c.count-whole.result * 512) rs)) (sym c.deref.ensures.value)
+    ∙ c.equal_in-n.ensures.equal)

@@ -1,34 +1,67 @@
-use Rattle.std.proofs.Common.{◌≡◌, ◌<◌, ◌*◌, ◌/◌, ℕ, List, length, replicate, true, ◌&&◌, eqb, sym, ap, ◌∙◌, arith}
-use Rattle.std.proofs.lemmas.Nat.{div-add-mod'}
-use mathlib.Core.Bool.{beq}
+use Rattle.std.proofs.Common.{◌≡◌, ◌<◌, ◌≤◌, ◌+◌, ◌-◌, ◌*◌, ◌/◌, ◌%◌, ℕ, List, [], ◌++◌, length, get_or, take, drop, ap, ◌∙◌, arith}
+use Rattle.std.proofs.lemmas.Nat.{div-add-mod', mod_below}
+use Rattle.std.proofs.lemmas.List.{take_all, take-append-le}
 use Rattle.mm_vad.specs.declared.pages.Row.{Row}
-use Rattle.mm_vad.specs.Chunks.{joined, filled}
-use Rattle.mm_vad.proofs.Joined.{kept_filled, filled_chunk, filled_same, filled_one}
+use Rattle.mm_vad.specs.Chunks.{rows_joined, filled}
+use Rattle.mm_vad.proofs.Joined.{length-joined, kept_within, kept_behind, length-filled, filled_within_chunk, filled_behind_chunks}
 use Rattle.mm_vad.proofs.pages.Rows.fill_some.Goals as goal
 
--- rows that compare as equal
-equal_if_eq : (a b : Row) → (beq a.committed b.committed && (eqb a.prot.0 b.prot.0 && (beq a.guard b.guard && (beq a.copied b.copied && beq a.marked b.marked)))) ≡ true → a ≡ b
-equal_if_eq a b e = grind (arith, e)
+-- what a slice of all rows gives back
+given_back : (new behind : List Row) (n : ℕ) → n ≡ length new → take n (new ++ behind) ≡ new
+given_back new behind n e = take-append-le n new behind (omega (arith, e)) ∙ take_all n new (omega (arith, e))
+
+pub fill_in-requires : goal.fill_in-requires
+fill_in-requires c =
+    let s = c.self.inside in
+    omega (arith, c.requires.inside, c.count-whole.ensures, c.if-index-whole.true, c.deref_mut.ensures.len, s.rest.ok.0, div-add-mod' c.args.first 512, length-joined s.chunks s.rest.items c.self.invariant.whole, ap length c.self.view_is)
+
+-- the rows behind the chunks, once some of them are filled
+rest_filled : (c : goal.After-self-1) → (length c.fill_in.new.rows ≡ length c.self.inside.rest.items) × (take c.self.inside.rest.len (c.fill_in.new.rows ++ drop (length c.fill_in.new.rows) c.self.inside.rest.items) ≡ c.fill_in.new.rows)
+rest_filled c =
+    let s = c.self.inside in
+    let at = c.args.first - c.count-whole.result * 512 in
+    let room : at + c.args.n ≤ length c.deref_mut.result.now = omega (arith, c.requires.inside, c.count-whole.ensures, c.if-index-whole.true, c.deref_mut.ensures.len, s.rest.ok.0, div-add-mod' c.args.first 512, length-joined s.chunks s.rest.items c.self.invariant.whole, ap length c.self.view_is) in
+    let long : length c.fill_in.new.rows ≡ length s.rest.items =
+    ap length c.fill_in.ensures ∙ length-filled c.deref_mut.result.now at c.args.n c.args.row room ∙ ap length c.deref_mut.ensures.value in
+    (long, given_back c.fill_in.new.rows _ s.rest.len (omega (arith, long, s.rest.ok.0)))
 
 pub invariant_of-self : goal.invariant_of-self
 invariant_of-self c =
     let s = c.self.inside in
-    kept_filled s.chunks c.fill.new.self s.rest.items (c.args.first / 512) c.args.row c.self.invariant c.fill.ensures
+    let back = rest_filled c in
+    kept_behind s.chunks s.rest.items _ c.self.invariant (ap length back.1 ∙ back.0)
 
-pub returns-then-index-count-clause-after : goal.returns-then-index-count-clause-after
-returns-then-index-count-clause-after c =
+pub returns-then-index-whole-clause-fits : goal.returns-then-index-whole-clause-fits
+returns-then-index-whole-clause-fits c = omega (arith, c.requires.inside, c.self.invariant.few, ap length c.self.view_is)
+
+pub returns-clause-fits : goal.returns-clause-fits
+returns-clause-fits c = omega (arith, c.requires.inside, c.min-some.ensures, c.self.invariant.few, ap length c.self.view_is)
+
+pub returns-then-index-whole-clause-after : goal.returns-then-index-whole-clause-after
+returns-then-index-whole-clause-after c =
     let s = c.self.inside in
-    let low : c.args.first / 512 < length s.chunks = omega (arith, c.count.ensures, c.if-index-count.true) in
-    ap (λ (cs : List (List Row)). joined cs s.rest.items) c.fill.ensures
-    ∙ filled_chunk s.chunks s.rest.items c.args.self.now (c.args.first / 512) c.args.row c.self.invariant.whole c.self.view_is low
-    ∙ ap (λ (q : ℕ). filled c.args.self.now q 512 c.args.row) (omega (arith, div-add-mod' c.args.first 512, c.if-first-eq0.true))
+    let at = c.args.first - c.count-whole.result * 512 in
+    let high : length s.chunks ≤ c.args.first / 512 = omega (arith, c.count-whole.ensures, c.if-index-whole.true) in
+    ap (rows_joined s.chunks) ((rest_filled c).1 ∙ c.fill_in.ensures)
+    ∙ ap (λ (rs : List Row). rows_joined s.chunks (filled rs at c.args.n c.args.row)) c.deref_mut.ensures.value
+    ∙ ap (λ (n : ℕ). rows_joined s.chunks (filled s.rest.items (c.args.first - n * 512) c.args.n c.args.row)) c.count-whole.ensures
+    ∙ filled_behind_chunks s.chunks s.rest.items c.args.self.now c.args.first c.args.n c.args.row c.self.invariant.whole c.self.view_is high
+    (omega (arith, c.requires.inside, high, div-add-mod' c.args.first 512, length-joined s.chunks s.rest.items c.self.invariant.whole, ap length c.self.view_is))
 
-pub returns-then-eq-clause-after : goal.returns-then-eq-clause-after
-returns-then-eq-clause-after c =
-    let found = c.equal_from-equal.result in
-    let same : found.0 ≡ c.args.row = equal_if_eq found.0 c.args.row (sym c.eq.ensures ∙ c.if-eq.true) in
-    filled_same c.args.self.now c.args.first c.min.result found.1 c.args.row c.equal_from-equal.ensures.within (omega (arith, c.min.ensures))
-    (c.equal_from-equal.ensures.equal ∙ ap (λ (r : Row). replicate found.1 r) same)
+pub invariant_of-self-2 : goal.invariant_of-self-2
+invariant_of-self-2 c =
+    let s = c.self.inside in
+    let low : c.args.first / 512 < length s.chunks = omega (arith, c.count-whole.ensures, c.if-index-whole.false) in
+    kept_within s.chunks c.fill.new.self s.rest.items (c.args.first / 512) _ c.self.invariant
+    (length-filled (get_or s.chunks (c.args.first / 512) []) (c.args.first % 512) c.min-some.result c.args.row
+    (omega (arith, c.self.invariant.whole (c.args.first / 512) [] low, c.min-some.ensures, mod_below c.args.first 512 (omega arith)))
+    ∙ c.self.invariant.whole (c.args.first / 512) [] low)
+    c.fill.ensures
 
 pub returns-clause-after : goal.returns-clause-after
-returns-clause-after c = c.set.ensures ∙ filled_one c.args.self.now c.args.first c.args.row (omega (arith, c.requires.inside, c.requires.some))
+returns-clause-after c =
+    let s = c.self.inside in
+    let low : c.args.first / 512 < length s.chunks = omega (arith, c.count-whole.ensures, c.if-index-whole.false) in
+    ap (λ (cs : List (List Row)). rows_joined cs s.rest.items) c.fill.ensures
+    ∙ filled_within_chunk s.chunks s.rest.items c.args.self.now c.args.first c.min-some.result c.args.row c.self.invariant.whole c.self.view_is low
+    (omega (arith, c.min-some.ensures, mod_below c.args.first 512 (omega arith)))

@@ -1,15 +1,15 @@
-use Rattle.std.proofs.Common.{◌≡◌, ◌+◌, ◌*◌, ◌/◌, ◌%◌, ◌^◌, ◌<◌, ℕ, List, length, replicate, sym, ap, ◌∙◌, subst, arith}
+use Rattle.std.proofs.Common.{◌≡◌, ◌/◌, ◌%◌, ℕ, List, length, replicate, sym, ap, ◌∙◌, subst, arith}
 use Rattle.std.proofs.lemmas.List.{length-replicate}
 use Rattle.std.proofs.lemmas.Nat.{div-add-mod'}
 use Rattle.mm_vad.specs.declared.pages.Row.{Row}
-use Rattle.mm_vad.specs.Chunks.{joined, AreRows}
+use Rattle.mm_vad.specs.Chunks.{rows_joined}
 use Rattle.mm_vad.proofs.Joined.{AreWhole, whole-replicate, joined-replicate}
 use Rattle.mm_vad.proofs.pages.Rows.new.Goals as goal
 
-made : (n : ℕ) (row : Row) (chunks : List (List Row)) (rest : List Row) → chunks ≡ replicate (n / 512) (replicate 512 row) → rest ≡ replicate (n % 512) row → joined chunks rest ≡ replicate n row
+made : (n : ℕ) (row : Row) (chunks : List (List Row)) (rest : List Row) → chunks ≡ replicate (n / 512) (replicate 512 row) → rest ≡ replicate (n % 512) row → rows_joined chunks rest ≡ replicate n row
 made n row chunks rest e f =
-    ap (λ (cs : List (List Row)). joined cs rest) e
-    ∙ ap (λ (rs : List Row). joined (replicate (n / 512) (replicate 512 row)) rs) f
+    ap (λ (cs : List (List Row)). rows_joined cs rest) e
+    ∙ ap (λ (rs : List Row). rows_joined (replicate (n / 512) (replicate 512 row)) rs) f
     ∙ joined-replicate (n / 512) (n % 512) row
     ∙ ap (λ (q : ℕ). replicate q row) (div-add-mod' n 512)
 

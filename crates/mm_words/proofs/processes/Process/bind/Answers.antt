@@ -1,6 +1,6 @@
 use Rattle.std.proofs.Common.{ap}
 use Rattle.mm_words.specs.Words.{bare}
-use Rattle.mm_radix.specs.Pages.{pages}
+use Rattle.mm_words.specs.Pages.{pages}
 use Rattle.mm_words.proofs.PageChanges.{after_bind}
 use Rattle.mm_words.proofs.KeptProcesses.{bind_kept}
 use Rattle.mm_words.proofs.processes.Process.bind.Goals as goal

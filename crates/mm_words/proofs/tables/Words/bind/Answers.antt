@@ -1,5 +1,5 @@
 use Rattle.std.proofs.Common.{ap}
-use Rattle.mm_radix.specs.Pages.{pages}
+use Rattle.mm_words.specs.Pages.{pages}
 use Rattle.mm_words.specs.Changes.{resident_set}
 use Rattle.mm_words.proofs.AreaWords.{ok_then, err_then}
 use Rattle.mm_words.proofs.TableChanges.{bound_words, still_words, ages_stay, aside_bind}

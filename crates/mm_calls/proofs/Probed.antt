@@ -1,0 +1,79 @@
+-- What a `probe` line comes to, from what the tables told of the page.
+use Rattle.std.proofs.Common.{◌≡◌, ◌≢◌, ◌<◌, ◌-◌, ℕ, true, false, Option, Some, refl, sym, ◌∙◌, ap}
+use Rattle.std.specs.Prelude.{◌==◌}
+use Rattle.mm_types.specs.declared.answers.Answer.{Answer}
+use Rattle.mm_types.specs.declared.answers.Answer.TheVariants as answer
+use Rattle.mm_types.specs.declared.codes.Raise.TheVariants as raise
+use Rattle.mm_types.specs.declared.numbers.Key.{Key}
+use Rattle.mm_types.specs.Address.{address_of, page_of}
+use Rattle.mm_types.specs.Allocation.{commit_type}
+use Rattle.mm_world.specs.World.{Page, ProcessOf, StackOf}
+use Rattle.mm_world.specs.Find.{process_of, stack_by, set_stack}
+use Rattle.mm_world.specs.Contents.{Tables, blank}
+use Rattle.mm_world.specs.Keys.{Committed, committed_at, guard_off}
+use Rattle.mm_world.specs.Outcome.{done}
+use Rattle.mm_world.specs.Stack.{probe, grown, is_overflow}
+use Rattle.mm_world.specs.Alloc.{alloc}
+use Rattle.mm_pages.specs.Store.{StoreOf}
+use Rattle.mm_tables.specs.declared.looks.CommittedRow.{CommittedRow}
+use Rattle.mm_tables.specs.Fits.{Fits, Settled}
+use Rattle.mm_tables.specs.Looks.{committed_row}
+use Rattle.mm_tables.proofs.Carried.{carries_same}
+use Rattle.mm_calls.specs.Growth.{grows, lowered}
+use Rattle.mm_calls.proofs.Growable.{grows_by}
+use Rattle.mm_calls.proofs.Growths.{is_same, same_number}
+use Rattle.mm_calls.proofs.Touching.{IsTold, told, at_other, at_overflow, at_growth}
+use Rattle.mm_types.proofs.Booleans.{not_true}
+
+-- a guard is off, and the store is as before
+pub settled_off : (v : Tables) (c : Key → Option Page) (s : StoreOf) → Fits v c s → Settled v c c s s
+settled_off v c s f = record { fits = f; carries = carries_same c c refl; rest = refl }
+
+-- other tables, which any store fits that fits these
+pub settled_then : (u v : Tables) (c d : Key → Option Page) (s z : StoreOf) → ((c : Key → Option Page) (s : StoreOf) → Fits u c s → Fits v c s) → Settled u c d s z → Settled v c d s z
+settled_then u v c d s z keeps h = record { fits = keeps d z h.fits; carries = h.carries; rest = h.rest }
+
+-- what took a guard off
+abbrev pub TakesOff : Tables → ℕ → ℕ → Tables → Type 0
+TakesOff t pid page v = (p : ProcessOf (Unit {0})) (c : Committed (Unit {0})) → process_of t pid ≡ Some p → committed_at t p.regions page ≡ Some c → v ≡ guard_off t pid p c page
+
+pub takes_off : (t : Tables) (pid n page m : ℕ) (v : Tables) → n ≡ pid → m ≡ page → TakesOff t n m v → TakesOff t pid page v
+takes_off t pid n page m v ns ms h p c lives there =
+    h p c (ap (λ (n : ℕ). process_of t n) ns ∙ lives) (ap (λ (m : ℕ). committed_at t p.regions m) ms ∙ there) ∙ (λ i. guard_off t (ns i) p c (ms i))
+
+module _ (t : Tables) (tid addr : ℕ) (s : StackOf) (has : stack_by t tid ≡ Some s) (row : CommittedRow) (at : committed_row t s.pid (page_of addr) ≡ Some row) (on : row.guard ≡ true) where
+  abbrev page : ℕ
+  page = page_of addr
+
+  is : IsTold t s.pid page row
+  is = told t s.pid page row at
+
+  guarded : is.committed.row.guard ≡ true
+  guarded = is.guard ∙ on
+
+  pub of_other : page ≢ s.guard_page → (v : Tables) → TakesOff t s.pid page v → probe blank t tid addr ≡ record { answer = answer.Raised raise.GuardPage; world = v }
+  of_other other v off =
+      at_other blank t tid addr s has is.process is.lives is.committed is.there guarded (not_true (page == s.guard_page) (λ e. other (same_number page s.guard_page e)))
+      ∙ (λ i. done (answer.Raised raise.GuardPage) (sym (off is.process is.committed is.lives is.there) i))
+
+  module _ (here : page ≡ s.guard_page) where
+    there : committed_at t is.process.regions s.guard_page ≡ Some is.committed
+    there = ap (λ (n : ℕ). committed_at t is.process.regions n) (sym here) ∙ is.there
+
+    pub of_overflow : ((p : ProcessOf (Unit {0})) → process_of t s.pid ≡ Some p → is_overflow t p s ≡ true) → (v : Tables) → TakesOff t s.pid s.guard_page v → probe blank t tid addr ≡ record { answer = answer.Raised raise.StackOverflow; world = v }
+    of_overflow full v off =
+        at_overflow blank t tid addr s has is.process is.lives is.committed is.there guarded (is_same page s.guard_page here) (full is.process is.lives)
+        ∙ (λ i. done (answer.Raised raise.StackOverflow) (guard_off t s.pid is.process is.committed (here i)))
+        ∙ (λ i. done (answer.Raised raise.StackOverflow) (sym (off is.process is.committed is.lives there) i))
+
+    pub of_growth : ((p : ProcessOf (Unit {0})) → process_of t s.pid ≡ Some p → is_overflow t p s ≡ false) → (u v : Tables) → ((p : ProcessOf (Unit {0})) (c : Committed (Unit {0})) → process_of t s.pid ≡ Some p → committed_at t p.regions s.guard_page ≡ Some c → u ≡ (alloc blank (guard_off t s.pid p c s.guard_page) s.pid (address_of (s.guard_page - 1)) 1 commit_type 0x104).world) → v ≡ set_stack u tid (lowered s) → (a : Answer) → a ≡ answer.At (address_of (s.guard_page - 1)) → probe blank t tid addr ≡ record { answer = a; world = v }
+    of_growth more u v commits lowers a said =
+        at_growth blank t tid addr s has is.process is.lives is.committed is.there guarded (is_same page s.guard_page here) (more is.process is.lives)
+        ∙ (λ i. grown blank (guard_off t s.pid is.process is.committed (here i)) tid s)
+        ∙ (λ i. done (sym said i) (set_stack (sym (commits is.process is.committed is.lives there) i) tid (lowered s)))
+        ∙ ap (λ (v : Tables). done a v) (sym lowers)
+
+    pub grows_here : s.base < s.guard_page → ((p : ProcessOf (Unit {0})) → process_of t s.pid ≡ Some p → is_overflow t p s ≡ false) → grows blank t tid addr ≡ true
+    grows_here above more =
+        grows_by blank t (guard_off t s.pid is.process is.committed page) tid s has refl addr above
+        (at_growth blank t tid addr s has is.process is.lives is.committed is.there guarded (is_same page s.guard_page here) (more is.process is.lives))

@@ -1,0 +1,133 @@
+use Rattle.std.proofs.Common.{◌≡◌, ◌≤◌, ◌-◌, ◌∙◌, sym, ap, subst, arith, length, None, Some, cond}
+use Rattle.std.specs.Prelude.{◌==◌, option_map}
+use Rattle.mm_types.specs.declared.views.Kind.TheVariants as kind
+use Rattle.mm_types.specs.Address.{Range, lies_within, page_of, range_of}
+use Rattle.mm_pages.specs.Housekeeping.{Flushes}
+use Rattle.mm_pages.specs.Passing.{PassesIn}
+use Rattle.mm_calls.proofs.FlushMoves.{flushes_none}
+use Rattle.mm_calls.proofs.FlushKeys.{no_process, no_view, flushed_are, flushed_count_is}
+use Rattle.mm_world.specs.World.{RegionOf, pages_of}
+use Rattle.mm_world.specs.Find.{process_of, is_private, area_at}
+use Rattle.mm_world.specs.Views.{view_around, flushed_view}
+use Rattle.mm_spaces.specs.declared.spaces.RegionInfo.{RegionInfo}
+use Rattle.mm_spaces.specs.Tables.{found_info}
+use Rattle.mm_calls.proofs.Placing.{tells_view, told_view, told_none, flushed_within}
+use Rattle.mm_calls.proofs.files.flush_view.Goals as goal
+use Rattle.mm_types.proofs.Options.{some_found}
+use Rattle.mm_pages.proofs.Served.{served_none}
+
+pub returns-then-not-has-clause-served : goal.returns-then-not-has-clause-served
+returns-then-not-has-clause-served g c = served_none (g.G.Pages.store c.args.g.now)
+
+pub returns-in-None-clause-served : goal.returns-in-None-clause-served
+returns-in-None-clause-served g c = served_none (g.G.Pages.store c.args.g.now)
+
+pub view_of-view-requires : goal.view_of-view-requires
+view_of-view-requires g c =
+    let range : Range = c.meant_range-meant.result in
+    record {
+      view = ap (λ (i : RegionInfo). is_private i.kind) c.region.view_is
+          ∙ told_view (λ (r : RegionOf (Unit {0})). lies_within range (pages_of r)) c.space.result.now.regions c.in-Some.region (sym c.view_around.ensures.found ∙ c.in-Some.is);
+    }
+
+pub overflow_sub-before : goal.overflow_sub-before
+overflow_sub-before g c =
+    let t = c.args.t.now in
+    let range : Range = c.meant_range-meant.result in
+    let p = some_found (process_of t c.args.pid.0) (sym c.has.ensures ∙ c.if-not-has.false) in
+    let told = ap (λ rs. option_map found_info (view_around rs range)) (sym (c.space.ensures p.0 p.1)) ∙ sym c.view_around.ensures.found ∙ c.in-Some.is in
+    let is : c.in-Some.region.kind ≡ kind.View c.view_of-view.result = sym (ap (λ (i : RegionInfo). i.kind) c.region.view_is) ∙ c.view_of-view.ensures.view in
+    let v = tells_view t c.args.pid.0 p.0 range c.in-Some.region c.view_of-view.result p.1 c.sound.ensures.sound told is in
+    omega (arith, v.low, ap (λ (i : RegionInfo). i.pages.first) c.region.view_is, ap (λ (r : Range). r.first) c.meant.view_is)
+
+pub overflow_sub-region-inside : goal.overflow_sub-region-inside
+overflow_sub-region-inside g c =
+    let t = c.args.t.now in
+    let range : Range = c.meant_range-meant.result in
+    let p = some_found (process_of t c.args.pid.0) (sym c.has.ensures ∙ c.if-not-has.false) in
+    let told = ap (λ rs. option_map found_info (view_around rs range)) (sym (c.space.ensures p.0 p.1)) ∙ sym c.view_around.ensures.found ∙ c.in-Some.is in
+    let is : c.in-Some.region.kind ≡ kind.View c.view_of-view.result = sym (ap (λ (i : RegionInfo). i.kind) c.region.view_is) ∙ c.view_of-view.ensures.view in
+    let v = tells_view t c.args.pid.0 p.0 range c.in-Some.region c.view_of-view.result p.1 c.sound.ensures.sound told is in
+    omega (
+      arith,
+      v.low,
+      v.high,
+      ap (λ (i : RegionInfo). i.pages.first) c.region.view_is,
+      ap (λ (i : RegionInfo). i.pages.count) c.region.view_is,
+      ap (λ (r : Range). r.first) c.meant.view_is,
+    )
+
+pub flush_view_pages-requires-clause-area : goal.flush_view_pages-requires-clause-area
+flush_view_pages-requires-clause-area g c =
+    let t = c.args.t.now in
+    let range : Range = c.meant_range-meant.result in
+    let p = some_found (process_of t c.args.pid.0) (sym c.has.ensures ∙ c.if-not-has.false) in
+    let told = ap (λ rs. option_map found_info (view_around rs range)) (sym (c.space.ensures p.0 p.1)) ∙ sym c.view_around.ensures.found ∙ c.in-Some.is in
+    let is : c.in-Some.region.kind ≡ kind.View c.view_of-view.result = sym (ap (λ (i : RegionInfo). i.kind) c.region.view_is) ∙ c.view_of-view.ensures.view in
+    (tells_view t c.args.pid.0 p.0 range c.in-Some.region c.view_of-view.result p.1 c.sound.ensures.sound told is).made
+
+pub flush_view_pages-requires-clause-within : goal.flush_view_pages-requires-clause-within
+flush_view_pages-requires-clause-within g c =
+    let t = c.args.t.now in
+    let range : Range = c.meant_range-meant.result in
+    let p = some_found (process_of t c.args.pid.0) (sym c.has.ensures ∙ c.if-not-has.false) in
+    let told = ap (λ rs. option_map found_info (view_around rs range)) (sym (c.space.ensures p.0 p.1)) ∙ sym c.view_around.ensures.found ∙ c.in-Some.is in
+    let is : c.in-Some.region.kind ≡ kind.View c.view_of-view.result = sym (ap (λ (i : RegionInfo). i.kind) c.region.view_is) ∙ c.view_of-view.ensures.view in
+    let v = tells_view t c.args.pid.0 p.0 range c.in-Some.region c.view_of-view.result p.1 c.sound.ensures.sound told is in
+    let first = ap (λ (i : RegionInfo). i.pages.first) c.region.view_is in
+    let count = ap (λ (i : RegionInfo). i.pages.count) c.region.view_is in
+    let meant = ap (λ (r : Range). r.first) c.meant.view_is in
+    let many = ap (λ (r : Range). r.count) c.meant.view_is in
+    let before = c.meant.inside.first - c.region.inside.0.0.first in
+    omega (
+      arith,
+      c.flushed_count-count.ensures,
+      flushed_within (c.args.size == 0) c.view_of-view.result.first before c.region.inside.0.0.count c.meant.inside.count (length (area_at t c.view_of-view.result.area.0).pages)
+          (omega (arith, v.low, v.high, first, count, meant)) (omega (arith, v.low, v.high, first, count, meant, many)) (omega (arith, v.within, count)),
+    )
+
+pub returns-then-not-has-clause-passes : goal.returns-then-not-has-clause-passes
+returns-then-not-has-clause-passes g c =
+    let s = g.G.Pages.store c.args.g.now in
+    let b = g.G.Pages.behind c.args.g.now in
+    subst (λ ks. PassesIn g.G.Pages.unpaged (Flushes ks) s s b b) (no_process c.args.t.now c.args.pid.0 c.args.addr c.args.size (sym c.has.ensures ∙ c.if-not-has.true)) (flushes_none g.G.Pages.unpaged s b)
+
+pub returns-in-None-clause-passes : goal.returns-in-None-clause-passes
+returns-in-None-clause-passes g c =
+    let t = c.args.t.now in
+    let s = g.G.Pages.store c.args.g.now in
+    let b = g.G.Pages.behind c.args.g.now in
+    let range : Range = c.meant_range-meant.result in
+    let p = some_found (process_of t c.args.pid.0) (sym c.has.ensures ∙ c.if-not-has.false) in
+    let none : flushed_view p.0.regions c.args.addr c.args.size ≡ None =
+    ap (view_around p.0.regions) (sym c.meant_range-meant.ensures)
+    ∙ told_none (view_around p.0.regions range) (ap (λ rs. option_map found_info (view_around rs range)) (sym (c.space.ensures p.0 p.1)) ∙ sym c.view_around.ensures.found ∙ c.in-None.is) in
+    subst (λ ks. PassesIn g.G.Pages.unpaged (Flushes ks) s s b b) (no_view t c.args.pid.0 p.0 c.args.addr c.args.size p.1 none) (flushes_none g.G.Pages.unpaged s b)
+
+pub returns-clause-passes : goal.returns-clause-passes
+returns-clause-passes g c =
+    let t = c.args.t.now in
+    let addr = c.args.addr in
+    let size = c.args.size in
+    let range : Range = c.meant_range-meant.result in
+    let p = some_found (process_of t c.args.pid.0) (sym c.has.ensures ∙ c.if-not-has.false) in
+    let told = ap (λ rs. option_map found_info (view_around rs range)) (sym (c.space.ensures p.0 p.1)) ∙ sym c.view_around.ensures.found ∙ c.in-Some.is in
+    let is : c.in-Some.region.kind ≡ kind.View c.view_of-view.result = sym (ap (λ (i : RegionInfo). i.kind) c.region.view_is) ∙ c.view_of-view.ensures.view in
+    let v = tells_view t c.args.pid.0 p.0 range c.in-Some.region c.view_of-view.result p.1 c.sound.ensures.sound told is in
+    let first = ap (λ (i : RegionInfo). i.pages.first) c.region.view_is in
+    let rows = ap (λ (i : RegionInfo). i.pages.count) c.region.view_is in
+    let meant = ap (λ (r : Range). r.first) c.meant.view_is in
+    let many = ap (λ (r : Range). r.count) c.meant.view_is in
+    let asked : range ≡ range_of addr (cond (size == 0) 1 size) = c.meant_range-meant.ensures in
+    let begins : range.first ≡ page_of addr = ap (λ (r : Range). r.first) asked in
+    let base : v.region.thing.base ≡ c.in-Some.region.pages.first = ap (λ (i : RegionInfo). i.pages.first) v.is in
+    let length : length v.region.thing.rows ≡ c.in-Some.region.pages.count = ap (λ (i : RegionInfo). i.pages.count) v.is in
+    let before = c.meant.inside.first - c.region.inside.0.0.first in
+    let found : flushed_view p.0.regions addr size ≡ Some v.region = ap (view_around p.0.regions) (sym asked) ∙ v.found in
+    let kind : v.region.thing.kind ≡ kind.View c.view_of-view.result = ap (λ (i : RegionInfo). i.kind) v.is ∙ is in
+    let low : v.region.thing.base ≤ page_of addr = omega (arith, v.low, begins, base) in
+    let at : before ≡ page_of addr - v.region.thing.base = omega (arith, meant, begins, first, base) in
+    let count = flushed_count_is v.region.thing addr size before c.region.inside.0.0.first c.region.inside.0.0.count c.meant.inside.count
+    (omega (arith, first, base)) (omega (arith, rows, length)) (omega (arith, meant, begins)) (omega (arith, first, base, low)) (many ∙ ap (λ (r : Range). r.count) asked) in
+    subst (λ ks. PassesIn g.G.Pages.unpaged (Flushes ks) (g.G.Pages.store c.args.g.now) (g.G.Pages.store c.flush_view_pages.new.g) (g.G.Pages.behind c.args.g.now) (g.G.Pages.behind c.flush_view_pages.new.g))
+    (flushed_are t c.args.pid.0 p.0 addr size v.region c.view_of-view.result before c.flushed_count-count.result p.1 found kind low at (c.flushed_count-count.ensures ∙ count)) c.flush_view_pages.ensures.passes

@@ -1,0 +1,56 @@
+use Rattle.std.proofs.Common.{rules, ◌≡◌, ◌≤◌, ◌-◌, ◌∙◌, sym, ap, arith, is_some}
+use Rattle.std.specs.Prelude.{IsOk}
+use Rattle.mm_types.specs.Address.{address_of, range_of}
+use Rattle.mm_world.specs.Alloc.{commit_pages}
+use Rattle.mm_world.specs.Contents.{blank}
+use Rattle.mm_world.specs.Find.{process_of}
+use Rattle.mm_world.specs.Keys.{committed_at, guard_off}
+use Rattle.mm_world.specs.World.{StackOf}
+use Rattle.mm_tables.proofs.ViewCommitted.{roomier_fits}
+use Rattle.mm_calls.proofs.Growing.{past_first, room_there, grown_is}
+use Rattle.mm_calls.proofs.probes.grow.Goals as goal
+use Rattle.mm_types.proofs.Options.{some_found}
+
+pub take_guard_off-requires-clause-committed : goal.take_guard_off-requires-clause-committed
+take_guard_off-requires-clause-committed g c p lives =
+    let t = c.args.t.now in
+    let ns : c.stack.inside.pid.0 ≡ c.args.stack.now.pid = ap (λ (s : StackOf). s.pid) c.stack.view_is in
+    let ms : c.stack.inside.guard_page ≡ c.args.stack.now.guard_page = ap (λ (s : StackOf). s.guard_page) c.stack.view_is in
+    ap (λ n. is_some (committed_at t p.regions n)) ms ∙ c.requires.committed p (sym (ap (λ n. process_of t n) ns) ∙ lives)
+
+pub commit-requires-clause-fits : goal.commit-requires-clause-fits
+commit-requires-clause-fits g c =
+    c.take_guard_off.ensures.fits (g.G.Pages.contents c.reserve.new.self) (g.G.Pages.store c.reserve.new.self)
+    (roomier_fits c.args.t.now (g.G.Pages.contents c.args.g.now) (g.G.Pages.contents c.reserve.new.self) (g.G.Pages.store c.args.g.now) (g.G.Pages.store c.reserve.new.self)
+    c.requires.fits c.reserve.ensures.contents c.reserve.ensures.store c.reserve.ensures.later)
+
+pub unreachable-requires : goal.unreachable-requires
+unreachable-requires g c =
+    let t = c.args.t.now in
+    let s : StackOf = c.args.stack.now in
+    let ns : c.stack.inside.pid.0 ≡ s.pid = ap (λ (s : StackOf). s.pid) c.stack.view_is in
+    let ms : c.stack.inside.guard_page ≡ s.guard_page = ap (λ (s : StackOf). s.guard_page) c.stack.view_is in
+    let p = some_found (process_of t s.pid) c.requires.lives in
+    let k = some_found (committed_at t p.0.regions s.guard_page) (c.requires.committed p.0 p.1) in
+    let v = c.take_guard_off.new.self in
+    let off : v ≡ guard_off t s.pid p.0 k.0 s.guard_page =
+    c.take_guard_off.ensures.off p.0 k.0 (ap (λ n. process_of t n) ns ∙ p.1) (ap (λ n. committed_at t p.0.regions n) ms ∙ k.1) ∙ (λ i. guard_off t (ns i) p.0 k.0 (ms i)) in
+    let next : c.of-next.result ≡ range_of (address_of (s.guard_page - 1)) 1 = c.of-next.ensures ∙ (λ i. range_of (address_of (ms i - 1)) 1) in
+    let ok : IsOk c.commit.result =
+    c.commit.ensures.enough (room_there t s.pid s.guard_page p.0 k.0 p.1 k.1 v off c.of-next.result next c.total_with_one-total.result (g.G.Pages.store c.reserve.new.self).room
+    c.total_with_one-total.ensures.total c.in_ok-reserve.ensures.ok) in
+    search rules
+
+pub returns-clause-ok : goal.returns-clause-ok
+returns-clause-ok g c p k lives there =
+    let t = c.args.t.now in
+    let s : StackOf = c.args.stack.now in
+    let ns : c.stack.inside.pid.0 ≡ s.pid = ap (λ (s : StackOf). s.pid) c.stack.view_is in
+    let ms : c.stack.inside.guard_page ≡ s.guard_page = ap (λ (s : StackOf). s.guard_page) c.stack.view_is in
+    let v = c.take_guard_off.new.self in
+    let off : v ≡ guard_off t s.pid p k s.guard_page =
+    c.take_guard_off.ensures.off p k (ap (λ n. process_of t n) ns ∙ lives) (ap (λ n. committed_at t p.regions n) ms ∙ there) ∙ (λ i. guard_off t (ns i) p k (ms i)) in
+    let next : c.of-next.result ≡ range_of (address_of (s.guard_page - 1)) 1 = c.of-next.ensures ∙ (λ i. range_of (address_of (ms i - 1)) 1) in
+    let first : 16 ≤ s.guard_page = past_first t s.pid s.guard_page p k lives there c.sound.ensures.sound in
+    grown_is t s.pid s.guard_page p k lives there v off c.of-next.result next c.commit.new.t _ (omega (arith, first))
+    (λ q now. (λ i. commit_pages blank v (sym ns i) q c.of-next.result 0x104) ∙ c.in-Ok.ensures.ok q (ap (λ n. process_of v n) ns ∙ now))

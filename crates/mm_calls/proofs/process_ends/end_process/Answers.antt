@@ -1,0 +1,16 @@
+use Rattle.std.proofs.Common.{◌∙◌, sym, map}
+use Rattle.std.specs.Prelude.{◌==◌}
+use Rattle.mm_world.specs.Find.{process_of, end_stacks}
+use Rattle.mm_world.specs.Processes.{kept_of_others}
+use Rattle.mm_world.specs.Contents.{Tables}
+use Rattle.mm_tables.specs.Fits.{is_uncommitted}
+use Rattle.mm_tables.proofs.Uncommitted.{all_ended}
+use Rattle.mm_calls.proofs.process_ends.end_process.Goals as goal
+use Rattle.mm_types.proofs.Options.{some_found}
+
+pub returns-clause-passes : goal.returns-clause-passes
+returns-clause-passes g c =
+    let old = c.args.t.now in
+    let p = some_found (process_of old c.args.pid.0) (sym c.has.ensures ∙ c.if-not-has.false) in
+    let t : Tables = end_stacks (record old { kept = map (kept_of_others c.args.pid.0) old.kept }) (λ s. s.pid == c.args.pid.0) in
+    c.end_process.ensures.passes (is_uncommitted c.end_process.new.self) (all_ended t c.end_process.new.self c.args.pid p.0 p.1 c.end_process.ensures.ended)

@@ -1,0 +1,42 @@
+use Rattle.std.proofs.Common.{ap, arith}
+use Rattle.mm_world.specs.Charge.{limit}
+use Rattle.mm_world.specs.Contents.{Tables}
+use Rattle.mm_world.specs.Find.{process_of}
+use Rattle.mm_calls.proofs.Joined.{joined}
+use Rattle.mm_calls.proofs.RegionSteps.{now_reserved, same_charge, lasts_reserve, stack_made}
+use Rattle.mm_calls.proofs.stack_regions.make_region.Goals as goal
+use Rattle.mm_types.proofs.Options.{some_found}
+
+pub commit_ends-requires-clause-reserved : goal.commit_ends-requires-clause-reserved
+commit_ends-requires-clause-reserved g c =
+    let p = some_found (process_of c.args.t.now c.args.pid.0) c.requires.lives in
+    now_reserved c.args.t.now c.args.pid.0 p.0 c.args.range p.1 (c.requires.free p.0 p.1) c.reserve_region.new.t (c.in_ok-reserve_region.ensures.ok p.0 p.1)
+
+pub commit_ends-requires-clause-limit : goal.commit_ends-requires-clause-limit
+commit_ends-requires-clause-limit g c =
+    let p = some_found (process_of c.args.t.now c.args.pid.0) c.requires.lives in
+    let is = c.in_ok-reserve_region.ensures.ok p.0 p.1 in
+    omega (arith, c.requires.limit, ap (λ (t : Tables). limit t) is, same_charge c.args.t.now c.args.pid.0 p.0 c.args.range p.1 (c.requires.free p.0 p.1) c.reserve_region.new.t is)
+
+pub commit_ends-requires-clause-room : goal.commit_ends-requires-clause-room
+commit_ends-requires-clause-room g c =
+    let p = some_found (process_of c.args.t.now c.args.pid.0) c.requires.lives in
+    let is = c.in_ok-reserve_region.ensures.ok p.0 p.1 in
+    omega (arith, c.in_ok-reserve_region.ensures.room, same_charge c.args.t.now c.args.pid.0 p.0 c.args.range p.1 (c.requires.free p.0 p.1) c.reserve_region.new.t is)
+
+pub returns-clause-ok : goal.returns-clause-ok
+returns-clause-ok g c p lives =
+    let t = c.args.t.now in
+    let pid = c.args.pid.0 in
+    let free = c.requires.free p lives in
+    let is = c.in_ok-reserve_region.ensures.ok p lives in
+    stack_made t pid p c.args.range lives free c.args.top c.reserve_region.new.t c.commit_ends.new.t is
+    (c.commit_ends.ensures.changed (now_reserved t pid p c.args.range lives free c.reserve_region.new.t is))
+
+pub returns-clause-settled : goal.returns-clause-settled
+returns-clause-settled g c =
+    let t = c.args.t.now in
+    let p = some_found (process_of t c.args.pid.0) c.requires.lives in
+    joined t c.reserve_region.new.t c.commit_ends.new.t _ _ _ _ _ _ c.requires.fits
+    (lasts_reserve t c.args.pid.0 p.0 c.args.range p.1 (c.requires.free p.0 p.1) c.reserve_region.new.t (c.in_ok-reserve_region.ensures.ok p.0 p.1))
+    c.reserve_region.ensures.settled c.commit_ends.ensures.settled

@@ -1,0 +1,126 @@
+ghost use Rattle.std.specs.Prelude.{◌≡◌, ◌≤◌, true, is_some, Option, Some, None, IfOk, OnErr, option_map, option_and_then};
+ghost use Rattle.mm_types.specs.declared.answers.Answer.TheVariants as answer;
+ghost use Rattle.mm_types.specs.declared.moves.LineKind.TheVariants as line_kind;
+ghost use Rattle.mm_types.specs.declared.numbers.Key.{Key};
+ghost use Rattle.mm_world.specs.World.{Page, ProcessOf};
+ghost use Rattle.mm_world.specs.Find.{process_of, section_of, section_named, area_at};
+ghost use Rattle.mm_world.specs.Laws.{is_success};
+ghost use Rattle.mm_world.specs.Outcome.{done};
+ghost use Rattle.mm_world.specs.Sections.{next_handle, with_handle, new_section, section_prot};
+ghost use Rattle.mm_pages.specs.Housekeeping.{Turn, Turns, Makes};
+ghost use Rattle.mm_pages.specs.Passing.{PassesIn};
+ghost use Rattle.mm_pages.specs.Store.{StoreOf};
+ghost use Rattle.mm_sections.specs.Directories.{id_of};
+ghost use Rattle.mm_tables.specs.References.{IsFew};
+ghost use Rattle.mm_tables.specs.Fits.{Fits, Settled};
+ghost use Rattle.mm_calls.specs.Stages.{make_section};
+
+use crate::section_parameters::{is_reserve, section_prot};
+use mm_pages::Pages;
+use mm_spaces::pages_for;
+use mm_tables::Tables;
+use mm_types::{Answer, Area, Code, Name, NoMemory, Pid, SectionId};
+use std::alloc::Global;
+
+/// The section with the name that is given, if one is.
+pub(crate) fn section_with(t: &Tables, name: &Option<Name>) -> Option<SectionId>
+    ensures { result ≡ option_map id_of (option_and_then (section_named t.now) name.now) }
+{
+    match name {
+        Some(name) => t.section_named(name),
+        None => None,
+    }
+}
+
+/// A new handle to a section that was there.
+pub(crate) fn add_existing(t: &mut Tables, pid: Pid, id: SectionId) -> Result<Answer, NoMemory>
+    requires lives { is_some (process_of t.old pid.0) ≡ true }
+    requires few { IsFew t.old }
+    requires section { is_some (section_of t.old id.0) ≡ true }
+    ensures ok { IfOk result (λ a. (p : ProcessOf (Unit {0})) → process_of t.old pid.0 ≡ Some p →
+        done (answer.Created (next_handle p) true) (with_handle t.old pid.0 p id.0) ≡ record {
+          answer = a;
+          world = t.new;
+        }) }
+    ensures err { OnErr result (t.new ≡ t.old) }
+    ensures settled { (c : Key → Option Page) (s : StoreOf) → Fits t.old c s →
+        Settled t.new c c s s }
+{
+    let handle = t.add_handle(pid, id)?;
+    Ok(Answer::Created(handle, true))
+}
+
+/// A new section of the paging file; no section has its name.
+#[tactic(auto, using(mm_pages::proofs::Passed::turns_same))]
+pub(crate) fn add_paging_section<G: Pages>(
+    allocator: Global,
+    t: &mut Tables,
+    g: &mut G,
+    pid: Pid,
+    size: u32,
+    flags: u32,
+    name: Option<Name>,
+) -> Result<Answer, NoMemory>
+    requires fits { Fits t.old (G.contents g.old) (G.store g.old) }
+    requires kind { (G.store g.old).kind ≡ line_kind.Call }
+    requires lives { is_some (process_of t.old pid.0) ≡ true }
+    requires few { IsFew t.old }
+    requires some { 1 ≤ size }
+    requires unnamed { option_and_then (section_named t.old) name ≡ None }
+    ensures ok { IfOk result (λ a. (p : ProcessOf (Unit {0})) → process_of t.old pid.0 ≡ Some p
+        → make_section t.old pid.0 p size flags name ≡ record { answer = a; world = t.new }) }
+    ensures makes { OnErr result ((p : ProcessOf (Unit {0})) → process_of t.old pid.0 ≡ Some p
+        → is_success (make_section t.old pid.0 p size flags name).answer ≡ true) }
+    ensures err { OnErr result ((t.new ≡ t.old) × (G.contents g.new ≡ G.contents g.old)) }
+    ensures settled { Settled t.new (G.contents g.old) (G.contents g.new) (G.store g.old)
+        (G.store g.new) }
+    ensures passes { PassesIn G.unpaged (Turns Makes) (G.store g.old) (G.store g.new)
+        (G.behind g.old) (G.behind g.new) }
+    ensures idle { OnErr result
+        ((turn : Turn) →
+        PassesIn G.unpaged (Turns turn) (G.store g.old) (G.store g.new) (G.behind g.old)
+        (G.behind g.new)) }
+    ensures loans { G.loans g.new ≡ G.loans g.old }
+{
+    let pages = pages_for(size);
+    let committed = !is_reserve(flags);
+    if !t.can_charge(if committed { pages } else { 0 }) {
+        return Ok(Answer::Error(Code::CommitmentLimit));
+    }
+    let handle = t.add_paging_section(
+        allocator,
+        g,
+        pid,
+        pages,
+        committed,
+        section_prot(flags),
+        name,
+    )?;
+    Ok(Answer::Created(handle, false))
+}
+
+/// A new section of a file; no section has its name.
+pub(crate) fn add_file_section(
+    t: &mut Tables,
+    pid: Pid,
+    area: Area,
+    flags: u32,
+    name: Option<Name>,
+) -> Result<Answer, NoMemory>
+    requires lives { is_some (process_of t.old pid.0) ≡ true }
+    requires few { IsFew t.old }
+    requires file { is_some (area_at t.old area.0).file_block ≡ true }
+    requires unnamed { option_and_then (section_named t.old) name ≡ None }
+    ensures ok { IfOk result (λ a. (p : ProcessOf (Unit {0})) → process_of t.old pid.0 ≡ Some p →
+        new_section t.old pid.0 p (record {
+          prot = section_prot flags;
+          name = name;
+          area = area.0;
+        }) ≡ record { answer = a; world = t.new }) }
+    ensures err { OnErr result (t.new ≡ t.old) }
+    ensures settled { (c : Key → Option Page) (s : StoreOf) → Fits t.old c s →
+        Settled t.new c c s s }
+{
+    let handle = t.add_file_section(pid, area, section_prot(flags), name)?;
+    Ok(Answer::Created(handle, false))
+}

@@ -1,0 +1,157 @@
+ghost use Rattle.std.specs.Prelude.{◌≡◌, ℕ, ◌≤◌, ◌<◌, ◌+◌, ◌-◌, true, false, is_some, min, Option, Some, IsOk, IfOk, OnOk, OnErr};
+ghost use Rattle.mm_types.specs.Address.{address_of};
+ghost use Rattle.mm_types.specs.Allocation.{commit_type};
+ghost use Rattle.mm_types.specs.declared.answers.Answer.TheVariants as answer;
+ghost use Rattle.mm_types.specs.declared.moves.LineKind.TheVariants as line_kind;
+ghost use Rattle.mm_types.specs.declared.numbers.Key.{Key};
+ghost use Rattle.mm_world.specs.World.{Page, ProcessOf};
+ghost use Rattle.mm_world.specs.Find.{process_of, set_stack};
+ghost use Rattle.mm_world.specs.Alloc.{alloc};
+ghost use Rattle.mm_world.specs.Charge.{charge, limit};
+ghost use Rattle.mm_world.specs.Keys.{Committed, committed_at, guard_off};
+ghost use Rattle.mm_world.specs.Contents.{blank};
+ghost use Rattle.mm_world.specs.Stack.{probe, is_overflow};
+ghost use Rattle.mm_pages.specs.Housekeeping.{Turn, Turns, Makes};
+ghost use Rattle.mm_pages.specs.Passing.{PassesIn};
+ghost use Rattle.mm_pages.specs.Store.{StoreOf};
+ghost use Rattle.mm_tables.specs.Fits.{Fits, Settled, Called, beside};
+ghost use Rattle.mm_calls.specs.Growth.{grows, lowered};
+
+use crate::commit;
+use mm_pages::Pages;
+use mm_spaces::PageRange;
+use mm_tables::{Tables, ThreadStack};
+use mm_types::{Access, Answer, NoMemory, PAGE_SIZE, Prot, Raise, Tid, permits};
+
+/// Whether a stack cannot grow any more: the page below its guard page is its lowest one, or is not
+/// committed and the charge is the limit.
+fn is_overflow(t: &Tables, stack: &ThreadStack) -> bool
+    ensures { (p : ProcessOf (Unit {0})) → process_of t.now stack.now.pid ≡ Some p →
+        result ≡ is_overflow t.now p stack.now }
+{
+    let next = stack.guard_page - 1;
+    let (charge, limit) = t.charge();
+    next == stack.base || t.committed_row(stack.pid, next).is_none() && charge == limit
+}
+
+/// What the keys come to at most when one page more is committed, as far as the limit allows it.
+fn total_with_one(t: &Tables) -> u32
+    ensures total { result ≡ min (charge t.now + 1) (limit t.now) }
+    ensures within { result ≤ limit t.now }
+{
+    let (charge, limit) = t.charge();
+    if charge < limit { charge + 1 } else { limit }
+}
+
+/// Commits the page below the guard page of a stack with its guard on, and takes the guard of the
+/// guard page off. After `NoMemory` tables and bytes are as before.
+#[tactic(auto, using(mm_pages::proofs::Passed::idle_before))]
+fn grow<G: Pages>(t: &mut Tables, g: &mut G, stack: &ThreadStack) -> Result<(), NoMemory>
+    requires fits { Fits t.old (G.contents g.old) (G.store g.old) }
+    requires kind { (G.store g.old).kind ≡ line_kind.Call }
+    requires lives { is_some (process_of t.old stack.now.pid) ≡ true }
+    requires committed { (p : ProcessOf (Unit {0})) → process_of t.old stack.now.pid ≡ Some p →
+        is_some (committed_at t.old p.regions stack.now.guard_page) ≡ true }
+    ensures ok { OnOk result ((p : ProcessOf (Unit {0})) (c : Committed (Unit {0})) →
+        process_of t.old stack.now.pid ≡ Some p →
+        committed_at t.old p.regions stack.now.guard_page ≡ Some c
+        → t.new ≡ (alloc blank (guard_off t.old stack.now.pid p c stack.now.guard_page)
+        stack.now.pid (address_of (stack.now.guard_page - 1)) 1 commit_type 0x104).world) }
+    ensures err { OnErr result ((t.new ≡ t.old) × (G.contents g.new ≡ G.contents g.old)) }
+    ensures settled { Settled t.new (G.contents g.old) (G.contents g.new) (G.store g.old)
+        (G.store g.new) }
+    ensures passes { PassesIn G.unpaged (Turns Makes) (G.store g.old) (G.store g.new)
+        (G.behind g.old) (G.behind g.new) }
+    ensures idle { OnErr result
+        ((turn : Turn) →
+        PassesIn G.unpaged (Turns turn) (G.store g.old) (G.store g.new) (G.behind g.old)
+        (G.behind g.new)) }
+    ensures loans { G.loans g.new ≡ G.loans g.old }
+{
+    t.sound();
+    let total = total_with_one(t);
+    g.reserve(total)?;
+    let guard_page = stack.guard_page;
+    t.take_guard_off(stack.pid, guard_page);
+    let next = PageRange::of((guard_page - 1) * PAGE_SIZE, 1);
+    let Ok(_) = commit(t, g, stack.pid, next, Prot::READWRITE.0 + Prot::GUARD.0) else {
+        unreachable!()
+    };
+    Ok(())
+}
+
+/// The guard page of a thread's stack is one page lower; it was not the lowest page. Tells the
+/// answer to the `probe` line.
+fn lower(t: &mut Tables, tid: Tid, stack: &ThreadStack) -> Answer
+    requires above { stack.now.base + 1 < stack.now.guard_page }
+    ensures answer { result ≡ answer.At (address_of (stack.now.guard_page - 1)) }
+    ensures lowered { t.new ≡ set_stack t.old tid.0 (lowered stack.now) }
+    ensures fits { (c : Key → Option Page) (s : StoreOf) → Fits t.old c s → Fits t.new c s }
+{
+    let guard_page = stack.guard_page - 1;
+    t.set_stack(
+        tid,
+        ThreadStack {
+            pid: stack.pid,
+            base: stack.base,
+            guard_page,
+        },
+    );
+    Answer::At(guard_page * PAGE_SIZE)
+}
+
+/// `probe`: the touch that a compiled function makes before it uses a page of its stack
+/// (`__chkstk`). It looks at no byte. A probe of the guard page moves it one page down. The answer
+/// is the address of the guard page; this profile's own.
+///
+/// The first that holds: `Nothing` for a thread without a stack; `AccessViolation` where the page
+/// is not committed; `GuardPage` for the guard of another page, and `StackOverflow` where the stack
+/// cannot grow, which take that guard off; the guard page moves; `AccessViolation` where the page
+/// permits no read. `NoMemory` comes only where the stack grows; then nothing has changed.
+#[tactic(auto, using(mm_pages::proofs::Passed::turns_same))]
+pub fn probe<G: Pages>(t: &mut Tables, g: &mut G, tid: Tid, addr: u32) -> Result<Answer, NoMemory>
+    requires fits { Fits t.old (G.contents g.old) (G.store g.old) }
+    requires kind { (G.store g.old).kind ≡ line_kind.Call }
+    ensures ok { IfOk result (λ a. Called (probe blank t.old tid.0 addr) t.old (G.contents g.old) a
+        t.new (G.contents g.new)) }
+    ensures err { OnErr result ((t.new ≡ t.old) × (G.contents g.new ≡ G.contents g.old)) }
+    ensures no_memory { grows blank t.old tid.0 addr ≡ false → IsOk result }
+    ensures fits { Fits t.new (G.contents g.new) (G.store g.new) }
+    ensures beside { G.store g.new ≡ beside (G.store g.old) (G.store g.new) }
+    ensures passes { PassesIn G.unpaged (Turns Makes) (G.store g.old) (G.store g.new)
+        (G.behind g.old) (G.behind g.new) }
+    ensures idle { OnErr result
+        ((turn : Turn) →
+        PassesIn G.unpaged (Turns turn) (G.store g.old) (G.store g.new) (G.behind g.old)
+        (G.behind g.new)) }
+    ensures loans { G.loans g.new ≡ G.loans g.old }
+{
+    let stack = match t.stack_of(tid) {
+        Some(stack) => stack,
+        None => return Ok(Answer::Nothing),
+    };
+    if !t.has(stack.pid) {
+        return Ok(Answer::Nothing);
+    }
+    let page = addr / PAGE_SIZE;
+    let row = match t.committed_row(stack.pid, page) {
+        Some(row) => row,
+        None => return Ok(Answer::Raised(Raise::AccessViolation)),
+    };
+    if !row.guard {
+        if !permits(row.prot, Access::Read) {
+            return Ok(Answer::Raised(Raise::AccessViolation));
+        }
+        return Ok(Answer::At(stack.guard_page * PAGE_SIZE));
+    }
+    if page != stack.guard_page {
+        t.take_guard_off(stack.pid, page);
+        return Ok(Answer::Raised(Raise::GuardPage));
+    }
+    if is_overflow(t, &stack) {
+        t.take_guard_off(stack.pid, stack.guard_page);
+        return Ok(Answer::Raised(Raise::StackOverflow));
+    }
+    grow(t, g, &stack)?;
+    Ok(lower(t, tid, &stack))
+}

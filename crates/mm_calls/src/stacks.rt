@@ -1,0 +1,113 @@
+ghost use Rattle.std.specs.Prelude.{◌≡◌, ℕ, ◌≤◌, ◌+◌, ◌-◌, false, Option, IfOk, IsOk, OnErr};
+ghost use Rattle.mm_types.specs.Address.{address_of, end_of, end_of_user_pages};
+ghost use Rattle.mm_types.specs.declared.answers.Answer.TheVariants as answer;
+ghost use Rattle.mm_types.specs.declared.moves.LineKind.TheVariants as line_kind;
+ghost use Rattle.mm_types.specs.declared.numbers.Key.{Key};
+ghost use Rattle.mm_world.specs.World.{Page};
+ghost use Rattle.mm_world.specs.Find.{set_stack};
+ghost use Rattle.mm_world.specs.Contents.{blank};
+ghost use Rattle.mm_world.specs.Stack.{stack};
+ghost use Rattle.mm_world.specs.Laws.{is_success};
+ghost use Rattle.mm_pages.specs.Housekeeping.{Turn, Turns, MakesStack, guard_told};
+ghost use Rattle.mm_pages.specs.Passing.{PassesIn};
+ghost use Rattle.mm_pages.specs.Store.{StoreOf};
+ghost use Rattle.mm_tables.specs.Fits.{Fits, Called, beside};
+
+use crate::stack_regions::make_region;
+use crate::stack_sizes::{commit_pages, reserve_pages};
+use mm_pages::Pages;
+use mm_spaces::PageRange;
+use mm_tables::{Tables, ThreadStack};
+use mm_types::{Answer, Code, NoMemory, PAGE_SIZE, Pid, Tid};
+use std::alloc::Global;
+
+/// A thread has the stack that was made of these pages, the top `top` of them committed. Tells the
+/// answer to its `stack` line.
+fn begin(t: &mut Tables, tid: Tid, pid: Pid, range: PageRange, top: u32) -> Answer
+    requires some { 1 ≤ top }
+    requires inside { top + 2 ≤ range.count }
+    requires user { end_of range ≤ end_of_user_pages }
+    ensures answer { result ≡ answer.Stack (address_of range.first) (address_of range.count)
+        (address_of (range.first + range.count - (top + 1))) }
+    ensures begun { t.new ≡ set_stack t.old tid.0 (record {
+      pid = pid.0;
+      base = range.first;
+      guard_page = range.first + range.count - (top + 1);
+    }) }
+    ensures fits { (c : Key → Option Page) (s : StoreOf) → Fits t.old c s → Fits t.new c s }
+{
+    let guard_page = range.first + range.count - (top + 1);
+    t.set_stack(
+        tid,
+        ThreadStack {
+            pid,
+            base: range.first,
+            guard_page,
+        },
+    );
+    Answer::Stack(
+        range.first * PAGE_SIZE,
+        range.count * PAGE_SIZE,
+        guard_page * PAGE_SIZE,
+    )
+}
+
+/// `stack`: makes a region for a stack in a living process and gives it to a thread. Its size is
+/// `reserve` bytes, made up to whole granules; its top `commit` bytes, at least one page, are
+/// committed, and the page below them is the guard page. The answer is the address of the region,
+/// its size in bytes, and the address of the guard page. Like the stack that CreateThread makes;
+/// this profile's own.
+///
+/// In this order: `InvalidHandle` for a process that does not live; `Busy` where the thread has a
+/// stack; `InvalidParameter` for no bytes, or where the committed pages, the guard page and one
+/// page more do not fit; `InvalidAddress` where there is no gap; `CommitmentLimit` where the charge
+/// would pass the limit. After each of these, and after `NoMemory`, which none of them comes to,
+/// nothing has changed.
+#[tactic(auto, using(mm_pages::proofs::Passed::turns_same))]
+pub fn stack<G: Pages>(
+    alloc: Global,
+    t: &mut Tables,
+    g: &mut G,
+    tid: Tid,
+    pid: Pid,
+    reserve: u32,
+    commit: u32,
+) -> Result<Answer, NoMemory>
+    requires fits { Fits t.old (G.contents g.old) (G.store g.old) }
+    requires kind { (G.store g.old).kind ≡ line_kind.Call }
+    ensures ok { IfOk result (λ a. Called (stack blank t.old tid.0 pid.0 reserve commit) t.old
+        (G.contents g.old) a t.new (G.contents g.new)) }
+    ensures err { OnErr result ((t.new ≡ t.old) × (G.contents g.new ≡ G.contents g.old)) }
+    ensures no_memory { is_success (stack blank t.old tid.0 pid.0 reserve commit).answer ≡ false →
+        IsOk result }
+    ensures fits { Fits t.new (G.contents g.new) (G.store g.new) }
+    ensures beside { G.store g.new ≡ beside (G.store g.old) (G.store g.new) }
+    ensures passes { IfOk result (λ a. PassesIn G.unpaged (Turns (MakesStack (guard_told a)))
+        (G.store g.old) (G.store g.new) (G.behind g.old) (G.behind g.new)) }
+    ensures idle { OnErr result
+        ((turn : Turn) →
+        PassesIn G.unpaged (Turns turn) (G.store g.old) (G.store g.new) (G.behind g.old)
+        (G.behind g.new)) }
+    ensures loans { G.loans g.new ≡ G.loans g.old }
+{
+    if !t.has(pid) {
+        return Ok(Answer::Error(Code::InvalidHandle));
+    }
+    if t.stack_of(tid).is_some() {
+        return Ok(Answer::Busy);
+    }
+    let pages = reserve_pages(reserve);
+    let top = commit_pages(commit);
+    if reserve == 0 || top + 2 > pages {
+        return Ok(Answer::Error(Code::InvalidParameter));
+    }
+    let range = match t.space(pid).gap_for_view(0, pages) {
+        Some(range) => range,
+        None => return Ok(Answer::Error(Code::InvalidAddress)),
+    };
+    if !t.can_charge(top + 1) {
+        return Ok(Answer::Error(Code::CommitmentLimit));
+    }
+    make_region(alloc, t, g, pid, range, top)?;
+    Ok(begin(t, tid, pid, range, top))
+}

@@ -1,6 +1,0 @@
-use Rattle.std.proofs.Common.{◌≡◌, ◌++◌, drop}
-use Rattle.mm_columns.specs.Columns.{numbers_in}
-use Rattle.mm_columns.proofs.columns.put_numbers.Given as goal
-
-abbrev pub invariant-loop-n : goal.invariant-loop-n
-invariant-loop-n l = l.text.items ++ numbers_in l.width (drop l.n-index l.numbers) ≡ l.fn.text.items ++ numbers_in l.width l.numbers

@@ -1,0 +1,301 @@
+-- The moves that change one key's place: give, read, steal, bad, drop, add.
+use Rattle.std.proofs.Common.{◌≡◌, ◌≢◌, ℕ, zero, suc, ◌<◌, Bool, true, false, List, [], ◌∷◌, Option, Some, None, refl, sym, ap, ◌∙◌, arith, length}
+use Rattle.std.specs.Prelude.{◌&&◌, ◌||◌, not, is_some, nat_lt, if◌then◌else◌, slice_get, slice_set}
+use Rattle.std.proofs.lemmas.Bool.{and_parts, ltb-true}
+use Rattle.mm_types.specs.Machine.{MachineOf}
+use Rattle.mm_types.specs.declared.numbers.Block.{Block}
+use Rattle.mm_types.specs.declared.numbers.Frame.{Frame}
+use Rattle.mm_types.specs.declared.numbers.Key.{Key}
+use Rattle.mm_types.specs.declared.frames.Record.{Record}
+use Rattle.mm_types.specs.declared.frames.Backing.{Backing}
+use Rattle.mm_types.specs.declared.frames.Backing.TheVariants as backing
+use Rattle.mm_types.specs.declared.frames.Held.{Held}
+use Rattle.mm_types.specs.declared.frames.Held.TheVariants as held
+use Rattle.mm_types.specs.declared.moves.Move.TheVariants as move
+use Rattle.mm_life.specs.Frames.{FrameTable, blank, record_at, is_read, is_on, is_first, is_empty, rest, has_request, given, being_read, disowned, taken_for_read, to_free, off_lists, with_record}
+use Rattle.mm_life.specs.Life.{FrameLife, changed, same_key, is_live, is_dead, is_shared}
+use Rattle.mm_life.specs.Legal.{IsLegal, is_zero, is_stored, is_touch, is_access, is_thread, is_call, is_io, has_depth}
+use Rattle.mm_life.specs.Effect.{after_move, home_at, backing_of, homed, dropped_at}
+use Rattle.mm_life.specs.Located.{FrameBytes, BlockBytes, zero_page, page_at, bytes_at, held_in, located, contents_of, BytesLocated}
+use Rattle.mm_laws.proofs.FreshMoves.{zero_is, stored_backed}
+use Rattle.mm_laws.specs.Sights.{Sight}
+use Rattle.mm_laws.proofs.Changes.{changes_give}
+use Rattle.mm_laws.proofs.Taking.{fresh_read, changes_read, changes_steal}
+use Rattle.mm_laws.proofs.Sound.{some_owner}
+use Rattle.mm_laws.proofs.Requests.{read_has}
+use Rattle.mm_frame_laws.specs.Carried.{Carries}
+use Rattle.mm_laws.proofs.Facts.{Facts}
+use Rattle.mm_frame_laws.proofs.Moving.{calm_in, read_in, one_moves, clean_by, same_live, same_contents}
+use Rattle.mm_frame_laws.proofs.Alone.{alone_set, others_set, here_set, carries_kept}
+use Rattle.mm_frame_laws.proofs.FrameMoves.{owned_low, asked_low}
+use Rattle.mm_frame_laws.proofs.Lists.{first_on, rest_on}
+use Rattle.mm_life.proofs.Held.{home_lives, stored_lives}
+use Rattle.mm_life.proofs.Requests.{calm}
+
+-- one frame has this record now, and one key stands there
+pub record Moves (l m : FrameLife) (f : ℕ) (r : Record) (k : Key) (h : Held) : Type 0 where
+  pub others : (g : ℕ) → g ≢ f → record_at m.frames g ≡ record_at l.frames g
+  pub here : record_at m.frames f ≡ r
+  -- what is zeroed was zeroed
+  pub zeroed_was : (g : ℕ) → is_on g m.frames.zeroed ≡ true → is_on g l.frames.zeroed ≡ true
+  pub stands_as : m.stands ≡ changed same_key l.stands k h
+  pub machine_as : m.machine ≡ l.machine
+  -- no other key stands in the frame
+  pub only : (q : Key) (g : Frame) → l.stands q ≡ held.Frame g → g.0 ≡ f → q ≡ k
+
+module _ (l m : FrameLife) (ram : FrameBytes) (slots blocks : BlockBytes) (kept : BytesLocated l ram slots blocks) (f : ℕ) (r : Record) (k : Key) (h : Held) (a : Moves l m f r k h)
+    (clean : is_some r.owner ≡ true → r.changed ≡ false → is_read r.request ≡ false → page_at ram f ≡ bytes_at ram slots blocks (home_at r.backing)) where
+  bytes_moved : (q : Key) → contents_of m ram slots blocks q ≡ changed same_key (contents_of l ram slots blocks) k (bytes_at ram slots blocks (located m h)) q
+  bytes_moved q =
+      ap (λ (s : Key → Held). bytes_at ram slots blocks (located m (s q))) a.stands_as
+      ∙ one_moves l m ram ram slots blocks f a.others (λ g n. refl) k h a.only q
+
+  located_moved : (live : (q : Key) → is_some (changed same_key (contents_of l ram slots blocks) k (bytes_at ram slots blocks (located m h)) q) ≡ not (is_dead (changed same_key l.stands k h q))) → BytesLocated m ram slots blocks
+  located_moved live = record {
+    clean = clean_by l m ram ram slots blocks f a.others (λ g n. refl) kept (λ o c n.
+        clean (sym (ap (λ (x : Record). is_some x.owner) a.here) ∙ o) (sym (ap (λ (x : Record). x.changed) a.here) ∙ c) (sym (ap (λ (x : Record). is_read x.request) a.here) ∙ n)
+        ∙ sym (ap (λ (x : Record). bytes_at ram slots blocks (home_at x.backing)) a.here));
+    zeroed = λ g on. kept.zeroed g (a.zeroed_was g on);
+    live = λ q. ap is_some (bytes_moved q) ∙ live q ∙ sym (ap (λ (s : Key → Held). not (is_dead (s q))) a.stands_as);
+    frame_room = kept.frame_room ∙ sym (ap (λ (x : MachineOf). x.frames) a.machine_as);
+    room = kept.room ∙ sym (ap (λ (x : MachineOf). x.slots) a.machine_as);
+    file_room = kept.file_room ∙ sym (ap (λ (x : MachineOf). x.blocks) a.machine_as);
+  }
+
+  -- the key has these bytes from now on, or none where it is dead
+  pub carries_change : (v : Option (List ℕ)) → bytes_at ram slots blocks (located m h) ≡ v → is_some v ≡ not (is_dead h) → Carries m ram slots blocks (changed same_key (contents_of l ram slots blocks) k v)
+  carries_change v is lives = record {
+    located = located_moved (λ q. by q (same_key q k));
+    bytes = λ i. λ q. (bytes_moved q ∙ ap (λ (x : Option (List ℕ)). changed same_key (contents_of l ram slots blocks) k x q) is) i;
+  }
+    where
+      by : (q : Key) (b : Bool) → is_some (if b then bytes_at ram slots blocks (located m h) else contents_of l ram slots blocks q) ≡ not (is_dead (if b then h else l.stands q))
+      by q true = ap is_some is ∙ lives
+      by q false = kept.live q
+
+  -- the key has the bytes that it had
+  pub carries_same : bytes_at ram slots blocks (located m h) ≡ contents_of l ram slots blocks k → is_dead (l.stands k) ≡ is_dead h → Carries m ram slots blocks (contents_of l ram slots blocks)
+  carries_same is lives = record {
+    located = located_moved (λ q. ap is_some (same_contents (contents_of l ram slots blocks) k _ is q) ∙ kept.live q ∙ sym (ap not (same_live l k h q lives)));
+    bytes = λ i. λ q. (bytes_moved q ∙ same_contents (contents_of l ram slots blocks) k _ is q) i;
+  }
+
+-- ---- homes
+
+located_home : (m : FrameLife) (b : Backing) → located m (home_at b) ≡ home_at b
+located_home m backing.None = refl
+located_home m (backing.Slot s) = refl
+located_home m (backing.Block c) = refl
+
+stored_home : (l : FrameLife) (h : Held) → is_stored h ≡ true → home_at (backing_of h) ≡ located l h
+stored_home l (held.Frame f) e = cc
+stored_home l (held.Slot s) e = refl
+stored_home l (held.Block b) e = refl
+stored_home l held.Zero e = cc
+stored_home l held.Dead e = cc
+
+module _ (l : FrameLife) (facts : Facts l) (ram : FrameBytes) (slots blocks : BlockBytes) (kept : BytesLocated l ram slots blocks) where
+  -- a frame that nobody owns is no key's
+  nobody : (f : ℕ) (k : Key) → (record_at l.frames f).owner ≡ None → (q : Key) (g : Frame) → l.stands q ≡ held.Frame g → g.0 ≡ f → q ≡ k
+  nobody f k none q g at e = let bad : Some q ≡ None = sym (facts.owner q g at) ∙ ap (λ (x : ℕ). (record_at l.frames x).owner) e ∙ none in cc
+
+  one_owner : (f : ℕ) (k : Key) → (record_at l.frames f).owner ≡ Some k → (q : Key) (g : Frame) → l.stands q ≡ held.Frame g → g.0 ≡ f → q ≡ k
+  one_owner f k owner q g at e = let both : Some q ≡ Some k = sym (facts.owner q g at) ∙ ap (λ (x : ℕ). (record_at l.frames x).owner) e ∙ owner in cc
+
+  -- ---- give
+
+  pub give_carries : (f : Frame) (k : Key) → IsLegal (move.Give f k) l → Carries (after_move l (move.Give f k)) ram slots blocks (contents_of l ram slots blocks)
+  give_carries f k legal =
+      let first = is_first f.0 l.frames.zeroed in
+      let zero = is_zero (l.stands k) in
+      let parts = and_parts first zero (and_parts (first && zero) (is_touch l.kind) legal).0 in
+      let on = first_on f.0 l.frames.zeroed parts.0 in
+      let bare = facts.zeroed f.0 on in
+      let c = changes_give l.frames l.flight f.0 facts.standing k parts.0 in
+      let m = after_move l (move.Give f k) in
+      let at = zero_is (l.stands k) parts.1 in
+      carries_same l m ram slots blocks kept f.0 (given k) k (held.Frame f)
+      (record {
+        others = λ g n. ap (λ (s : Sight). s.what) (c.elsewhere g n);
+        here = c.here;
+        zeroed_was = λ g h. rest_on g l.frames.zeroed h;
+        stands_as = refl;
+        machine_as = refl;
+        only = nobody f.0 k (ap (λ (x : Record). x.owner) bare);
+      })
+      (λ o d n. cc)
+      (calm_in ram slots blocks f (record_at m.frames f.0) (ap (λ (x : Record). is_read x.request) c.here) ∙ kept.zeroed f.0 on ∙ sym (ap (λ (h : Held). bytes_at ram slots blocks (located l h)) at))
+      (ap is_dead at)
+
+  -- ---- read
+
+  taken_zeroed : (d : FrameTable) (g : ℕ) → is_on g (taken_for_read d).zeroed ≡ true → is_on g d.zeroed ≡ true
+  taken_zeroed d g = by (is_empty d.free)
+    where
+      by : (b : Bool) → is_on g (if b then record d { zeroed = rest d.zeroed } else record d { free = rest d.free }).zeroed ≡ true → is_on g d.zeroed ≡ true
+      by true h = rest_on g d.zeroed h
+      by false h = h
+
+  pub read_carries : (f : Frame) (k : Key) → IsLegal (move.Read f k) l → Carries (after_move l (move.Read f k)) ram slots blocks (contents_of l ram slots blocks)
+  read_carries f k legal =
+      let there = is_first f.0 l.frames.free || (is_empty l.frames.free && is_first f.0 l.frames.zeroed) in
+      let stored = is_stored (l.stands k) in
+      let parts = and_parts there stored (and_parts (there && stored) (is_access l.kind || (is_thread l.kind && has_depth l)) legal).0 in
+      let home = backing_of (l.stands k) in
+      let fresh = fresh_read l.frames l.flight f.0 facts.standing parts.0 in
+      let c = changes_read l.frames l.flight f.0 facts.standing k home (stored_backed (l.stands k) parts.1) parts.0 in
+      let m = after_move l (move.Read f k) in
+      carries_same l m ram slots blocks kept f.0 (being_read k home) k (held.Frame f)
+      (record {
+        others = λ g n. ap (λ (s : Sight). s.what) (c.elsewhere g n);
+        here = c.here;
+        zeroed_was = taken_zeroed l.frames;
+        stands_as = refl;
+        machine_as = refl;
+        only = nobody f.0 k (ap (λ (x : Record). x.owner) fresh.bare);
+      })
+      (λ o d n. cc)
+      (ap (λ (x : Record). bytes_at ram slots blocks (held_in f x)) c.here ∙ ap (bytes_at ram slots blocks) (stored_home l (l.stands k) parts.1))
+      (stored_lives (l.stands k) parts.1)
+
+  -- ---- steal
+
+  pub steal_carries : (f : Frame) → IsLegal (move.Steal f) l → Carries (after_move l (move.Steal f)) ram slots blocks (contents_of l ram slots blocks)
+  steal_carries f legal =
+      let r = record_at l.frames f.0 in
+      let first = is_first f.0 l.frames.standby in
+      let z = is_empty l.frames.zeroed in
+      let e = is_empty l.frames.free in
+      let head = (and_parts first z (and_parts (first && z) e (and_parts (first && z && e) (is_touch l.kind) legal).0).0).0 in
+      let is = facts.standby f.0 (first_on f.0 l.frames.standby head) in
+      let owner = some_owner r is.owned in
+      let k = owner.0 in
+      let c = changes_steal l.frames l.flight f.0 facts.standing head in
+      let m = after_move l (move.Steal f) in
+      let at = facts.owned f.0 k owner.1 in
+      let calm = calm r.request is.quiet in
+      carries_same l m ram slots blocks kept f.0 blank k (home_at r.backing)
+      (record {
+        others = λ g n. ap (λ (s : Sight). s.what) (c.elsewhere g n);
+        here = c.here;
+        zeroed_was = λ g h. h;
+        stands_as = ap (λ (o : Option Key). homed l o r.backing) owner.1;
+        machine_as = refl;
+        only = one_owner f.0 k owner.1;
+      })
+      (λ o d n. cc)
+      (ap (bytes_at ram slots blocks) (located_home m r.backing) ∙ sym (kept.clean f.0 is.owned is.unchanged calm)
+      ∙ sym (ap (λ (h : Held). bytes_at ram slots blocks (located l h)) at ∙ calm_in ram slots blocks f r calm))
+      (ap is_dead at ∙ sym (home_lives r.backing))
+
+  -- ---- bad
+
+  pub bad_carries : (f : Frame) → IsLegal (move.Bad f) l → Carries (after_move l (move.Bad f)) ram slots blocks (contents_of l ram slots blocks)
+  bad_carries f legal = by (record_at l.frames f.0).owner refl
+    where
+      r : Record
+      r = record_at l.frames f.0
+
+      reading : is_read (record_at l.frames f.0).request ≡ true
+      reading = (and_parts (is_read (record_at l.frames f.0).request) (is_io l.kind || is_access l.kind) legal).0
+
+      low : f.0 < length l.frames.records
+      low = asked_low l.frames f.0 (read_has (record_at l.frames f.0).request reading)
+
+      by : (o : Option Key) → (record_at l.frames f.0).owner ≡ o → Carries (after_move l (move.Bad f)) ram slots blocks (contents_of l ram slots blocks)
+      by None none =
+          carries_kept l (after_move l (move.Bad f)) ram ram slots blocks kept f.0 blank
+          (alone_set l (after_move l (move.Bad f)) f.0 blank refl low refl (ap (λ (o : Option Key). homed l o (record_at l.frames f.0).backing) none) refl)
+          (λ g n. refl) refl
+          (λ q g at e. let bad : Some q ≡ None = sym (facts.owner q g at) ∙ ap (λ (x : ℕ). (record_at l.frames x).owner) e ∙ none in cc)
+          (λ g on. refl) (λ o c n. cc)
+      by (Some k) owner =
+          let home = (record_at l.frames f.0).backing in
+          let m = after_move l (move.Bad f) in
+          let at = facts.owned f.0 k owner in
+          carries_same l m ram slots blocks kept f.0 blank k (home_at home)
+          (record {
+            others = others_set l.frames m.frames f.0 blank refl;
+            here = here_set l.frames m.frames f.0 blank refl low;
+            zeroed_was = λ g h. h;
+            stands_as = ap (λ (o : Option Key). homed l o home) owner;
+            machine_as = refl;
+            only = one_owner f.0 k owner;
+          })
+          (λ o d n. cc)
+          (ap (bytes_at ram slots blocks) (located_home m home) ∙ sym (ap (λ (h : Held). bytes_at ram slots blocks (located l h)) at ∙ read_in ram slots blocks f (record_at l.frames f.0) reading))
+          (ap is_dead at ∙ sym (home_lives home))
+
+  -- ---- keys that come and go
+
+  -- no frame changes
+  unframed : (m : FrameLife) (k : Key) (h : Held) → m.frames ≡ l.frames → m.stands ≡ changed same_key l.stands k h → m.machine ≡ l.machine → Moves l m l.machine.frames (record_at l.frames l.machine.frames) k h
+  unframed m k h frames stands machine = record {
+    others = λ g n. ap (λ (d : FrameTable). record_at d g) frames;
+    here = ap (λ (d : FrameTable). record_at d l.machine.frames) frames;
+    zeroed_was = λ g on. sym (ap (λ (d : FrameTable). is_on g d.zeroed) frames) ∙ on;
+    stands_as = stands;
+    machine_as = machine;
+    only = λ q g at e. let low = facts.there q g at in absurd (omega (arith, low, e));
+  }
+
+  comes : (m : FrameLife) (k : Key) (h : Held) (v : Option (List ℕ)) → m.frames ≡ l.frames → m.stands ≡ changed same_key l.stands k h → m.machine ≡ l.machine
+      → bytes_at ram slots blocks (located m h) ≡ v → is_some v ≡ not (is_dead h) → Carries m ram slots blocks (changed same_key (contents_of l ram slots blocks) k v)
+  comes m k h v frames stands machine is lives =
+      carries_change l m ram slots blocks kept l.machine.frames (record_at l.frames l.machine.frames) k h (unframed m k h frames stands machine) (λ o c n. kept.clean l.machine.frames o c n) v is lives
+
+  pub add_zero_carries : (k : Key) → Carries (after_move l (move.Add k None)) ram slots blocks (changed same_key (contents_of l ram slots blocks) k (Some zero_page))
+  add_zero_carries k = comes (after_move l (move.Add k None)) k held.Zero (Some zero_page) refl refl refl refl refl
+
+  there_is : (xs : BlockBytes) (i : ℕ) → i < length xs → is_some (slice_get xs i) ≡ true
+  there_is [] i h = absurd (omega arith)
+  there_is (x ∷ xs) zero h = refl
+  there_is (x ∷ xs) (suc i) h = there_is xs i (omega arith)
+
+  pub add_block_carries : (k : Key) (b : Block) → IsLegal (move.Add k (Some b)) l → Carries (after_move l (move.Add k (Some b))) ram slots blocks (changed same_key (contents_of l ram slots blocks) k (slice_get blocks b.0))
+  add_block_carries k b legal =
+      let p = is_call l.kind in
+      let q = is_shared k in
+      let r = not (is_live l k) in
+      let s = nat_lt b.0 l.machine.blocks in
+      let low = ltb-true b.0 l.machine.blocks (and_parts (p && q && r) s (and_parts (p && q && r && s) (not (l.added b.0)) legal).0).1 in
+      let size = kept.file_room in
+      comes (after_move l (move.Add k (Some b))) k (held.Block b) (slice_get blocks b.0) refl refl refl refl (there_is blocks b.0 (omega (arith, low, size)))
+
+  gone : (d : FrameTable) (f : ℕ) (b : Bool) → (if b then with_record d f (disowned (record_at d f)) else to_free (off_lists d f) f).records ≡ slice_set d.records f (if b then disowned (record_at d f) else blank)
+  gone d f true = refl
+  gone d f false = refl
+
+  gone_zeroed : (d : FrameTable) (f : ℕ) (b : Bool) → (if b then with_record d f (disowned (record_at d f)) else to_free (off_lists d f) f).zeroed ≡ d.zeroed
+  gone_zeroed d f true = refl
+  gone_zeroed d f false = refl
+
+  unowned : (r : Record) (b : Bool) → is_some (if b then disowned r else blank).owner ≡ false
+  unowned r true = refl
+  unowned r false = refl
+
+  pub drop_carries : (k : Key) → Carries (after_move l (move.Drop k)) ram slots blocks (changed same_key (contents_of l ram slots blocks) k None)
+  drop_carries k = by (l.stands k) refl
+    where
+      by : (h : Held) → l.stands k ≡ h → Carries (dropped_at h l k) ram slots blocks (changed same_key (contents_of l ram slots blocks) k None)
+      by (held.Frame f) at =
+          let r = record_at l.frames f.0 in
+          let b = has_request r.request in
+          let new = if b then disowned r else blank in
+          let m = dropped_at (held.Frame f) l k in
+          let owner = facts.owner k f at in
+          let low = owned_low l.frames f.0 (ap is_some owner) in
+          carries_change l m ram slots blocks kept f.0 new k held.Dead
+          (record {
+            others = others_set l.frames m.frames f.0 new (gone l.frames f.0 b);
+            here = here_set l.frames m.frames f.0 new (gone l.frames f.0 b) low;
+            zeroed_was = λ g h. sym (ap (is_on g) (gone_zeroed l.frames f.0 b)) ∙ h;
+            stands_as = refl;
+            machine_as = refl;
+            only = one_owner f.0 k owner;
+          })
+          (λ o d n. let bad : false ≡ true = sym (unowned r b) ∙ o in cc) None refl refl
+      by (held.Slot s) at = comes (dropped_at (held.Slot s) l k) k held.Dead None refl refl refl refl refl
+      by (held.Block b) at = comes (dropped_at (held.Block b) l k) k held.Dead None refl refl refl refl refl
+      by held.Zero at = comes (dropped_at held.Zero l k) k held.Dead None refl refl refl refl refl
+      by held.Dead at = comes (dropped_at held.Dead l k) k held.Dead None refl refl refl refl refl

@@ -1,0 +1,320 @@
+-- The first page that may go: it exists where a place may go, and there is one alone.
+use Rattle.std.proofs.Common.{◌≡◌, ◌≢◌, ◌⊎◌, ℕ, ◌+◌, ◌<◌, ◌≤◌, Bool, true, false, cond, List, [], ◌∷◌, Option, Some, None, refl, sym, ap, ◌∙◌, subst, inl, inr, arith}
+use Rattle.std.specs.Prelude.{◌==◌, ◌&&◌, ◌||◌, nat_lt, is_some}
+use Rattle.std.specs.Cmp.{unsigned_Decides}
+use Rattle.std.proofs.lemmas.Bool.{cases_lt, lt-ltb, le-ltb, ltb-false, ltb-true, eqb-true, or_cases, and_parts, and_from}
+use Rattle.mm_types.proofs.Cells.{same_or_not}
+use Rattle.mm_types.proofs.Tables.{differ}
+use Rattle.mm_types.specs.declared.numbers.Frame.{Frame}
+use Rattle.mm_types.specs.declared.numbers.Place.{Place}
+use Rattle.mm_life.specs.Life.{FrameLife, same_place}
+use Rattle.mm_laws.specs.Tally.{one_if, tally}
+use Rattle.mm_laws.specs.Sound.{Sound}
+use Rattle.mm_laws.proofs.PlaceCounts.{same_place-true}
+use Rattle.mm_life.specs.Order.{is_unpinned, may_go}
+use Rattle.mm_life.specs.Order.{Ages, page_first, turn_of, process_first, IsOldest, IsVictim}
+use Rattle.mm_frame_laws.specs.Order.{place_first, earlier, first_that, first_to_go, may_go_in, first_to_go_in}
+
+-- ---- one number before another, or the same and then a second one
+
+-- what it says that a does not go before b
+not_earlier : (a b : ℕ) (same rest : Bool) → (a ≡ b → same ≡ true) → (nat_lt a b || (same && rest)) ≡ false → (b ≤ a) × (a ≡ b → rest ≡ false)
+not_earlier a b same rest one h = (
+  elim (cases_lt a b) [
+    | inl l ↦ (let t = lt-ltb a b l in let bad : true ≡ false = sym (ap (λ x. x || (same && rest)) t) ∙ h in cc)
+    | inr l ↦ l
+  ],
+  λ e.
+      let t = le-ltb a b (omega (arith, e)) in
+      sym (ap (λ x. x || (same && rest)) t ∙ ap (λ x. x && rest) (one e)) ∙ h,
+)
+
+from_not : (a b : ℕ) (same rest : Bool) → (a ≢ b → same ≡ false) → (a ≡ b → same ≡ true) → b ≤ a → (a ≡ b → rest ≡ false) → (nat_lt a b || (same && rest)) ≡ false
+from_not a b same rest none one l k = ap (λ x. x || (same && rest)) (le-ltb a b l) ∙ elim (same_or_not a b) [
+  | inl e ↦ ap (λ x. x && rest) (one e) ∙ k e
+  | inr n ↦ ap (λ x. x && rest) (none n)
+]
+
+-- ---- pages of one process
+
+-- q does not go before p
+pub record NotBefore (ages : Ages) (q p : Place) : Type 0 where
+  pub age : ages q ≤ ages p
+  pub page : ages q ≡ ages p → p.vpn.0 ≤ q.vpn.0
+
+pub page_not : (ages : Ages) (q p : Place) → page_first ages q p ≡ false → NotBefore ages q p
+page_not ages q p h =
+    let k = not_earlier (ages p) (ages q) (ages q == ages p) (nat_lt q.vpn.0 p.vpn.0) (λ e. (unsigned_Decides (ages q) (ages p)).1 (sym e)) h in
+    record { age = k.0; page = λ e. ltb-false q.vpn.0 p.vpn.0 (k.1 (sym e)) }
+
+pub page_from : (ages : Ages) (q p : Place) → NotBefore ages q p → page_first ages q p ≡ false
+page_from ages q p h =
+    from_not (ages p) (ages q) (ages q == ages p) (nat_lt q.vpn.0 p.vpn.0) (λ n. differ (ages q) (ages p) (λ e. n (sym e))) (λ e. (unsigned_Decides (ages q) (ages p)).1 (sym e))
+    h.age (λ e. le-ltb q.vpn.0 p.vpn.0 (h.page (sym e)))
+
+-- ---- processes
+
+pub record NoSooner (l : FrameLife) (q p : ℕ) : Type 0 where
+  pub turn : turn_of l p ≤ turn_of l q
+  pub pid : turn_of l q ≡ turn_of l p → p ≤ q
+
+pub process_not : (l : FrameLife) (q p : ℕ) → process_first l q p ≡ false → NoSooner l q p
+process_not l q p h =
+    let k = not_earlier (turn_of l q) (turn_of l p) (turn_of l q == turn_of l p) (nat_lt q p) (λ e. (unsigned_Decides (turn_of l q) (turn_of l p)).1 e) h in
+    record { turn = k.0; pid = λ e. ltb-false q p (k.1 e) }
+
+pub process_from : (l : FrameLife) (q p : ℕ) → NoSooner l q p → process_first l q p ≡ false
+process_from l q p h =
+    from_not (turn_of l q) (turn_of l p) (turn_of l q == turn_of l p) (nat_lt q p) (differ (turn_of l q) (turn_of l p)) (λ e. (unsigned_Decides (turn_of l q) (turn_of l p)).1 e)
+    h.turn (λ e. le-ltb q p (h.pid e))
+
+-- ---- pages of any processes
+
+pub record NoFirst (l : FrameLife) (ages : Ages) (q p : Place) : Type 0 where
+  pub process : NoSooner l q.pid.0 p.pid.0
+  pub page : q.pid.0 ≡ p.pid.0 → NotBefore ages q p
+
+pub place_not : (l : FrameLife) (ages : Ages) (q p : Place) → place_first l ages q p ≡ false → NoFirst l ages q p
+place_not l ages q p h = at (process_first l q.pid.0 p.pid.0) refl h
+  where
+    at : (b : Bool) → process_first l q.pid.0 p.pid.0 ≡ b → (b || ((q.pid.0 == p.pid.0) && page_first ages q p)) ≡ false → NoFirst l ages q p
+    at true e g = cc
+    at false e g = record {
+      process = process_not l q.pid.0 p.pid.0 e;
+      page = λ same. page_not ages q p (sym (ap (λ x. x && page_first ages q p) ((unsigned_Decides q.pid.0 p.pid.0).1 same)) ∙ g);
+    }
+
+-- where q does not go before r, and r not before p, q does not go before p
+not_along : (l : FrameLife) (ages : Ages) (q r p : Place) → NoFirst l ages q r → NoFirst l ages r p → NoFirst l ages q p
+not_along l ages q r p a b =
+    let a1 = a.process.turn in
+    let a2 = a.process.pid in
+    let b1 = b.process.turn in
+    let b2 = b.process.pid in
+    record {
+      process = record { turn = omega (arith, a1, b1); pid = λ e. omega (arith, a1, a2, b1, b2, e) };
+      page = λ e.
+          let turns : turn_of l q.pid.0 ≡ turn_of l p.pid.0 = ap (turn_of l) e in
+          let qr : q.pid.0 ≡ r.pid.0 = omega (arith, a1, a2, b1, b2, e, turns) in
+          let rp : r.pid.0 ≡ p.pid.0 = omega (arith, qr, e) in
+          let x = a.page qr in
+          let y = b.page rp in
+          record { age = let x1 = x.age in let y1 = y.age in omega (arith, x1, y1); page = λ s. let x1 = x.age in let y1 = y.age in let x2 = x.page in let y2 = y.page in omega (arith, x1, y1, x2, y2, s) };
+    }
+
+-- no place goes before itself, and of two one does not go before the other
+not_self : (l : FrameLife) (ages : Ages) (p : Place) → NoFirst l ages p p
+not_self l ages p = record { process = record { turn = omega arith; pid = λ e. omega arith }; page = λ e. record { age = omega arith; page = λ s. omega arith } }
+
+is_earlier : (a b : ℕ) (same rest : Bool) → (same ≡ true → a ≡ b) → (nat_lt a b || (same && rest)) ≡ true → (a < b) ⊎ ((a ≡ b) × (rest ≡ true))
+is_earlier a b same rest one h = elim (or_cases (nat_lt a b) (same && rest) h) [
+  | inl e ↦ inl (ltb-true a b e)
+  | inr e ↦ (let p = and_parts same rest e in inr (one p.0, p.1))
+]
+
+page_is : (ages : Ages) (q p : Place) → page_first ages q p ≡ true → NotBefore ages p q
+page_is ages q p h = elim (is_earlier (ages p) (ages q) (ages q == ages p) (nat_lt q.vpn.0 p.vpn.0) (λ e. sym (eqb-true (ages q) (ages p) e)) h) [
+  | inl l ↦ record { age = omega (arith, l); page = λ e. absurd (omega (arith, l, e)) }
+  | inr e ↦ (let same = e.0 in let low = ltb-true q.vpn.0 p.vpn.0 e.1 in record { age = omega (arith, same); page = λ s. omega (arith, low) })
+]
+
+first_is : (l : FrameLife) (ages : Ages) (q p : Place) → place_first l ages q p ≡ true → NoFirst l ages p q
+first_is l ages q p h = elim (or_cases (process_first l q.pid.0 p.pid.0) ((q.pid.0 == p.pid.0) && page_first ages q p) h) [
+  | inl e ↦ elim (is_earlier (turn_of l q.pid.0) (turn_of l p.pid.0) (turn_of l q.pid.0 == turn_of l p.pid.0) (nat_lt q.pid.0 p.pid.0) (λ t. eqb-true (turn_of l q.pid.0) (turn_of l p.pid.0) t) e) [
+    | inl low ↦ record {
+      process = record { turn = omega (arith, low); pid = λ s. absurd (omega (arith, low, s)) };
+      page = λ s. let same : turn_of l p.pid.0 ≡ turn_of l q.pid.0 = ap (turn_of l) s in absurd (omega (arith, low, same));
+    }
+    | inr t ↦ (let same = t.0 in let low = ltb-true q.pid.0 p.pid.0 t.1 in record {
+      process = record { turn = omega (arith, same); pid = λ s. omega (arith, low) };
+      page = λ s. absurd (omega (arith, low, s));
+    })
+  ]
+  | inr e ↦
+      let k = and_parts (q.pid.0 == p.pid.0) (page_first ages q p) e in
+      let pid : q.pid.0 ≡ p.pid.0 = eqb-true q.pid.0 p.pid.0 k.0 in
+      let turn : turn_of l q.pid.0 ≡ turn_of l p.pid.0 = ap (turn_of l) pid in
+      record { process = record { turn = omega (arith, turn); pid = λ s. omega (arith, pid) }; page = λ s. page_is ages q p k.1 }
+]
+
+-- the same place, where neither goes before the other
+pub neither : (l : FrameLife) (ages : Ages) (q p : Place) → NoFirst l ages q p → NoFirst l ages p q → q ≡ p
+neither l ages q p a b =
+    let a1 = a.process.turn in
+    let a2 = a.process.pid in
+    let b1 = b.process.turn in
+    let b2 = b.process.pid in
+    let pid : q.pid.0 ≡ p.pid.0 = omega (arith, a1, a2, b1, b2) in
+    let x = a.page pid in
+    let y = b.page (sym pid) in
+    let x1 = x.age in
+    let x2 = x.page in
+    let y1 = y.age in
+    let y2 = y.page in
+    let page : q.vpn.0 ≡ p.vpn.0 = omega (arith, x1, x2, y1, y2) in
+    λ i. record { pid = record { 0 = pid i }; vpn = record { 0 = page i } }
+
+-- ---- the first page that may go
+
+module _ (l : FrameLife) (ages : Ages) (test : Place → Bool) where
+  -- it may go, and none of the list that may go is before it
+  pub record FirstOf (places : List Place) (v : Place) : Type 0 where
+    pub goes : test v ≡ true
+    pub first : (q : Place) → 1 ≤ tally (same_place q) places → test q ≡ true → NoFirst l ages q v
+
+  -- what the function over a list answers
+  pub data Found (places : List Place) : Option Place → Type 0 where
+    none : ((q : Place) → 1 ≤ tally (same_place q) places → test q ≡ false) → Found places None
+    one : (v : Place) → FirstOf places v → Found places (Some v)
+
+  here_or_there : (q p : Place) (rest : List Place) → 1 ≤ one_if (same_place q p) + tally (same_place q) rest → (q ≡ p) ⊎ (1 ≤ tally (same_place q) rest)
+  here_or_there q p rest h = at (same_place q p) refl h
+    where
+      at : (b : Bool) → same_place q p ≡ b → 1 ≤ one_if b + tally (same_place q) rest → (q ≡ p) ⊎ (1 ≤ tally (same_place q) rest)
+      at true e g = inl (same_place-true q p e)
+      at false e g = inr (omega (arith, g))
+
+  with_first : (p : Place) (rest : List Place) (o : Option Place) → test p ≡ true → Found rest o → Found (p ∷ rest) (Some (earlier l ages p o))
+  with_first p rest None goes (none h) = one p (record {
+    goes = goes;
+    first = λ q i g. elim (here_or_there q p rest i) [
+      | inl e ↦ subst (λ (x : Place). NoFirst l ages x p) (sym e) (not_self l ages p)
+      | inr e ↦ let bad : true ≡ false = sym g ∙ h q e in cc
+    ];
+  })
+  with_first p rest (Some u) goes (one v f) = at (place_first l ages v p) refl
+    where
+      at : (b : Bool) → place_first l ages v p ≡ b → Found (p ∷ rest) (Some (cond b v p))
+      at true e = one v (record {
+        goes = f.goes;
+        first = λ q i g. elim (here_or_there q p rest i) [
+          | inl s ↦ subst (λ (x : Place). NoFirst l ages x v) (sym s) (first_is l ages v p e)
+          | inr s ↦ f.first q s g
+        ];
+      })
+      at false e = one p (record {
+        goes = goes;
+        first = λ q i g. elim (here_or_there q p rest i) [
+          | inl s ↦ subst (λ (x : Place). NoFirst l ages x p) (sym s) (not_self l ages p)
+          | inr s ↦ not_along l ages q v p (f.first q s g) (place_not l ages v p e)
+        ];
+      })
+
+  without_first : (p : Place) (rest : List Place) (o : Option Place) → test p ≡ false → Found rest o → Found (p ∷ rest) o
+  without_first p rest None stays (none h) = none (λ q i. elim (here_or_there q p rest i) [
+    | inl e ↦ ap test e ∙ stays
+    | inr e ↦ h q e
+  ])
+  without_first p rest (Some u) stays (one v f) = one v (record {
+    goes = f.goes;
+    first = λ q i g. elim (here_or_there q p rest i) [
+      | inl e ↦ let bad : true ≡ false = sym g ∙ (ap test e ∙ stays) in cc
+      | inr e ↦ f.first q e g
+    ];
+  })
+
+  pub found : (places : List Place) → Found places (first_that l ages test places)
+  found [] = none (λ q h. absurd (omega (arith, h)))
+  found (p ∷ rest) = step p rest (first_that l ages test rest) (found rest) (test p) refl
+    where
+      step : (p : Place) (rest : List Place) (o : Option Place) → Found rest o → (b : Bool) → test p ≡ b → Found (p ∷ rest) (cond b (Some (earlier l ages p o)) o)
+      step p rest o f true e = with_first p rest o e f
+      step p rest o f false e = without_first p rest o e f
+
+-- ---- one page is the first
+
+module _ (l : FrameLife) (ages : Ages) (pinned : Option Frame) where
+  pub victim_first : (v : Place) → IsVictim l ages pinned v → (q : Place) → may_go l pinned q ≡ true → NoFirst l ages q v
+  victim_first v h q g = record {
+    process = process_not l q.pid.0 v.pid.0 (h.process q g);
+    page = λ e. page_not ages q v (h.oldest.first q e g);
+  }
+
+  pub one_victim : (v w : Place) → IsVictim l ages pinned v → IsVictim l ages pinned w → v ≡ w
+  one_victim v w a b = neither l ages v w (victim_first w b v a.oldest.goes) (victim_first v a w b.oldest.goes)
+
+  pub one_oldest : (v w : Place) → v.pid.0 ≡ w.pid.0 → IsOldest l ages pinned v → IsOldest l ages pinned w → v ≡ w
+  one_oldest v w e a b =
+      let turn : turn_of l v.pid.0 ≡ turn_of l w.pid.0 = ap (turn_of l) e in
+      neither l ages v w
+      (record { process = record { turn = omega (arith, turn); pid = λ s. omega (arith, e) }; page = λ s. page_not ages v w (b.first v e a.goes) })
+      (record { process = record { turn = omega (arith, turn); pid = λ s. omega (arith, e) }; page = λ s. page_not ages w v (a.first w (sym e) b.goes) })
+
+  -- ---- where a list has each valid place
+
+  module _ (places : List Place) (all : (q : Place) → is_some (l.valid q) ≡ true → 1 ≤ tally (same_place q) places) where
+    shown : (q : Place) → may_go l pinned q ≡ true → is_some (l.valid q) ≡ true
+    shown q g = at (l.valid q) g
+      where
+        at : (o : Option Frame) → is_unpinned pinned o ≡ true → is_some o ≡ true
+        at None h = cc
+        at (Some f) h = refl
+
+    victim_of : (v : Place) → FirstOf l ages (may_go l pinned) places v → IsVictim l ages pinned v
+    victim_of v f = record {
+      oldest = record { goes = f.goes; first = λ q e g. page_from ages q v ((f.first q (all q (shown q g)) g).page e) };
+      process = λ q g. process_from l q.pid.0 v.pid.0 ((f.first q (all q (shown q g)) g).process);
+    }
+
+    pub victim_found : (v : Place) → first_to_go l ages pinned places ≡ Some v → IsVictim l ages pinned v
+    victim_found v e = at (first_to_go l ages pinned places) e (found l ages (may_go l pinned) places)
+      where
+        at : (o : Option Place) → o ≡ Some v → Found l ages (may_go l pinned) places o → IsVictim l ages pinned v
+        at None s h = cc
+        at (Some u) s (one w f) = let same : w ≡ v = cc in subst (IsVictim l ages pinned) same (victim_of w f)
+
+    pub none_found : first_to_go l ages pinned places ≡ None → (q : Place) → may_go l pinned q ≡ false
+    none_found e q = at (first_to_go l ages pinned places) e (found l ages (may_go l pinned) places) (may_go l pinned q) refl
+      where
+        at : (o : Option Place) → o ≡ None → Found l ages (may_go l pinned) places o → (b : Bool) → may_go l pinned q ≡ b → b ≡ false
+        at None s (none h) true g = sym g ∙ h q (all q (shown q g))
+        at None s (none h) false g = refl
+        at (Some w) s h b g = cc
+
+    pub victim_there : (p : Place) → may_go l pinned p ≡ true → (v : Place) × IsVictim l ages pinned v
+    victim_there p g = at (first_to_go l ages pinned places) refl
+      where
+        at : (o : Option Place) → first_to_go l ages pinned places ≡ o → (v : Place) × IsVictim l ages pinned v
+        at None e = let bad : true ≡ false = sym g ∙ none_found e p in cc
+        at (Some v) e = (v, victim_found v e)
+
+    -- of one process
+    module _ (pid : ℕ) where
+      oldest_of : (v : Place) → FirstOf l ages (may_go_in l pinned pid) places v → (v.pid.0 ≡ pid) × IsOldest l ages pinned v
+      oldest_of v f =
+          let h = and_parts (v.pid.0 == pid) (may_go l pinned v) f.goes in
+          let mine : v.pid.0 ≡ pid = eqb-true v.pid.0 pid h.0 in
+          (mine, record { goes = h.1; first = λ q e g. page_from ages q v ((f.first q (all q (shown q g)) (and_from (q.pid.0 == pid) (may_go l pinned q) ((unsigned_Decides q.pid.0 pid).1 (e ∙ mine)) g)).page e) })
+
+      pub oldest_found : (v : Place) → first_to_go_in l ages pinned pid places ≡ Some v → (v.pid.0 ≡ pid) × IsOldest l ages pinned v
+      oldest_found v e = at (first_to_go_in l ages pinned pid places) e (found l ages (may_go_in l pinned pid) places)
+        where
+          at : (o : Option Place) → o ≡ Some v → Found l ages (may_go_in l pinned pid) places o → (v.pid.0 ≡ pid) × IsOldest l ages pinned v
+          at None s h = cc
+          at (Some u) s (one w f) = let same : w ≡ v = cc in subst (λ (x : Place). (x.pid.0 ≡ pid) × IsOldest l ages pinned x) same (oldest_of w f)
+
+      pub none_in : first_to_go_in l ages pinned pid places ≡ None → (q : Place) → q.pid.0 ≡ pid → may_go l pinned q ≡ false
+      none_in e q i = at (first_to_go_in l ages pinned pid places) e (found l ages (may_go_in l pinned pid) places) (may_go l pinned q) refl
+        where
+          at : (o : Option Place) → o ≡ None → Found l ages (may_go_in l pinned pid) places o → (b : Bool) → may_go l pinned q ≡ b → b ≡ false
+          at None s (none h) true g = let t = and_from (q.pid.0 == pid) (may_go l pinned q) ((unsigned_Decides q.pid.0 pid).1 i) g in let bad : true ≡ false = sym t ∙ h q (all q (shown q g)) in cc
+          at None s (none h) false g = refl
+          at (Some w) s h b g = cc
+
+      pub oldest_there : (p : Place) → p.pid.0 ≡ pid → may_go l pinned p ≡ true → (v : Place) × ((v.pid.0 ≡ pid) × IsOldest l ages pinned v)
+      oldest_there p i g = at (first_to_go_in l ages pinned pid places) refl
+        where
+          at : (o : Option Place) → first_to_go_in l ages pinned pid places ≡ o → (v : Place) × ((v.pid.0 ≡ pid) × IsOldest l ages pinned v)
+          at None e = let bad : true ≡ false = sym g ∙ none_in e p i in cc
+          at (Some v) e = (v, oldest_found v e)
+
+-- the valid places of a state in a list
+pub all_shown : (l : FrameLife) (s : Sound l) (q : Place) → is_some (l.valid q) ≡ true → 1 ≤ tally (same_place q) s.shown.places
+all_shown l s q e = let one : tally (same_place q) s.shown.places ≡ 1 = s.shown.once q ∙ ap one_if e in omega (arith, one)
+
+module _ (l : FrameLife) (s : Sound l) (ages : Ages) (pinned : Option Frame) (p : Place) (goes : may_go l pinned p ≡ true) where
+  pub some_victim : (v : Place) × IsVictim l ages pinned v
+  some_victim = victim_there l ages pinned s.shown.places (all_shown l s) p goes
+
+  pub some_oldest : (v : Place) × ((v.pid.0 ≡ p.pid.0) × IsOldest l ages pinned v)
+  some_oldest = oldest_there l ages pinned s.shown.places (all_shown l s) p.pid.0 p refl goes

@@ -1,5 +1,0 @@
-use Rattle.std.proofs.Common.{length}
-use Rattle.mm_gaps.proofs.trees.Tree.+remove.Given as goal
-
-abbrev pub decreases-remove : goal.decreases-remove
-decreases-remove l = length l.self.ranges

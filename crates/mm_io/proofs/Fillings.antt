@@ -1,0 +1,21 @@
+-- One reading after another.
+use Rattle.std.proofs.Common.{ℕ, List, [], ◌++◌, sym, ap, ◌∙◌, Option, append_assoc}
+use Rattle.mm_types.proofs.Bytes.{append_nil, took_none, took_then}
+use Rattle.mm_io.specs.Lines.{IsLine}
+use Rattle.mm_io.specs.Filling.{Filled, HasRead}
+use Rattle.mm_io.proofs.Feeds.{Recent, recent_next}
+
+pub filled_none : (a : Option (List ℕ)) (xs : List ℕ) → Filled a a xs xs
+filled_none a xs = record { taken = []; took = took_none a; behind = sym (append_nil xs) }
+
+pub filled_then : (a b c : Option (List ℕ)) (x y z : List ℕ) → Filled a b x y → Filled b c y z → Filled a c x z
+filled_then a b c x y z u v = record {
+  taken = u.taken ++ v.taken;
+  took = took_then a b c _ _ u.took v.took;
+  behind = v.behind ∙ ap (λ xs. xs ++ v.taken) u.behind ∙ append_assoc x u.taken v.taken;
+}
+
+pub recent_after : (a b : Option (List ℕ)) (x y : List ℕ) (n : ℕ) → IsLine x → Filled a b x y → HasRead a b x y n → Recent y
+recent_after a b x y n line f r = recent_next x f.taken y n line f.behind r.count r.few
+
+pub ruleset filling = (filled_none, filled_then)

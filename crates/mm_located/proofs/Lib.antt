@@ -1,9 +1,0 @@
-pub mod Lists
-pub mod Moving
-pub mod Alone
-pub mod FrameMoves
-pub mod KeyMoves
-pub mod Written
-pub mod PageMoves
-pub mod Lines
-pub mod Carrying

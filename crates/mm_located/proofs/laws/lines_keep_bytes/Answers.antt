@@ -1,5 +1,0 @@
-use Rattle.mm_located.proofs.Carrying.{carries_at}
-use Rattle.mm_located.proofs.laws.lines_keep_bytes.Goals as goal
-
-pub returns : goal.returns
-returns c = λ l ram slots blocks h n k begun legal. carries_at l h.reached ram slots blocks h.located n k begun legal

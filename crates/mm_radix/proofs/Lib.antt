@@ -1,3 +1,0 @@
-pub mod WordLemmas
-pub mod LeafLemmas
-pub mod UserLemmas

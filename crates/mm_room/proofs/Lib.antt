@@ -1,9 +1,0 @@
-pub mod Counting
-pub mod Ordering
-pub mod Unmapping
-pub mod Writing
-pub mod Walks
-pub mod Turns
-pub mod Going
-pub mod InOrder
-pub mod Sets

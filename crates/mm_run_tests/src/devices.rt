@@ -1,0 +1,217 @@
+use crate::failing::{Ended, Failing, NOTHING, assert_ended, assert_log, outcome};
+use std::alloc::{AllocError, Global};
+use std::process::Abort;
+use std::test::Fail;
+
+/// Two processes share a section and a file, of which one has a copy view, and the paging file
+/// grows twice; eleven pages over eight frames.
+const SCRIPT: &str =
+    "machine 8 4 1 3\nfile d 3 9\nprocess 1 6\nprocess 0 3\ncreate 1 0x2000 0x04 s\nopen 2 s\ncreatefile 1 d 0x04 f\nopen 2 f\nmap 1 4 2 0 0 0\nmap 2 4 2 0 0 0\nmap 1 8 2 0 0 0\nmap 2 8 1 0 0 0\ncharge\ngrow 2\nalloc 1 0 0x4000 0x3000 0x04\ncharge\nwrite 1 0x10000 11\nwrite 1 0x11000 12\nwrite 2 0x20000 21\nread 2 0x10000 1\nwrite 1 0x20000 31\nread 2 0x20000 2\nread 2 0x21000 1\nwrite 2 0x22000 23\nwrite 1 0x30000 41\nwrite 1 0x31000 42\nwrite 1 0x32000 43\nwrite 1 0x33000 44\nflush 1 0x20000 0\nread 2 0x11000 1\nwrite 2 0x11001 55\nwrite 1 0x21000 32\ntrim 1 6\ntrim 2 3\ngrow 3\nread 1 0x11000 2\nread 2 0x21000 2\nwrite 2 0x20001 22\nread 1 0x30000 1\nread 1 0x31000 1\nread 1 0x32000 1\nread 1 0x33000 1\nread 1 0x20000 2\nread 2 0x20000 2\nread 2 0x22000 2\nflush 1 0x20000 0\nfree 1 0x31000 0x1000 0x4000\nunmap 2 0x20000\nexit 2\ncharge\n";
+
+const ANSWERS: &str =
+    "ok 8\nok\nok 1\nok 2\nok 4 0\nok 4\nok 8 0\nok 8\nok 0x00010000\nok 0x00010000\nok 0x00020000\nok 0x00020000\nok 5 8\nok 10\nok 0x00030000\nok 9 10\nok\nok\nok\nok 11\nok\nok 2109\nok 0A\nok\nok\nok\nok\nok\nok\nok 12\nok\nok\nok\nok\nok 13\nok 1255\nok 320A\nok\nok 41\nok 42\nok 43\nok 44\nok 3109\nok 2122\nok 230B\nok\nok\nok\nok\nok 5 13\n";
+
+const GROWS: u32 = 2;
+
+/// A text without one of its lines, counted from 0.
+fn without(alloc: Global, text: &str, place: usize) -> Result<String, AllocError> {
+    let mut rest = String::new(alloc);
+    for (i, line) in text.lines().enumerate() {
+        if i != place {
+            rest.push_str(line)?;
+            rest.push_str("\n")?;
+        }
+    }
+    Ok(rest)
+}
+
+/// A text with one more line after its first one.
+fn with_second(alloc: Global, text: &str, second: &str) -> Result<String, AllocError> {
+    let mut more = String::new(alloc);
+    for (i, line) in text.lines().enumerate() {
+        if i == 1 {
+            more.push_str(second)?;
+            more.push_str("\n")?;
+        }
+        more.push_str(line)?;
+        more.push_str("\n")?;
+    }
+    Ok(more)
+}
+
+/// The line of a script that failed by a device, counted from 0, as its answers have it.
+fn failed_line(answers: &str) -> Option<usize> {
+    for (place, answer) in answers.lines().enumerate() {
+        if answer == "raise 0xC0000006" || answer == "fault" {
+            return Some(place);
+        }
+    }
+    None
+}
+
+/// The line in which a read or a write-out failed, counted from 0, and the first word of that move,
+/// as the moves have it.
+fn failed_move(moves: &str) -> Option<(usize, &str)> {
+    let mut begun: usize = 0;
+    for line in moves.lines() {
+        if line.starts_with("at ") {
+            begun = begun.saturating_add(1);
+        }
+        let (word, _) = line.split_once(' ').unwrap_or((line, ""));
+        if word == "bad" || word == "lost" {
+            return Some((begun.saturating_sub(1), word));
+        }
+    }
+    None
+}
+
+/// A line of a text, counted from 0; an empty one after its end.
+fn line_at(text: &str, place: usize) -> &str {
+    for (i, line) in text.lines().enumerate() {
+        if i == place {
+            return line;
+        }
+    }
+    ""
+}
+
+/// Asserts which line of a script failed where one call of a device did, and answers it: a read
+/// fails the access that it was made for, a write the flush that it was made for; a write-out fails
+/// none. A file is not made, and the paging file does not grow, where a call for it failed.
+fn assert_failure(rt: &impl Abort, script: &str, ended: &Ended) -> Option<usize> {
+    let failed = failed_line(ended.answers.as_str());
+    let Some((place, word)) = failed_move(ended.moves.as_str()) else {
+        let place = failed.unwrap_or(0);
+        let line = line_at(script, place);
+        assert!(rt; line.starts_with("file ") || line.starts_with("grow "));
+        assert_eq!(rt; line_at(ended.answers.as_str(), place), "fault");
+        return failed;
+    };
+    let line = line_at(script, place);
+    if word == "bad" {
+        assert!(rt; line.starts_with("read ") || line.starts_with("write "));
+        assert_eq!(rt; failed, Some(place));
+    } else if line.starts_with("flush ") {
+        assert_eq!(rt; failed, Some(place));
+        assert_eq!(rt; line_at(ended.answers.as_str(), place), "fault");
+    } else {
+        assert_eq!(rt; failed, None);
+    }
+    failed
+}
+
+/// Asserts that a script without its `fail` line has these answers but that line's.
+fn assert_quiet(rt: &impl Abort, alloc: Global, script: &str, answers: &str) -> Result<(), Fail> {
+    if line_at(script, 1).starts_with("fail ") {
+        assert_eq!(rt; line_at(answers, 1), "ok");
+        let script = without(alloc, script, 1)?;
+        let answers = without(alloc, answers, 1)?;
+        let ended = outcome(alloc, script.as_str(), NOTHING)?;
+        return assert_ended(rt, alloc, &ended, 0, answers.as_str());
+    }
+    let ended = outcome(alloc, script, NOTHING)?;
+    assert_ended(rt, alloc, &ended, 0, answers)
+}
+
+/// Asserts that all lines of a run in which one call of a device failed answer as if the line that
+/// failed by it were not there.
+fn assert_fails_alone(
+    rt: &impl Abort,
+    alloc: Global,
+    script: &str,
+    ended: &Ended,
+) -> Result<(), Fail> {
+    assert_eq!(rt; ended.status, 0);
+    assert_log(rt, alloc, ended.moves.as_str())?;
+    let answers = ended.answers.as_str();
+    match assert_failure(rt, script, ended) {
+        Some(place) => {
+            let script = without(alloc, script, place)?;
+            let answers = without(alloc, answers, place)?;
+            assert_quiet(rt, alloc, script.as_str(), answers.as_str())
+        }
+        None => assert_quiet(rt, alloc, script, answers),
+    }
+}
+
+/// The run of the script on which nothing fails; each device reads and writes in it.
+fn quiet(rt: &impl Abort, alloc: Global) -> Result<Ended, Fail> {
+    let ended = outcome(alloc, SCRIPT, NOTHING)?;
+    assert_ended(rt, alloc, &ended, 0, ANSWERS)?;
+    for calls in [ended.paging, ended.files] {
+        assert!(rt; calls.reads > 0);
+        assert!(rt; calls.writes > 0);
+    }
+    Ok(ended)
+}
+
+/// Asserts that nothing fails in a run of the script: its answers and its moves are those of the
+/// quiet run.
+fn assert_as_quiet(
+    rt: &impl Abort,
+    alloc: Global,
+    quiet: &Ended,
+    failing: Failing,
+) -> Result<(), Fail> {
+    let ended = outcome(alloc, SCRIPT, failing)?;
+    assert_ended(rt, alloc, &ended, 0, ANSWERS)?;
+    assert_eq!(rt; ended.moves.as_str(), quiet.moves.as_str());
+    Ok(())
+}
+
+/// The first call of a device opens it. After the last one nothing fails.
+#[test]
+fn each_call_of_a_device_fails_once(rt: HostRuntime) -> Result<(), Fail> {
+    let alloc = rt.alloc();
+    let quiet = quiet(&rt, alloc)?;
+    let paging = quiet.paging.reads.saturating_add(quiet.paging.writes);
+    for call in 2..=paging.saturating_add(1 + GROWS) {
+        let failing = Failing {
+            paging: &[call],
+            ..NOTHING
+        };
+        let ended = outcome(alloc, SCRIPT, failing)?;
+        assert_fails_alone(&rt, alloc, SCRIPT, &ended)?;
+    }
+    let files = quiet.files.reads.saturating_add(quiet.files.writes);
+    for call in 2..=files.saturating_add(1) {
+        let failing = Failing {
+            files: &[call],
+            ..NOTHING
+        };
+        let ended = outcome(alloc, SCRIPT, failing)?;
+        assert_fails_alone(&rt, alloc, SCRIPT, &ended)?;
+    }
+    let after_paging = Failing {
+        paging: &[paging.saturating_add(2 + GROWS)],
+        ..NOTHING
+    };
+    assert_as_quiet(&rt, alloc, &quiet, after_paging)?;
+    let after_files = Failing {
+        files: &[files.saturating_add(2)],
+        ..NOTHING
+    };
+    assert_as_quiet(&rt, alloc, &quiet, after_files)
+}
+
+/// A `fail` line counts the reads, or the writes, of its device from there on.
+#[test]
+fn each_named_call_fails_once(rt: HostRuntime) -> Result<(), Fail> {
+    let alloc = rt.alloc();
+    let quiet = quiet(&rt, alloc)?;
+    let ways = [
+        ("paging read", quiet.paging.reads),
+        ("paging write", quiet.paging.writes),
+        ("file read", quiet.files.reads),
+        ("file write", quiet.files.writes),
+    ];
+    for (way, calls) in ways {
+        for call in 1..=calls {
+            let line = format!(in alloc; "fail {way} {call} 1")?;
+            let script = with_second(alloc, SCRIPT, line.as_str())?;
+            let ended = outcome(alloc, script.as_str(), NOTHING)?;
+            assert_fails_alone(&rt, alloc, script.as_str(), &ended)?;
+        }
+    }
+    Ok(())
+}

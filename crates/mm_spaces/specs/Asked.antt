@@ -1,0 +1,18 @@
+-- What is asked of pages that are to get another protection.
+-- Profile, "Calls".
+use Rattle.std.specs.Prelude.{◌≡◌, true, List, Some}
+use Rattle.mm_types.specs.Address.{Range}
+use Rattle.mm_world.specs.World.{WorldOf, RegionOf}
+use Rattle.mm_world.specs.Find.{Found, region_around, is_private}
+use Rattle.mm_world.specs.Protect.{protection_at}
+use Rattle.mm_world.specs.Rows.{every_page, is_committed_at}
+use Rattle.mm_spaces.specs.declared.protecting.ProtectInfo.{ProtectInfo}
+
+pub record IsAsked (regions : List (RegionOf (Unit {0}))) (range : Range) (asked : ProtectInfo) :
+    Type 0 where
+  pub region : Found (RegionOf (Unit {0}))
+  pub around : region_around regions range ≡ Some region
+  pub kind : region.thing.kind ≡ asked.kind
+  pub committed : is_private region.thing.kind ≡ true → (w : WorldOf (Unit {0})) →
+      asked.owned ≡ every_page (is_committed_at w region.thing) range
+  pub before : asked.before ≡ protection_at region.thing range.first

@@ -1,8 +1,0 @@
-use Rattle.mm_stack.proofs.Growths.{bounded, made_bounded}
-use Rattle.mm_stack.proofs.laws.stacks_grow_a_bounded_number_of_times.Goals as goal
-
-pub returns-clause-made : goal.returns-clause-made
-returns-clause-made c = made_bounded
-
-pub returns-clause-left : goal.returns-clause-left
-returns-clause-left c = bounded

@@ -1,0 +1,10 @@
+use Rattle.std.proofs.Common.{◌≡◌, ◌+◌, ◌*◌, ◌≤◌, ◌++◌, length, drop, map}
+use Rattle.mm_types.specs.Spelling.{decimal}
+use Rattle.mm_text.specs.Following.{following}
+use Rattle.mm_text.proofs.spells.put_numbers.Given as goal
+
+abbrev pub invariant-loop-number : goal.invariant-loop-number
+invariant-loop-number l = record {
+  few : length l.out ≤ length l.fn.out + 11 * l.number-index;
+  text : l.out ++ following (map decimal (drop l.number-index l.numbers)) ≡ l.fn.out ++ following (map decimal l.numbers);
+}

@@ -1,0 +1,231 @@
+ghost use Rattle.std.specs.Prelude.{◌≡◌, ◌≤◌, ◌+◌, ◌*◌, ◌++◌, length, map};
+ghost use Rattle.mm_types.specs.Spelling.{decimal, hex8, spaced};
+ghost use Rattle.mm_types.specs.AnswerText.{code_number, status_number, why_text, answer_text, spelling};
+ghost use Rattle.mm_text.specs.Following.{following};
+
+use crate::{LineBuf, put_bytes, put_decimal, put_hex8};
+use mm_types::{Answer, ByteBuf, Code, Counts, PageList, QueryInfo, Raise, Why};
+
+/// The bytes of the longest answer line, which is that of `watch` with 16 addresses.
+pub const LONGEST: usize = 182;
+
+/// The number of an error code, as GetLastError gives it.
+fn code_number(code: Code) -> u32
+    ensures { result ≡ code_number code }
+{
+    match code {
+        Code::NotFound => 2,
+        Code::AccessDenied => 5,
+        Code::InvalidHandle => 6,
+        Code::InvalidParameter => 87,
+        Code::AlreadyExists => 183,
+        Code::InvalidAddress => 487,
+        Code::Misaligned => 1132,
+        Code::CommitmentLimit => 1455,
+    }
+}
+
+/// The number of a status that an access raises (NTSTATUS).
+fn status_number(status: Raise) -> u32
+    ensures { result ≡ status_number status }
+{
+    match status {
+        Raise::GuardPage => 0x8000_0001,
+        Raise::AccessViolation => 0xC000_0005,
+        Raise::InPageError => 0xC000_0006,
+        Raise::StackOverflow => 0xC000_00FD,
+    }
+}
+
+/// What a thread's access waits for, as a word.
+fn why_word(why: Why) -> &'static [u8]
+    ensures word { result.now ≡ why_text why }
+    ensures few { length result.now ≤ 5 }
+{
+    match why {
+        Why::Read => b"read",
+        Why::Frame => b"frame",
+        Why::Full => b"full",
+    }
+}
+
+/// Writes decimal numbers, each after a space.
+#[tactic(auto, using(crate::proofs::Lines::steps))]
+fn put_numbers(out: &mut LineBuf, numbers: &[u32])
+    requires { length out.old + 11 * length numbers.now ≤ 256 }
+    ensures text { out.new ≡ out.old ++ following (map decimal numbers.now) }
+    ensures few { length out.new ≤ length out.old + 11 * length numbers.now }
+{
+    for number in numbers {
+        out.push(b' ');
+        put_decimal(out, u64::from(*number));
+    }
+}
+
+/// Writes addresses, sizes and the like, each after a space.
+#[tactic(auto, using(crate::proofs::Lines::steps))]
+fn put_fields(out: &mut LineBuf, fields: &[u32])
+    requires { length out.old + 11 * length fields.now ≤ 256 }
+    ensures text { out.new ≡ out.old ++ following (map hex8 fields.now) }
+    ensures few { length out.new ≤ length out.old + 11 * length fields.now }
+{
+    for field in fields {
+        out.push(b' ');
+        put_hex8(out, *field);
+    }
+}
+
+/// A word, and decimal numbers after it.
+#[tactic(auto, using(crate::proofs::Lines::steps))]
+fn line_of_numbers(out: &mut LineBuf, word: &[u8], numbers: &[u32])
+    requires { length out.old + (length word.now + 11 * length numbers.now) ≤ 256 }
+    ensures text { out.new ≡ out.old ++ spaced word.now (map decimal numbers.now) }
+    ensures few { length out.new ≤ length out.old + (length word.now + 11 * length numbers.now) }
+{
+    out.push_slice(word);
+    put_numbers(out, numbers);
+}
+
+/// A word, and addresses, sizes and the like after it.
+#[tactic(auto, using(crate::proofs::Lines::steps))]
+fn line_of_fields(out: &mut LineBuf, word: &[u8], fields: &[u32])
+    requires { length out.old + (length word.now + 11 * length fields.now) ≤ 256 }
+    ensures text { out.new ≡ out.old ++ spaced word.now (map hex8 fields.now) }
+    ensures few { length out.new ≤ length out.old + (length word.now + 11 * length fields.now) }
+{
+    out.push_slice(word);
+    put_fields(out, fields);
+}
+
+/// `ok` and what VirtualQuery tells.
+#[tactic(auto, using(crate::proofs::Lines::steps))]
+fn line_of_info(out: &mut LineBuf, info: &QueryInfo)
+    requires { length out.old + 79 ≤ 256 }
+    ensures text { out.new ≡ out.old ++ answer_text (Answer.Info info.now) }
+    ensures few { length out.new ≤ length out.old + 79 }
+{
+    let fields = [
+        info.base,
+        info.alloc_base,
+        info.alloc_prot,
+        info.size,
+        info.state,
+        info.prot,
+        info.kind,
+    ];
+    line_of_fields(out, b"ok", &fields);
+}
+
+/// `ok` and the eight numbers of `counts`.
+#[tactic(auto, using(crate::proofs::Lines::steps))]
+fn line_of_counts(out: &mut LineBuf, counts: &Counts)
+    requires { length out.old + 90 ≤ 256 }
+    ensures text { out.new ≡ out.old ++ answer_text (Answer.Counts counts.now) }
+    ensures few { length out.new ≤ length out.old + 90 }
+{
+    let numbers = [
+        counts.zeroed,
+        counts.free,
+        counts.standby,
+        counts.modified,
+        counts.active,
+        counts.transition,
+        counts.free_slots,
+        counts.requests,
+    ];
+    line_of_numbers(out, b"ok", &numbers);
+}
+
+/// `ok` and bytes as pairs of digits.
+#[tactic(auto, using(crate::proofs::Lines::steps))]
+fn line_of_bytes(out: &mut LineBuf, bytes: &ByteBuf)
+    requires { length out.old + 131 ≤ 256 }
+    ensures text { out.new ≡ out.old ++ answer_text (Answer.Bytes bytes.now) }
+    ensures few { length out.new ≤ length out.old + 131 }
+{
+    out.push_slice(b"ok ");
+    put_bytes(out, bytes.as_slice());
+}
+
+/// `ok`, how many addresses there are, and the addresses.
+#[tactic(auto, using(crate::proofs::Lines::steps))]
+fn line_of_pages(out: &mut LineBuf, pages: &PageList)
+    requires { length out.old + 181 ≤ 256 }
+    ensures text { out.new ≡ out.old ++ answer_text (Answer.Watched pages.now) }
+    ensures few { length out.new ≤ length out.old + 181 }
+{
+    let addresses = pages.as_slice();
+    out.push_slice(b"ok ");
+    put_decimal(out, addresses.len() as u64);
+    put_fields(out, addresses);
+}
+
+/// `ok`, a handle, and whether its name existed: 183 (ERROR_ALREADY_EXISTS) or 0.
+#[tactic(auto, using(crate::proofs::Lines::steps))]
+fn line_of_handle(out: &mut LineBuf, handle: u32, existed: bool)
+    requires { length out.old + 24 ≤ 256 }
+    ensures text { out.new ≡ out.old ++ answer_text (Answer.Created handle existed) }
+    ensures few { length out.new ≤ length out.old + 24 }
+{
+    let code = if existed {
+        code_number(Code::AlreadyExists)
+    } else {
+        0
+    };
+    line_of_numbers(out, b"ok", &[handle, code]);
+}
+
+/// `pending` and what the access waits for.
+#[tactic(auto, using(crate::proofs::Lines::steps))]
+fn line_of_pending(out: &mut LineBuf, why: Why)
+    requires { length out.old + 13 ≤ 256 }
+    ensures text { out.new ≡ out.old ++ answer_text (Answer.Pending why) }
+    ensures few { length out.new ≤ length out.old + 13 }
+{
+    out.push_slice(b"pending ");
+    out.push_slice(why_word(why));
+}
+
+/// Writes an answer's words.
+#[tactic(auto, using(crate::proofs::Lines::steps))]
+fn put_text(answer: &Answer, out: &mut LineBuf)
+    requires { length out.old + 181 ≤ 256 }
+    ensures text { out.new ≡ out.old ++ answer_text answer.now }
+    ensures few { length out.new ≤ length out.old + 181 }
+{
+    match answer {
+        Answer::Ok => out.push_slice(b"ok"),
+        Answer::Limit(limit) => line_of_numbers(out, b"ok", &[*limit]),
+        Answer::NewProcess(pid) => line_of_numbers(out, b"ok", &[u32::from(pid.0)]),
+        Answer::At(address) => line_of_fields(out, b"ok", &[*address]),
+        Answer::OldProt(prot) => line_of_fields(out, b"ok", &[prot.0]),
+        Answer::Info(info) => line_of_info(out, info),
+        Answer::Created(handle, existed) => line_of_handle(out, *handle, *existed),
+        Answer::Opened(handle) => line_of_numbers(out, b"ok", &[*handle]),
+        Answer::Bytes(bytes) => line_of_bytes(out, bytes),
+        Answer::Charge(charge, limit) => line_of_numbers(out, b"ok", &[*charge, *limit]),
+        Answer::Counts(counts) => line_of_counts(out, counts),
+        Answer::Error(code) => line_of_numbers(out, b"error", &[code_number(*code)]),
+        Answer::Raised(status) => line_of_fields(out, b"raise", &[status_number(*status)]),
+        Answer::Pending(why) => line_of_pending(out, *why),
+        Answer::Nothing => out.push_slice(b"none"),
+        Answer::Busy => out.push_slice(b"busy"),
+        Answer::Full => out.push_slice(b"full"),
+        Answer::Fault => out.push_slice(b"fault"),
+        Answer::Watched(pages) => line_of_pages(out, pages),
+        Answer::Stack(base, size, guard) => line_of_fields(out, b"ok", &[*base, *size, *guard]),
+    }
+}
+
+/// Writes an answer's line with its line feed at the end of `out`. Addresses, sizes, protections,
+/// states, types and statuses are `0x` and eight upper-case hexadecimal digits, other numbers
+/// decimal, bytes pairs of upper-case digits.
+#[tactic(auto, using(crate::proofs::Lines::steps))]
+pub fn spell(answer: &Answer, out: &mut LineBuf)
+    requires { length out.old + LONGEST ≤ 256 }
+    ensures line { out.new ≡ out.old ++ spelling answer.now }
+    ensures few { length out.new ≤ length out.old + LONGEST }
+{
+    put_text(answer, out);
+    out.push(b'\n');
+}

@@ -1,0 +1,13 @@
+use Rattle.std.proofs.Common.{◌-◌, ◌≤◌}
+use Rattle.mm_bits.specs.Bits.{have_bit}
+use Rattle.mm_vad.specs.Bits.{NoneSet}
+use Rattle.mm_vad.proofs.bits.next_set.Given as goal
+
+abbrev pub invariant-loop-at : goal.invariant-loop-at
+invariant-loop-at l = record {
+  from : l.first ≤ l.at;
+  none : NoneSet (have_bit l.words.items) l.first l.at;
+}
+
+abbrev pub decreases-loop-at : goal.decreases-loop-at
+decreases-loop-at l = l.end - l.at

@@ -1,0 +1,100 @@
+ghost use Rattle.std.specs.Prelude.{◌≡◌, ℕ, ◌+◌, ◌*◌, ◌^◌, ◌<◌, ◌≤◌, Bool, true, false, length, replicate, IfOk, IfSome, IfNone};
+ghost use Rattle.std.specs.Int.{bit_at};
+ghost use Rattle.mm_world.specs.Find.{change_range};
+ghost use Rattle.mm_bits.specs.Bits.{have_bit};
+ghost use Rattle.mm_vad.specs.Bits.{flags, NoneSet, IsNextSet, flag_at};
+
+use mm_bits::put_bits;
+use mm_types::NoMemory;
+use std::alloc::Global;
+use std::marker::Model;
+
+const BITS: usize = 64;
+
+/// The lowest bit that is set from `first` on and below `end`, by looking at one word at a time.
+fn next_set(words: &Vec<u64>, first: usize, end: usize) -> Option<usize>
+    requires within { end ≤ 64 * length words.now.items }
+    requires small { end ≤ 2 ^ 32 }
+    ensures found { IfSome result (IsNextSet (have_bit words.now.items) first end) }
+    ensures none { IfNone result (NoneSet (have_bit words.now.items) first end) }
+{
+    let mut at = first;
+    while at < end {
+        let rest = words[at / BITS] >> (at % BITS);
+        if rest != 0 {
+            let next = at + rest.trailing_zeros() as usize;
+            return if next < end { Some(next) } else { None };
+        }
+        at = (at / BITS + 1) * BITS;
+    }
+    None
+}
+
+/// A row of bits.
+#[derive(Drop)]
+pub struct Bits {
+    words: Vec<u64>,
+    len: u32,
+}
+
+impl Model for Bits {
+    ghost use Rattle.std.specs.Prelude.{List, Bool, ◌*◌, ◌≤◌, length};
+    ghost use Rattle.mm_vad.specs.Bits.{flags};
+
+    ghost Value = { List Bool };
+
+    ghost view = { λ b. flags b.words.items b.len };
+
+    ghost invariant = { λ b. b.len ≤ 64 * length b.words.items };
+}
+
+impl Bits {
+    /// `n` bits, none of them set. `NoMemory` where a request for memory was refused.
+    pub fn new(alloc: Global, n: u32) -> Result<Bits, NoMemory>
+        ensures { IfOk result (λ bits. bits ≡ replicate n false) }
+    {
+        let words = (n as usize + (BITS - 1)) / BITS;
+        Ok(Bits {
+            words: vec![in alloc; 0; words]?,
+            len: n,
+        })
+    }
+
+    /// How many bits there are.
+    pub fn len(&self) -> u32
+        ensures { result ≡ length self.now }
+    {
+        self.len
+    }
+
+    /// Sets one bit.
+    pub fn set(&mut self, i: u32)
+        requires { i < length self.old }
+        ensures { self.new ≡ change_range (λ _. true) i 1 self.old }
+    {
+        let i = i as usize;
+        let word = self.words[i / BITS];
+        self.words[i / BITS] = word | 1 << (i % BITS);
+    }
+
+    /// Clears `n` bits from `first` on.
+    pub fn clear(&mut self, first: u32, n: u32)
+        requires { first + n ≤ length self.old }
+        ensures { self.new ≡ change_range (λ _. false) first n self.old }
+    {
+        let first = first as usize;
+        put_bits(&mut self.words, first, first + n as usize, false);
+    }
+
+    /// The lowest bit that is set from `first` on and below `end`.
+    pub fn next(&self, first: u32, end: u32) -> Option<u32>
+        requires { end ≤ length self.now }
+        ensures found { IfSome result (IsNextSet (flag_at self.now) first end) }
+        ensures none { IfNone result (NoneSet (flag_at self.now) first end) }
+    {
+        match next_set(&self.words, first as usize, end as usize) {
+            Some(i) => Some(i as u32),
+            None => None,
+        }
+    }
+}

@@ -1,6 +1,0 @@
-mod Flushing
-mod Named
-mod Placing
-mod NewFiles
-mod FlushMoves
-mod FlushKeys

@@ -1,0 +1,111 @@
+-- The words of areas as a finite map, out of a table.
+use Rattle.std.proofs.Common.{◌≡◌, ℕ, zero, suc, ◌<◌, List, [], ◌∷◌, ◌++◌, length, get_or, Option, Some, None, refl, sym, ap, ◌∙◌, inl, inr, arith, true, false, cond, replicate}
+use Rattle.std.proofs.lemmas.Bool.{cases_lt}
+use Rattle.std.proofs.lemmas.Option.{slice_get_past, slice_get_read, slice_get-get_or}
+use Rattle.std.specs.Prelude.{slice_get, slice_set, IsSome, is_some, unwrap_or}
+use Rattle.mm_words.specs.Prototypes.{AreaWords, word_at, words_of}
+use Rattle.std.specs.Option.{option_and_then}
+use Rattle.std.specs.Ordering.{nat_cmp}
+use Rattle.std.specs.FinMap as finite
+use Rattle.std.specs.FinMap.{FinMap}
+use Rattle.mm_types.specs.Table.{table, found}
+use Rattle.mm_types.proofs.Tables.{get_table, tables_agree}
+use Rattle.mm_types.proofs.Finite.{same, get-insert, get-remove}
+use Rattle.std.specs.Cmp.{unsigned_Decides}
+use Rattle.std.proofs.Math.ListN.{length-set}
+use Rattle.std.proofs.lemmas.List.{length-replicate}
+
+module _ {W X : Type 0} (g : W → Option X) where
+  pub table_none : table g [] ≡ finite.empty
+  table_none = same (table g []) finite.empty (λ q. get_table g [] q ∙ sym (finite.get-empty nat_cmp q))
+
+  -- a key of the table is an index of it
+  pub within : (ws : List W) (m : FinMap nat_cmp X) (q : ℕ) → table g ws ≡ m → IsSome (finite.get m q) → q < length ws
+  within ws m q view some = elim (cases_lt q (length ws)) [
+    | inl near ↦ near
+    | inr far ↦
+        let none : finite.get m q ≡ None = ap (λ (k : FinMap nat_cmp X). finite.get k q) (sym view) ∙ get_table g ws q ∙ ap (found g) (slice_get_past ws q far) in
+        let bad : false ≡ true = sym (ap is_some none) ∙ some in
+        cc
+  ]
+
+  found_push : (ws : List W) (w : W) (q : ℕ) → g w ≡ None → found g (slice_get (ws ++ w ∷ []) q) ≡ found g (slice_get ws q)
+  found_push [] w zero none = none
+  found_push [] w (suc q) none = refl
+  found_push (v ∷ ws) w zero none = refl
+  found_push (v ∷ ws) w (suc q) none = found_push ws w q none
+
+  -- a word that stands for nothing is put at the end
+  pub table_push : (ws : List W) (w : W) → g w ≡ None → table g (ws ++ w ∷ []) ≡ table g ws
+  table_push ws w none = tables_agree g g (ws ++ w ∷ []) ws (λ q. found_push ws w q none)
+
+  -- what a word of the table stands for
+  pub at_index : (ws : List W) (m : FinMap nat_cmp X) (q : ℕ) (w : W) → table g ws ≡ m → q < length ws → w ≡ get_or ws q w → finite.get m q ≡ g w
+  at_index ws m q w view range is =
+      ap (λ (k : FinMap nat_cmp X). finite.get k q) (sym view) ∙ get_table g ws q ∙ ap (found g) (slice_get_read ws (length ws) q w refl range is)
+
+some_before : (o : Option (List ℕ)) (i : ℕ) → IsSome (option_and_then (λ words. slice_get words i) o) → IsSome o
+some_before None i some = some
+some_before (Some words) i some = refl
+
+-- an area with a word is open
+pub open_of_word : (m : AreaWords) (a i : ℕ) → IsSome (word_at m a i) → IsSome (finite.get m a)
+open_of_word m a i some = some_before (finite.get m a) i some
+
+pub word_is : (m : AreaWords) (a i : ℕ) (words : List ℕ) → finite.get m a ≡ Some words → word_at m a i ≡ slice_get words i
+word_is m a i words is = ap (option_and_then (λ (ws : List ℕ). slice_get ws i)) is
+
+pub word_within : (m : AreaWords) (a i : ℕ) (words : List ℕ) → finite.get m a ≡ Some words → IsSome (word_at m a i) → i < length words
+word_within m a i words is some = elim (cases_lt i (length words)) [
+  | inl near ↦ near
+  | inr far ↦
+      let bad : false ≡ true = sym (ap is_some (word_is m a i words is ∙ slice_get_past words i far)) ∙ some in
+      cc
+]
+
+pub no_word : (m : AreaWords) (a i : ℕ) → finite.get m a ≡ None → IsSome (word_at m a i) → ⊥
+no_word m a i is some =
+    let bad : false ≡ true = sym (ap is_some is) ∙ open_of_word m a i some in
+    cc
+
+pub words_are : (m : AreaWords) (a : ℕ) (words : List ℕ) → finite.get m a ≡ Some words → words_of m a ≡ words
+words_are m a words is = ap (λ (o : Option (List ℕ)). unwrap_or o []) is
+
+-- what users of the maps need: what an area has after a call
+get_inserted : (m : AreaWords) (a : ℕ) (words : List ℕ) → finite.get (finite.insert m a words) a ≡ Some words
+get_inserted m a words = get-insert m a words a ∙ ap (λ b. cond b (Some words) (finite.get m a)) ((unsigned_Decides a a).1 refl)
+
+has_word : (words : List ℕ) (i : ℕ) → i < length words → IsSome (slice_get words i)
+has_word words i range = ap is_some (slice_get-get_or words i 0 range)
+
+in_words : (o : Option (List ℕ)) (j : ℕ) → IsSome (option_and_then (λ words. slice_get words j) o) → j < length (unwrap_or o [])
+in_words None j some = let bad : false ≡ true = some in cc
+in_words (Some words) j some = elim (cases_lt j (length words)) [
+  | inl near ↦ near
+  | inr far ↦ let bad : false ≡ true = sym (ap is_some (slice_get_past words j far)) ∙ some in cc
+]
+
+-- an area that was opened has so many words
+pub opened : (m : AreaWords) (a n i : ℕ) → i < n → IsSome (word_at (finite.insert m a (replicate n 0)) a i)
+opened m a n i range =
+    ap is_some (word_is _ a i (replicate n 0) (get_inserted m a (replicate n 0)))
+    ∙ has_word (replicate n 0) i (omega (arith, range, length-replicate {A = ℕ} n 0))
+
+-- an area has as many words after one was set
+pub still_there : (m : AreaWords) (a i word j : ℕ) → IsSome (word_at m a j) → IsSome (word_at (finite.insert m a (slice_set (words_of m a) i word)) a j)
+still_there m a i word j some =
+    let new : List ℕ = slice_set (words_of m a) i word in
+    ap is_some (word_is _ a j new (get_inserted m a new))
+    ∙ has_word new j (omega (arith, in_words (finite.get m a) j some, length-set (words_of m a) i word))
+
+-- an area is open after it was opened, and a word of it was set
+pub is_open : (m : AreaWords) (a : ℕ) (words : List ℕ) → IsSome (finite.get (finite.insert m a words) a)
+is_open m a words = ap is_some (get_inserted m a words)
+
+-- an area is not open right after it was closed
+pub closed : (m : AreaWords) (a : ℕ) → finite.get (finite.remove m a) a ≡ None
+closed m a = get-remove m a a ∙ ap (λ b. cond b None (finite.get m a)) ((unsigned_Decides a a).1 refl)
+
+-- no area is open at first
+pub none_open : (a : ℕ) → finite.get (finite.empty {X = List ℕ} {R = nat_cmp}) a ≡ None
+none_open a = finite.get-empty nat_cmp a

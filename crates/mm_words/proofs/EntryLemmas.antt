@@ -1,0 +1,66 @@
+-- For users: the entry of an entry's word is that entry, and the word of a word's entry is that word.
+use Rattle.std.proofs.Common.{◌≡◌, ℕ, ◌+◌, ◌*◌, ◌<◌, ◌^◌, false, cond, refl, sym, ap, ◌∙◌, arith}
+use Rattle.std.proofs.lemmas.Bool.Decides.{nat_tests}
+use Rattle.mm_words.specs.Layout.{IsEntry, word_of, tag_of, first_of, second_of, is_no_entry, tag_in, first_in, second_in}
+use Rattle.mm_words.specs.declared.layout.Entry.{Entry}
+use Rattle.mm_words.specs.declared.layout.Entry.TheVariants as entry
+use Rattle.mm_words.specs.Entries.{by_parts, entry_in}
+
+tag_again : (t f s : ℕ) → t < 16 → tag_in (t + 16 * f + 2 ^ 32 * s) ≡ t
+tag_again t f s h = omega arith
+
+first_again : (t f s : ℕ) → t < 16 → f < 2 ^ 28 → first_in (t + 16 * f + 2 ^ 32 * s) ≡ f
+first_again t f s h g = omega arith
+
+second_again : (t f s : ℕ) → t < 16 → f < 2 ^ 28 → second_in (t + 16 * f + 2 ^ 32 * s) ≡ s
+second_again t f s h g = omega arith
+
+small_tag : (e : Entry) → tag_of e < 7
+small_tag entry.Empty = omega arith
+small_tag entry.Zero = omega arith
+small_tag (entry.Paged s) = omega arith
+small_tag (entry.InFile b) = omega arith
+small_tag (entry.Transition f) = omega arith
+small_tag (entry.Valid f n) = omega arith
+small_tag (entry.Proto a i) = omega arith
+
+by_its_parts : (e : Entry) → by_parts (tag_of e) (first_of e) (second_of e) ≡ e
+by_its_parts entry.Empty = refl
+by_its_parts entry.Zero = refl
+by_its_parts (entry.Paged s) = refl
+by_its_parts (entry.InFile b) = refl
+by_its_parts (entry.Transition f) = refl
+by_its_parts (entry.Valid f n) = refl
+by_its_parts (entry.Proto a i) = refl
+
+parts_again : (e : Entry) → IsEntry e → by_parts (tag_in (word_of e)) (first_in (word_of e)) (second_in (word_of e)) ≡ e
+parts_again e h =
+    let t : tag_of e < 16 = omega (arith, small_tag e) in
+    ap (λ n. by_parts n (first_in (word_of e)) (second_in (word_of e))) (tag_again (tag_of e) (first_of e) (second_of e) t)
+    ∙ ap (λ n. by_parts (tag_of e) n (second_in (word_of e))) (first_again (tag_of e) (first_of e) (second_of e) t h.first)
+    ∙ ap (λ n. by_parts (tag_of e) (first_of e) n) (second_again (tag_of e) (first_of e) (second_of e) t h.first)
+    ∙ by_its_parts e
+
+-- a word that some entry has
+pub read_some : (word : ℕ) (e : Entry) → is_no_entry word ≡ false → IsEntry e → word_of e ≡ word → e ≡ entry_in word
+unfolding entry_in
+read_some word e nay is same =
+    sym (ap (λ b. cond b entry.Empty (by_parts (tag_in word) (first_in word) (second_in word))) nay
+    ∙ ap (λ w. by_parts (tag_in w) (first_in w) (second_in w)) (sym same) ∙ parts_again e is)
+
+is_entry_word : (e : Entry) → IsEntry e → is_no_entry (word_of e) ≡ false
+is_entry_word entry.Empty h = refl
+is_entry_word entry.Zero h = refl
+is_entry_word (entry.Paged s) h = let f = h.first in grind (arith, nat_tests)
+is_entry_word (entry.InFile s) h = let f = h.first in grind (arith, nat_tests)
+is_entry_word (entry.Transition s) h = let f = h.first in grind (arith, nat_tests)
+is_entry_word (entry.Valid s n) h = let f = h.first in grind (arith, nat_tests)
+is_entry_word (entry.Proto s n) h = let f = h.first in grind (arith, nat_tests)
+
+pub entry_again : (e : Entry) → IsEntry e → entry_in (word_of e) ≡ e
+entry_again e h = sym (read_some (word_of e) e (is_entry_word e h) h refl)
+
+-- reserved words of a page table and of a new area
+pub zero_is_empty : entry_in 0 ≡ entry.Empty
+unfolding entry_in
+zero_is_empty = refl

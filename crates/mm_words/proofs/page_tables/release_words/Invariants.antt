@@ -1,0 +1,14 @@
+use Rattle.std.proofs.Common.{◌-◌, ◌≤◌}
+use Rattle.mm_words.specs.LeafWords.{no_word}
+use Rattle.mm_words.specs.Directory.{Changes}
+use Rattle.mm_words.proofs.page_tables.release_words.Given as goal
+
+abbrev pub invariant-loop-page : goal.invariant-loop-page
+invariant-loop-page l = record {
+  low : l.first ≤ l.page;
+  high : l.page ≤ l.end;
+  changes : Changes no_word l.fn.leaves.items l.leaves.items l.first l.page;
+}
+
+abbrev pub decreases-loop-page : goal.decreases-loop-page
+decreases-loop-page l = l.end - l.page

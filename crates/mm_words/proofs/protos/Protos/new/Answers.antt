@@ -1,0 +1,8 @@
+use Rattle.std.proofs.Common.{ap, ◌∙◌}
+use Rattle.mm_types.specs.Table.{table}
+use Rattle.mm_words.specs.Prototypes.{words_in}
+use Rattle.mm_words.proofs.AreaLemmas.{table_none}
+use Rattle.mm_words.proofs.protos.Protos.new.Goals as goal
+
+pub returns : goal.returns
+returns c = ap (table words_in) c.new.ensures.items ∙ table_none words_in

@@ -1,0 +1,40 @@
+-- The words of one leaf, and what it is that words from one place up to another are changed.
+use Rattle.std.specs.Prelude.{◌≡◌, ℕ, ◌+◌, ◌<◌, ◌≤◌, false, List, [], ◌∷◌, length, Option, Some, None, if◌then◌else◌, map, slice_index, slice_index_or}
+use Rattle.std.specs.List.{range_with_len}
+use Rattle.mm_bits.specs.Bits.{have_bit}
+
+abbrev pub leaf_word : List (Option ℕ) → ℕ → Option ℕ
+leaf_word words i = slice_index_or words i None
+
+-- for how many pages there is a place beside these numbers
+abbrev pub places : List ℕ → ℕ
+places [] = 0
+places (n ∷ numbers) = 1024
+
+-- sixteen numbers have the bits of 1,024 pages; behind them stand the words
+abbrev pub page_word : List ℕ → ℕ → Option ℕ
+page_word numbers i = if have_bit numbers i then Some (slice_index numbers (16 + i)) else None
+
+-- the words that these numbers are
+unfoldable pub shown : List ℕ → List (Option ℕ)
+shown numbers = map (page_word numbers) (range_with_len 0 (places numbers))
+
+-- where there are numbers, the bits are there and there is room for all words; a page that is not
+-- reserved has no word but 0
+pub record IsLeaf (capacity : ℕ) (numbers : List ℕ) : Type 0 where
+  pub bits : 0 < length numbers → 16 ≤ length numbers
+  pub room : 0 < length numbers → 1040 ≤ capacity
+  pub within : length numbers ≤ 1040
+  pub blank : (i : ℕ) → i < 1024 → have_bit numbers i ≡ false → slice_index numbers (16 + i) ≡ 0
+
+-- the words from `first` on and below `end` are changed by f, and all others stay
+pub record Changed {A : Type 0} (f : A → A) (old new : ℕ → A) (first end : ℕ) : Type 0 where
+  pub within : (i : ℕ) → first ≤ i → i < end → new i ≡ f (old i)
+  pub below : (i : ℕ) → i < first → new i ≡ old i
+  pub above : (i : ℕ) → end ≤ i → new i ≡ old i
+
+abbrev pub no_word : Option ℕ → Option ℕ
+no_word word = None
+
+abbrev pub zero_word : ℕ → ℕ
+zero_word word = 0

@@ -1,0 +1,9 @@
+machine 6 0 1 0
+process 0 8
+alloc 1 0 0x2000 0x3000 0x04
+alloc 1 0 1 0x3000 0x04
+grow 3
+alloc 1 0 0x3000 0x3000 0x04
+charge
+grow 262142
+charge

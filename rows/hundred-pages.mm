@@ -1,0 +1,8 @@
+machine 64 64 1 0
+process 0 8
+alloc 1 0 0x64000 0x3000 0x04
+charge
+write 1 0x73FFF AB
+read 1 0x73FFF 1
+free 1 0x10000 0 0x8000
+charge

@@ -1,0 +1,1 @@
+process 1 8
